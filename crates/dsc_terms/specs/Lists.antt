@@ -1,0 +1,10 @@
+-- Places in lists.
+use Rattle.std.specs.Prelude.{◌≡◌, ℕ, List, ◌∷◌, ◌++◌, Contains}
+
+-- q stands before r in the list
+abbrev pub Precedes : List ℕ → ℕ → ℕ → Type 0
+Precedes order q r = (a : List ℕ) × (b : List ℕ) × (c : List ℕ) × (order ≡ a ++ q ∷ b ++ r ∷ c)
+
+-- nothing of the list stands in it twice
+abbrev pub IsOnce : List ℕ → Type 0
+IsOnce order = (a : List ℕ) (r : ℕ) (b : List ℕ) → order ≡ a ++ r ∷ b → Contains a r → ⊥

@@ -1,0 +1,2 @@
+//! Definitions over plain lists and numbers that several crates cite; it has no code.
+#![tactic(auto)]

@@ -1,0 +1,9 @@
+use Rattle.std.proofs.Common.{◌↔◌, length}
+use Rattle.mof_values.specs.Fold.{SameName}
+use Rattle.mof_values.proofs.fold.is_named.Given as goal
+
+abbrev pub invariant-loop-left : goal.invariant-loop-left
+invariant-loop-left l = SameName l.chars l.word ↔ SameName l.left l.codes
+
+abbrev pub decreases-loop-left : goal.decreases-loop-left
+decreases-loop-left l = length l.left

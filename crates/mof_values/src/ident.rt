@@ -1,0 +1,126 @@
+//! Identifiers.
+ghost use Rattle.std.specs.Prelude.{◌≡◌, IfOk, IsErrOf, false};
+ghost use Rattle.std.specs.List.{list_all};
+ghost use Rattle.mof_values.specs.Ident.{IsIdent, is_ident, is_first, is_next};
+ghost use Rattle.mof_values.specs.declared.ident.IdentError.TheVariants.{Memory};
+
+use crate::Text;
+use std::alloc::{AllocError, Global};
+use std::fmt;
+use std::marker::Model;
+
+/// An identifier of at most 255 characters: a letter, `_` or U+0080 to U+FFEF, then these and digits
+/// (DSP0004, "Identifiers").
+#[derive(Clone, Debug, Drop)]
+pub struct Ident {
+    chars: Text,
+}
+
+impl Model for Ident {
+    ghost use Rattle.std.specs.Prelude.{List, ℕ, IsTrue};
+    ghost use Rattle.mof_values.specs.Ident.{is_ident};
+
+    ghost Value = { List ℕ };
+
+    ghost view = { λ i. i.chars };
+
+    ghost invariant = { λ i. IsTrue (is_ident i.chars) };
+}
+
+/// Why a text was not made an identifier.
+#[derive(Clone, Copy, Debug, PartialEq, Eq)]
+pub enum IdentError {
+    NotAnIdent,
+    Memory,
+}
+
+impl From<AllocError> for IdentError {
+    ghost from_gives = { λ _ e. e ≡ Memory };
+
+    fn from(_: AllocError) -> Self {
+        IdentError::Memory
+    }
+}
+
+impl fmt::Display for IdentError {
+    fn fmt<W: fmt::Write>(&self, f: &mut fmt::Formatter<W>) -> fmt::Result {
+        f.write_str(match self {
+            IdentError::NotAnIdent => "not an identifier of at most 255 characters",
+            IdentError::Memory => "out of memory",
+        })
+    }
+}
+
+impl Ident {
+    /// The identifier that the text spells.
+    pub fn make(alloc: Global, text: &Text) -> Result<Ident, IdentError>
+        ensures ok { IfOk result (λ ident. ident ≡ text.now) }
+        ensures valid { IfOk result (λ _. IsIdent text.now) }
+        ensures refused { IsErrOf result IdentError.NotAnIdent → is_ident text.now ≡ false }
+    {
+        Ident::spell(alloc, text.as_slice())
+    }
+
+    /// The identifier that the characters spell.
+    pub fn spell(alloc: Global, chars: &[char]) -> Result<Ident, IdentError>
+        ensures ok { IfOk result (λ ident. ident ≡ chars.now) }
+        ensures valid { IfOk result (λ _. IsIdent chars.now) }
+        ensures refused { IsErrOf result IdentError.NotAnIdent → is_ident chars.now ≡ false }
+    {
+        if !spells_ident(chars) {
+            return Err(IdentError::NotAnIdent);
+        }
+        Ok(Ident {
+            chars: Text::of(chars.to_vec(alloc)?),
+        })
+    }
+
+    pub fn as_slice(&self) -> &[char]
+        ensures value { result.now ≡ self.now }
+        ensures valid { IsIdent self.now }
+    {
+        self.chars.as_slice()
+    }
+}
+
+// Tells whether the characters are an identifier of at most 255 characters.
+fn spells_ident(chars: &[char]) -> bool
+    ensures { result ≡ is_ident chars.now }
+{
+    match chars {
+        [] => false,
+        [first, rest @ ..] => may_begin(*first) && all_follow(rest) && chars.len() <= 255,
+    }
+}
+
+fn may_begin(c: char) -> bool
+    ensures { result ≡ is_first c }
+{
+    matches!(c, 'a'..='z' | 'A'..='Z' | '_' | '\u{80}'..='\u{ffef}')
+}
+
+fn all_follow(chars: &[char]) -> bool
+    ensures { result ≡ list_all is_next chars.now }
+{
+    chars.iter().all(|c| may_follow(*c))
+}
+
+fn may_follow(c: char) -> bool
+    ensures { result ≡ is_next c }
+{
+    may_begin(c) || c.is_ascii_digit()
+}
+
+impl PartialEq for Ident {
+    ghost use Rattle.std.specs.Str.{bytes_eq};
+    ghost use Rattle.std.proofs.Common.{rules};
+    ghost use Rattle.std.specs.Cmp.Rules.{comparing};
+
+    ghost eq = { bytes_eq };
+
+    ghost laws = { Prim.search (comparing, rules) };
+
+    fn eq(&self, other: &Ident) -> bool {
+        self.chars == other.chars
+    }
+}

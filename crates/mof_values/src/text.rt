@@ -1,0 +1,100 @@
+//! Texts.
+ghost use Rattle.std.specs.Prelude.{◌≡◌, ◌<◌, ◌≤◌, ◌↔◌, ℕ, All, IfOk, IsTrue, length, slice_index, encode_utf8_all, string_bytes};
+ghost use Rattle.std.specs.Char.{IsScalar};
+
+use std::alloc::AllocError;
+use std::marker::Model;
+
+/// A list of characters.
+#[derive(Clone, Debug, Drop)]
+pub struct Text {
+    chars: Vec<char>,
+}
+
+impl Model for Text {
+    ghost use Rattle.std.specs.Prelude.{List, ℕ, All};
+    ghost use Rattle.std.specs.Char.{IsScalar};
+
+    ghost Value = { List ℕ };
+
+    ghost view = { λ t. t.chars.items };
+
+    ghost invariant = { λ t. All IsScalar t.chars.items };
+}
+
+impl Text {
+    /// These characters; takes no memory.
+    pub fn of(chars: Vec<char>) -> Text
+        ensures { result ≡ chars.items }
+    {
+        look_at(&chars);
+        Text { chars }
+    }
+
+    pub fn as_slice(&self) -> &[char]
+        ensures value { result.now ≡ self.now }
+        ensures scalars { All IsScalar self.now }
+    {
+        &self.chars
+    }
+
+    pub fn into_vec(self) -> Vec<char>
+        ensures { result.items ≡ self }
+    {
+        self.chars
+    }
+
+    /// The characters in UTF-8.
+    pub fn to_utf8(&self) -> Result<String, AllocError>
+        ensures { IfOk result (λ s. string_bytes s ≡ encode_utf8_all self.now) }
+    {
+        self.chars.iter().copied().collect(*self.chars.allocator())
+    }
+
+    /// Tells whether the text has at most so many bytes of UTF-8.
+    pub fn fits_utf8(&self, limit: usize) -> bool
+        ensures { IsTrue result ↔ (length (encode_utf8_all self.now) ≤ limit) }
+    {
+        let mut left = limit;
+        let mut chars = self.as_slice();
+        while let [c, rest @ ..] = chars {
+            let size = c.len_utf8();
+            if left < size {
+                return false;
+            }
+            left -= size;
+            chars = rest;
+        }
+        true
+    }
+}
+
+// Reads each character, so that it is known to be a scalar value.
+fn look_at(chars: &[char])
+    ensures { (k : ℕ) → k < length chars.now → IsScalar (slice_index chars.now k) }
+{
+    for c in chars {
+        let _code = *c as u32;
+    }
+}
+
+impl PartialEq for Text {
+    ghost use Rattle.std.specs.Str.{bytes_eq};
+    ghost use Rattle.std.proofs.Common.{rules};
+    ghost use Rattle.std.specs.Cmp.Rules.{comparing};
+
+    ghost eq = { bytes_eq };
+
+    ghost laws = { Prim.search (comparing, rules) };
+
+    fn eq(&self, other: &Text) -> bool {
+        self.chars == other.chars
+    }
+}
+
+impl Eq for Text {
+    ghost use Rattle.std.proofs.Common.{rules};
+    ghost use Rattle.std.specs.Cmp.Rules.{comparing};
+
+    ghost laws = { Prim.search (comparing, rules) };
+}
