@@ -1,0 +1,64 @@
+use Rattle.std.proofs.Common.{◌≡◌, rules, length-append, ◌∷◌, [], ◌++◌, List, ℕ, arith, sym, ◌∙◌, ap, subst, refl, length, get_or, take}
+use Rattle.std.proofs.lemmas.List.{take_all}
+use Rattle.lcm_program.specs.declared.entry.Entry.TheVariants.{Tested}
+use Rattle.lcm_program.specs.declared.entry.TestAnswer.TheVariants as tests
+use Rattle.lcm_program.specs.declared.runs.RunMode.TheVariants.{Monitor}
+use Rattle.lcm_program.specs.declared.entry.Entry.{Entry}
+use Rattle.lcm_program.specs.declared.entry.TestAnswer.{TestAnswer}
+use Rattle.lcm_program.specs.Legal.{Legal}
+use Rattle.lcm_program.specs.Trace.{IsFinal, place_of}
+use Rattle.lcm_program.proofs.Traces.{legal_push, chain_push, ends_with_push, may_test, places_push, host_failures_push, whole_at_end, whole_at_memory}
+use Rattle.lcm_program.proofs.runs.monitor.Goals as goal
+
+pub loop-place-init : goal.loop-place-init
+loop-place-init g c =
+    let none = c.requires.fresh in
+    rw none (record {
+      places = search rules;
+      legal = λ before e after p. absurd (omega (arith, ap length p, length-append before (e ∷ after)));
+      goes_on = λ e ends last. absurd (omega (arith, ap length ends.1, length-append ends.0 (e ∷ [])));
+      chain = g.met.R.Resources.stays _;
+      faults = omega arith;
+      room = omega (arith, c.requires.room);
+    })
+
+pub returns-in-Memory-clause-legal : goal.returns-in-Memory-clause-legal
+returns-in-Memory-clause-legal g c =
+    let i = c.loop-place.place-index in
+    let so_far = c.loop-place.invariant in
+    let may = may_test c.args.document.now c.args.order.now (g.R.Resources.kept c.loop-place.resources) i c.loop-place-test.true so_far.places (c.requires.places i 0 c.loop-place-test.true) c.requires.distinct so_far.goes_on in
+    rw c.test.ensures.kept (legal_push _ Monitor _ _ _ so_far.legal may)
+
+pub returns-in-Memory-clause-whole : goal.returns-in-Memory-clause-whole
+returns-in-Memory-clause-whole g c =
+    let order = c.args.order.now in
+    let i = c.loop-place.place-index in
+    let kept = g.R.Resources.kept c.loop-place.resources in
+    let grown : g.R.Resources.kept c.test.new.self ≡ kept ++ Tested (get_or order i 0) tests.Memory ∷ [] =
+    c.test.ensures.kept ∙ ap (λ (a : TestAnswer). kept ++ Tested (get_or order i 0) a ∷ []) c.in-Memory.is in
+    let legal = subst (λ (t : List Entry). Legal c.args.document.now Monitor order t) grown (returns-in-Memory-clause-legal g c) in
+    rw grown (whole_at_memory c.args.document.now order kept i c.loop-place-test.true c.requires.distinct c.loop-place.invariant.places legal)
+
+pub returns-in-Memory-clause-memory : goal.returns-in-Memory-clause-memory
+returns-in-Memory-clause-memory g c = λ _ goes_on. goes_on _ (g.R.Resources.kept c.loop-place.resources, c.test.ensures.kept) c.in-Memory.is
+
+pub returns-in-Memory-clause-chain : goal.returns-in-Memory-clause-chain
+returns-in-Memory-clause-chain g c = rw c.test.ensures.kept (chain_push g.R.Resources.does g.R.Resources.still _ _ _ _ _ _ g.met.R.Resources.still_does g.met.R.Resources.stays c.loop-place.invariant.chain c.test.ensures.does)
+
+pub loop-place-preserved : goal.loop-place-preserved
+loop-place-preserved g c =
+    let order = c.args.order.now in
+    let i = c.loop-place.place-index in
+    let lt = c.loop-place-test.true in
+    let so_far = c.loop-place.invariant in
+    let kept = g.R.Resources.kept c.loop-place.resources in
+    let entry = Tested (get_or order i 0) c.test.result in
+    let may = may_test c.args.document.now order kept i lt so_far.places (c.requires.places i 0 lt) c.requires.distinct so_far.goes_on in
+    rw c.test.ensures.kept (record {
+      places = places_push c.args.document.now order kept i lt so_far.places c.test.result;
+      legal = legal_push c.args.document.now Monitor order kept entry so_far.legal may;
+      goes_on = λ e ends last. c.in_default.not-Memory (subst IsFinal (sym (ends_with_push kept entry e ends)) last);
+      chain = chain_push g.R.Resources.does g.R.Resources.still _ _ _ _ _ _ g.met.R.Resources.still_does g.met.R.Resources.stays so_far.chain c.test.ensures.does;
+      faults = omega (arith, host_failures_push kept entry, so_far.faults, c.test.ensures.cause);
+      room = omega (arith, so_far.room, c.test.ensures.room);
+    })

@@ -1,0 +1,18 @@
+use Rattle.std.proofs.Common.{◌≡◌, ◌+◌, ◌≤◌, length, map, take}
+use Rattle.dsc_terms.specs.Counts.{RoseBy}
+use Rattle.lcm_program.specs.declared.runs.RunMode.TheVariants.{Monitor}
+use Rattle.lcm_program.specs.Trace.{Chain, place_of, host_failures}
+use Rattle.lcm_program.specs.Legal.{Legal, GoesOn}
+use Rattle.lcm_program.proofs.runs.monitor.Given as goal
+
+abbrev pub invariant-loop-place : goal.invariant-loop-place
+invariant-loop-place g l =
+    let kept = g.R.Resources.kept l.resources in
+    record {
+      places : map place_of kept ≡ take l.place-index l.order;
+      legal : Legal l.document Monitor l.order kept;
+      goes_on : GoesOn kept;
+      chain : Chain g.R.Resources.does g.R.Resources.still l.document l.fn.resources kept l.resources;
+      faults : RoseBy (host_failures kept) (g.R.Resources.faults l.fn.resources) (g.R.Resources.faults l.resources);
+      room : length l.order ≤ g.R.Resources.spare l.resources + l.place-index;
+    }

@@ -1,0 +1,69 @@
+-- Traces: the entries of a run, in order.
+use Rattle.std.specs.Prelude.{◌≡◌, ◌==◌, ℕ, List, [], ◌∷◌, ◌++◌, Option, Some, map, sum_by, Contains, find, reverse}
+use Rattle.dsc_document.specs.declared.document.Document.{Document}
+use Rattle.lcm_program.specs.declared.entry.Failure.{Failure}
+use Rattle.lcm_program.specs.declared.entry.Failure.TheVariants.{NoSuchResource, HostFailed}
+use Rattle.lcm_program.specs.declared.entry.TestAnswer.{TestAnswer}
+use Rattle.lcm_program.specs.declared.entry.TestAnswer.TheVariants as tests
+use Rattle.lcm_program.specs.declared.entry.SetAnswer.{SetAnswer}
+use Rattle.lcm_program.specs.declared.entry.SetAnswer.TheVariants as sets
+use Rattle.lcm_program.specs.declared.entry.Entry.{Entry}
+use Rattle.lcm_program.specs.declared.entry.Entry.TheVariants.{Tested, Set}
+
+-- the resource that an entry is of, by its place in the document
+abbrev pub place_of : Entry → ℕ
+place_of (Tested place answer) = place
+place_of (Set place answer) = place
+
+-- the resource has an entry
+abbrev pub HasEntry : List Entry → ℕ → Type 0
+HasEntry trace r = Contains (map place_of trace) r
+
+-- the last entry of a resource, where it has one
+abbrev pub last_entry : List Entry → ℕ → Option Entry
+last_entry trace r = find (λ e. place_of e == r) (reverse trace)
+
+-- the last entry of the resource is a test that answered yes
+abbrev pub Succeeded : List Entry → ℕ → Type 0
+Succeeded trace r = last_entry trace r ≡ Some (Tested r tests.Yes)
+
+abbrev pub EndsWith : List Entry → Entry → Type 0
+EndsWith trace e = (front : List Entry) × (trace ≡ front ++ e ∷ [])
+
+-- nothing follows such an entry: a boot was asked for, or memory was refused
+abbrev pub IsFinal : Entry → Type 0
+IsFinal (Tested place answer) = answer ≡ tests.Memory
+IsFinal (Set place sets.Done) = ⊥
+IsFinal (Set place sets.Reboot) = Unit {0}
+IsFinal (Set place (sets.Fault f)) = ⊥
+IsFinal (Set place sets.Memory) = Unit {0}
+
+-- 1 where the failure is the host's
+abbrev pub host_failure : Failure → ℕ
+host_failure NoSuchResource = 0
+host_failure HostFailed = 1
+
+abbrev pub test_failures : TestAnswer → ℕ
+test_failures tests.Yes = 0
+test_failures tests.No = 0
+test_failures (tests.Fault f) = host_failure f
+test_failures tests.Memory = 0
+
+abbrev pub set_failures : SetAnswer → ℕ
+set_failures sets.Done = 0
+set_failures sets.Reboot = 0
+set_failures (sets.Fault f) = host_failure f
+set_failures sets.Memory = 0
+
+abbrev pub entry_failures : Entry → ℕ
+entry_failures (Tested place answer) = test_failures answer
+entry_failures (Set place answer) = set_failures answer
+
+-- how many entries say that the host failed
+abbrev pub host_failures : List Entry → ℕ
+host_failures trace = sum_by entry_failures trace
+
+-- the states along a trace: each entry is one step, and `still` says what may change beside the steps
+abbrev pub Chain : {S : Type 0} → (S → Document → Entry → S → Type 0) → (S → S → Type 0) → Document → S → List Entry → S → Type 0
+Chain does still document before [] after = still before after
+Chain {S} does still document before (e ∷ es) after = (mid : S) × does before document e mid × Chain does still document mid es after

@@ -1,0 +1,38 @@
+//! What a run keeps of each call: which resource was tested or set, and with which answer.
+
+/// Why a resource could not be tested or set.
+#[derive(Clone, Copy, Debug, PartialEq, Eq)]
+pub enum Failure {
+    /// Its kind is not known.
+    NoSuchResource,
+
+    /// A call of the host failed.
+    HostFailed,
+}
+
+/// What the Test of a resource answers.
+#[derive(Clone, Copy, Debug, PartialEq, Eq)]
+pub enum TestAnswer {
+    Yes,
+    No,
+    Fault(Failure),
+    Memory,
+}
+
+/// What the Set of a resource answers.
+#[derive(Clone, Copy, Debug, PartialEq, Eq)]
+pub enum SetAnswer {
+    Done,
+
+    /// Done, and the machine has to be booted.
+    Reboot,
+    Fault(Failure),
+    Memory,
+}
+
+/// One call of a run; `place` is the resource's place in the document, counted from 0.
+#[derive(Clone, Copy, Debug, PartialEq, Eq)]
+pub enum Entry {
+    Tested { place: u32, answer: TestAnswer },
+    Set { place: u32, answer: SetAnswer },
+}

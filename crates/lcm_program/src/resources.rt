@@ -1,0 +1,53 @@
+//! What tests resources and keeps the answers.
+ghost use Rattle.std.specs.Prelude.{◌≡◌, ◌<◌, ◌≤◌, ◌+◌, ◌++◌, ◌∷◌, [], List, ℕ, length, OnOk};
+ghost use Rattle.dsc_terms.specs.Counts.{RoseBy};
+ghost use Rattle.dsc_document.specs.declared.document.Document.{Document};
+ghost use Rattle.lcm_program.specs.declared.entry.Entry.{Entry};
+ghost use Rattle.lcm_program.specs.declared.entry.Entry.TheVariants.{Tested};
+ghost use Rattle.lcm_program.specs.Trace.{entry_failures};
+
+use crate::entry::{Entry, TestAnswer};
+use dsc_document::Document;
+use mof_values::Memory;
+
+/// The resources of a machine, with the entries of a run.
+pub trait Resources {
+    /// The entries so far.
+    ghost kept: { Self → List Entry };
+
+    /// How many more entries there is room for.
+    ghost spare: { Self → ℕ };
+
+    /// How often a call of the machine has failed; it never falls.
+    ghost faults: { Self → ℕ };
+
+    /// One call over the document adds this entry and leads from one value to another.
+    ghost does: { Self → Document → Entry → Self → Type 0 };
+
+    /// Nothing has changed but the room.
+    ghost still: { Self → Self → Type 0 };
+
+    /// Makes room for so many more entries.
+    fn reserve(&mut self, entries: u32) -> Result<(), Memory>
+        ensures room { OnOk result (entries ≤ spare self.new) }
+        ensures kept { kept self.new ≡ kept self.old }
+        ensures faults { faults self.new ≡ faults self.old }
+        ensures still { still self.old self.new };
+
+    /// Tests the resource at that place, and adds its entry.
+    fn test(&mut self, document: &Document, place: u32) -> TestAnswer
+        requires place { place < length document.now.resources }
+        requires room { 0 < spare self.old }
+        ensures kept { kept self.new ≡ kept self.old ++ Tested place result ∷ [] }
+        ensures room { spare self.old ≤ spare self.new + 1 }
+        ensures does { does self.old document.now (Tested place result) self.new }
+        ensures cause { RoseBy (entry_failures (Tested place result)) (faults self.old) (faults self.new) };
+
+    /// The entries so far.
+    fn calls(&self) -> &[Entry]
+        ensures { result.now ≡ kept self.now };
+
+    ghost stays: { (a : Self) → still a a };
+
+    ghost still_does: { (a b c : Self) (document : Document) (e : Entry) → still a b → does b document e c → does a document e c };
+}
