@@ -1,0 +1,41 @@
+-- What the calls of a disk do to what it holds, and what a crash may leave.
+use Rattle.std.specs.Prelude.{◌≡◌, ◌⊎◌, ℕ, ◌+◌, ◌≤◌, min, max, List, ◌++◌, length, take, drop, Option, Some}
+
+-- these bytes over what is there from this place on
+abbrev pub written : ℕ → List ℕ → List ℕ → List ℕ
+written at bytes held = take at held ++ bytes ++ drop (at + length bytes) held
+
+-- a write of n bytes that a crash cuts short: any bytes in the range and past the old end, the same elsewhere
+pub record Torn (at n : ℕ) (old new : List ℕ) : Type 0 where
+  pub before : take at new ≡ take at old
+  pub after : drop (at + n) new ≡ drop (at + n) old
+  pub no_shorter : length old ≤ length new
+  pub no_longer : length new ≤ max (length old) (at + n)
+
+-- a cut that a crash may undo in part: any bytes behind it, up to the old end
+pub record Cut (n : ℕ) (old new : List ℕ) : Type 0 where
+  pub no_shorter : min n (length old) ≤ length new
+  pub no_longer : length new ≤ length old
+  pub front : take n new ≡ take n old
+
+-- one of these images, after a step
+abbrev pub From : (List ℕ → List ℕ → Type 0) → (List ℕ → Type 0) → List ℕ → Type 0
+From step images c = (d : List ℕ) × images d × step d c
+
+-- each new image is an old one after a step
+abbrev pub Follows : (List ℕ → List ℕ → Type 0) → (List ℕ → Type 0) → (List ℕ → Type 0) → Type 0
+Follows step old new = (c : List ℕ) → new c → From step old c
+
+-- no new image comes
+abbrev pub Within : (List ℕ → Type 0) → (List ℕ → Type 0) → Type 0
+Within old new = (c : List ℕ) → new c → old c
+
+-- what a read gives is the only image
+abbrev pub Only : Option (List ℕ) → (List ℕ → Type 0) → Type 0
+Only seen images = (c : List ℕ) → images c → seen ≡ Some c
+
+-- time goes on: a crash since t might have left what it might have left before, or what it may leave now
+pub record Elapses (before now : ℕ) (past since : ℕ → List ℕ → Type 0) (images : List ℕ → Type 0) : Type 0 where
+  pub later : before ≤ now
+  pub nothing_else : (t : ℕ) (c : List ℕ) → t ≤ before → since t c → past t c ⊎ images c
+  pub keeps : (t : ℕ) (c : List ℕ) → t ≤ before → past t c → since t c

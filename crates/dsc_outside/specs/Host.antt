@@ -1,0 +1,24 @@
+-- What a machine holds.
+use Rattle.std.specs.Prelude.{◌≡◌, ℕ, List, ◌++◌, Bool, true, false, Option, Some, None, Result, Ok, Err, ⊤, IfOk}
+
+pub record HostState : Type 0 where
+  -- the bytes of the environment variable that is there, by the UTF-8 bytes of its folded name
+  pub variable : List ℕ → Option (List ℕ)
+
+-- a look-up answers whether the value is there, and appends it
+abbrev pub Shows : Option (List ℕ) → Bool → List ℕ → List ℕ → Type 0
+Shows (Some value) true old new = new ≡ old ++ value
+Shows (Some value) false old new = ⊥
+Shows None true old new = ⊥
+Shows None false old new = new ≡ old
+
+-- where the host tells what it holds, the variable of that name is what it answers
+abbrev pub TellsVariable : {E : Type 0} → Option HostState → List ℕ → Result Bool E → List ℕ → List ℕ → Type 0
+TellsVariable None name result old new = ⊤
+TellsVariable (Some host) name result old new = IfOk result (λ there. Shows (host.variable name) there old new)
+
+-- the buffer of a look-up: a value behind its bytes where one is there, else as it was
+abbrev pub LeavesBuffer : {E : Type 0} → Result Bool E → List ℕ → List ℕ → Type 0
+LeavesBuffer (Ok true) old new = (value : List ℕ) × (new ≡ old ++ value)
+LeavesBuffer (Ok false) old new = new ≡ old
+LeavesBuffer (Err e) old new = new ≡ old

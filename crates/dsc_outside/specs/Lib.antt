@@ -1,0 +1,5 @@
+pub mod Causes
+pub mod Clock
+pub mod Disk
+pub mod Host
+pub mod Link

@@ -1,0 +1,49 @@
+-- What a link tells of its exchanges.
+use Rattle.std.specs.Prelude.{◌≡◌, ◌⊎◌, ◌<◌, ℕ, List, [], ◌∷◌, ◌++◌, length, Option, Some, None, Result, Ok, Err, IsErrOf, ⊤}
+use Rattle.dsc_outside.specs.declared.link.LinkError.{LinkError}
+use Rattle.dsc_outside.specs.declared.link.LinkError.TheVariants as errors
+use Rattle.dsc_outside.specs.declared.link.Peer.{Peer}
+
+-- an answer has fewer bytes
+abbrev pub answer_limit : ℕ
+answer_limit = 67108864
+
+-- what came of a request
+pub data Outcome : Type 0 where
+  Answered : List ℕ → Outcome
+  Failed : Outcome
+  TooLong : Outcome
+
+pub record Exchange : Type 0 where
+  pub peer : Peer
+  pub request : List ℕ
+  pub outcome : Outcome
+
+-- the error is this outcome; want of memory tells nothing of it
+abbrev pub IsFault : LinkError → Outcome → Type 0
+IsFault errors.Failed Failed = ⊤
+IsFault errors.Failed (Answered bytes) = ⊥
+IsFault errors.Failed TooLong = ⊥
+IsFault errors.TooLong TooLong = ⊤
+IsFault errors.TooLong (Answered bytes) = ⊥
+IsFault errors.TooLong Failed = ⊥
+IsFault errors.Memory outcome = ⊤
+
+-- what the call answered, and appended, is this outcome
+abbrev pub ComesTo : Result (Unit {0}) LinkError → List ℕ → List ℕ → Outcome → Type 0
+ComesTo (Ok done) old new (Answered bytes) = new ≡ old ++ bytes
+ComesTo (Ok done) old new Failed = ⊥
+ComesTo (Ok done) old new TooLong = ⊥
+ComesTo (Err error) old new outcome = IsFault error outcome
+
+-- where the exchanges are told, the call adds its own at the end; with want of memory it adds at most its own
+abbrev pub AddsExchange : Option (List Exchange) → Option (List Exchange) → Peer → List ℕ → Result (Unit {0}) LinkError → List ℕ → List ℕ → Type 0
+AddsExchange None after to request result old new = ⊤
+AddsExchange (Some before) after to request result old new =
+    ((outcome : Outcome) × ComesTo result old new outcome × (after ≡ Some (before ++ record { peer = to; request = request; outcome = outcome } ∷ [])))
+    ⊎ (IsErrOf result errors.Memory × (after ≡ Some before))
+
+-- the buffer of an answer: the answer behind its bytes where there is one, else as it was
+abbrev pub LeavesAnswer : Result (Unit {0}) LinkError → List ℕ → List ℕ → Type 0
+LeavesAnswer (Ok done) old new = (bytes : List ℕ) × (new ≡ old ++ bytes) × (length bytes < answer_limit)
+LeavesAnswer (Err error) old new = new ≡ old

@@ -1,0 +1,134 @@
+//! What is not there.
+ghost use Rattle.std.specs.Prelude.{◌≡◌, Err, IsErr};
+ghost use Rattle.dsc_outside.specs.Causes.{RaisedByOne};
+
+use crate::{Clock, Disk, Failed, Link, LinkError, Peer};
+use std::marker::Model;
+
+/// A disk, a link and a clock that is not there: each call fails. A clause sees it as the number of its calls,
+/// which stands still at 2^64 - 1.
+#[derive(Drop)]
+pub struct Absent {
+    calls: u64,
+}
+
+impl Model for Absent {
+    ghost use Rattle.std.specs.Prelude.{ℕ};
+
+    ghost Value = { ℕ };
+
+    ghost view = { λ a. a.calls };
+}
+
+impl Absent {
+    pub fn new() -> Absent
+        ensures { result ≡ 0 }
+    {
+        Absent { calls: 0 }
+    }
+
+    fn count_call(&mut self)
+        ensures { RaisedByOne self.old self.new }
+    {
+        self.calls = self.calls.saturating_add(1);
+    }
+}
+
+impl Disk for Absent {
+    ghost use Rattle.std.specs.Prelude.{None};
+    ghost use Rattle.std.proofs.lemmas.Option.{none-some};
+
+    ghost seen = { λ d. None };
+
+    ghost images = { λ d c. ⊥ };
+
+    ghost moment = { λ d. 0 };
+
+    ghost left_since = { λ d t c. ⊥ };
+
+    ghost faults = { λ d. d };
+
+    ghost counts_now = { λ d t c le now. now };
+
+    ghost only_now = { λ d c left. left };
+
+    ghost honest = { λ d held is. none-some held is };
+
+    fn length(&mut self) -> Result<u64, Failed>
+        ensures fails { IsErr result }
+        ensures count { RaisedByOne self.old self.new }
+    {
+        self.count_call();
+        Err(Failed)
+    }
+
+    fn read_at(&mut self, _at: u64, _into: &mut [u8]) -> Result<usize, Failed>
+        ensures fails { IsErr result }
+        ensures count { RaisedByOne self.old self.new }
+    {
+        self.count_call();
+        Err(Failed)
+    }
+
+    fn write_at(&mut self, _at: u64, _bytes: &[u8]) -> Result<(), Failed>
+        ensures fails { IsErr result }
+        ensures count { RaisedByOne self.old self.new }
+    {
+        self.count_call();
+        Err(Failed)
+    }
+
+    fn cut(&mut self, _to: u64) -> Result<(), Failed>
+        ensures fails { IsErr result }
+        ensures count { RaisedByOne self.old self.new }
+    {
+        self.count_call();
+        Err(Failed)
+    }
+
+    fn sync(&mut self) -> Result<(), Failed>
+        ensures fails { IsErr result }
+        ensures count { RaisedByOne self.old self.new }
+    {
+        self.count_call();
+        Err(Failed)
+    }
+}
+
+impl Link for Absent {
+    ghost use Rattle.std.specs.Prelude.{None};
+
+    ghost told = { λ l. None };
+
+    ghost faults = { λ l. l };
+
+    fn exchange(
+        &mut self,
+        _to: &Peer,
+        _request: &[u8],
+        answer: &mut Vec<u8>,
+    ) -> Result<(), LinkError>
+        ensures fails { result ≡ Err LinkError.Failed }
+        ensures answer { answer.new ≡ answer.old }
+        ensures count { RaisedByOne self.old self.new }
+    {
+        self.count_call();
+        Err(LinkError::Failed)
+    }
+}
+
+impl Clock for Absent {
+    ghost use Rattle.std.specs.Prelude.{None};
+
+    ghost coming = { λ c. None };
+
+    ghost faults = { λ c. c };
+
+    fn now(&mut self) -> Result<u64, Failed>
+        ensures fails { IsErr result }
+        ensures count { RaisedByOne self.old self.new }
+    {
+        self.count_call();
+        Err(Failed)
+    }
+}

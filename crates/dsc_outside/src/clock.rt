@@ -1,0 +1,20 @@
+//! Clocks.
+ghost use Rattle.std.specs.Prelude.{◌≤◌, ℕ, List, Option, IfOk};
+ghost use Rattle.dsc_outside.specs.Causes.{HasCause};
+ghost use Rattle.dsc_outside.specs.Clock.{TakesReading, last_moment};
+
+use crate::Failed;
+
+pub trait Clock {
+    /// The readings that it still gives, in order, where they are told; one that is none is a failure.
+    ghost coming: { Self → Option (List (Option ℕ)) };
+
+    /// How often a call has failed.
+    ghost faults: { Self → ℕ };
+
+    /// The seconds since 1970-01-01T00:00:00Z, at most 253,402,207,200.
+    fn now(&mut self) -> Result<u64, Failed>
+        ensures moment { IfOk result (λ t. t ≤ last_moment) }
+        ensures reading { TakesReading (coming self.old) (coming self.new) result }
+        ensures cause { HasCause (faults self.old) (faults self.new) result };
+}

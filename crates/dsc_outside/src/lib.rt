@@ -1,0 +1,27 @@
+//! The outside of the product: what it reads, writes, tests and asks, as traits.
+//!
+//! Each trait has a count of faults that never falls, and a call answers `Failed` only where the count rose in
+//! that call, or stands at 2^64 - 1. What an object holds is told or not: forms in memory tell it, the real things
+//! do not, and the clauses on content hold where it is told.
+#![tactic(auto)]
+
+mod absent;
+mod clock;
+mod disk;
+mod ends;
+mod failed;
+mod host;
+mod link;
+mod sink;
+mod source;
+
+pub use absent::Absent;
+pub use clock::Clock;
+pub use disk::Disk;
+pub use ends::Ends;
+pub use failed::Failed;
+pub use host::{Host, HostError};
+pub use link::{Link, LinkError, Peer};
+pub use mof_values::Memory;
+pub use sink::Sink;
+pub use source::Source;
