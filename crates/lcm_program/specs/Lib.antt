@@ -1,3 +1,9 @@
-pub mod Trace
+pub mod Holds
+pub mod Kinds
 pub mod Legal
+pub mod Status
+pub mod Streams
+pub mod Trace
+pub mod True
 pub mod Whole
+pub mod Words

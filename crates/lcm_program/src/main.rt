@@ -2,11 +2,19 @@
 #![tactic(auto)]
 
 mod entry;
+mod kinds;
 mod resources;
 mod runs;
+mod status;
+mod streams;
+mod words;
 
 pub use entry::{Entry, Failure, SetAnswer, TestAnswer};
+pub use kinds::Kinds;
 pub use resources::Resources;
 pub use runs::{RunEnd, RunMode, monitor};
+pub use status::{InputError, Status};
+pub use streams::{ReadError, read_all, write_all};
+pub use words::{Command, UsageError, read_words};
 
 fn main() {}

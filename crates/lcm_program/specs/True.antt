@@ -1,0 +1,44 @@
+-- Which answers are true of a machine.
+use Rattle.std.specs.Prelude.{◌≡◌, ℕ, List, Option, Some, None, ⊤, IfSome, slice_get}
+use Rattle.dsc_outside.specs.Host.{HostState}
+use Rattle.dsc_document.specs.declared.document.Document.{Document}
+use Rattle.lcm_program.specs.declared.entry.Failure.{Failure}
+use Rattle.lcm_program.specs.declared.entry.Failure.TheVariants.{NoSuchResource, HostFailed}
+use Rattle.lcm_program.specs.declared.entry.TestAnswer.{TestAnswer}
+use Rattle.lcm_program.specs.declared.entry.TestAnswer.TheVariants as tests
+use Rattle.lcm_program.specs.declared.entry.Entry.{Entry}
+use Rattle.lcm_program.specs.declared.entry.Entry.TheVariants.{Tested, Set}
+use Rattle.lcm_program.specs.Holds.{Variable, variable_of, Holds}
+use Rattle.lcm_program.specs.Trace.{Chain}
+
+-- the Test of a resource of a known kind
+abbrev pub AnswersKnown : HostState → Variable → TestAnswer → Type 0
+AnswersKnown host variable tests.Yes = Holds host variable
+AnswersKnown host variable tests.No = Holds host variable → ⊥
+AnswersKnown host variable (tests.Fault failure) = failure ≡ HostFailed
+AnswersKnown host variable tests.Memory = ⊤
+
+-- yes where the resource is known and holds, no where it is known and does not hold, else the fault of its kind
+abbrev pub AnswersTrue : HostState → Option Variable → TestAnswer → Type 0
+AnswersTrue host None answer = answer ≡ tests.Fault NoSuchResource
+AnswersTrue host (Some variable) answer = AnswersKnown host variable answer
+
+-- an entry over what a host tells: the answer is true, and a Test leaves the host as it was
+abbrev pub IsTrueEntry : HostState → Document → Entry → HostState → Type 0
+IsTrueEntry before document (Tested place answer) after =
+    (after ≡ before) × IfSome (slice_get document.resources place) (λ resource. AnswersTrue before (variable_of resource.instance.properties) answer)
+IsTrueEntry before document (Set place answer) after = ⊥  -- no resource is set yet
+
+-- the answers along a trace are true, from a host to a host
+abbrev pub True : Document → HostState → List Entry → HostState → Type 0
+True document before trace after = Chain (λ a d e b. IsTrueEntry a d e b) (λ a b. a ≡ b) document before trace after
+
+-- one entry where the host tells what it holds
+abbrev pub TellsEntry : Option HostState → Document → Entry → Option HostState → Type 0
+TellsEntry None document e after = after ≡ None
+TellsEntry (Some before) document e after = (state : HostState) × (after ≡ Some state) × IsTrueEntry before document e state
+
+-- a trace where the host tells what it holds
+abbrev pub TellsTrue : Document → Option HostState → List Entry → Option HostState → Type 0
+TellsTrue document None trace after = after ≡ None
+TellsTrue document (Some before) trace after = (state : HostState) × (after ≡ Some state) × True document before trace state

@@ -1,0 +1,52 @@
+//! How the program ends.
+ghost use Rattle.std.specs.Prelude.{◌≡◌};
+ghost use Rattle.lcm_program.specs.Status.{number_of};
+
+/// Why the input was refused.
+#[derive(Clone, Copy, Debug, PartialEq, Eq)]
+pub enum InputError {
+    /// It is longer than 2,097,152 bytes.
+    TooLong,
+
+    /// It is not in the form that is read so far.
+    NotYet,
+}
+
+/// How the program ended.
+#[derive(Clone, Copy, Debug, PartialEq, Eq)]
+pub enum Status {
+    Done,
+
+    /// So many resources are not as the document asks.
+    NotCompliant { count: u32 },
+
+    /// The words are in no form: no form goes on with the word at that place, or with none behind the last word.
+    Usage { word: u32 },
+
+    InputRefused(InputError),
+
+    /// Reading the input failed.
+    ReadFault,
+
+    /// Writing the output failed.
+    WriteFault,
+
+    /// Memory was refused.
+    Memory,
+}
+
+impl Status {
+    /// The exit status of the program.
+    pub fn number(self) -> u8
+        ensures { result ≡ number_of self }
+    {
+        match self {
+            Status::Done => 0,
+            Status::NotCompliant { .. } => 1,
+            Status::Usage { .. } => 2,
+            Status::InputRefused(_) => 3,
+            Status::ReadFault | Status::WriteFault => 4,
+            Status::Memory => 8,
+        }
+    }
+}

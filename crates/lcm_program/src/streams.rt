@@ -1,0 +1,62 @@
+//! Whole inputs and outputs.
+ghost use Rattle.std.specs.Prelude.{◌≡◌, ◌<◌, ◌≤◌, ◌^◌, length, OnOk, OnErr, IfOk, IfSome, IsErrOf};
+ghost use Rattle.std.specs.Io.KnownBytes.{Appends};
+ghost use Rattle.dsc_terms.specs.Counts.{Rose};
+ghost use Rattle.dsc_outside.specs.Causes.{HasCause};
+ghost use Rattle.lcm_program.specs.Streams.{AppendsPart};
+
+use dsc_outside::{Failed, Sink, Source};
+use std::alloc::Global;
+
+/// Why an input was not read.
+#[derive(Clone, Copy, Debug, PartialEq, Eq)]
+pub enum ReadError {
+    Failed,
+    TooLong,
+    Memory,
+}
+
+/// Reads to the end, where that is no more than so many bytes.
+pub fn read_all<S: Source>(
+    alloc: Global,
+    source: &mut S,
+    limit: usize,
+) -> Result<Vec<u8>, ReadError>
+    requires { limit < 2 ^ 62 }
+    ensures ok { IfOk result (λ v. IfSome (S.left source.old) (λ all. v.items ≡ all)) }
+    ensures fits { IfOk result (λ v. length v.items ≤ limit) }
+    ensures too_long { IsErrOf result ReadError.TooLong → IfSome (S.left source.old) (λ all. limit < length all) }
+    ensures failed { IsErrOf result ReadError.Failed → Rose (S.faults source.old) (S.faults source.new) }
+    ensures later { S.faults source.old ≤ S.faults source.new }
+{
+    let mut bytes = Vec::new(alloc);
+    let mut buffer = [0u8; 8192];
+    loop {
+        match source.read(&mut buffer) {
+            Err(Failed) => return Err(ReadError::Failed),
+            Ok(0) => return Ok(bytes),
+            Ok(count) => {
+                if bytes.extend_from_slice(&buffer[..count]).is_err() {
+                    return Err(ReadError::Memory);
+                }
+                if bytes.len() > limit {
+                    return Err(ReadError::TooLong);
+                }
+            }
+        }
+    }
+}
+
+/// Writes all the bytes, or where the sink fails a part from their front.
+pub fn write_all<K: Sink>(sink: &mut K, bytes: &[u8]) -> Result<(), Failed>
+    ensures ok { OnOk result (Appends (K.held sink.old) (K.held sink.new) bytes.now) }
+    ensures err { OnErr result (AppendsPart (K.held sink.old) (K.held sink.new) bytes.now) }
+    ensures cause { HasCause (K.faults sink.old) (K.faults sink.new) result }
+{
+    let mut rest = bytes;
+    while !rest.is_empty() {
+        let count = sink.write(rest)?;
+        rest = &rest[count..];
+    }
+    Ok(())
+}
