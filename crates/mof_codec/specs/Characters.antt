@@ -5,30 +5,43 @@ use Rattle.std.specs.Char.{is_digit, to_ascii_lowercase}
 
 abbrev pub line_feed : ℕ
 line_feed = 10
+
 abbrev pub quote : ℕ
 quote = 34
+
 abbrev pub dollar : ℕ
 dollar = 36
+
 abbrev pub star : ℕ
 star = 42
+
 abbrev pub plus_sign : ℕ
 plus_sign = 43
+
 abbrev pub comma : ℕ
 comma = 44
+
 abbrev pub minus_sign : ℕ
 minus_sign = 45
+
 abbrev pub slash : ℕ
 slash = 47
+
 abbrev pub digit_zero : ℕ
 digit_zero = 48
+
 abbrev pub semicolon : ℕ
 semicolon = 59
+
 abbrev pub equals_sign : ℕ
 equals_sign = 61
+
 abbrev pub backslash : ℕ
 backslash = 92
+
 abbrev pub left_brace : ℕ
 left_brace = 123
+
 abbrev pub right_brace : ℕ
 right_brace = 125
 
@@ -43,6 +56,7 @@ digit_of base c = is_digit c base
 -- an x, and a b, in either case
 abbrev pub is_x : ℕ → Bool
 is_x c = to_ascii_lowercase c == 120
+
 abbrev pub is_b : ℕ → Bool
 is_b c = to_ascii_lowercase c == 98
 

@@ -4,3 +4,10 @@ pub mod Strings
 pub mod Integers
 pub mod Tokens
 pub mod Grammar
+pub mod Encodings
+pub mod Limits
+pub mod Canonical
+pub mod Fronts
+pub mod Profile
+pub mod Counts
+pub mod Refusals
