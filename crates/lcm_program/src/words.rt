@@ -21,8 +21,10 @@ pub fn read_words(words: &[String]) -> Result<Command, UsageError>
     ensures usage { IfErr result (λ error. IsUsage (map string_bytes words.now) error.word) }
 {
     match words {
-        [first] if first.as_str() == "test" => Ok(Command::Test),
-        [first, ..] if first.as_str() == "test" => Err(UsageError { word: 1 }),
+        [first, rest @ ..] if first.as_str() == "test" => match rest {
+            [] => Ok(Command::Test),
+            _ => Err(UsageError { word: 1 }),
+        },
         _ => Err(UsageError { word: 0 }),
     }
 }

@@ -1,0 +1,13 @@
+pub mod Characters
+pub mod Separators
+pub mod Strings
+pub mod Integers
+pub mod Tokens
+pub mod Grammar
+pub mod Encodings
+pub mod Limits
+pub mod Canonical
+pub mod Fronts
+pub mod Profile
+pub mod Counts
+pub mod Refusals

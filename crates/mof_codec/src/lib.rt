@@ -1,0 +1,8 @@
+//! Management documents as text: the MOF instance syntax of DMTF DSP0004, within one profile of it.
+#![tactic(auto)]
+
+mod mof_error;
+mod text_error;
+
+pub use mof_error::{Form, MofError};
+pub use text_error::TextError;
