@@ -1,6 +1,7 @@
 pub mod Holds
 pub mod Kinds
 pub mod Legal
+pub mod Lines
 pub mod Status
 pub mod Streams
 pub mod Trace

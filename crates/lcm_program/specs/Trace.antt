@@ -1,5 +1,6 @@
 -- Traces: the entries of a run, in order.
-use Rattle.std.specs.Prelude.{◌≡◌, ◌==◌, ℕ, List, [], ◌∷◌, ◌++◌, Option, Some, map, sum_by, Contains, find, reverse}
+use Rattle.std.specs.Prelude.{◌≡◌, ◌==◌, ◌-◌, ℕ, Bool, true, false, IsTrue, List, [], ◌∷◌, ◌++◌, length, Option, Some, None, map, sum_by, count_by, Contains, find, reverse}
+use Rattle.dsc_terms.specs.Lists.{places_below}
 use Rattle.dsc_document.specs.declared.document.Document.{Document}
 use Rattle.lcm_program.specs.declared.entry.Failure.{Failure}
 use Rattle.lcm_program.specs.declared.entry.Failure.TheVariants.{NoSuchResource, HostFailed}
@@ -23,9 +24,34 @@ HasEntry trace r = Contains (map place_of trace) r
 abbrev pub last_entry : List Entry → ℕ → Option Entry
 last_entry trace r = find (λ e. place_of e == r) (reverse trace)
 
+abbrev pub test_is_yes : TestAnswer → Bool
+test_is_yes tests.Yes = true
+test_is_yes tests.No = false
+test_is_yes (tests.Fault failure) = false
+test_is_yes tests.Memory = false
+
+abbrev pub entry_is_yes : Entry → Bool
+entry_is_yes (Tested place answer) = test_is_yes answer
+entry_is_yes (Set place answer) = false
+
+abbrev pub is_yes : Option Entry → Bool
+is_yes None = false
+is_yes (Some entry) = entry_is_yes entry
+
 -- the last entry of the resource is a test that answered yes
+abbrev pub has_succeeded : List Entry → ℕ → Bool
+has_succeeded trace r = is_yes (last_entry trace r)
+
 abbrev pub Succeeded : List Entry → ℕ → Type 0
-Succeeded trace r = last_entry trace r ≡ Some (Tested r tests.Yes)
+Succeeded trace r = IsTrue (has_succeeded trace r)
+
+-- how many resources of the document succeeded
+abbrev pub succeeded_count : Document → List Entry → ℕ
+succeeded_count document trace = count_by (has_succeeded trace) (places_below (length document.resources))
+
+-- how many did not
+abbrev pub missed_count : Document → List Entry → ℕ
+missed_count document trace = length document.resources - succeeded_count document trace
 
 abbrev pub EndsWith : List Entry → Entry → Type 0
 EndsWith trace e = (front : List Entry) × (trace ≡ front ++ e ∷ [])

@@ -1,4 +1,5 @@
 //! What a run keeps of each call: which resource was tested or set, and with which answer.
+ghost use Rattle.std.specs.Prelude.{◌≡◌};
 
 /// Why a resource could not be tested or set.
 #[derive(Clone, Copy, Debug, PartialEq, Eq)]
@@ -8,6 +9,19 @@ pub enum Failure {
 
     /// A call of the host failed.
     HostFailed,
+}
+
+impl Failure {
+    ghost use Rattle.lcm_program.specs.Lines.{failure_name};
+
+    pub fn name(self) -> &'static str
+        ensures { result.now ≡ failure_name self }
+    {
+        match self {
+            Failure::NoSuchResource => "NoSuchResource",
+            Failure::HostFailed => "HostFailed",
+        }
+    }
 }
 
 /// What the Test of a resource answers.
@@ -35,4 +49,16 @@ pub enum SetAnswer {
 pub enum Entry {
     Tested { place: u32, answer: TestAnswer },
     Set { place: u32, answer: SetAnswer },
+}
+
+impl Entry {
+    ghost use Rattle.lcm_program.specs.Trace.{place_of};
+
+    pub fn place(&self) -> u32
+        ensures { result ≡ place_of self.now }
+    {
+        match self {
+            Entry::Tested { place, .. } | Entry::Set { place, .. } => *place,
+        }
+    }
 }

@@ -3,6 +3,8 @@
 
 mod entry;
 mod kinds;
+mod lines;
+mod literal;
 mod resources;
 mod runs;
 mod status;
@@ -11,6 +13,7 @@ mod words;
 
 pub use entry::{Entry, Failure, SetAnswer, TestAnswer};
 pub use kinds::Kinds;
+pub use lines::{lines_of, succeeded};
 pub use resources::Resources;
 pub use runs::{RunEnd, RunMode, monitor};
 pub use status::{InputError, Status};

@@ -1,0 +1,58 @@
+-- The printed lines of a run.
+use Rattle.std.specs.Prelude.{◌==◌, ℕ, ◌-◌, List, [], ◌++◌, length, Option, Some, None, codes, slice_get, encode_utf8_all, if◌then◌else◌}
+use Rattle.std.specs.List.{flat_map}
+use Rattle.std.specs.Fmt.{decimal}
+use Rattle.mof_codec.specs.Canonical.{canonical_literal}
+use Rattle.dsc_document.specs.declared.document.Document.{Document}
+use Rattle.dsc_document.specs.declared.document.Resource.{Resource}
+use Rattle.lcm_program.specs.declared.entry.Failure.{Failure}
+use Rattle.lcm_program.specs.declared.entry.Failure.TheVariants.{NoSuchResource, HostFailed}
+use Rattle.lcm_program.specs.declared.entry.TestAnswer.{TestAnswer}
+use Rattle.lcm_program.specs.declared.entry.TestAnswer.TheVariants as tests
+use Rattle.lcm_program.specs.declared.entry.SetAnswer.{SetAnswer}
+use Rattle.lcm_program.specs.declared.entry.SetAnswer.TheVariants as sets
+use Rattle.lcm_program.specs.declared.entry.Entry.{Entry}
+use Rattle.lcm_program.specs.declared.entry.Entry.TheVariants.{Tested, Set}
+use Rattle.lcm_program.specs.Trace.{succeeded_count}
+
+-- an id or a name, as one literal of the instance syntax
+abbrev pub quoted : List ℕ → List ℕ
+quoted text = encode_utf8_all (canonical_literal text)
+
+abbrev pub failure_name : Failure → List ℕ
+failure_name NoSuchResource = codes "NoSuchResource"
+failure_name HostFailed = codes "HostFailed"
+
+abbrev pub test_words : TestAnswer → List ℕ
+test_words tests.Yes = codes " yes"
+test_words tests.No = codes " no"
+test_words (tests.Fault failure) = codes " fault " ++ failure_name failure
+test_words tests.Memory = codes " memory"
+
+abbrev pub set_words : SetAnswer → List ℕ
+set_words sets.Done = codes " done"
+set_words sets.Reboot = codes " reboot"
+set_words (sets.Fault failure) = codes " fault " ++ failure_name failure
+set_words sets.Memory = codes " memory"
+
+abbrev pub id_of : Option Resource → List ℕ
+id_of None = []
+id_of (Some resource) = resource.id
+
+abbrev pub id_at : Document → ℕ → List ℕ
+id_at document place = id_of (slice_get document.resources place)
+
+-- what was done with which resource, and the answer
+abbrev pub line_of : Document → Entry → List ℕ
+line_of document (Tested place answer) = codes "test " ++ quoted (id_at document place) ++ test_words answer ++ codes "\n"
+line_of document (Set place answer) = codes "set " ++ quoted (id_at document place) ++ set_words answer ++ codes "\n"
+
+abbrev pub verdict : ℕ → ℕ → List ℕ
+verdict total succeeded = if total == succeeded then codes "compliant\n" else codes "not compliant " ++ decimal (total - succeeded) ++ codes "\n"
+
+abbrev pub summary : ℕ → ℕ → List ℕ
+summary total succeeded = codes "resources " ++ decimal total ++ codes " succeeded " ++ decimal succeeded ++ codes "\n" ++ verdict total succeeded
+
+-- a line for each entry, how many resources succeeded, and the verdict
+abbrev pub run_lines : Document → List Entry → List ℕ
+run_lines document trace = flat_map (line_of document) trace ++ summary (length document.resources) (succeeded_count document trace)

@@ -1,0 +1,142 @@
+//! The printed lines of a run.
+ghost use Rattle.std.specs.Prelude.{◌≡◌, ◌<◌, ◌≤◌, ◌++◌, length, count_by, codes, All, OnOk, IfOk, string_bytes};
+ghost use Rattle.std.specs.Option.{option_copied};
+ghost use Rattle.std.specs.List.{flat_map};
+ghost use Rattle.dsc_terms.specs.Lists.{places_below};
+ghost use Rattle.lcm_program.specs.Trace.{place_of, entry_is_yes, last_entry, has_succeeded};
+ghost use Rattle.lcm_program.specs.Lines.{failure_name, test_words, set_words, id_at, line_of, verdict, summary, run_lines};
+
+use crate::entry::{Entry, Failure, SetAnswer, TestAnswer};
+use crate::literal::push_literal;
+use dsc_document::Document;
+use std::alloc::{AllocError, Global};
+
+/// The lines of a run; `places` are those of all resources, in order.
+pub fn lines_of(
+    alloc: Global,
+    document: &Document,
+    places: &[u32],
+    calls: &[Entry],
+) -> Result<String, AllocError>
+    requires places { places.now ≡ places_below (length document.now.resources) }
+    requires known { All (λ e. place_of e < length document.now.resources) calls.now }
+    ensures { IfOk result (λ s. string_bytes s ≡ run_lines document.now calls.now) }
+{
+    let mut out = String::new(alloc);
+    for entry in calls {
+        push_line(&mut out, document, entry)?;
+    }
+    let total = document.resources.as_slice().len();
+    let good = count_succeeded(places, calls);
+    push_summary(&mut out, total, good)?;
+    Ok(out)
+}
+
+/// How many of the resources succeeded.
+pub fn count_succeeded(places: &[u32], calls: &[Entry]) -> usize
+    ensures value { result ≡ count_by (has_succeeded calls.now) places.now }
+    ensures bound { result ≤ length places.now }
+{
+    places.iter().filter(|r| succeeded(calls, **r)).count()
+}
+
+/// Tells whether the last entry of the resource at that place is a test that answered yes.
+pub fn succeeded(calls: &[Entry], place: u32) -> bool
+    ensures { result ≡ has_succeeded calls.now place }
+{
+    match last_of(calls, place) {
+        None => false,
+        Some(entry) => is_yes(entry),
+    }
+}
+
+fn last_of(calls: &[Entry], place: u32) -> Option<&Entry>
+    ensures { option_copied result ≡ last_entry calls.now place }
+{
+    calls.iter().rev().find(|e| e.place() == place)
+}
+
+fn is_yes(entry: &Entry) -> bool
+    ensures { result ≡ entry_is_yes entry.now }
+{
+    match entry {
+        Entry::Tested { answer, .. } => matches!(answer, TestAnswer::Yes),
+        Entry::Set { .. } => false,
+    }
+}
+
+fn push_line(out: &mut String, document: &Document, entry: &Entry) -> Result<(), AllocError>
+    requires { place_of entry.now < length document.now.resources }
+    ensures { OnOk result (string_bytes out.new ≡ string_bytes out.old ++ line_of document.now entry.now) }
+{
+    match entry {
+        Entry::Tested { place, answer } => {
+            out.push_str("test ")?;
+            push_literal(out, id(document, *place))?;
+            push_test(out, *answer)?;
+        }
+        Entry::Set { place, answer } => {
+            out.push_str("set ")?;
+            push_literal(out, id(document, *place))?;
+            push_set(out, *answer)?;
+        }
+    }
+    out.push_str("\n")?;
+    Ok(())
+}
+
+fn id(document: &Document, place: u32) -> &[char]
+    requires { place < length document.now.resources }
+    ensures { result.now ≡ id_at document.now place }
+{
+    document.resources.as_slice()[place as usize].id.as_slice()
+}
+
+fn push_test(out: &mut String, answer: TestAnswer) -> Result<(), AllocError>
+    ensures { OnOk result (string_bytes out.new ≡ string_bytes out.old ++ test_words answer) }
+{
+    match answer {
+        TestAnswer::Yes => out.push_str(" yes"),
+        TestAnswer::No => out.push_str(" no"),
+        TestAnswer::Fault(failure) => push_fault(out, failure),
+        TestAnswer::Memory => out.push_str(" memory"),
+    }
+}
+
+fn push_set(out: &mut String, answer: SetAnswer) -> Result<(), AllocError>
+    ensures { OnOk result (string_bytes out.new ≡ string_bytes out.old ++ set_words answer) }
+{
+    match answer {
+        SetAnswer::Done => out.push_str(" done"),
+        SetAnswer::Reboot => out.push_str(" reboot"),
+        SetAnswer::Fault(failure) => push_fault(out, failure),
+        SetAnswer::Memory => out.push_str(" memory"),
+    }
+}
+
+fn push_fault(out: &mut String, failure: Failure) -> Result<(), AllocError>
+    ensures { OnOk result (string_bytes out.new ≡ string_bytes out.old ++ codes " fault " ++ failure_name failure) }
+{
+    out.push_str(" fault ")?;
+    out.push_str(failure.name())?;
+    Ok(())
+}
+
+fn push_summary(out: &mut String, total: usize, good: usize) -> Result<(), AllocError>
+    requires { good ≤ total }
+    ensures { OnOk result (string_bytes out.new ≡ string_bytes out.old ++ summary total good) }
+{
+    write!(out, "resources {total} succeeded {good}\n")?;
+    push_verdict(out, total, good)
+}
+
+fn push_verdict(out: &mut String, total: usize, good: usize) -> Result<(), AllocError>
+    requires { good ≤ total }
+    ensures { OnOk result (string_bytes out.new ≡ string_bytes out.old ++ verdict total good) }
+{
+    if total == good {
+        return out.push_str("compliant\n");
+    }
+    let missed = total - good;
+    write!(out, "not compliant {missed}\n")
+}
