@@ -1,2 +1,2 @@
-pub mod Splits
 pub mod Traces
+pub mod Monitored

@@ -1,5 +1,5 @@
 -- How a trace grows by one entry.
-use Rattle.std.proofs.Common.{◌≡◌, ◌⊎◌, inl, inr, ℕ, ◌+◌, ◌<◌, List, [], ◌∷◌, ◌++◌, length, take, drop, get_or, map, refl, sym, ◌∙◌, ap, subst, arith, length-append, All}
+use Rattle.std.proofs.Common.{Option, Some, None, ◌≡◌, ◌⊎◌, inl, inr, ℕ, ◌+◌, ◌<◌, List, [], ◌∷◌, ◌++◌, length, take, drop, get_or, map, refl, sym, ◌∙◌, ap, subst, arith, length-append, All}
 use Rattle.std.specs.Prelude.{Contains}
 use Rattle.std.proofs.lemmas.List.{take_more, take-append-drop, drop_more, map_push}
 use Rattle.std.proofs.lemmas.List.Elements.{Contains-append_left}
@@ -14,8 +14,10 @@ use Rattle.lcm_program.specs.declared.entry.TestAnswer.{TestAnswer}
 use Rattle.lcm_program.specs.declared.entry.TestAnswer.TheVariants as tests
 use Rattle.lcm_program.specs.Trace.{Chain, place_of, entry_failures, host_failures, HasEntry, EndsWith, IsFinal}
 use Rattle.lcm_program.specs.Legal.{Legal, MayTest, MayFollow, GoesOn, IsFirstTest}
+use Rattle.dsc_outside.specs.Host.{HostState}
+use Rattle.lcm_program.specs.True.{True, TellsTrue, TellsEntry}
 use Rattle.lcm_program.specs.Whole.{Whole, IsReached}
-use Rattle.lcm_program.proofs.Splits.{split_push, split_at, precedes, precedes_front}
+use Rattle.dsc_terms.proofs.Splits.{split_push, split_at, precedes, precedes_front}
 
 pub legal_push : (document : Document) (mode : RunMode) (order : List ℕ) (t : List Entry) (e : Entry) → Legal document mode order t → MayFollow document mode order t e
     → Legal document mode order (t ++ e ∷ [])
@@ -101,3 +103,24 @@ pub chain_map : {S T : Type 0} (f : S → T) (does : T → Document → Entry �
     → Chain (λ x d e y. does (f x) d e (f y)) (λ x y. still (f x) (f y)) document a t b → Chain does still document (f a) t (f b)
 chain_map f does still document a [] b chain = chain
 chain_map f does still document a (e ∷ t) b chain = (f chain.0, chain.1, chain_map f does still document chain.0 t b chain.2)
+
+-- what a chain of values over a host tells is true, where the host tells
+pub tells_true : (document : Document) (t : List Entry) (a b : Option HostState) → Chain TellsEntry (λ x y. x ≡ y) document a t b → TellsTrue document a t b
+tells_true document [] None b chain = sym chain
+tells_true document [] (Some s) b chain = (s, sym chain, refl)
+tells_true document (e ∷ t) None b chain =
+    tells_true document t None b (subst (λ (m : Option HostState). Chain TellsEntry (λ x y. x ≡ y) document m t b) chain.1 chain.2)
+tells_true document (e ∷ t) (Some s) b chain =
+    let step = chain.1 in
+    let rest = tells_true document t (Some step.0) b (subst (λ (m : Option HostState). Chain TellsEntry (λ x y. x ≡ y) document m t b) step.1 chain.2) in
+    (rest.0, rest.1, (step.0, step.2, rest.2))
+
+-- true answers of tests leave the host as it was
+pub true_keeps : (document : Document) (t : List Entry) (a b : HostState) → True document a t b → b ≡ a
+true_keeps document [] a b chain = sym chain
+true_keeps document (Tested place answer ∷ t) a b chain = true_keeps document t chain.0 b chain.2 ∙ chain.1.0
+true_keeps document (Set place answer ∷ t) a b chain = absurd chain.1
+
+pub tells_true_keeps : (document : Document) (t : List Entry) (a b : Option HostState) → TellsTrue document a t b → b ≡ a
+tells_true_keeps document t None b tells = tells
+tells_true_keeps document t (Some s) b tells = tells.1 ∙ ap (λ (x : HostState). Some x) (true_keeps document t s tells.0 tells.2)

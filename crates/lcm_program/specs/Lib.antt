@@ -1,10 +1,14 @@
 pub mod Holds
+pub mod Input
 pub mod Kinds
 pub mod Legal
 pub mod Lines
+pub mod Ran
+pub mod Refusal
 pub mod Status
 pub mod Streams
 pub mod Trace
 pub mod True
+pub mod Unread
 pub mod Whole
 pub mod Words
