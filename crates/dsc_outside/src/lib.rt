@@ -13,6 +13,7 @@ mod failed;
 mod host;
 mod link;
 mod memory;
+pub mod real;
 mod sink;
 mod source;
 
