@@ -1,5 +1,6 @@
 -- What a machine holds.
 use Rattle.std.specs.Prelude.{◌≡◌, ℕ, List, ◌++◌, Bool, true, false, Option, Some, None, Result, Ok, Err, ⊤, IfOk}
+use Rattle.std.specs.Io.{StartsWith}
 
 pub record HostState : Type 0 where
   -- the bytes of the environment variable that is there, by the UTF-8 bytes of its folded name
@@ -17,8 +18,8 @@ abbrev pub TellsVariable : {E : Type 0} → Option HostState → List ℕ → Re
 TellsVariable None name result old new = ⊤
 TellsVariable (Some host) name result old new = IfOk result (λ there. Shows (host.variable name) there old new)
 
--- the buffer of a look-up: a value behind its bytes where one is there, else as it was
+-- the buffer of a look-up: its bytes stay, with a value behind them where one is there
 abbrev pub LeavesBuffer : {E : Type 0} → Result Bool E → List ℕ → List ℕ → Type 0
-LeavesBuffer (Ok true) old new = (value : List ℕ) × (new ≡ old ++ value)
+LeavesBuffer (Ok true) old new = StartsWith new old
 LeavesBuffer (Ok false) old new = new ≡ old
 LeavesBuffer (Err e) old new = new ≡ old

@@ -3,3 +3,4 @@ pub mod Clock
 pub mod Disk
 pub mod Host
 pub mod Link
+pub mod Memory

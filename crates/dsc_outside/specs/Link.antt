@@ -1,5 +1,6 @@
 -- What a link tells of its exchanges.
-use Rattle.std.specs.Prelude.{◌≡◌, ◌⊎◌, ◌<◌, ℕ, List, [], ◌∷◌, ◌++◌, length, Option, Some, None, Result, Ok, Err, IsErrOf, ⊤}
+use Rattle.std.specs.Prelude.{◌≡◌, ◌⊎◌, ◌<◌, ℕ, ◌+◌, List, [], ◌∷◌, ◌++◌, length, Option, Some, None, Result, Ok, Err, IsErrOf, ⊤}
+use Rattle.std.specs.Io.{StartsWith}
 use Rattle.dsc_outside.specs.declared.link.LinkError.{LinkError}
 use Rattle.dsc_outside.specs.declared.link.LinkError.TheVariants as errors
 use Rattle.dsc_outside.specs.declared.link.Peer.{Peer}
@@ -43,7 +44,7 @@ AddsExchange (Some before) after to request result old new =
     ((outcome : Outcome) × ComesTo result old new outcome × (after ≡ Some (before ++ record { peer = to; request = request; outcome = outcome } ∷ [])))
     ⊎ (IsErrOf result errors.Memory × (after ≡ Some before))
 
--- the buffer of an answer: the answer behind its bytes where there is one, else as it was
+-- the buffer of an answer: its bytes stay, with the answer behind them where there is one
 abbrev pub LeavesAnswer : Result (Unit {0}) LinkError → List ℕ → List ℕ → Type 0
-LeavesAnswer (Ok done) old new = (bytes : List ℕ) × (new ≡ old ++ bytes) × (length bytes < answer_limit)
+LeavesAnswer (Ok done) old new = StartsWith new old × (length new < length old + answer_limit)
 LeavesAnswer (Err error) old new = new ≡ old

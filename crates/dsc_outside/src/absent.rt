@@ -1,6 +1,6 @@
 //! What is not there.
-ghost use Rattle.std.specs.Prelude.{◌≡◌, Err, IsErr};
-ghost use Rattle.dsc_outside.specs.Causes.{RaisedByOne};
+ghost use Rattle.std.specs.Prelude.{◌≡◌, ◌≤◌, Err, IsErr};
+ghost use Rattle.dsc_outside.specs.Causes.{HasCause, HasCauseOf, one_more};
 
 use crate::{Clock, Disk, Failed, Link, LinkError, Peer};
 use std::marker::Model;
@@ -28,7 +28,8 @@ impl Absent {
     }
 
     fn count_call(&mut self)
-        ensures { RaisedByOne self.old self.new }
+        ensures later { self.old ≤ self.new }
+        ensures count { self.new ≡ one_more self.old }
     {
         self.calls = self.calls.saturating_add(1);
     }
@@ -56,7 +57,8 @@ impl Disk for Absent {
 
     fn length(&mut self) -> Result<u64, Failed>
         ensures fails { IsErr result }
-        ensures count { RaisedByOne self.old self.new }
+        ensures count { self.new ≡ one_more self.old }
+        ensures cause { HasCause self.old self.new result }
     {
         self.count_call();
         Err(Failed)
@@ -64,7 +66,8 @@ impl Disk for Absent {
 
     fn read_at(&mut self, _at: u64, _into: &mut [u8]) -> Result<usize, Failed>
         ensures fails { IsErr result }
-        ensures count { RaisedByOne self.old self.new }
+        ensures count { self.new ≡ one_more self.old }
+        ensures cause { HasCause self.old self.new result }
     {
         self.count_call();
         Err(Failed)
@@ -72,7 +75,8 @@ impl Disk for Absent {
 
     fn write_at(&mut self, _at: u64, _bytes: &[u8]) -> Result<(), Failed>
         ensures fails { IsErr result }
-        ensures count { RaisedByOne self.old self.new }
+        ensures count { self.new ≡ one_more self.old }
+        ensures cause { HasCause self.old self.new result }
     {
         self.count_call();
         Err(Failed)
@@ -80,7 +84,8 @@ impl Disk for Absent {
 
     fn cut(&mut self, _to: u64) -> Result<(), Failed>
         ensures fails { IsErr result }
-        ensures count { RaisedByOne self.old self.new }
+        ensures count { self.new ≡ one_more self.old }
+        ensures cause { HasCause self.old self.new result }
     {
         self.count_call();
         Err(Failed)
@@ -88,7 +93,8 @@ impl Disk for Absent {
 
     fn sync(&mut self) -> Result<(), Failed>
         ensures fails { IsErr result }
-        ensures count { RaisedByOne self.old self.new }
+        ensures count { self.new ≡ one_more self.old }
+        ensures cause { HasCause self.old self.new result }
     {
         self.count_call();
         Err(Failed)
@@ -110,7 +116,8 @@ impl Link for Absent {
     ) -> Result<(), LinkError>
         ensures fails { result ≡ Err LinkError.Failed }
         ensures answer { answer.new ≡ answer.old }
-        ensures count { RaisedByOne self.old self.new }
+        ensures count { self.new ≡ one_more self.old }
+        ensures cause { HasCauseOf LinkError.Failed self.old self.new result }
     {
         self.count_call();
         Err(LinkError::Failed)
@@ -126,7 +133,8 @@ impl Clock for Absent {
 
     fn now(&mut self) -> Result<u64, Failed>
         ensures fails { IsErr result }
-        ensures count { RaisedByOne self.old self.new }
+        ensures count { self.new ≡ one_more self.old }
+        ensures cause { HasCause self.old self.new result }
     {
         self.count_call();
         Err(Failed)

@@ -2,8 +2,9 @@
 ghost use Rattle.std.specs.Prelude.{◌≡◌, ℕ, Option};
 ghost use Rattle.dsc_outside.specs.Causes.{HasCauseOf};
 ghost use Rattle.dsc_outside.specs.Host.{HostState, TellsVariable, LeavesBuffer};
-ghost use Rattle.dsc_outside.specs.declared.host.HostError.TheVariants.{Memory};
+ghost use Rattle.dsc_outside.specs.declared.host.HostError.TheVariants as errors;
 
+use crate::Failed;
 use std::alloc::{AllocError, AllocFailed};
 use std::fmt;
 
@@ -14,8 +15,16 @@ pub enum HostError {
     Memory,
 }
 
+impl From<Failed> for HostError {
+    ghost from_gives = { λ _ e. e ≡ errors.Failed };
+
+    fn from(_: Failed) -> Self {
+        HostError::Failed
+    }
+}
+
 impl From<AllocError> for HostError {
-    ghost from_gives = { λ _ e. e ≡ Memory };
+    ghost from_gives = { λ _ e. e ≡ errors.Memory };
 
     fn from(_: AllocError) -> Self {
         HostError::Memory
@@ -23,7 +32,7 @@ impl From<AllocError> for HostError {
 }
 
 impl<T: Drop> From<AllocFailed<T>> for HostError {
-    ghost from_gives = { λ _ e. e ≡ Memory };
+    ghost from_gives = { λ _ e. e ≡ errors.Memory };
 
     fn from(_: AllocFailed<T>) -> Self {
         HostError::Memory

@@ -12,6 +12,8 @@ mod ends;
 mod failed;
 mod host;
 mod link;
+mod memory;
+pub mod real;
 mod sink;
 mod source;
 
@@ -22,6 +24,7 @@ pub use ends::Ends;
 pub use failed::Failed;
 pub use host::{Host, HostError};
 pub use link::{Link, LinkError, Peer};
+pub use memory::{MemoryHost, MemorySink, MemorySource, Variable};
 pub use mof_values::Memory;
 pub use sink::Sink;
 pub use source::Source;

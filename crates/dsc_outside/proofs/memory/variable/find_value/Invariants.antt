@@ -1,0 +1,6 @@
+use Rattle.std.proofs.Common.{◌≡◌, drop}
+use Rattle.dsc_outside.specs.Memory.{value_of}
+use Rattle.dsc_outside.proofs.memory.variable.find_value.Given as goal
+
+abbrev pub invariant-loop-variable : goal.invariant-loop-variable
+invariant-loop-variable l = value_of (drop l.variable-index l.variables) l.name ≡ value_of l.variables l.name

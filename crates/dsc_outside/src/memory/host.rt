@@ -1,0 +1,71 @@
+//! A host in memory.
+ghost use Rattle.std.specs.Prelude.{◌≡◌, ◌↔◌, IsErrOf, IsTrue, Some, false};
+ghost use Rattle.dsc_outside.specs.Causes.{HasCauseOf};
+ghost use Rattle.dsc_outside.specs.Host.{LeavesBuffer, Shows, TellsVariable};
+ghost use Rattle.dsc_outside.specs.Memory.{counted, is_to_fail, told_of};
+
+use super::calls::Calls;
+use super::variable::{Variable, find_value};
+use crate::{Host, HostError};
+use std::marker::Model;
+
+/// A host of given environment variables.
+#[derive(Drop)]
+pub struct MemoryHost {
+    variables: Vec<Variable>,
+    calls: Calls,
+}
+
+impl Model for MemoryHost {
+    ghost use Rattle.dsc_outside.specs.Memory.{HostInMemory};
+
+    ghost Value = { HostInMemory };
+
+    ghost view = { λ h. record { variables = h.variables.items; calls = h.calls } };
+}
+
+impl MemoryHost {
+    /// A host of these variables, whose calls of these numbers, counted from 0, are to fail. Of several variables
+    /// of one name the first counts, and the others are as if they were not there.
+    pub fn new(variables: Vec<Variable>, failing: Vec<u64>) -> MemoryHost
+        ensures { result ≡ record { variables = variables.items; calls = record { begun = 0; failing = failing.items; faults = 0 } } }
+    {
+        MemoryHost {
+            variables,
+            calls: Calls::new(failing),
+        }
+    }
+
+    /// Tells whether a call failed for want of memory. None does: a host answers `Memory` there.
+    pub fn short(&self) -> bool
+        ensures { result ≡ false }
+    {
+        false
+    }
+}
+
+impl Host for MemoryHost {
+    ghost told = { λ h. Some (told_of h) };
+
+    ghost faults = { λ h. h.calls.faults };
+
+    fn env_state(&mut self, name: &str, into: &mut Vec<u8>) -> Result<bool, HostError>
+        ensures answer { TellsVariable (Some (told_of self.old)) name.now result into.old.items into.new.items }
+        ensures buffer { LeavesBuffer result into.old.items into.new.items }
+        ensures variables { self.new.variables ≡ self.old.variables }
+        ensures cause { HasCauseOf HostError.Failed self.old.calls.faults self.new.calls.faults result }
+
+        // Exactly when it fails.
+        ensures fails { IsErrOf result HostError.Failed ↔ IsTrue (is_to_fail self.old.calls) }
+        ensures count { self.new.calls ≡ counted self.old.calls }
+    {
+        self.calls.begin()?;
+        match find_value(&self.variables, name.as_bytes()) {
+            None => Ok(false),
+            Some(value) => {
+                into.extend_from_slice(value)?;
+                Ok(true)
+            }
+        }
+    }
+}

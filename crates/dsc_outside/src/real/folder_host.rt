@@ -1,0 +1,89 @@
+//! A folder that stands for the machine.
+ghost use Rattle.std.specs.Prelude.{◌≡◌, IfOk, None, codes};
+ghost use Rattle.std.specs.Path.{path_buf_bytes, path_join};
+ghost use Rattle.hex.specs.Hex.{encode_upper};
+ghost use Rattle.dsc_outside.specs.Host.{LeavesBuffer};
+
+use super::reading::read_rest;
+use crate::{Host, HostError};
+use std::alloc::{AllocError, Global};
+use std::fs;
+use std::io::ErrorKind;
+use std::path::{Path, PathBuf};
+use std::rt::Files;
+
+/// A host that keeps its environment in a folder: the variable of a name is the plain file `env/HEX` in it, where
+/// HEX is the upper-case hexadecimal digits of the name's bytes. It touches nothing before its first call, and
+/// changes nothing.
+#[derive(Drop)]
+pub struct FolderHost<R: Files> {
+    rt: R,
+    folder: String,
+    faults: u64,
+}
+
+impl<R: Files> FolderHost<R> {
+    /// The host in the folder of that path.
+    pub fn new(rt: R, folder: String) -> FolderHost<R> {
+        FolderHost {
+            rt,
+            folder,
+            faults: 0,
+        }
+    }
+}
+
+impl<R: Files> Host for FolderHost<R> {
+    ghost told = { λ h. None };
+
+    ghost faults = { λ h. h.faults };
+
+    fn env_state(&mut self, name: &str, into: &mut Vec<u8>) -> Result<bool, HostError> {
+        let path = variable_path(*self.folder.allocator(), &self.folder, name)?;
+        let outcome = append_file(&self.rt, path.as_path(), into);
+        if matches!(outcome, Err(HostError::Failed)) {
+            self.faults = self.faults.saturating_add(1);
+        }
+        outcome
+    }
+}
+
+// The path of the file that holds the variable.
+fn variable_path(alloc: Global, folder: &str, name: &str) -> Result<PathBuf, AllocError>
+    ensures { IfOk result (λ path. path_buf_bytes path ≡ path_join (path_join folder.now (codes "env")) (encode_upper name.now)) }
+{
+    let mut path = PathBuf::from_str(alloc, folder)?;
+    path.push("env")?;
+    path.push(hex::encode_upper(alloc, name)?)?;
+    Ok(path)
+}
+
+// Appends the bytes of the plain file at the path, and answers whether it is there. A link, a folder, or anything
+// else in its place is a failure.
+fn append_file<R: Files>(rt: &R, path: Path<'_>, into: &mut Vec<u8>) -> Result<bool, HostError>
+    ensures { LeavesBuffer result into.old.items into.new.items }
+{
+    let Some(mut file) = open_plain(rt, path)? else {
+        return Ok(false);
+    };
+    let kept = into.len();
+    match read_rest(&mut file, into) {
+        Ok(()) => Ok(true),
+        Err(error) => {
+            into.truncate(kept);
+            Err(error)
+        }
+    }
+}
+
+fn open_plain<R: Files>(rt: &R, path: Path<'_>) -> Result<Option<R::File>, HostError> {
+    match fs::symlink_metadata(rt, path) {
+        Ok(found) if found.is_file() => {}
+        Err(e) if e.kind() == ErrorKind::NotFound => return Ok(None),
+        _ => return Err(HostError::Failed),
+    }
+    match fs::open(rt, path) {
+        Ok(file) => Ok(Some(file)),
+        Err(_) => Err(HostError::Failed),
+    }
+}

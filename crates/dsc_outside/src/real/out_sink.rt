@@ -1,0 +1,53 @@
+//! Standard output.
+ghost use Rattle.std.specs.Prelude.{◌≡◌, ◌<◌, IfOk, None, length};
+ghost use Rattle.std.specs.Io.{WritesAtMost};
+
+use crate::{Ends, Failed, Sink};
+use std::io::{ErrorKind, Print};
+
+/// Standard output, as a sink. Nothing is buffered: what a write took was handed to the system.
+#[derive(Drop)]
+pub struct OutSink<P: Print> {
+    to: P,
+    faults: u64,
+}
+
+impl<P: Print> OutSink<P> {
+    pub fn new(to: P) -> OutSink<P> {
+        OutSink { to, faults: 0 }
+    }
+}
+
+impl<P: Print> Ends for OutSink<P> {
+    ghost left = { λ s. None };
+
+    ghost held = { λ s. None };
+
+    ghost faults = { λ s. s.faults };
+}
+
+impl<P: Print> Sink for OutSink<P> {
+    fn write(&mut self, piece: &[u8]) -> Result<usize, Failed> {
+        let outcome = write_some(&self.to, piece);
+        if outcome.is_err() {
+            self.faults = self.faults.saturating_add(1);
+        }
+        outcome
+    }
+}
+
+// Writes once, and again where a signal came between. To take nothing of a piece is a failure.
+fn write_some<P: Print>(to: &P, piece: &[u8]) -> Result<usize, Failed>
+    ensures bound { WritesAtMost result piece.now }
+    ensures progress { 0 < length piece.now → IfOk result (λ n. 0 < n) }
+{
+    for _ in 0..u64::MAX {
+        match to.write_some(piece) {
+            Ok(0) if !piece.is_empty() => return Err(Failed),
+            Ok(count) => return Ok(count),
+            Err(e) if e.kind() == ErrorKind::Interrupted => {}
+            Err(_) => return Err(Failed),
+        }
+    }
+    Err(Failed)
+}
