@@ -1,0 +1,5 @@
+//! The plain first form of documents; it goes when the whole syntax is read.
+mod declarations;
+mod tokens;
+
+pub use declarations::read_first;
