@@ -3,3 +3,6 @@ mod declarations;
 mod tokens;
 
 pub use declarations::read_first;
+
+#[cfg(test)]
+mod tests;
