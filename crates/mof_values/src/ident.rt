@@ -75,6 +75,22 @@ impl Ident {
         })
     }
 
+    /// The identifier that the characters with these codes spell (ISO 8859-1).
+    pub fn from_latin1(alloc: Global, codes: &[u8]) -> Result<Ident, IdentError>
+        ensures ok { IfOk result (λ ident. ident ≡ codes.now) }
+        ensures valid { IfOk result (λ _. IsIdent codes.now) }
+        ensures refused { IsErrOf result IdentError.NotAnIdent → is_ident codes.now ≡ false }
+    {
+        if codes.len() > 255 {
+            return Err(IdentError::NotAnIdent);
+        }
+        let chars = Text::from_latin1(alloc, codes)?;
+        if !spells_ident(chars.as_slice()) {
+            return Err(IdentError::NotAnIdent);
+        }
+        Ok(Ident { chars })
+    }
+
     pub fn as_slice(&self) -> &[char]
         ensures value { result.now ≡ self.now }
         ensures valid { IsIdent self.now }

@@ -32,6 +32,28 @@ fn identifiers_are_told_from_other_texts(rt: HostRuntime) -> Result<(), Fail> {
 }
 
 #[test]
+fn texts_and_identifiers_are_made_of_single_bytes(rt: HostRuntime) -> Result<(), Fail> {
+    let codes = Text::from_latin1(rt.alloc(), b"a b\xe4")?;
+    assert_eq!(rt; codes.as_slice(), ['a', ' ', 'b', '\u{e4}'].as_slice());
+    for (word, is_ident) in [
+        (b"A_9".as_slice(), true),
+        (b"\xe4", true),
+        (b"", false),
+        (b"9", false),
+        (b"a b", false),
+    ] {
+        let ident = Ident::from_latin1(rt.alloc(), word);
+        assert_eq!(rt; ident.is_ok(), is_ident, "{word:?}");
+        if let Ok(ident) = ident {
+            assert_eq!(rt; ident.as_slice().len(), word.len());
+        }
+    }
+    assert!(rt; Ident::from_latin1(rt.alloc(), &[b'a'; 255]).is_ok());
+    assert!(rt; Ident::from_latin1(rt.alloc(), &[b'a'; 256]).is_err());
+    Ok(())
+}
+
+#[test]
 fn names_compare_without_the_case_of_ascii_letters(rt: HostRuntime) -> Result<(), Fail> {
     for (a, b, same) in [
         ("Name", "nAME", true),

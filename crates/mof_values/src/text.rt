@@ -2,7 +2,7 @@
 ghost use Rattle.std.specs.Prelude.{◌≡◌, ◌<◌, ◌≤◌, ◌↔◌, ℕ, All, IfOk, IsTrue, length, slice_index, encode_utf8_all, string_bytes};
 ghost use Rattle.std.specs.Char.{IsScalar};
 
-use std::alloc::AllocError;
+use std::alloc::{AllocError, Global};
 use std::marker::Model;
 
 /// A list of characters.
@@ -29,6 +29,13 @@ impl Text {
     {
         look_at(&chars);
         Text { chars }
+    }
+
+    /// The characters with these codes, U+0000 to U+00FF (ISO 8859-1); of ASCII, the text itself.
+    pub fn from_latin1(alloc: Global, codes: &[u8]) -> Result<Text, AllocError>
+        ensures { IfOk result (λ t. t ≡ codes.now) }
+    {
+        Ok(Text::of(codes.iter().map(|code| char::from(*code)).collect(alloc)?))
     }
 
     pub fn as_slice(&self) -> &[char]
