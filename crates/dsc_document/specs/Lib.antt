@@ -1,1 +1,3 @@
 pub mod Dependency
+pub mod First
+pub mod Places

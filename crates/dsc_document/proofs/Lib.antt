@@ -1,0 +1,3 @@
+pub mod FoldKeys
+pub mod Indexes
+pub mod NamedApart

@@ -1,0 +1,46 @@
+//! The places of names that compare by fold.
+ghost use Rattle.std.specs.Prelude.{◌≡◌, ℕ, List, IfOk, OnOk};
+ghost use Rattle.mof_values.specs.Fold.{fold_case};
+ghost use Rattle.dsc_document.specs.Places.{place_of, Puts};
+
+use std::alloc::{AllocError, Global};
+use std::collections::BTreeMap;
+
+/// A place for each of some names; names with equal folds are one.
+#[derive(Drop)]
+pub struct Places {
+    by_fold: BTreeMap<Vec<char>, u32>,
+    alloc: Global,
+}
+
+impl Places {
+    pub fn new(alloc: Global) -> Places
+        ensures { (name : List ℕ) → place_of result name ≡ None }
+    {
+        Places {
+            by_fold: BTreeMap::new(alloc),
+            alloc,
+        }
+    }
+
+    /// Gives the name this place, and tells which one it had.
+    pub fn put(&mut self, name: &[char], place: u32) -> Result<Option<u32>, AllocError>
+        ensures had { IfOk result (λ had. had ≡ place_of self.old name.now) }
+        ensures put { OnOk result (Puts self.old self.new name.now place) }
+    {
+        Ok(self.by_fold.insert(folded(self.alloc, name)?, place)?)
+    }
+
+    pub fn find(&self, name: &[char]) -> Result<Option<u32>, AllocError>
+        ensures { IfOk result (λ found. found ≡ place_of self.now name.now) }
+    {
+        let fold = folded(self.alloc, name)?;
+        Ok(self.by_fold.get(fold.as_slice()).copied())
+    }
+}
+
+fn folded(alloc: Global, name: &[char]) -> Result<Vec<char>, AllocError>
+    ensures { IfOk result (λ fold. fold.items ≡ fold_case name.now) }
+{
+    name.iter().map(|c| c.to_ascii_lowercase()).collect(alloc)
+}
