@@ -1,2 +1,4 @@
-pub mod Traces
 pub mod Monitored
+pub mod Refusals
+pub mod Results
+pub mod Traces

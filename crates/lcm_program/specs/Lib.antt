@@ -3,6 +3,7 @@ pub mod Input
 pub mod Kinds
 pub mod Legal
 pub mod Lines
+pub mod Program
 pub mod Ran
 pub mod Refusal
 pub mod Status

@@ -1,11 +1,16 @@
-//! The node program.
+//! The node program, a Local Configuration Manager for a machine that a folder stands for.
+//!
+//! `node` does one command; its contract says what it printed, what it tested, and why it refused. `main` makes the
+//! real objects, hands them to `node`, and ends with the number of its status.
 #![tactic(auto)]
 
+mod command_line;
 mod entry;
 mod input;
 mod kinds;
 mod lines;
 mod literal;
+mod program;
 mod refusal;
 mod resources;
 mod runs;
@@ -18,6 +23,7 @@ pub use entry::{Entry, Failure, SetAnswer, TestAnswer};
 pub use input::{Unread, read_input};
 pub use kinds::Kinds;
 pub use lines::{lines_of, succeeded};
+pub use program::node;
 pub use refusal::Refusal;
 pub use resources::Resources;
 pub use runs::{RunEnd, RunMode, monitor};
@@ -25,4 +31,35 @@ pub use status::{InputError, Status};
 pub use streams::{ReadError, read_all, write_all};
 pub use words::{Command, UsageError, read_words};
 
-fn main() {}
+use command_line::CommandLine;
+use dsc_outside::Absent;
+use dsc_outside::real::{FolderHost, InSource, OutSink};
+use std::alloc::AllocError;
+use std::process::ExitCode;
+
+fn main(rt: HostRuntime) -> ExitCode {
+    let status = match CommandLine::read(&rt) {
+        Ok(line) => run_node(&rt, line),
+        Err(AllocError) => Status::Memory,
+    };
+    ExitCode::from(status.number())
+}
+
+// Makes the real objects and calls `node`. No command uses a disk, a link or a clock yet.
+fn run_node(rt: &HostRuntime, line: CommandLine) -> Status {
+    let CommandLine { host, words } = line;
+    let mut input = InSource::new(rt);
+    let mut output = OutSink::new(rt);
+    let mut kinds = Kinds::new(rt.alloc(), FolderHost::new(rt, host));
+    let (mut disk, mut link, mut clock) = (Absent::new(), Absent::new(), Absent::new());
+    node(
+        rt.alloc(),
+        &words,
+        &mut input,
+        &mut output,
+        &mut disk,
+        &mut kinds,
+        &mut link,
+        &mut clock,
+    )
+}

@@ -15,7 +15,7 @@ monitor-requires-clause-distinct g c = order_once c.args.document.now c.args.ord
 pub returns-in-Finished-clause-ok : goal.returns-in-Finished-clause-ok
 returns-in-Finished-clause-ok g c =
     ran g.H.Host.told g.H.Host.faults c.args.document.now c.args.order.now _ c.args.kinds.now c.reserve.new.self c.monitor.new.resources c.requires.order c.reserve.ensures.host
-        c.monitor.ensures.legal c.monitor.ensures.whole c.monitor.ensures.chain c.monitor.ensures.faults
+    c.monitor.ensures.legal c.monitor.ensures.whole c.monitor.ensures.chain c.monitor.ensures.faults
 
 pub returns-in-Finished-clause-run : goal.returns-in-Finished-clause-run
 returns-in-Finished-clause-run g c = inr (returns-in-Finished-clause-ok g c)
@@ -29,12 +29,12 @@ returns-in-Finished-clause-known g c = legal_places _ _ _ _ c.monitor.ensures.le
 pub returns-in-Memory-clause-run : goal.returns-in-Memory-clause-run
 returns-in-Memory-clause-run g c =
     inr (ran g.H.Host.told g.H.Host.faults c.args.document.now c.args.order.now _ c.args.kinds.now c.reserve.new.self c.monitor.new.resources c.requires.order c.reserve.ensures.host
-        c.monitor.ensures.legal c.monitor.ensures.whole c.monitor.ensures.chain c.monitor.ensures.faults)
+    c.monitor.ensures.legal c.monitor.ensures.whole c.monitor.ensures.chain c.monitor.ensures.faults)
 
 pub returns-in-Memory-clause-host : goal.returns-in-Memory-clause-host
 returns-in-Memory-clause-host g c =
     let run = ran g.H.Host.told g.H.Host.faults c.args.document.now c.args.order.now _ c.args.kinds.now c.reserve.new.self c.monitor.new.resources c.requires.order c.reserve.ensures.host
-        c.monitor.ensures.legal c.monitor.ensures.whole c.monitor.ensures.chain c.monitor.ensures.faults in
+    c.monitor.ensures.legal c.monitor.ensures.whole c.monitor.ensures.chain c.monitor.ensures.faults in
     tells_true_keeps c.args.document.now _ _ _ run.is_true
 
 pub returns-in-Memory-clause-known : goal.returns-in-Memory-clause-known

@@ -1,0 +1,83 @@
+-- What the program did, and what it printed.
+use Rattle.std.specs.Prelude.{◌≡◌, ◌⊎◌, ℕ, ◌<◌, ◌≤◌, List, [], length, Option, IfSome}
+use Rattle.std.specs.Io.KnownBytes.{Appends}
+use Rattle.dsc_terms.specs.Counts.{Rose}
+use Rattle.dsc_outside.specs.Host.{HostState}
+use Rattle.dsc_document.specs.declared.document.Document.{Document}
+use Rattle.lcm_program.specs.declared.entry.Entry.{Entry}
+use Rattle.lcm_program.specs.declared.kinds.Kinds.{Kinds}
+use Rattle.lcm_program.specs.declared.status.Status.{Status}
+use Rattle.lcm_program.specs.declared.status.Status.TheVariants.{Done, NotCompliant, Usage, InputRefused, ReadFault, WriteFault, Memory}
+use Rattle.lcm_program.specs.Kinds.{calls_of, host_of}
+use Rattle.lcm_program.specs.Streams.{AppendsPart}
+use Rattle.lcm_program.specs.Trace.{missed_count}
+use Rattle.lcm_program.specs.Legal.{GoesOn}
+use Rattle.lcm_program.specs.Lines.{run_lines}
+use Rattle.lcm_program.specs.Input.{Reads, input_limit}
+use Rattle.lcm_program.specs.Ran.{Ran}
+
+-- the output failed, and holds a part from the front of the text
+pub record Cuts {K : Type 0} (held : K → Option (List ℕ)) (faults : K → ℕ) (old new : K) (text : List ℕ) : Type 0 where
+  pub rose : Rose (faults old) (faults new)
+  pub part : AppendsPart (held old) (held new) text
+
+-- the output holds the text and nothing else, or it failed and holds a part from its front
+abbrev pub Printed : {K : Type 0} → (K → Option (List ℕ)) → (K → ℕ) → K → K → List ℕ → Type 0
+Printed held faults old new text = Appends (held old) (held new) text ⊎ Cuts held faults old new text
+
+-- a run came to its end
+abbrev pub IsRun : Status → Type 0
+IsRun Done = Unit {0}
+IsRun (NotCompliant count) = Unit {0}
+IsRun (Usage word) = ⊥
+IsRun (InputRefused error) = ⊥
+IsRun ReadFault = ⊥
+IsRun WriteFault = Unit {0}
+IsRun Memory = ⊥
+
+-- the words were refused, or memory was
+abbrev pub GivesUp : Status → Type 0
+GivesUp Done = ⊥
+GivesUp (NotCompliant count) = ⊥
+GivesUp (Usage word) = Unit {0}
+GivesUp (InputRefused error) = ⊥
+GivesUp ReadFault = ⊥
+GivesUp WriteFault = ⊥
+GivesUp Memory = Unit {0}
+
+-- the input, where it is told, is the document, and within the limit
+pub record IsInput (document : Document) (all : List ℕ) : Type 0 where
+  pub fits : length all ≤ input_limit
+  pub reads : Reads all document
+
+-- how a run in which so many resources did not succeed ends, and what it prints
+abbrev pub Tells : {K : Type 0} → (K → Option (List ℕ)) → (K → ℕ) → Status → ℕ → List ℕ → K → K → Type 0
+Tells held faults Done missed text old new = (missed ≡ 0) × Appends (held old) (held new) text
+Tells held faults (NotCompliant count) missed text old new = (count ≡ missed) × (0 < missed) × Appends (held old) (held new) text
+Tells held faults (Usage word) missed text old new = ⊥
+Tells held faults (InputRefused error) missed text old new = ⊥
+Tells held faults ReadFault missed text old new = ⊥
+Tells held faults WriteFault missed text old new = Cuts held faults old new text
+Tells held faults Memory missed text old new = ⊥
+
+-- a run over the kinds
+abbrev pub RanOver : {H : Type 0} → (H → Option HostState) → (H → ℕ) → Document → Kinds H → Kinds H → Type 0
+RanOver told faults document before after = Ran document (calls_of after) (told (host_of before)) (told (host_of after)) (faults (host_of before)) (faults (host_of after))
+
+-- the document of the input was run to its end, and the status and the output tell it
+pub record Tested {K H : Type 0} (held : K → Option (List ℕ)) (output_faults : K → ℕ) (told : H → Option HostState) (faults : H → ℕ)
+    (input : Option (List ℕ)) (before after : Kinds H) (status : Status) (old new : K) : Type 0 where
+  pub document : Document
+  pub input_is : IfSome input (IsInput document)
+  pub run : RanOver told faults document before after
+  pub finished : GoesOn (calls_of after)
+  pub tells : Tells held output_faults status (missed_count document (calls_of after)) (run_lines document (calls_of after)) old new
+
+-- nothing was tested, or the document of the input was, as far as memory went
+pub record Began {H : Type 0} (told : H → Option HostState) (faults : H → ℕ) (input : Option (List ℕ)) (before after : Kinds H) : Type 0 where
+  pub document : Document
+  pub input_is : IfSome input (IsInput document)
+  pub run : RanOver told faults document before after
+
+abbrev pub Stopped : {H : Type 0} → (H → Option HostState) → (H → ℕ) → Option (List ℕ) → Kinds H → Kinds H → Type 0
+Stopped told faults input before after = (calls_of after ≡ []) ⊎ Began told faults input before after

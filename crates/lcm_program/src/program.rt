@@ -1,0 +1,105 @@
+//! The program: one command, from its words and its input to its output.
+ghost use Rattle.std.specs.Prelude.{◌≡◌, ◌≢◌, ◌⊎◌, ℕ, [], map, IfSome, string_bytes};
+ghost use Rattle.dsc_terms.specs.Counts.{Rose};
+ghost use Rattle.lcm_program.specs.declared.words.Command.{Command};
+ghost use Rattle.lcm_program.specs.declared.refusal.Refusal.{Refusal};
+ghost use Rattle.lcm_program.specs.Words.{IsForm, IsUsage};
+ghost use Rattle.lcm_program.specs.Kinds.{calls_of, host_of};
+ghost use Rattle.lcm_program.specs.Refusal.{status_of, refusal_line};
+ghost use Rattle.lcm_program.specs.Unread.{IsRefused};
+ghost use Rattle.lcm_program.specs.Program.{Printed, IsRun, Tested, Stopped, GivesUp};
+
+use crate::input::{Unread, read_input};
+use crate::kinds::Kinds;
+use crate::refusal::Refusal;
+use crate::status::Status;
+use crate::streams::write_all;
+use crate::test::monitor_document;
+use crate::words::{Command, UsageError, read_words};
+use dsc_outside::{Clock, Disk, Failed, Host, Link, Sink, Source};
+use std::alloc::Global;
+
+/// Does what the words ask for, and tells how it ended.
+///
+/// The input is read to its end first, and the output is written after all other work.
+pub fn node<S: Source, K: Sink, D: Disk, H: Host, L: Link, C: Clock>(
+    alloc: Global,
+    words: &[String],
+    input: &mut S,
+    output: &mut K,
+    disk: &mut D,
+    kinds: &mut Kinds<H>,
+    link: &mut L,
+    clock: &mut C,
+) -> Status
+    requires fresh { calls_of kinds.old ≡ [] }
+
+    // No command that is built changes these.
+    ensures disk { disk.new ≡ disk.old }
+    ensures link { link.new ≡ link.old }
+    ensures clock { clock.new ≡ clock.old }
+    ensures host { H.told (host_of kinds.new) ≡ H.told (host_of kinds.old) }
+
+    // A refusal is the one line, and nothing was done.
+    ensures refused { (refusal : Refusal) → result ≡ status_of refusal → Printed K.held K.faults output.old output.new (refusal_line refusal) × (kinds.new ≡ kinds.old) }
+    ensures usage { (word : ℕ) → result ≡ Status.Usage word → IsUsage (map string_bytes words.now) word × (input.new ≡ input.old) }
+    ensures no_form { ((command : Command) → IsForm command (map string_bytes words.now) → ⊥) → (GivesUp result × (input.new ≡ input.old)) }
+    ensures unread { (refusal : Refusal) → result ≡ status_of refusal → IsForm Command.Test (map string_bytes words.now) → IsRefused refusal (S.left input.old) (S.faults input.old) (S.faults input.new) }
+
+    // A run is told whole.
+    ensures tested { IsRun result → Tested K.held K.faults H.told H.faults (S.left input.old) kinds.old kinds.new result output.old output.new }
+
+    // Where memory was refused nothing is told, and what was done is the front of a run.
+    ensures memory { result ≡ Status.Memory → Stopped H.told H.faults (S.left input.old) kinds.old kinds.new × (output.new ≡ output.old) }
+{
+    match read_words(words) {
+        Ok(Command::Test) => test(alloc, input, output, kinds),
+        Err(UsageError { word }) => refuse(alloc, output, Refusal::Usage { word }),
+    }
+}
+
+// The word `test`.
+fn test<S: Source, K: Sink, H: Host>(
+    alloc: Global,
+    input: &mut S,
+    output: &mut K,
+    kinds: &mut Kinds<H>,
+) -> Status
+    requires fresh { calls_of kinds.old ≡ [] }
+    ensures host { H.told (host_of kinds.new) ≡ H.told (host_of kinds.old) }
+    ensures refused { (refusal : Refusal) → result ≡ status_of refusal → Printed K.held K.faults output.old output.new (refusal_line refusal) × (kinds.new ≡ kinds.old) × IsRefused refusal (S.left input.old) (S.faults input.old) (S.faults input.new) }
+    ensures tested { IsRun result → Tested K.held K.faults H.told H.faults (S.left input.old) kinds.old kinds.new result output.old output.new }
+    ensures memory { result ≡ Status.Memory → Stopped H.told H.faults (S.left input.old) kinds.old kinds.new × (output.new ≡ output.old) }
+{
+    let document = match read_input(alloc, input) {
+        Ok(document) => document,
+        Err(Unread::Refused(refusal)) => return refuse(alloc, output, refusal),
+        Err(Unread::Memory) => return Status::Memory,
+    };
+    let Ok(outcome) = monitor_document(alloc, &document, kinds) else {
+        return Status::Memory;
+    };
+    if let Err(Failed) = write_all(output, outcome.lines.as_bytes()) {
+        return Status::WriteFault;
+    }
+    if outcome.missed == 0 {
+        return Status::Done;
+    }
+    Status::NotCompliant {
+        count: outcome.missed,
+    }
+}
+
+// Prints the line of a refusal; its status stays where that fails.
+fn refuse<K: Sink>(alloc: Global, output: &mut K, refusal: Refusal) -> Status
+    ensures only { (other : Refusal) → result ≡ status_of other → other ≡ refusal }
+    ensures printed { (other : Refusal) → result ≡ status_of other → Printed K.held K.faults output.old output.new (refusal_line other) }
+    ensures status { (result ≡ status_of refusal) ⊎ (result ≡ Status.Memory) }
+    ensures memory { result ≡ Status.Memory → output.new ≡ output.old }
+{
+    let Ok(line) = refusal.line(alloc) else {
+        return Status::Memory;
+    };
+    let _ = write_all(output, line.as_bytes());
+    refusal.status()
+}
