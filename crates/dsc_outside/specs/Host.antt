@@ -1,6 +1,9 @@
 -- What a machine holds.
 use Rattle.std.specs.Prelude.{◌≡◌, ℕ, List, ◌++◌, Bool, true, false, Option, Some, None, Result, Ok, Err, ⊤, IfOk}
 use Rattle.std.specs.Io.{StartsWith}
+use Rattle.dsc_outside.specs.Causes.{one_more}
+use Rattle.dsc_outside.specs.declared.host.HostError.{HostError}
+use Rattle.dsc_outside.specs.declared.host.HostError.TheVariants as errors
 
 pub record HostState : Type 0 where
   -- the bytes of the environment variable that is there, by the UTF-8 bytes of its folded name
@@ -23,3 +26,9 @@ abbrev pub LeavesBuffer : {E : Type 0} → Result Bool E → List ℕ → List �
 LeavesBuffer (Ok true) old new = StartsWith new old
 LeavesBuffer (Ok false) old new = new ≡ old
 LeavesBuffer (Err e) old new = new ≡ old
+
+-- the count of faults after a look-up: one more where it failed
+abbrev pub count_after : ℕ → Result Bool HostError → ℕ
+count_after before (Ok there) = before
+count_after before (Err errors.Failed) = one_more before
+count_after before (Err errors.Memory) = before

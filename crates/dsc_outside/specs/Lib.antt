@@ -4,3 +4,4 @@ pub mod Disk
 pub mod Host
 pub mod Link
 pub mod Memory
+pub mod Real

@@ -15,6 +15,10 @@ pub record CallCount : Type 0 where
   -- how many failed
   pub faults : ℕ
 
+-- before the first call
+abbrev pub uncalled : List ℕ → CallCount
+uncalled failing = record { begun = 0; failing = failing; faults = 0 }
+
 -- the next call is one of those that are to fail
 abbrev pub is_to_fail : CallCount → Bool
 is_to_fail calls = list_any (λ number. number == calls.begun) calls.failing

@@ -28,3 +28,6 @@ pub use memory::{MemoryHost, MemorySink, MemorySource, Variable};
 pub use mof_values::Memory;
 pub use sink::Sink;
 pub use source::Source;
+
+#[cfg(test)]
+mod tests;

@@ -1,7 +1,7 @@
 //! The calls of a form in memory.
 ghost use Rattle.std.specs.Prelude.{◌≡◌, ◌≤◌, ◌↔◌, IsTrue, IsErr, false};
 ghost use Rattle.dsc_outside.specs.Causes.{HasCause, one_more};
-ghost use Rattle.dsc_outside.specs.Memory.{counted, is_to_fail, with_fault};
+ghost use Rattle.dsc_outside.specs.Memory.{counted, is_to_fail, with_fault, uncalled};
 
 use crate::Failed;
 use std::marker::Model;
@@ -24,7 +24,7 @@ impl Model for Calls {
 
 impl Calls {
     pub fn new(failing: Vec<u64>) -> Calls
-        ensures { result ≡ record { begun = 0; failing = failing.items; faults = 0 } }
+        ensures { result ≡ uncalled failing.items }
     {
         Calls {
             begun: 0,

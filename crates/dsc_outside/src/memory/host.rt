@@ -2,7 +2,7 @@
 ghost use Rattle.std.specs.Prelude.{◌≡◌, ◌↔◌, IsErrOf, IsTrue, Some, false};
 ghost use Rattle.dsc_outside.specs.Causes.{HasCauseOf};
 ghost use Rattle.dsc_outside.specs.Host.{LeavesBuffer, Shows, TellsVariable};
-ghost use Rattle.dsc_outside.specs.Memory.{counted, is_to_fail, told_of};
+ghost use Rattle.dsc_outside.specs.Memory.{counted, is_to_fail, told_of, uncalled};
 
 use super::calls::Calls;
 use super::variable::{Variable, find_value};
@@ -28,7 +28,7 @@ impl MemoryHost {
     /// A host of these variables, whose calls of these numbers, counted from 0, are to fail. Of several variables
     /// of one name the first counts, and the others are as if they were not there.
     pub fn new(variables: Vec<Variable>, failing: Vec<u64>) -> MemoryHost
-        ensures { result ≡ record { variables = variables.items; calls = record { begun = 0; failing = failing.items; faults = 0 } } }
+        ensures { result ≡ record { variables = variables.items; calls = uncalled failing.items } }
     {
         MemoryHost {
             variables,

@@ -3,7 +3,7 @@ ghost use Rattle.std.specs.Prelude.{◌≡◌, ◌<◌, IfOk, Some, None, false,
 ghost use Rattle.std.specs.Io.{WritesAtMost};
 ghost use Rattle.std.specs.Io.KnownBytes.{WriteAppends};
 ghost use Rattle.dsc_outside.specs.Causes.{HasCause};
-ghost use Rattle.dsc_outside.specs.Memory.{SinkWrites};
+ghost use Rattle.dsc_outside.specs.Memory.{SinkWrites, uncalled};
 
 use super::calls::Calls;
 use crate::{Ends, Failed, Sink};
@@ -29,7 +29,7 @@ impl Model for MemorySink {
 impl MemorySink {
     /// A sink without bytes, whose calls of these numbers, counted from 0, are to fail.
     pub fn new(alloc: Global, failing: Vec<u64>) -> MemorySink
-        ensures { result ≡ record { held = []; short = false; calls = record { begun = 0; failing = failing.items; faults = 0 } } }
+        ensures { result ≡ record { held = []; short = false; calls = uncalled failing.items } }
     {
         MemorySink {
             bytes: Vec::new(alloc),

@@ -3,7 +3,7 @@ ghost use Rattle.std.specs.Prelude.{◌≡◌, ◌<◌, ◌≤◌, ◌++◌, ◌
 ghost use Rattle.std.specs.Io.{ReadsAtMost};
 ghost use Rattle.std.specs.Io.KnownBytes.{ReadConsumes};
 ghost use Rattle.dsc_outside.specs.Causes.{HasCause};
-ghost use Rattle.dsc_outside.specs.Memory.{counted, is_to_fail};
+ghost use Rattle.dsc_outside.specs.Memory.{counted, is_to_fail, uncalled};
 
 use super::calls::Calls;
 use crate::{Ends, Failed, Source};
@@ -31,7 +31,7 @@ impl Model for MemorySource {
 impl MemorySource {
     /// A source of these bytes, whose calls of these numbers, counted from 0, are to fail.
     pub fn new(bytes: Vec<u8>, failing: Vec<u64>) -> MemorySource
-        ensures { result ≡ record { left = bytes.items; calls = record { begun = 0; failing = failing.items; faults = 0 } } }
+        ensures { result ≡ record { left = bytes.items; calls = uncalled failing.items } }
     {
         MemorySource {
             bytes,

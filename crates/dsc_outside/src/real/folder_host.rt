@@ -2,19 +2,23 @@
 ghost use Rattle.std.specs.Prelude.{◌≡◌, IfOk, None, codes};
 ghost use Rattle.std.specs.Path.{path_buf_bytes, path_join};
 ghost use Rattle.hex.specs.Hex.{encode_upper};
-ghost use Rattle.dsc_outside.specs.Host.{LeavesBuffer};
+ghost use Rattle.dsc_outside.specs.Causes.{HasCauseOf};
+ghost use Rattle.dsc_outside.specs.Host.{LeavesBuffer, count_after};
 
 use super::reading::read_rest;
 use crate::{Host, HostError};
 use std::alloc::{AllocError, Global};
 use std::fs;
 use std::io::ErrorKind;
+use std::marker::Model;
 use std::path::{Path, PathBuf};
 use std::rt::Files;
 
 /// A host that keeps its environment in a folder: the variable of a name is the plain file `env/HEX` in it, where
-/// HEX is the upper-case hexadecimal digits of the name's bytes. It touches nothing before its first call, and
-/// changes nothing.
+/// HEX is the upper-case hexadecimal digits of the name's bytes. A file or a folder that is missing means that the
+/// variable is not there; every other failure counts, and so does a link, a folder or anything else in the file's
+/// place. It touches nothing before its first call, and changes nothing. A clause sees it as the number of its calls
+/// that failed.
 #[derive(Drop)]
 pub struct FolderHost<R: Files> {
     rt: R,
@@ -22,9 +26,19 @@ pub struct FolderHost<R: Files> {
     faults: u64,
 }
 
+impl<R: Files> Model for FolderHost<R> {
+    ghost use Rattle.std.specs.Prelude.{ℕ};
+
+    ghost Value = { ℕ };
+
+    ghost view = { λ h. h.faults };
+}
+
 impl<R: Files> FolderHost<R> {
     /// The host in the folder of that path.
-    pub fn new(rt: R, folder: String) -> FolderHost<R> {
+    pub fn new(rt: R, folder: String) -> FolderHost<R>
+        ensures { result ≡ 0 }
+    {
         FolderHost {
             rt,
             folder,
@@ -36,9 +50,13 @@ impl<R: Files> FolderHost<R> {
 impl<R: Files> Host for FolderHost<R> {
     ghost told = { λ h. None };
 
-    ghost faults = { λ h. h.faults };
+    ghost faults = { λ h. h };
 
-    fn env_state(&mut self, name: &str, into: &mut Vec<u8>) -> Result<bool, HostError> {
+    fn env_state(&mut self, name: &str, into: &mut Vec<u8>) -> Result<bool, HostError>
+        ensures buffer { LeavesBuffer result into.old.items into.new.items }
+        ensures cause { HasCauseOf HostError.Failed self.old self.new result }
+        ensures count { self.new ≡ count_after self.old result }
+    {
         let path = variable_path(*self.folder.allocator(), &self.folder, name)?;
         let outcome = append_file(&self.rt, path.as_path(), into);
         if matches!(outcome, Err(HostError::Failed)) {

@@ -1,28 +1,40 @@
 //! Standard input.
 ghost use Rattle.std.specs.Prelude.{◌≡◌, None};
+ghost use Rattle.std.specs.Io.{ReadsAtMost};
+ghost use Rattle.std.specs.Io.KnownBytes.{ReadConsumes};
+ghost use Rattle.dsc_outside.specs.Causes.{HasCause, count_after};
 
 use super::reading::read_some;
 use crate::{Ends, Failed, Source};
-use std::io::{Input, Read};
+use std::io::Read;
+use std::marker::Model;
 
-/// Standard input, as a source. It tells what its reader tells, and that of the system tells nothing.
+/// Standard input, as a source: it reads from the reader that the runtime has for it. It tells what its reader tells,
+/// and that of the system tells nothing.
 #[derive(Drop)]
 pub struct InSource<R: Read> {
     reader: R,
     faults: u64,
 }
 
+impl<R: Read> Model for InSource<R> {
+    ghost use Rattle.dsc_outside.specs.Real.{Input};
+
+    ghost Value = { Input };
+
+    ghost view = { λ s. record { left = R.remaining s.reader; faults = s.faults } };
+}
+
 impl<R: Read> InSource<R> {
-    pub fn new<I: Input<Reader = R>>(rt: &I) -> InSource<R> {
-        InSource {
-            reader: rt.reader(),
-            faults: 0,
-        }
+    pub fn new(reader: R) -> InSource<R>
+        ensures { result ≡ record { left = R.remaining reader; faults = 0 } }
+    {
+        InSource { reader, faults: 0 }
     }
 }
 
 impl<R: Read> Ends for InSource<R> {
-    ghost left = { λ s. R.remaining s.reader };
+    ghost left = { λ s. s.left };
 
     ghost held = { λ s. None };
 
@@ -30,7 +42,12 @@ impl<R: Read> Ends for InSource<R> {
 }
 
 impl<R: Read> Source for InSource<R> {
-    fn read(&mut self, into: &mut [u8]) -> Result<usize, Failed> {
+    fn read(&mut self, into: &mut [u8]) -> Result<usize, Failed>
+        ensures bound { ReadsAtMost result into.new }
+        ensures bytes { ReadConsumes self.old.left self.new.left result into.new }
+        ensures cause { HasCause self.old.faults self.new.faults result }
+        ensures count { self.new.faults ≡ count_after self.old.faults result }
+    {
         let outcome = read_some(&mut self.reader, into);
         if outcome.is_err() {
             self.faults = self.faults.saturating_add(1);

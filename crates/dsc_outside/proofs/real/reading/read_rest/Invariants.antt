@@ -1,4 +1,4 @@
-use Rattle.std.proofs.Common.{List, ℕ, length, drop}
+use Rattle.std.proofs.Common.{length, drop}
 use Rattle.std.specs.Io.{StartsWith}
 use Rattle.std.specs.Io.KnownBytes.{Consumes}
 use Rattle.dsc_outside.proofs.real.reading.read_rest.Given as goal
