@@ -19,6 +19,9 @@ mod streams;
 mod test;
 mod words;
 
+use command_line::CommandLine;
+use dsc_outside::Absent;
+use dsc_outside::real::{FolderHost, InSource, OutSink};
 pub use entry::{Entry, Failure, SetAnswer, TestAnswer};
 pub use input::{Unread, read_input};
 pub use kinds::Kinds;
@@ -28,14 +31,13 @@ pub use refusal::Refusal;
 pub use resources::Resources;
 pub use runs::{RunEnd, RunMode, monitor};
 pub use status::{InputError, Status};
+use std::alloc::AllocError;
+use std::process::ExitCode;
 pub use streams::{ReadError, read_all, write_all};
 pub use words::{Command, UsageError, read_words};
 
-use command_line::CommandLine;
-use dsc_outside::Absent;
-use dsc_outside::real::{FolderHost, InSource, OutSink};
-use std::alloc::AllocError;
-use std::process::ExitCode;
+#[cfg(test)]
+mod tests;
 
 fn main(rt: HostRuntime) -> ExitCode {
     let status = match CommandLine::read(&rt) {
@@ -48,7 +50,7 @@ fn main(rt: HostRuntime) -> ExitCode {
 // Makes the real objects and calls `node`. No command uses a disk, a link or a clock yet.
 fn run_node(rt: &HostRuntime, line: CommandLine) -> Status {
     let CommandLine { host, words } = line;
-    let mut input = InSource::new(rt);
+    let mut input = InSource::new(rt.reader());
     let mut output = OutSink::new(rt);
     let mut kinds = Kinds::new(rt.alloc(), FolderHost::new(rt, host));
     let (mut disk, mut link, mut clock) = (Absent::new(), Absent::new(), Absent::new());
