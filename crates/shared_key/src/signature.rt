@@ -1,0 +1,75 @@
+//! Signatures under a shared key.
+ghost use Rattle.std.specs.Prelude.{◌≡◌, ◌<◌, ◌^◌, ◌∷◌, ◌++◌, length, IfSome, position, bytes_eq};
+ghost use Rattle.shared_key.specs.Hmac.{hmac_of};
+ghost use Rattle.shared_key.specs.Signature.{base64_of, signature_of, first_signer};
+
+use crate::digest;
+use crate::keyed_hash::KeyedHash;
+use base64::engine::general_purpose::STANDARD;
+use mof_values::Bytes;
+
+/// The signature of a body and a date: the base64 of HMAC with SHA-256 under the key, over the base64 of the body's
+/// digest, a line feed and the date.
+#[tactic(auto, unfolding(crate::specs::Signature::signature_of))]
+pub fn sign(key: &[u8], body: &[u8], date: &[u8]) -> [u8; 44]
+    ensures { result ≡ signature_of key.now body.now date.now }
+{
+    sign_digest(key, &base64_text(&digest(body)), date)
+}
+
+/// The place of the first key whose signature of the body and the date is the one given, `None` where there is no
+/// such key.
+#[tactic(auto, unfolding(crate::specs::Signature::signature_of))]
+pub fn verify(keys: &[Bytes], body: &[u8], date: &[u8], signature: &[u8]) -> Option<u32>
+    requires { length keys.now < 2 ^ 32 }
+    ensures { result ≡ first_signer keys.now body.now date.now signature.now }
+{
+    let digest = base64_text(&digest(body));
+    let place = first_fitting(keys, &digest, date, signature)?;
+    Some(place as u32)
+}
+
+// The place of the first key whose signature it is, of the base64 of a body's digest.
+fn first_fitting(keys: &[Bytes], digest: &[u8; 44], date: &[u8], signature: &[u8]) -> Option<usize>
+    ensures place { result ≡ position (λ key. bytes_eq (base64_of (hmac_of key (digest.now ++ 10 ∷ date.now))) signature.now) keys.now }
+    ensures within { IfSome result (λ place. place < length keys.now) }
+{
+    keys.iter()
+        .position(|key| is_equal(&sign_digest(key.as_slice(), digest, date), signature))
+}
+
+// The signature, of the base64 of a body's digest.
+fn sign_digest(key: &[u8], digest: &[u8; 44], date: &[u8]) -> [u8; 44]
+    ensures { result ≡ base64_of (hmac_of key.now (digest.now ++ 10 ∷ date.now)) }
+{
+    let mut hash = KeyedHash::new(key);
+    hash.update(digest);
+    hash.update(b"\n");
+    hash.update(date);
+    base64_text(&hash.finalize())
+}
+
+#[tactic(auto, unfolding(crate::specs::Signature::base64_of))]
+fn base64_text(bytes: &[u8; 32]) -> [u8; 44]
+    ensures { result ≡ base64_of bytes.now }
+{
+    let mut text = [0u8; 44];
+    let _ = STANDARD.encode_slice(bytes, &mut text);
+    text
+}
+
+// Tells whether the two are equal; looks at every byte of the given signature that has the right length.
+fn is_equal(signature: &[u8; 44], given: &[u8]) -> bool
+    ensures { result ≡ bytes_eq signature.now given.now }
+{
+    if given.len() != signature.len() {
+        return false;
+    }
+    let (mut left, mut right) = (signature.as_slice(), given);
+    let mut difference = 0;
+    while let ([a, rest @ ..], [b, behind @ ..]) = (left, right) {
+        difference |= *a ^ *b;
+        (left, right) = (rest, behind);
+    }
+    difference == 0
+}
