@@ -4,6 +4,7 @@ ghost use Rattle.std.specs.Str.{str_to_ascii_uppercase};
 ghost use Rattle.sha2.specs.Sha256.{sha256};
 ghost use Rattle.shared_key.specs.Checksum.{checksum_of, spelled_digest, IsChecksum};
 
+use hex::FromHex;
 use sha2::{Digest, Sha256};
 
 /// The SHA-256 digest of the bytes (FIPS 180-4, section 6.2).
@@ -14,6 +15,7 @@ pub fn digest(bytes: &[u8]) -> [u8; 32]
 }
 
 /// The checksum of a digest: its text in hexadecimal digits, with letters in upper case.
+#[tactic(auto, unfolding(crate::specs::Checksum::checksum_of, crate::specs::Checksum::spelled_digest))]
 pub fn checksum_text(digest: &[u8; 32]) -> [u8; 64]
     ensures text { result ≡ checksum_of digest.now }
     ensures reads_back { spelled_digest result ≡ Some digest.now }
@@ -24,15 +26,13 @@ pub fn checksum_text(digest: &[u8; 32]) -> [u8; 64]
     text
 }
 
-/// The digest whose checksum the text is, with letters in either case.
+/// The digest whose checksum the text is, with letters in either case; `None` where the text is not 64 hexadecimal
+/// digits.
+#[tactic(auto, unfolding(crate::specs::Checksum::checksum_of, crate::specs::Checksum::spelled_digest))]
 pub fn read_checksum(text: &[u8]) -> Option<[u8; 32]>
     ensures value { result ≡ spelled_digest text.now }
     ensures found { IsSome result ↔ IsChecksum text.now }
     ensures spelled { IfSome result (λ digest. str_to_ascii_uppercase text.now ≡ checksum_of digest) }
 {
-    let mut digest = [0u8; 32];
-    match hex::decode_to_slice(text, &mut digest) {
-        Ok(()) => Some(digest),
-        Err(_) => None,
-    }
+    <[u8; 32]>::from_hex(text).ok()
 }
