@@ -32,12 +32,12 @@ pub compared_first : (d : ℕ) (xs ys : List ℕ) → 1 ≤ length xs → 1 ≤ 
 compared_first d [] ys some other = absurd (omega arith)
 compared_first d (x ∷ xs) [] some other = absurd (omega arith)
 compared_first d (x ∷ xs) (y ∷ ys) some other = (
-      λ h.
-        let first : x ≡ y = cc in
-        (rw (h.0, first, xor_self y, or_zero_l 0) refl, ap (λ s. take (length s - 1) (drop 1 s)) h.1),
-      λ h.
-        let parts = zeros_from_or d (bit_xor x y) h.0 in
-        let first : x ≡ y = same_from_xor x y parts.1 in
-        let tails : xs ≡ ys = sym (tail_of x xs) ∙ h.1 ∙ tail_of y ys in
-        (parts.0, cc),
-    )
+  λ h.
+      let first : x ≡ y = cc in
+      (rw (h.0, first, xor_self y, or_zero_l 0) refl, ap (λ s. take (length s - 1) (drop 1 s)) h.1),
+  λ h.
+      let parts = zeros_from_or d (bit_xor x y) h.0 in
+      let first : x ≡ y = same_from_xor x y parts.1 in
+      let tails : xs ≡ ys = sym (tail_of x xs) ∙ h.1 ∙ tail_of y ys in
+      (parts.0, cc),
+)

@@ -7,6 +7,7 @@ use sha2::{Digest, Sha256};
 
 // The bytes that the pads ipad and opad repeat.
 const INNER_PAD: u8 = 0x36;
+
 const OUTER_PAD: u8 = 0x5c;
 
 /// HMAC with SHA-256 of the text under the key (RFC 2104, section 2).

@@ -34,8 +34,7 @@ fn first_fitting(keys: &[Bytes], digest: &[u8; 44], date: &[u8], signature: &[u8
     ensures place { result ≡ position (λ key. bytes_eq (base64_of (hmac_of key (digest.now ++ 10 ∷ date.now))) signature.now) keys.now }
     ensures within { IfSome result (λ place. place < length keys.now) }
 {
-    keys.iter()
-        .position(|key| is_equal(&sign_digest(key.as_slice(), digest, date), signature))
+    keys.iter().position(|key| is_equal(&sign_digest(key.as_slice(), digest, date), signature))
 }
 
 // The signature, of the base64 of a body's digest.
