@@ -9,12 +9,17 @@ use Rattle.shared_key.specs.Hmac.{hmac_of}
 unfoldable pub base64_of : List ℕ → List ℕ
 base64_of bytes = encode_of standard bytes
 
+-- HMAC of a text under the key, in base64
+abbrev pub code_of : List ℕ → List ℕ → List ℕ
+code_of key text = base64_of (hmac_of key text)
+
 -- what is signed: the body's digest in base64, a line feed and the date
 abbrev pub signed_text : List ℕ → List ℕ → List ℕ
 signed_text body date = base64_of (sha256 body) ++ 10 ∷ date
 
+-- the signature of a body and a date under the key
 unfoldable pub signature_of : List ℕ → List ℕ → List ℕ → List ℕ
-signature_of key body date = base64_of (hmac_of key (signed_text body date))
+signature_of key body date = code_of key (signed_text body date)
 
 -- the place of the first key whose signature this is
 abbrev pub first_signer : List (List ℕ) → List ℕ → List ℕ → List ℕ → Option ℕ

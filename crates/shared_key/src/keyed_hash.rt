@@ -21,7 +21,7 @@ pub fn hmac(key: &[u8], text: &[u8]) -> [u8; 32]
 
 /// The hash of a text under a key, which takes the text piece by piece.
 #[derive(Drop)]
-pub struct KeyedHash {
+pub(crate) struct KeyedHash {
     inner: Sha256,
     outer: Sha256,
 }
@@ -79,12 +79,13 @@ fn padded(key: &[u8]) -> [u8; 64]
     block
 }
 
+// Each byte of the block exclusive-or the mask.
 fn masked(block: &[u8; 64], mask: u8) -> [u8; 64]
     ensures { result ≡ map (bit_xor mask) block.now }
 {
     let mut masked = [0u8; 64];
-    for i in 0..64 {
-        masked[i] = mask ^ block[i];
+    for (i, byte) in block.iter().enumerate() {
+        masked[i] = mask ^ *byte;
     }
     masked
 }

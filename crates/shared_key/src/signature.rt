@@ -1,7 +1,6 @@
 //! Signatures under a shared key.
 ghost use Rattle.std.specs.Prelude.{◌≡◌, ◌<◌, ◌^◌, ◌∷◌, ◌++◌, length, IfSome, position, bytes_eq};
-ghost use Rattle.shared_key.specs.Hmac.{hmac_of};
-ghost use Rattle.shared_key.specs.Signature.{base64_of, signature_of, first_signer};
+ghost use Rattle.shared_key.specs.Signature.{base64_of, code_of, signature_of, first_signer};
 
 use crate::digest;
 use crate::keyed_hash::KeyedHash;
@@ -24,25 +23,30 @@ pub fn verify(keys: &[Bytes], body: &[u8], date: &[u8], signature: &[u8]) -> Opt
     requires { length keys.now < 2 ^ 32 }
     ensures { result ≡ first_signer keys.now body.now date.now signature.now }
 {
-    let digest = base64_text(&digest(body));
-    let place = first_fitting(keys, &digest, date, signature)?;
+    let digest_text = base64_text(&digest(body));
+    let place = first_fitting(keys, &digest_text, date, signature)?;
     Some(place as u32)
 }
 
-// The place of the first key whose signature it is, of the base64 of a body's digest.
-fn first_fitting(keys: &[Bytes], digest: &[u8; 44], date: &[u8], signature: &[u8]) -> Option<usize>
-    ensures place { result ≡ position (λ key. bytes_eq (base64_of (hmac_of key (digest.now ++ 10 ∷ date.now))) signature.now) keys.now }
+// The place of the first key whose signature it is, of the text of a body's digest and the date.
+fn first_fitting(
+    keys: &[Bytes],
+    digest_text: &[u8; 44],
+    date: &[u8],
+    signature: &[u8],
+) -> Option<usize>
+    ensures place { result ≡ position (λ key. bytes_eq (code_of key (digest_text.now ++ 10 ∷ date.now)) signature.now) keys.now }
     ensures within { IfSome result (λ place. place < length keys.now) }
 {
-    keys.iter().position(|key| is_equal(&sign_digest(key.as_slice(), digest, date), signature))
+    keys.iter().position(|key| is_equal(&sign_digest(key.as_slice(), digest_text, date), signature))
 }
 
-// The signature, of the base64 of a body's digest.
-fn sign_digest(key: &[u8], digest: &[u8; 44], date: &[u8]) -> [u8; 44]
-    ensures { result ≡ base64_of (hmac_of key.now (digest.now ++ 10 ∷ date.now)) }
+// The signature, of the text of a body's digest and the date.
+fn sign_digest(key: &[u8], digest_text: &[u8; 44], date: &[u8]) -> [u8; 44]
+    ensures { result ≡ code_of key.now (digest_text.now ++ 10 ∷ date.now) }
 {
     let mut hash = KeyedHash::new(key);
-    hash.update(digest);
+    hash.update(digest_text);
     hash.update(b"\n");
     hash.update(date);
     base64_text(&hash.finalize())
@@ -53,11 +57,11 @@ fn base64_text(bytes: &[u8; 32]) -> [u8; 44]
     ensures { result ≡ base64_of bytes.now }
 {
     let mut text = [0u8; 44];
-    let _ = STANDARD.encode_slice(bytes, &mut text);
+    STANDARD.encode_slice(bytes, &mut text).unwrap();
     text
 }
 
-// Tells whether the two are equal; looks at every byte of the given signature that has the right length.
+// Tells whether the two are equal. Where their lengths are, it looks at every byte.
 fn is_equal(signature: &[u8; 44], given: &[u8]) -> bool
     ensures { result ≡ bytes_eq signature.now given.now }
 {
