@@ -35,7 +35,8 @@ fn first_fitting(
     date: &[u8],
     signature: &[u8],
 ) -> Option<usize>
-    ensures place { result ≡ position (λ key. bytes_eq (code_of key (digest_text.now ++ 10 ∷ date.now)) signature.now) keys.now }
+    ensures place { let text = digest_text.now ++ 10 ∷ date.now in
+        result ≡ position (λ key. bytes_eq (code_of key text) signature.now) keys.now }
     ensures within { IfSome result (λ place. place < length keys.now) }
 {
     keys.iter().position(|key| is_equal(&sign_digest(key.as_slice(), digest_text, date), signature))

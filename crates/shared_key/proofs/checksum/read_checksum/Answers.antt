@@ -1,5 +1,4 @@
-use Rattle.std.proofs.Common.{◌≡◌, sym, ◌∙◌}
-use Rattle.std.specs.Prelude.{IfSome}
+use Rattle.std.proofs.Common.{sym, ◌∙◌}
 use Rattle.hex.proofs.HexLemmas.{IsOk-decode_sized}
 use Rattle.shared_key.specs.Checksum.{checksum_of}
 use Rattle.shared_key.proofs.HexDigits.{decoded-raised}
