@@ -2,7 +2,7 @@ use super::*;
 use mof_values::Bytes;
 use std::test::Fail;
 
-// The examples of FIPS 180-4 and the digest of the empty message.
+// The empty message, and NIST's example messages of one block and of two for SHA-256.
 const DIGESTS: [(&str, &str, &str); 3] = [
     (
         "",
