@@ -1,0 +1,4 @@
+pub mod Checksum
+pub mod Hmac
+pub mod KeyedHash
+pub mod Signature
