@@ -13,6 +13,7 @@ const TWO: &str =
     "instance of MSFT_EnvironmentResource{ResourceID=\"[Environment]A\";Name=\"V\";Value=\"1\";};instance of MSFT_EnvironmentResource{ResourceID=\"[Environment]B\";Name=\"W\";Value=\"2\";};instance of OMI_ConfigurationDocument{Version=\"2.0.0\";};";
 
 /// A command, what the machine has, and what must come.
+#[derive(Drop)]
 struct Case {
     words: &'static [&'static str],
     input: &'static str,
