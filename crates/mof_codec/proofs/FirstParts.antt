@@ -1,7 +1,7 @@
 -- Properties and declarations at the front of a text.
-use Rattle.std.proofs.Common.{◌≡◌, ◌≤◌, ℕ, true, false, List, [], ◌∷◌, ◌++◌, Option, Some, None, length, refl, sym, ◌∙◌, ap, subst, arith, append_assoc}
+use Rattle.std.proofs.Common.{◌≡◌, ℕ, true, false, List, [], ◌∷◌, ◌++◌, Option, Some, None, refl, sym, ◌∙◌, ap, subst, append_assoc}
 use Rattle.std.specs.Prelude.{codes}
-use Rattle.std.specs.List.{AllByRecursion, flat_map}
+use Rattle.std.specs.List.{flat_map}
 use Rattle.std.specs.Option.{option_and_then, option_map}
 use Rattle.std.proofs.lemmas.Option.{same_Some, none-some, option_and_then_some}
 use Rattle.mof_values.specs.Ident.{IsIdent}
@@ -38,16 +38,20 @@ abbrev property_behind : List ℕ × List ℕ → Option Front
 property_behind name =
     option_and_then (λ value. option_and_then (λ literal. option_map (λ rest. (name.0, literal.0, rest)) (behind_mark 59 literal.1)) (literal_at value)) (behind_mark 61 name.1)
 
+property_at_parts : (cs name value_at value text behind rest : List ℕ) → word_at cs ≡ (name, value_at) → behind_mark 61 value_at ≡ Some value
+    → literal_at value ≡ Some (text, behind) → behind_mark 59 behind ≡ Some rest → property_at cs ≡ front name text rest
+unfolding property_at
+property_at_parts cs name value_at value text behind rest named equals quotes semicolon = ap property_behind named ∙ rw (equals, quotes, semicolon) refl
+
 value_read : (name : List ℕ) (value : Value) (ts : Tokens) (cs : List ℕ) → IsWord name → IsPlainValue value
     → Spaced (name ∷ codes "=" ∷ literal_of value ∷ codes ";" ∷ ts) cs
     → (text : List ℕ) × (rest : List ℕ) × (value ≡ One (scalars.Text text)) × (property_at cs ≡ front name text rest) × Spaced ts rest
-unfolding property_at
 value_read name (One (scalars.Text text)) ts cs word plain spaced =
     let w = word_read name (codes "=" ∷ quoted text ∷ codes ";" ∷ ts) cs word spaced in
     let equals = mark_read 61 (quoted text ∷ codes ";" ∷ ts) w.0 refl w.2 in
     let literal = literal_read text (codes ";" ∷ ts) equals.0 plain equals.2 in
     let semicolon = mark_read 59 ts literal.0 refl literal.2 in
-    (text, semicolon.0, refl, ap property_behind w.1 ∙ rw (equals.1, literal.1, semicolon.1) refl, semicolon.2)
+    (text, semicolon.0, refl, property_at_parts cs name w.0 equals.0 text literal.0 semicolon.0 w.1 equals.1 literal.1 semicolon.1, semicolon.2)
 value_read name _ ts cs word plain spaced = absurd plain
 
 -- a property that is spelled is read
@@ -108,15 +112,19 @@ head class rest = Some (class, rest)
 abbrev class_behind : List ℕ × List ℕ → Option Head
 class_behind class = option_map (λ rest. (class.0, rest)) (behind_mark 123 class.1)
 
+head_at_parts : (cs instance of class behind rest : List ℕ) → behind_keyword (codes "instance") cs ≡ Some instance → behind_keyword (codes "of") instance ≡ Some of
+    → word_at of ≡ (class, behind) → behind_mark 123 behind ≡ Some rest → head_at cs ≡ head class rest
+unfolding head_at
+head_at_parts cs instance of class behind rest is_instance is_of named brace = rw (is_instance, is_of) (ap class_behind named ∙ rw brace refl)
+
 head_read : (class : List ℕ) (ts : Tokens) (cs : List ℕ) → IsWord class → Spaced (head_tokens class ts) cs
     → (rest : List ℕ) × (head_at cs ≡ head class rest) × Spaced ts rest
-unfolding head_at
 head_read class ts cs word spaced =
     let instance = keyword_read (codes "instance") (codes "of" ∷ class ∷ codes "{" ∷ ts) cs (refl, (refl, (refl, (refl, (refl, (refl, (refl, (refl, tt)))))))) spaced in
     let of = keyword_read (codes "of") (class ∷ codes "{" ∷ ts) instance.0 (refl, (refl, tt)) instance.2 in
     let w = word_read class (codes "{" ∷ ts) of.0 word of.2 in
     let brace = mark_read 123 ts w.0 refl w.2 in
-    (brace.0, rw (instance.1, of.1) (ap class_behind w.1 ∙ rw brace.1 refl), brace.2)
+    (brace.0, head_at_parts cs instance.0 of.0 class w.0 brace.0 instance.1 of.1 w.1 brace.1, brace.2)
 
 head_spelled : (class cs rest : List ℕ) → head_at cs ≡ head class rest
     → Each is_word class × ((ts : Tokens) → Spaced ts rest → Spaced (head_tokens class ts) cs)

@@ -1,7 +1,7 @@
 -- A token that is spelled at the front is read, and what is read is spelled there.
 use Rattle.std.proofs.Common.{◌≡◌, ◌⊎◌, inl, inr, ℕ, Bool, true, false, ◌&&◌, cond, eqb, List, [], ◌∷◌, ◌++◌, Option, Some, None, take, drop, eq-eqb, refl, sym, ◌∙◌, ap, subst, arith, append_assoc, append-nil, take-append-drop}
 use Rattle.std.specs.List.{prefix_len}
-use Rattle.std.specs.Option.{option_and_then, option_map}
+use Rattle.std.specs.Option.{option_and_then}
 use Rattle.std.specs.Str.{bytes_eq}
 use Rattle.std.proofs.lemmas.Bool.{eqb-true}
 use Rattle.std.proofs.lemmas.Bool.Decides.{nat_tests}

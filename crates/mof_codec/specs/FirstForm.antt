@@ -1,4 +1,5 @@
--- The first form of a document's text: plain instance declarations in ASCII (DSP0004, "Instance declaration").
+-- The plain first form of a document's text: instance declarations in ASCII (DSP0004, "Instance declaration").
+-- It is said by its spelling: the tokens of each instance, and how tokens stand in a text.
 use Rattle.std.specs.Prelude.{◌≡◌, ◌==◌, ◌≤◌, ℕ, Bool, true, false, ◌&&◌, ◌||◌, not, nat_le, nat_lt, List, [], ◌∷◌, ◌++◌, length, codes, None}
 use Rattle.std.specs.List.{AllByRecursion, flat_map}
 use Rattle.mof_values.specs.Ident.{IsIdent, is_next}
@@ -16,15 +17,15 @@ Each p cs = AllByRecursion (λ c. p c ≡ true) cs
 abbrev pub is_separator : ℕ → Bool
 is_separator c = c == 32 || c == 9 || c == 10 || c == 13
 
--- what stands for itself in a literal: U+0020 to U+007E but for the quote and the backslash
+-- what stands in a literal: U+0020 to U+007E but for the quote and the backslash
 abbrev pub is_plain : ℕ → Bool
 is_plain c = nat_le 32 c && nat_le c 126 && not (c == 34) && not (c == 92)
 
--- what an identifier is made of: ASCII letters, digits and the underscore
+-- what keywords and identifiers are made of: ASCII letters, digits and the underscore
 abbrev pub is_word : ℕ → Bool
 is_word c = is_next c && nat_lt c 128
 
--- an identifier of ASCII characters, with no digit in front, of 255 characters at most
+-- an identifier in ASCII: no digit in front, 255 characters at most
 pub record IsName (name : List ℕ) : Type 0 where
   pub ident : IsIdent name
   pub ascii : Each is_word name
@@ -44,7 +45,7 @@ property_tokens p = p.name ∷ codes "=" ∷ literal_of p.value ∷ codes ";" �
 abbrev pub instance_tokens : Instance → List (List ℕ)
 instance_tokens i = codes "instance" ∷ codes "of" ∷ i.class ∷ codes "{" ∷ flat_map property_tokens i.properties ++ codes "}" ∷ codes ";" ∷ []
 
--- what has such a spelling: one literal of plain characters a property, 256 properties at most, and no alias
+-- what the form can spell: values that are one literal, 256 properties at most, no alias
 
 abbrev pub IsPlainValue : Value → Type 0
 IsPlainValue (One (scalars.Text text)) = Each is_plain text
@@ -60,28 +61,34 @@ pub record IsPlainInstance (i : Instance) : Type 0 where
   pub properties : AllByRecursion IsPlainProperty i.properties
   pub few : length i.properties ≤ 256
 
--- whether the last character, or else what was before, is one of an identifier
+-- how tokens stand in a text
+
+-- the last character, or else what is said of none, is one of a word
 abbrev pub ends_with_word : Bool → List ℕ → Bool
-ends_with_word before [] = before
-ends_with_word before (c ∷ cs) = ends_with_word (is_word c) cs
+ends_with_word none [] = none
+ends_with_word none (c ∷ cs) = ends_with_word (is_word c) cs
 
 abbrev pub begins_with_word : List ℕ → Bool
 begins_with_word [] = false
 begins_with_word (c ∷ cs) = is_word c
 
--- the token's last character and the first behind it are not both of an identifier
+-- the token's last character and the next one in the text are not both of a word
 abbrev pub Apart : List ℕ → List ℕ → Type 0
 Apart token rest = (ends_with_word false token && begins_with_word rest) ≡ false
 
--- the tokens one after another, with any separators before, between and after them, and at least one between two that
--- end and begin with a character of an identifier
+-- the text is these tokens one after another, with any separators before, between and after them, and at least one
+-- between two of which the first ends and the second begins with a character of a word
 pub data Spaced : List (List ℕ) → List ℕ → Type 0 where
   end : (gap : List ℕ) → Each is_separator gap → Spaced [] gap
   next : (gap token rest : List ℕ) (tokens : List (List ℕ)) → Each is_separator gap → Apart token rest → Spaced tokens rest
       → Spaced (token ∷ tokens) (gap ++ (token ++ rest))
 
--- the bytes spell the instances in the first form: 4,097 at most, one after another
+-- the bytes spell the instances, of which there are at most 4,097, one after another
 pub record SpellsFirst (bytes : List ℕ) (instances : List Instance) : Type 0 where
   pub plain : AllByRecursion IsPlainInstance instances
   pub few : length instances ≤ 4097
   pub spaced : Spaced (flat_map instance_tokens instances) bytes
+
+-- the bytes spell no instances, not even none
+abbrev pub OutsideFirst : List ℕ → Type 0
+OutsideFirst bytes = (instances : List Instance) → SpellsFirst bytes instances → ⊥

@@ -1,7 +1,6 @@
 -- A part of a text of the first form, and what follows it.
-use Rattle.std.specs.Prelude.{◌≡◌, ◌≤◌, ℕ, List, [], ◌∷◌, ◌++◌, length, codes, None}
+use Rattle.std.specs.Prelude.{◌≡◌, ◌≤◌, ℕ, List, [], ◌∷◌, ◌++◌, length, codes}
 use Rattle.std.specs.List.{AllByRecursion, flat_map}
-use Rattle.mof_values.specs.declared.instance.Instance.{Instance}
 use Rattle.mof_values.specs.declared.instance.Property.{Property}
 use Rattle.mof_codec.specs.FirstForm.{Spaced, IsPlainProperty, property_tokens}
 

@@ -2,7 +2,7 @@
 ghost use Rattle.std.specs.Prelude.{◌≡◌, List, IfOk, IfErr};
 ghost use Rattle.mof_values.specs.Ident.{IsIdent};
 ghost use Rattle.mof_values.specs.declared.instance.Instance.{Instance};
-ghost use Rattle.mof_codec.specs.FirstForm.{SpellsFirst, IsPlainProperty, IsPlainInstance, property_tokens, instance_tokens};
+ghost use Rattle.mof_codec.specs.FirstForm.{SpellsFirst, OutsideFirst, IsPlainProperty, IsPlainInstance, property_tokens, instance_tokens};
 ghost use Rattle.mof_codec.specs.FirstParts.{Reads, Lacks, IsPlainBody, body_tokens};
 
 use crate::first::tokens;
@@ -13,11 +13,13 @@ const MOST_INSTANCES: usize = 4097;
 
 const MOST_PROPERTIES: usize = 256;
 
-/// The instances that the bytes spell in the first form. `NotYet` comes exactly where they spell none.
+/// The instances that ASCII bytes spell in the plain first form: any number of `instance of C { name = "text"; };`,
+/// with spaces, tabs and line ends between (DSP0004, "Instance declaration"). No bytes spell no instances.
+/// `NotYet` comes exactly where the bytes are not in this form, as with more than 4,097 instances or 256 properties.
 pub fn read_first(alloc: Global, bytes: &[u8]) -> Result<Vec<Instance>, FirstError>
     ensures ok { IfOk result (λ v. SpellsFirst bytes.now v.items) }
-    ensures only { IfOk result (λ v. (instances : List Instance) → SpellsFirst bytes.now instances → instances ≡ v.items) }
-    ensures refused { IfErr result (λ e. e ≡ FirstError.NotYet → (instances : List Instance) → SpellsFirst bytes.now instances → ⊥) }
+    ensures only { IfOk result (λ v. (others : List Instance) → SpellsFirst bytes.now others → others ≡ v.items) }
+    ensures refused { IfErr result (λ e. e ≡ FirstError.NotYet → OutsideFirst bytes.now) }
 {
     let mut instances = Vec::new(alloc);
     let mut rest = bytes;
@@ -32,6 +34,7 @@ pub fn read_first(alloc: Global, bytes: &[u8]) -> Result<Vec<Instance>, FirstErr
     Ok(instances)
 }
 
+// The declaration at the front, and what follows it.
 fn declaration(alloc: Global, bytes: &[u8]) -> Result<(Instance, &[u8]), FirstError>
     ensures ok { IfOk result (λ x. Reads IsPlainInstance instance_tokens bytes.now x.0 x.1.now) }
     ensures refused { IfErr result (λ e. e ≡ FirstError.NotYet → Lacks IsPlainInstance instance_tokens bytes.now) }
@@ -52,7 +55,7 @@ fn declaration(alloc: Global, bytes: &[u8]) -> Result<(Instance, &[u8]), FirstEr
     Ok((instance, rest))
 }
 
-// The properties up to the closing brace.
+// The properties up to the closing brace, and what follows it.
 fn properties(alloc: Global, bytes: &[u8]) -> Result<(Vec<Property>, &[u8]), FirstError>
     ensures ok { IfOk result (λ x. Reads IsPlainBody body_tokens bytes.now x.0.items x.1.now) }
     ensures refused { IfErr result (λ e. e ≡ FirstError.NotYet → Lacks IsPlainBody body_tokens bytes.now) }
@@ -72,6 +75,7 @@ fn properties(alloc: Global, bytes: &[u8]) -> Result<(Vec<Property>, &[u8]), Fir
     }
 }
 
+// The property at the front, and what follows it.
 fn property(alloc: Global, bytes: &[u8]) -> Result<(Property, &[u8]), FirstError>
     ensures ok { IfOk result (λ x. Reads IsPlainProperty property_tokens bytes.now x.0 x.1.now) }
     ensures refused { IfErr result (λ e. e ≡ FirstError.NotYet → Lacks IsPlainProperty property_tokens bytes.now) }

@@ -1,4 +1,4 @@
-//! What stands at the front of a text, behind separators.
+//! What stands at the front of a text, behind separators, and what follows it.
 ghost use Rattle.std.specs.Prelude.{◌≡◌, ◌≤◌, length};
 ghost use Rattle.std.specs.Option.{option_map};
 ghost use Rattle.std.specs.List.{prefix_len};

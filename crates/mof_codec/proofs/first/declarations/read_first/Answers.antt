@@ -1,7 +1,6 @@
 use Rattle.std.proofs.Common.{◌≡◌, ◌≢◌, ℕ, [], ◌∷◌, List, length, sym, ◌∙◌, ap, arith, length-append}
 use Rattle.std.proofs.lemmas.Bool.{eqb-true, eqb-false}
 use Rattle.std.proofs.lemmas.Result.{err_from_is_err_and}
-use Rattle.mof_codec.specs.FirstReading.{behind_gap}
 use Rattle.mof_codec.proofs.FirstText.{text_read, text_only, text_stuck, text_full, text_goes_on}
 use Rattle.mof_codec.proofs.first.declarations.read_first.Goals as goal
 
