@@ -1,3 +1,4 @@
+pub mod Answered
 pub mod Monitored
 pub mod Refusals
 pub mod Results

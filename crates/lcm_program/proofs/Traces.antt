@@ -17,7 +17,7 @@ use Rattle.lcm_program.specs.Legal.{Legal, MayTest, MayFollow, GoesOn, IsFirstTe
 use Rattle.dsc_outside.specs.Host.{HostState}
 use Rattle.lcm_program.specs.True.{True, TellsTrue, TellsEntry}
 use Rattle.lcm_program.specs.Whole.{Whole, IsReached}
-use Rattle.dsc_terms.proofs.Splits.{split_push, split_at, precedes, precedes_front}
+use Rattle.dsc_terms.proofs.Splits.{split_push, split_at, contains_front, precedes, precedes_front}
 
 pub legal_push : (document : Document) (mode : RunMode) (order : List ℕ) (t : List Entry) (e : Entry) → Legal document mode order t → MayFollow document mode order t e
     → Legal document mode order (t ++ e ∷ [])
@@ -58,6 +58,7 @@ module _ (document : Document) (order : List ℕ) (t : List Entry) (i : ℕ) (lt
   may_test below once goes_on = record {
     is_place = below;
     in_turn = inl (record {
+      listed = subst (λ (l : List ℕ). Contains l (get_or order i 0)) (sym (split_at order i 0 lt)) (contains_front (get_or order i 0) (take i order) (drop (i + 1) order));
       once = λ has. once (take i order) (get_or order i 0) (drop (i + 1) order) (split_at order i 0 lt) (subst (λ (l : List ℕ). Contains l (get_or order i 0)) places has);
       in_order = λ q has. precedes order i q lt (subst (λ (l : List ℕ). Contains l q) places has);
     });

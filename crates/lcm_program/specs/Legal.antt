@@ -1,5 +1,5 @@
 -- Which traces a run may leave: the Test and Set of the Local Configuration Manager.
-use Rattle.std.specs.Prelude.{◌≡◌, ◌⊎◌, ℕ, ◌<◌, List, [], ◌∷◌, ◌++◌, length}
+use Rattle.std.specs.Prelude.{◌≡◌, ◌⊎◌, ℕ, ◌<◌, List, [], ◌∷◌, ◌++◌, length, Contains}
 use Rattle.dsc_terms.specs.Lists.{Precedes}
 use Rattle.dsc_document.specs.declared.document.Document.{Document}
 use Rattle.dsc_document.specs.Dependency.{DependsOn}
@@ -19,8 +19,9 @@ IsReady document mode before r = mode ≡ Repair → (q : ℕ) → DependsOn doc
 abbrev pub GoesOn : List Entry → Type 0
 GoesOn before = (e : Entry) → EndsWith before e → IsFinal e → ⊥
 
--- the first entry of r: every resource that was tested stands before it in the order
+-- the first entry of r: it stands in the order, and every resource that has an entry stands before it there
 pub record IsFirstTest (order : List ℕ) (before : List Entry) (r : ℕ) : Type 0 where
+  pub listed : Contains order r
   pub once : HasEntry before r → ⊥
   pub in_order : (q : ℕ) → HasEntry before q → Precedes order q r
 

@@ -8,6 +8,9 @@ use Rattle.lcm_program.specs.declared.entry.Entry.{Entry}
 use Rattle.lcm_program.specs.declared.kinds.Kinds.{Kinds}
 use Rattle.lcm_program.specs.declared.status.Status.{Status}
 use Rattle.lcm_program.specs.declared.status.Status.TheVariants.{Done, NotCompliant, Usage, InputRefused, ReadFault, WriteFault, Memory}
+use Rattle.lcm_program.specs.declared.status.InputError.{InputError}
+use Rattle.lcm_program.specs.declared.status.InputError.TheVariants.{TooLong, NotYet}
+use Rattle.lcm_program.specs.Unread.{IsNoDocument}
 use Rattle.lcm_program.specs.Kinds.{calls_of, host_of}
 use Rattle.lcm_program.specs.Streams.{AppendsPart}
 use Rattle.lcm_program.specs.Trace.{missed_count}
@@ -17,13 +20,13 @@ use Rattle.lcm_program.specs.Input.{Reads, input_limit}
 use Rattle.lcm_program.specs.Ran.{Ran}
 
 -- the output failed, and holds a part from the front of the text
-pub record Cuts {K : Type 0} (held : K → Option (List ℕ)) (faults : K → ℕ) (old new : K) (text : List ℕ) : Type 0 where
+pub record IsCutShort {K : Type 0} (held : K → Option (List ℕ)) (faults : K → ℕ) (old new : K) (text : List ℕ) : Type 0 where
   pub rose : Rose (faults old) (faults new)
   pub part : AppendsPart (held old) (held new) text
 
 -- the output holds the text and nothing else, or it failed and holds a part from its front
 abbrev pub Printed : {K : Type 0} → (K → Option (List ℕ)) → (K → ℕ) → K → K → List ℕ → Type 0
-Printed held faults old new text = Appends (held old) (held new) text ⊎ Cuts held faults old new text
+Printed held faults old new text = Appends (held old) (held new) text ⊎ IsCutShort held faults old new text
 
 -- a run came to its end
 abbrev pub IsRun : Status → Type 0
@@ -36,14 +39,34 @@ IsRun WriteFault = Unit {0}
 IsRun Memory = ⊥
 
 -- the words were refused, or memory was
-abbrev pub GivesUp : Status → Type 0
-GivesUp Done = ⊥
-GivesUp (NotCompliant count) = ⊥
-GivesUp (Usage word) = Unit {0}
-GivesUp (InputRefused error) = ⊥
-GivesUp ReadFault = ⊥
-GivesUp WriteFault = ⊥
-GivesUp Memory = Unit {0}
+abbrev pub IsUsageOrMemory : Status → Type 0
+IsUsageOrMemory Done = ⊥
+IsUsageOrMemory (NotCompliant count) = ⊥
+IsUsageOrMemory (Usage word) = Unit {0}
+IsUsageOrMemory (InputRefused error) = ⊥
+IsUsageOrMemory ReadFault = ⊥
+IsUsageOrMemory WriteFault = ⊥
+IsUsageOrMemory Memory = Unit {0}
+
+-- what may be answered of an input that is a document: a run, unless a read failed or memory was refused
+abbrev pub AnswersDocument : Status → ℕ → ℕ → Type 0
+AnswersDocument Done before now = Unit {0}
+AnswersDocument (NotCompliant count) before now = Unit {0}
+AnswersDocument (Usage word) before now = ⊥
+AnswersDocument (InputRefused error) before now = ⊥
+AnswersDocument ReadFault before now = Rose before now
+AnswersDocument WriteFault before now = Unit {0}
+AnswersDocument Memory before now = Unit {0}
+
+-- the same of an input that is refused with this error
+abbrev pub AnswersRefused : InputError → Status → ℕ → ℕ → Type 0
+AnswersRefused error Done before now = ⊥
+AnswersRefused error (NotCompliant count) before now = ⊥
+AnswersRefused error (Usage word) before now = ⊥
+AnswersRefused error (InputRefused given) before now = given ≡ error
+AnswersRefused error ReadFault before now = Rose before now
+AnswersRefused error WriteFault before now = ⊥
+AnswersRefused error Memory before now = Unit {0}
 
 -- the input, where it is told, is the document, and within the limit
 pub record IsInput (document : Document) (all : List ℕ) : Type 0 where
@@ -57,15 +80,21 @@ Tells held faults (NotCompliant count) missed text old new = (count ≡ missed) 
 Tells held faults (Usage word) missed text old new = ⊥
 Tells held faults (InputRefused error) missed text old new = ⊥
 Tells held faults ReadFault missed text old new = ⊥
-Tells held faults WriteFault missed text old new = Cuts held faults old new text
+Tells held faults WriteFault missed text old new = IsCutShort held faults old new text
 Tells held faults Memory missed text old new = ⊥
+
+-- each input has its answer: a document is run, what is too long or no document is refused so
+pub record AnswersEach (status : Status) (before now : ℕ) (all : List ℕ) : Type 0 where
+  pub document : (d : Document) → IsInput d all → AnswersDocument status before now
+  pub too_long : input_limit < length all → AnswersRefused TooLong status before now
+  pub not_yet : IsNoDocument all → AnswersRefused NotYet status before now
 
 -- a run over the kinds
 abbrev pub RanOver : {H : Type 0} → (H → Option HostState) → (H → ℕ) → Document → Kinds H → Kinds H → Type 0
 RanOver told faults document before after = Ran document (calls_of after) (told (host_of before)) (told (host_of after)) (faults (host_of before)) (faults (host_of after))
 
 -- the document of the input was run to its end, and the status and the output tell it
-pub record Tested {K H : Type 0} (held : K → Option (List ℕ)) (output_faults : K → ℕ) (told : H → Option HostState) (faults : H → ℕ)
+pub record RanToEnd {K H : Type 0} (held : K → Option (List ℕ)) (output_faults : K → ℕ) (told : H → Option HostState) (faults : H → ℕ)
     (input : Option (List ℕ)) (before after : Kinds H) (status : Status) (old new : K) : Type 0 where
   pub document : Document
   pub input_is : IfSome input (IsInput document)
@@ -73,11 +102,12 @@ pub record Tested {K H : Type 0} (held : K → Option (List ℕ)) (output_faults
   pub finished : GoesOn (calls_of after)
   pub tells : Tells held output_faults status (missed_count document (calls_of after)) (run_lines document (calls_of after)) old new
 
--- nothing was tested, or the document of the input was, as far as memory went
+-- the document of the input was run as far as memory went
 pub record Began {H : Type 0} (told : H → Option HostState) (faults : H → ℕ) (input : Option (List ℕ)) (before after : Kinds H) : Type 0 where
   pub document : Document
   pub input_is : IfSome input (IsInput document)
   pub run : RanOver told faults document before after
 
+-- nothing was tested, or the document of the input was, as far as memory went
 abbrev pub Stopped : {H : Type 0} → (H → Option HostState) → (H → ℕ) → Option (List ℕ) → Kinds H → Kinds H → Type 0
 Stopped told faults input before after = (calls_of after ≡ []) ⊎ Began told faults input before after

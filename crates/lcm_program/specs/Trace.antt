@@ -56,7 +56,11 @@ missed_count document trace = length document.resources - succeeded_count docume
 abbrev pub EndsWith : List Entry → Entry → Type 0
 EndsWith trace e = (front : List Entry) × (trace ≡ front ++ e ∷ [])
 
--- nothing follows such an entry: a boot was asked for, or memory was refused
+-- the last entry is a test for which memory was refused
+abbrev pub EndsInMemory : List Entry → Type 0
+EndsInMemory trace = (r : ℕ) × EndsWith trace (Tested r tests.Memory)
+
+-- nothing follows such an entry: a reboot was asked for, or memory was refused
 abbrev pub IsFinal : Entry → Type 0
 IsFinal (Tested place answer) = answer ≡ tests.Memory
 IsFinal (Set place sets.Done) = ⊥
@@ -89,7 +93,7 @@ entry_failures (Set place answer) = set_failures answer
 abbrev pub host_failures : List Entry → ℕ
 host_failures trace = sum_by entry_failures trace
 
--- the states along a trace: each entry is one step, and `still` says what may change beside the steps
+-- the states along a trace: each entry is one step, and behind the last one nothing changes but what `still` allows
 abbrev pub Chain : {S : Type 0} → (S → Document → Entry → S → Type 0) → (S → S → Type 0) → Document → S → List Entry → S → Type 0
 Chain does still document before [] after = still before after
 Chain {S} does still document before (e ∷ es) after = (mid : S) × does before document e mid × Chain does still document mid es after

@@ -26,7 +26,7 @@ AnswersTrue host (Some variable) answer = AnswersKnown host variable answer
 -- an entry over what a host tells: the answer is true, and a Test leaves the host as it was
 abbrev pub IsTrueEntry : HostState → Document → Entry → HostState → Type 0
 IsTrueEntry before document (Tested place answer) after =
-    (after ≡ before) × IfSome (slice_get document.resources place) (λ resource. AnswersTrue before (variable_of resource.instance.properties) answer)
+    (after ≡ before) × IfSome (slice_get document.resources place) (λ resource. AnswersTrue before (variable_of resource.instance) answer)
 IsTrueEntry before document (Set place answer) after = ⊥  -- no resource is set yet
 
 -- the answers along a trace are true, from a host to a host

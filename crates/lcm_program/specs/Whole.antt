@@ -11,7 +11,7 @@ use Rattle.lcm_program.specs.declared.entry.Entry.TheVariants.{Tested, Set}
 use Rattle.lcm_program.specs.Trace.{HasEntry, EndsWith, IsFinal, Succeeded, place_of}
 use Rattle.lcm_program.specs.Legal.{IsReady}
 
--- where the trace ends with a boot asked for, or with memory refused, only the resources before that one are asked of it
+-- where the trace ends with a reboot asked for, or with memory refused, only the resources before that one are asked of it
 abbrev pub IsReached : List ℕ → List Entry → ℕ → Type 0
 IsReached order trace r = (e : Entry) → EndsWith trace e → IsFinal e → Precedes order r (place_of e)
 

@@ -38,7 +38,7 @@ pub enum TestAnswer {
 pub enum SetAnswer {
     Done,
 
-    /// Done, and the machine has to be booted.
+    /// Done, and the machine has to be rebooted.
     Reboot,
     Fault(Failure),
     Memory,

@@ -28,7 +28,7 @@ pub enum Unread {
 pub fn read_input<S: Source>(alloc: Global, input: &mut S) -> Result<Document, Unread>
     ensures ok { IfOk result (λ d. IfSome (S.left input.old) (λ all. Reads all d)) }
     ensures fits { IfOk result (λ _. IfSome (S.left input.old) (λ all. length all ≤ input_limit)) }
-    ensures few { IfOk result (λ d. length d.resources ≤ 4097) }
+    ensures few { IfOk result (λ d. length d.resources ≤ 4096) }
     ensures err { IfErr result (λ e. IsUnread e (S.left input.old) (S.faults input.old) (S.faults input.new)) }
 {
     let bytes = match read_all(alloc, input, LIMIT) {
@@ -47,7 +47,7 @@ pub fn read_input<S: Source>(alloc: Global, input: &mut S) -> Result<Document, U
 // The document that the bytes are.
 fn read_document(alloc: Global, bytes: &[u8]) -> Result<Document, FirstError>
     ensures ok { IfOk result (λ d. Reads bytes.now d) }
-    ensures few { IfOk result (λ d. length d.resources ≤ 4097) }
+    ensures few { IfOk result (λ d. length d.resources ≤ 4096) }
     ensures refused { IfErr result (λ e. e ≡ FirstError.NotYet → (d : Document) → Reads bytes.now d → ⊥) }
 {
     let instances = read_first(alloc, bytes)?;

@@ -5,7 +5,9 @@ ghost use Rattle.mof_values.specs.Fold.{fold_case};
 ghost use Rattle.dsc_terms.specs.Counts.{RoseBy};
 ghost use Rattle.dsc_outside.specs.Causes.{HasCauseOf};
 ghost use Rattle.lcm_program.specs.declared.entry.Entry.TheVariants.{Tested};
-ghost use Rattle.lcm_program.specs.Holds.{variable_of, Variable, Holds};
+ghost use Rattle.lcm_program.specs.Holds as Holds;
+ghost use Rattle.lcm_program.specs.Holds.{variable_of, text_named, text_of, Variable};
+ghost use Rattle.std.specs.Str.{bytes_eq};
 ghost use Rattle.lcm_program.specs.True.{AnswersTrue, TellsEntry};
 ghost use Rattle.lcm_program.specs.Trace.{test_failures};
 
@@ -13,7 +15,7 @@ use crate::entry::{Entry, Failure, TestAnswer};
 use crate::resources::Resources;
 use dsc_document::Document;
 use dsc_outside::{Host, HostError};
-use mof_values::{Instance, Memory, Property, Scalar, Text, Value};
+use mof_values::{Instance, Memory, Property, Scalar, Text, Value, is_named};
 use std::alloc::{AllocError, Global};
 
 /// The resources of the machine that a host is; it owns the host, and keeps an entry of each call.
@@ -59,28 +61,29 @@ impl<H: Host> Resources for Kinds<H> {
     ghost use Rattle.std.specs.Prelude.{◌≡◌, ◌-◌, ◌≤◌, vec_capacity, vec_len, OnOk};
     ghost use Rattle.std.proofs.Common.{refl, subst, sym, Option};
     ghost use Rattle.dsc_outside.specs.Host.{HostState};
+    ghost use Rattle.lcm_program.specs.Kinds.{calls_of, host_of, spare_of};
     ghost use Rattle.lcm_program.specs.True.{TellsEntry};
 
-    ghost kept = { λ k. k.calls.items };
+    ghost kept = { calls_of };
 
-    ghost spare = { λ k. vec_capacity k.calls - vec_len k.calls };
+    ghost spare = { spare_of };
 
-    ghost faults = { λ k. H.faults k.host };
+    ghost faults = { λ k. H.faults (host_of k) };
 
-    ghost does = { λ a document e b. TellsEntry (H.told a.host) document e (H.told b.host) };
+    ghost does = { λ a document e b. TellsEntry (H.told (host_of a)) document e (H.told (host_of b)) };
 
-    ghost still = { λ a b. H.told a.host ≡ H.told b.host };
+    ghost still = { λ a b. H.told (host_of a) ≡ H.told (host_of b) };
 
     ghost stays = { λ a. refl };
 
-    ghost still_does = { λ a b c document e same step. subst (λ (t : Option HostState). TellsEntry t document e (H.told c.host)) (sym same) step };
+    ghost still_does = { λ a b c document e same step. subst (λ (t : Option HostState). TellsEntry t document e (H.told (host_of c))) (sym same) step };
 
     fn reserve(&mut self, entries: u32) -> Result<(), Memory>
-        ensures room { OnOk result (entries ≤ vec_capacity self.new.calls - vec_len self.new.calls) }
-        ensures kept { self.new.calls.items ≡ self.old.calls.items }
-        ensures faults { H.faults self.new.host ≡ H.faults self.old.host }
-        ensures still { H.told self.old.host ≡ H.told self.new.host }
-        ensures host { self.new.host ≡ self.old.host }
+        ensures room { OnOk result (entries ≤ spare_of self.new) }
+        ensures kept { calls_of self.new ≡ calls_of self.old }
+        ensures faults { H.faults (host_of self.new) ≡ H.faults (host_of self.old) }
+        ensures still { H.told (host_of self.old) ≡ H.told (host_of self.new) }
+        ensures host { host_of self.new ≡ host_of self.old }
     {
         self.calls.reserve(entries as usize)?;
         Ok(())
@@ -112,10 +115,10 @@ fn keep(calls: &mut Vec<Entry>, place: u32, answer: TestAnswer)
 
 fn tested<H: Host>(alloc: Global, host: &mut H, instance: &Instance) -> TestAnswer
     ensures told { H.told host.new ≡ H.told host.old }
-    ensures answer { IfSome (H.told host.old) (λ state. AnswersTrue state (variable_of instance.now.properties) result) }
+    ensures answer { IfSome (H.told host.old) (λ state. AnswersTrue state (variable_of instance.now) result) }
     ensures cause { RoseBy (test_failures result) (H.faults host.old) (H.faults host.new) }
 {
-    let Some((name, value)) = variable(instance.properties.as_slice()) else {
+    let Some((name, value)) = variable(instance) else {
         return TestAnswer::Fault(Failure::NoSuchResource);
     };
     match holds(alloc, host, name, value) {
@@ -126,25 +129,63 @@ fn tested<H: Host>(alloc: Global, host: &mut H, instance: &Instance) -> TestAnsw
     }
 }
 
-// The name and the value of the variable that a plain environment resource asks for.
-fn variable(properties: &[Property]) -> Option<(&Text, &Text)>
-    ensures { option_map (λ v. record { name = v.0.now; value = v.1.now }) result ≡ variable_of properties.now }
+// The name and the value of the variable that an environment resource asks for.
+fn variable(instance: &Instance) -> Option<(&Text, &Text)>
+    ensures { option_map (λ v. record { name = v.0.now; value = v.1.now }) result ≡ variable_of instance.now }
 {
-    match properties {
-        [_, name, value] => match (&name.value, &value.value) {
-            (Value::One(Scalar::Text(name)), Value::One(Scalar::Text(value))) => Some((
-                name, value,
-            )),
-            _ => None,
-        },
+    if !is_environment(instance) {
+        return None;
+    }
+    let properties = instance.properties.as_slice();
+    match (
+        find_text(properties, "Name"),
+        find_text(properties, "Value"),
+    ) {
+        (Some(name), Some(value)) if !name.as_slice().is_empty() => Some((name, value)),
         _ => None,
     }
+}
+
+fn is_environment(instance: &Instance) -> bool
+    ensures { result ≡ Holds.is_environment instance.now }
+{
+    same_as(instance.class.as_slice(), "MSFT_EnvironmentResource")
+}
+
+// The text of the first property of that name, where it is a single text.
+fn find_text<'a>(properties: &'a [Property], name: &str) -> Option<&'a Text>
+    ensures { option_map (λ t. t.now) result ≡ text_named name.now properties.now }
+{
+    let mut left = properties;
+    while let [property, rest @ ..] = left {
+        if same_as(property.name.as_slice(), name) {
+            return text(&property.value);
+        }
+        left = rest;
+    }
+    None
+}
+
+fn text(value: &Value) -> Option<&Text>
+    ensures { option_map (λ t. t.now) result ≡ text_of value.now }
+{
+    match value {
+        Value::One(Scalar::Text(text)) => Some(text),
+        _ => None,
+    }
+}
+
+// Tells whether a name is this word by fold.
+fn same_as(name: &[char], word: &str) -> bool
+    ensures { result ≡ bytes_eq (fold_case name.now) (fold_case word.now) }
+{
+    is_named(name, word)
 }
 
 // Tells whether the variable is there and has the value.
 fn holds<H: Host>(alloc: Global, host: &mut H, name: &Text, value: &Text) -> Result<bool, HostError>
     ensures told { H.told host.new ≡ H.told host.old }
-    ensures answer { IfSome (H.told host.old) (λ state. IfOk result (λ yes. IsTrue yes ↔ Holds state (record { name = name.now; value = value.now }))) }
+    ensures answer { IfSome (H.told host.old) (λ state. IfOk result (λ yes. IsTrue yes ↔ Holds.Holds state (record { name = name.now; value = value.now }))) }
     ensures cause { HasCauseOf HostError.Failed (H.faults host.old) (H.faults host.new) result }
 {
     let name = folded_name(alloc, name)?;

@@ -99,7 +99,7 @@ fn push_test(out: &mut String, answer: TestAnswer) -> Result<(), AllocError>
         TestAnswer::Yes => out.push_str(" yes"),
         TestAnswer::No => out.push_str(" no"),
         TestAnswer::Fault(failure) => push_fault(out, failure),
-        TestAnswer::Memory => out.push_str(" memory"),
+        TestAnswer::Memory => Ok(()),
     }
 }
 
@@ -110,7 +110,7 @@ fn push_set(out: &mut String, answer: SetAnswer) -> Result<(), AllocError>
         SetAnswer::Done => out.push_str(" done"),
         SetAnswer::Reboot => out.push_str(" reboot"),
         SetAnswer::Fault(failure) => push_fault(out, failure),
-        SetAnswer::Memory => out.push_str(" memory"),
+        SetAnswer::Memory => Ok(()),
     }
 }
 

@@ -7,7 +7,7 @@ ghost use Rattle.lcm_program.specs.Words.{IsForm, IsUsage};
 ghost use Rattle.lcm_program.specs.Kinds.{calls_of, host_of};
 ghost use Rattle.lcm_program.specs.Refusal.{status_of, refusal_line};
 ghost use Rattle.lcm_program.specs.Unread.{IsRefused};
-ghost use Rattle.lcm_program.specs.Program.{Printed, IsRun, Tested, Stopped, GivesUp};
+ghost use Rattle.lcm_program.specs.Program.{Printed, IsRun, RanToEnd, Stopped, IsUsageOrMemory, AnswersEach};
 
 use crate::input::{Unread, read_input};
 use crate::kinds::Kinds;
@@ -43,11 +43,12 @@ pub fn node<S: Source, K: Sink, D: Disk, H: Host, L: Link, C: Clock>(
     // A refusal is the one line, and nothing was done.
     ensures refused { (refusal : Refusal) → result ≡ status_of refusal → Printed K.held K.faults output.old output.new (refusal_line refusal) × (kinds.new ≡ kinds.old) }
     ensures usage { (word : ℕ) → result ≡ Status.Usage word → IsUsage (map string_bytes words.now) word × (input.new ≡ input.old) }
-    ensures no_form { ((command : Command) → IsForm command (map string_bytes words.now) → ⊥) → (GivesUp result × (input.new ≡ input.old)) }
+    ensures no_form { ((command : Command) → IsForm command (map string_bytes words.now) → ⊥) → IsUsageOrMemory result × (input.new ≡ input.old) × (kinds.new ≡ kinds.old) }
     ensures unread { (refusal : Refusal) → result ≡ status_of refusal → IsForm Command.Test (map string_bytes words.now) → IsRefused refusal (S.left input.old) (S.faults input.old) (S.faults input.new) }
+    ensures each { IsForm Command.Test (map string_bytes words.now) → IfSome (S.left input.old) (AnswersEach result (S.faults input.old) (S.faults input.new)) }
 
     // A run is told whole.
-    ensures tested { IsRun result → Tested K.held K.faults H.told H.faults (S.left input.old) kinds.old kinds.new result output.old output.new }
+    ensures tested { IsRun result → RanToEnd K.held K.faults H.told H.faults (S.left input.old) kinds.old kinds.new result output.old output.new }
 
     // Where memory was refused nothing is told, and what was done is the front of a run.
     ensures memory { result ≡ Status.Memory → Stopped H.told H.faults (S.left input.old) kinds.old kinds.new × (output.new ≡ output.old) }
@@ -68,7 +69,8 @@ fn test<S: Source, K: Sink, H: Host>(
     requires fresh { calls_of kinds.old ≡ [] }
     ensures host { H.told (host_of kinds.new) ≡ H.told (host_of kinds.old) }
     ensures refused { (refusal : Refusal) → result ≡ status_of refusal → Printed K.held K.faults output.old output.new (refusal_line refusal) × (kinds.new ≡ kinds.old) × IsRefused refusal (S.left input.old) (S.faults input.old) (S.faults input.new) }
-    ensures tested { IsRun result → Tested K.held K.faults H.told H.faults (S.left input.old) kinds.old kinds.new result output.old output.new }
+    ensures each { IfSome (S.left input.old) (AnswersEach result (S.faults input.old) (S.faults input.new)) }
+    ensures tested { IsRun result → RanToEnd K.held K.faults H.told H.faults (S.left input.old) kinds.old kinds.new result output.old output.new }
     ensures memory { result ≡ Status.Memory → Stopped H.told H.faults (S.left input.old) kinds.old kinds.new × (output.new ≡ output.old) }
 {
     let document = match read_input(alloc, input) {

@@ -1,8 +1,8 @@
 //! Runs over a document: the test-then-set cycle of the Local Configuration Manager.
-ghost use Rattle.std.specs.Prelude.{◌≡◌, ◌<◌, ◌≤◌, ◌+◌, [], length, All};
+ghost use Rattle.std.specs.Prelude.{◌≡◌, ◌<◌, ◌≤◌, [], length, All};
 ghost use Rattle.dsc_terms.specs.Counts.{RoseBy};
 ghost use Rattle.dsc_terms.specs.Lists.{IsOnce};
-ghost use Rattle.lcm_program.specs.Trace.{Chain, place_of, host_failures};
+ghost use Rattle.lcm_program.specs.Trace.{Chain, EndsInMemory, host_failures};
 ghost use Rattle.lcm_program.specs.Legal.{Legal, GoesOn};
 ghost use Rattle.lcm_program.specs.Whole.{Whole};
 
@@ -40,7 +40,7 @@ pub fn monitor<R: Resources>(document: &Document, order: &[u32], resources: &mut
     ensures legal { Legal document.now RunMode.Monitor order.now (R.kept resources.new) }
     ensures whole { Whole document.now RunMode.Monitor order.now (R.kept resources.new) }
     ensures finished { result ≡ RunEnd.Finished → GoesOn (R.kept resources.new) }
-    ensures memory { result ≡ RunEnd.Memory → GoesOn (R.kept resources.new) → ⊥ }
+    ensures memory { result ≡ RunEnd.Memory → EndsInMemory (R.kept resources.new) }
     ensures chain { Chain R.does R.still document.now resources.old (R.kept resources.new) resources.new }
     ensures faults { RoseBy (host_failures (R.kept resources.new)) (R.faults resources.old) (R.faults resources.new) }
 {

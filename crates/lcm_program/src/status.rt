@@ -17,10 +17,10 @@ pub enum InputError {
 pub enum Status {
     Done,
 
-    /// So many resources are not as the document asks.
+    /// So many resources did not succeed: their last Test did not answer yes.
     NotCompliant { count: u32 },
 
-    /// The words are in no form: no form goes on with the word at that place, or with none behind the last word.
+    /// The words are in no form; `word` is the place of the first word that no form goes on with, or their count.
     Usage { word: u32 },
 
     InputRefused(InputError),

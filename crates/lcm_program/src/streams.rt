@@ -1,6 +1,6 @@
 //! Whole inputs and outputs.
 ghost use Rattle.std.specs.Prelude.{◌≡◌, ◌<◌, ◌≤◌, ◌^◌, length, OnOk, OnErr, IfOk, IfSome, IsErrOf};
-ghost use Rattle.std.specs.Io.KnownBytes.{Appends};
+ghost use Rattle.std.specs.Io.KnownBytes.{Appends, IsAtEnd};
 ghost use Rattle.dsc_terms.specs.Counts.{Rose};
 ghost use Rattle.dsc_outside.specs.Causes.{HasCause};
 ghost use Rattle.lcm_program.specs.Streams.{AppendsPart};
@@ -16,7 +16,7 @@ pub enum ReadError {
     Memory,
 }
 
-/// Reads to the end, where that is no more than so many bytes.
+/// Reads to the end, where that is no more than so many bytes. A read that fails before more than those came is a failure.
 pub fn read_all<S: Source>(
     alloc: Global,
     source: &mut S,
@@ -25,6 +25,8 @@ pub fn read_all<S: Source>(
     requires { limit < 2 ^ 62 }
     ensures ok { IfOk result (λ v. IfSome (S.left source.old) (λ all. v.items ≡ all)) }
     ensures fits { IfOk result (λ v. length v.items ≤ limit) }
+    ensures end { OnOk result (IsAtEnd (S.left source.new)) }
+    ensures held { S.held source.new ≡ S.held source.old }
     ensures too_long { IsErrOf result ReadError.TooLong → IfSome (S.left source.old) (λ all. limit < length all) }
     ensures failed { IsErrOf result ReadError.Failed → Rose (S.faults source.old) (S.faults source.new) }
     ensures later { S.faults source.old ≤ S.faults source.new }
@@ -51,6 +53,7 @@ pub fn read_all<S: Source>(
 pub fn write_all<K: Sink>(sink: &mut K, bytes: &[u8]) -> Result<(), Failed>
     ensures ok { OnOk result (Appends (K.held sink.old) (K.held sink.new) bytes.now) }
     ensures err { OnErr result (AppendsPart (K.held sink.old) (K.held sink.new) bytes.now) }
+    ensures left { K.left sink.new ≡ K.left sink.old }
     ensures cause { HasCause (K.faults sink.old) (K.faults sink.new) result }
 {
     let mut rest = bytes;

@@ -16,23 +16,27 @@ const TWO: &str =
 #[derive(Drop)]
 struct Case {
     words: &'static [&'static str],
-    input: &'static str,
 
     /// The value of the variable V.
     value: Option<&'static [u8]>,
 
     /// The number of the call of the host that fails.
-    failing: Option<u64>,
+    failing_look: Option<u64>,
+
+    /// The number of the read that fails.
+    failing_read: Option<u64>,
 
     lines: &'static str,
     status: u8,
 }
 
-/// A source that gives one byte at a time.
+/// A source that gives one byte at a time, and fails once at that place.
 #[derive(Drop)]
 struct Trickle {
     bytes: Vec<u8>,
     at: usize,
+    failing: Option<u64>,
+    faults: u64,
 }
 
 impl Ends for Trickle {
@@ -42,11 +46,15 @@ impl Ends for Trickle {
 
     ghost held = { λ _. None };
 
-    ghost faults = { λ _. 0 };
+    ghost faults = { λ t. t.faults };
 }
 
 impl Source for Trickle {
     fn read(&mut self, into: &mut [u8]) -> Result<usize, Failed> {
+        if self.failing == Some(self.at as u64) {
+            self.faults = self.faults.saturating_add(1);
+            return Err(Failed);
+        }
         match (self.bytes.get(self.at), into.first_mut()) {
             (Some(byte), Some(place)) => {
                 *place = *byte;
@@ -104,7 +112,7 @@ fn host_of<R: AllocGlobal>(rt: &R, case: &Case) -> Result<MemoryHost, Fail> {
             value: Bytes::of(value.to_vec(rt.alloc())?),
         })?;
     }
-    Ok(MemoryHost::new(variables, one_if(rt, case.failing)?))
+    Ok(MemoryHost::new(variables, one_if(rt, case.failing_look)?))
 }
 
 fn run<S: Source, K: Sink, R: AllocGlobal>(
@@ -132,17 +140,19 @@ fn run<S: Source, K: Sink, R: AllocGlobal>(
 }
 
 // Runs the case over whole streams, and over streams of one byte at a time.
-fn expect<R: AllocGlobal + Abort>(rt: &R, case: &Case) -> Result<(), Fail> {
-    let bytes = case.input.as_bytes();
-    let mut input = MemorySource::new(bytes.to_vec(rt.alloc())?, Vec::new(rt.alloc()));
+fn expect<R: AllocGlobal + Abort>(rt: &R, case: &Case, bytes: &[u8]) -> Result<(), Fail> {
+    let mut input = MemorySource::new(bytes.to_vec(rt.alloc())?, one_if(rt, case.failing_read)?);
     let mut output = MemorySink::new(rt.alloc(), Vec::new(rt.alloc()));
     let status = run(rt, case, &mut input, &mut output)?;
     assert_eq!(rt; output.bytes(), case.lines.as_bytes(), "{}", case.lines);
     assert_eq!(rt; status.number(), case.status, "{}", case.lines);
+    assert!(rt; !input.short() && !output.short());
 
     let mut input = Trickle {
         bytes: bytes.to_vec(rt.alloc())?,
         at: 0,
+        failing: case.failing_read,
+        faults: 0,
     };
     let mut output = Drip {
         bytes: Vec::new(rt.alloc()),
@@ -159,144 +169,121 @@ fn expect<R: AllocGlobal + Abort>(rt: &R, case: &Case) -> Result<(), Fail> {
     Ok(())
 }
 
+// So many spaces.
+fn spaces<R: AllocGlobal>(rt: &R, count: usize) -> Result<Vec<u8>, Fail> {
+    let mut all = Vec::with_capacity(rt.alloc(), count)?;
+    for _ in 0..count {
+        all.push(b' ')?;
+    }
+    Ok(all)
+}
+
+const NO: &str = "test \"[Environment]A\" no\nresources 1 succeeded 0\nnot compliant 1\n";
+
+const YES: &str = "test \"[Environment]A\" yes\nresources 1 succeeded 1\ncompliant\n";
+
+const FAULT: &str =
+    "test \"[Environment]A\" fault HostFailed\nresources 1 succeeded 0\nnot compliant 1\n";
+
+const BEHIND_FAULT: &str =
+    "test \"[Environment]A\" fault HostFailed\ntest \"[Environment]B\" no\nresources 2 succeeded 0\nnot compliant 2\n";
+
+const NOTHING: &str = "resources 0 succeeded 0\ncompliant\n";
+
 #[test]
-fn commands_print_their_lines_and_end_with_their_status(rt: HostRuntime) -> Result<(), Fail> {
-    let no = "test \"[Environment]A\" no\nresources 1 succeeded 0\nnot compliant 1\n";
-    let yes = "test \"[Environment]A\" yes\nresources 1 succeeded 1\ncompliant\n";
-    let fault =
-        "test \"[Environment]A\" fault HostFailed\nresources 1 succeeded 0\nnot compliant 1\n";
-    let test: &'static [&'static str] = &["test"];
-    for (words, input, value, failing, lines, status) in [
-        (test, ONE, None, None, no, 1),
-        (test, ONE, Some(b"1".as_slice()), None, yes, 0),
-        (test, ONE, Some(b"11".as_slice()), None, no, 1),
-        (test, ONE, Some(b"".as_slice()), None, no, 1),
-        (test, ONE, Some(b"1\r\n\xff".as_slice()), None, no, 1),
-        (test, ONE, Some(b"1".as_slice()), Some(0), fault, 1),
-        (
-            test,
-            HEADER,
-            None,
-            None,
-            "resources 0 succeeded 0\ncompliant\n",
-            0,
-        ),
-        (test, "x", None, None, "refused NotYet\n", 3),
-        (test, "", None, None, "refused NotYet\n", 3),
-        (&[], ONE, None, None, "refused Usage 0\n", 2),
-        (&["tests"], ONE, None, None, "refused Usage 0\n", 2),
-        (&[""], ONE, None, None, "refused Usage 0\n", 2),
-        (&["test", "x"], ONE, None, None, "refused Usage 1\n", 2),
-        (
-            &["test", "test", "x"],
-            ONE,
-            None,
-            None,
-            "refused Usage 1\n",
-            2,
-        ),
+fn test_prints_the_answers_and_ends_with_the_verdict(rt: HostRuntime) -> Result<(), Fail> {
+    for (input, value, failing_look, lines, status) in [
+        (ONE, None, None, NO, 1),
+        (ONE, Some(b"1".as_slice()), None, YES, 0),
+        (ONE, Some(b"11".as_slice()), None, NO, 1),
+        (ONE, Some(b"".as_slice()), None, NO, 1),
+        (ONE, Some(b"1\r\n\xff".as_slice()), None, NO, 1),
+        (ONE, Some(b"1".as_slice()), Some(0), FAULT, 1),
+        (TWO, Some(b"1".as_slice()), Some(0), BEHIND_FAULT, 1),
+        (HEADER, None, None, NOTHING, 0),
+        ("x", None, None, "refused NotYet\n", 3),
+        ("", None, None, "refused NotYet\n", 3),
     ] {
-        expect(
-            &rt,
-            &Case {
-                words,
-                input,
-                value,
-                failing,
-                lines,
-                status,
-            },
-        )?;
+        let words: &'static [&'static str] = &["test"];
+        let case = Case {
+            words,
+            value,
+            failing_look,
+            failing_read: None,
+            lines,
+            status,
+        };
+        expect(&rt, &case, input.as_bytes())?;
     }
     Ok(())
 }
 
 #[test]
-fn each_resource_is_tested_also_behind_a_failed_call(rt: HostRuntime) -> Result<(), Fail> {
-    let case = Case {
-        words: &["test"],
-        input: TWO,
-        value: Some(b"1"),
-        failing: Some(0),
-        lines: "test \"[Environment]A\" fault HostFailed\ntest \"[Environment]B\" no\nresources 2 succeeded 0\nnot compliant 2\n",
-        status: 1,
-    };
-    expect(&rt, &case)
+fn words_in_no_form_are_refused_with_the_first_that_does_not_fit(
+    rt: HostRuntime,
+) -> Result<(), Fail> {
+    let none: &'static [&'static str] = &[];
+    for (words, lines) in [
+        (none, "refused Usage 0\n"),
+        (&["tests"], "refused Usage 0\n"),
+        (&[""], "refused Usage 0\n"),
+        (&["test", "x"], "refused Usage 1\n"),
+        (&["test", "test", "x"], "refused Usage 1\n"),
+    ] {
+        let case = Case {
+            words,
+            value: None,
+            failing_look: None,
+            failing_read: None,
+            lines,
+            status: 2,
+        };
+        expect(&rt, &case, ONE.as_bytes())?;
+    }
+    Ok(())
 }
 
 #[test]
 fn an_input_that_fails_or_is_too_long_is_refused(rt: HostRuntime) -> Result<(), Fail> {
-    let case = Case {
-        words: &["test"],
-        input: "",
-        value: None,
-        failing: None,
-        lines: "",
-        status: 0,
-    };
-    let spaces = vec![in rt.alloc(); b' '; 2_097_153]?;
-    for (bytes, failing, lines, status) in [
-        (
-            ONE.as_bytes(),
-            Some(0),
-            "refused ReadFault\n",
-            Status::ReadFault,
-        ),
-        (
-            ONE.as_bytes(),
-            Some(1),
-            "refused ReadFault\n",
-            Status::ReadFault,
-        ),
-        (
-            spaces.as_slice(),
-            None,
-            "refused TooLong\n",
-            Status::InputRefused(InputError::TooLong),
-        ),
-        (
-            &spaces[..2_097_152],
-            None,
-            "refused NotYet\n",
-            Status::InputRefused(InputError::NotYet),
-        ),
+    let words: &'static [&'static str] = &["test"];
+    for (count, failing_read, lines, status) in [
+        (10, Some(0), "refused ReadFault\n", 4),
+        (10, Some(1), "refused ReadFault\n", 4),
+        (2_097_153, None, "refused TooLong\n", 3),
+        (2_097_152, None, "refused NotYet\n", 3),
     ] {
-        let mut input = MemorySource::new(bytes.to_vec(rt.alloc())?, one_if(&rt, failing)?);
-        let mut output = MemorySink::new(rt.alloc(), Vec::new(rt.alloc()));
-        assert_eq!(rt;
-            run(&rt, &case, &mut input, &mut output)?,
+        let case = Case {
+            words,
+            value: None,
+            failing_look: None,
+            failing_read,
+            lines,
             status,
-            "{lines}"
-        );
-        assert_eq!(rt; output.bytes(), lines.as_bytes(), "{lines}");
+        };
+        expect(&rt, &case, &spaces(&rt, count)?)?;
     }
     Ok(())
 }
 
 #[test]
 fn an_output_that_fails_is_told_but_for_a_refusal(rt: HostRuntime) -> Result<(), Fail> {
+    let case = Case {
+        words: &["test"],
+        value: None,
+        failing_look: None,
+        failing_read: None,
+        lines: "",
+        status: 0,
+    };
     for (input, status) in [
         (ONE, Status::WriteFault),
         ("x", Status::InputRefused(InputError::NotYet)),
     ] {
-        let case = Case {
-            words: &["test"],
-            input,
-            value: None,
-            failing: None,
-            lines: "",
-            status: 0,
-        };
-        let mut source = MemorySource::new(
-            input.as_bytes().to_vec(rt.alloc())?,
-            Vec::new(rt.alloc()),
-        );
+        let bytes = input.as_bytes().to_vec(rt.alloc())?;
+        let mut source = MemorySource::new(bytes, Vec::new(rt.alloc()));
         let mut output = MemorySink::new(rt.alloc(), one_if(&rt, Some(0))?);
-        assert_eq!(rt;
-            run(&rt, &case, &mut source, &mut output)?,
-            status,
-            "{input}"
-        );
+        let got = run(&rt, &case, &mut source, &mut output)?;
+        assert_eq!(rt; got, status, "{input}");
         assert!(rt; output.bytes().is_empty(), "{input}");
     }
     Ok(())
@@ -305,13 +292,11 @@ fn an_output_that_fails_is_told_but_for_a_refusal(rt: HostRuntime) -> Result<(),
 #[test]
 fn ids_are_printed_as_literals(rt: HostRuntime) -> Result<(), Fail> {
     let mut out = String::new(rt.alloc());
-    let text = [
-        'a', '"', '\\', '\u{8}', '\t', '\n', '\u{c}', '\r', '\u{1}', '\u{1f}', '\u{7f}', '\u{20ac}',
-    ];
-    literal::push_literal(&mut out, &text)?;
-    assert_eq!(rt;
-        out.as_str(),
-        "\"a\\\"\\\\\\b\\t\\n\\f\\r\\x0001\\x001F\u{7f}\u{20ac}\""
-    );
+    for text in ["a\"\\", "\u{8}\t\n\u{c}\r", "\u{1}\u{1f}\u{7f}\u{20ac}"] {
+        let chars: Vec<char> = text.chars().collect(rt.alloc())?;
+        literal::push_literal(&mut out, &chars)?;
+    }
+    let wanted = "\"a\\\"\\\\\"\"\\b\\t\\n\\f\\r\"\"\\x0001\\x001F\u{7f}\u{20ac}\"";
+    assert_eq!(rt; out.as_str(), wanted);
     Ok(())
 }

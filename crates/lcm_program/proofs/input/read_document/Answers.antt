@@ -12,7 +12,7 @@ length-numbered f k [] = refl
 length-numbered f k (x ∷ xs) = omega (arith, length-numbered f (k + 1) xs)
 
 -- a document of the first form has no more resources than there are instances
-few : (instances : List Instance) (document : Document) → length instances ≤ 4097 → document ≡ first_document instances → length document.resources ≤ 4097
+few : (instances : List Instance) (document : Document) → length instances ≤ 4097 → document ≡ first_document instances → length document.resources ≤ 4096
 few instances document le same =
     omega (arith, ap (λ (d : Document). length d.resources) same, length-numbered resource_at 0 (all_but_last instances), length-take (length instances - 1) instances)
 

@@ -40,7 +40,11 @@ returns-in-Memory-clause-whole g c =
     rw grown (whole_at_memory c.args.document.now order kept i c.loop-place-test.true c.requires.distinct c.loop-place.invariant.places legal)
 
 pub returns-in-Memory-clause-memory : goal.returns-in-Memory-clause-memory
-returns-in-Memory-clause-memory g c = λ _ goes_on. goes_on _ (g.R.Resources.kept c.loop-place.resources, c.test.ensures.kept) c.in-Memory.is
+returns-in-Memory-clause-memory g c = λ _.
+    let order = c.args.order.now in
+    let place = get_or order c.loop-place.place-index 0 in
+    let kept = g.R.Resources.kept c.loop-place.resources in
+    (place, (kept, c.test.ensures.kept ∙ ap (λ (a : TestAnswer). kept ++ Tested place a ∷ []) c.in-Memory.is))
 
 pub returns-in-Memory-clause-chain : goal.returns-in-Memory-clause-chain
 returns-in-Memory-clause-chain g c = rw c.test.ensures.kept (chain_push g.R.Resources.does g.R.Resources.still _ _ _ _ _ _ g.met.R.Resources.still_does g.met.R.Resources.stays c.loop-place.invariant.chain c.test.ensures.does)

@@ -15,5 +15,6 @@ loop-rest-preserved g c =
         before.1 ∙ ap (λ (l : List ℕ). before.0 ++ l) (sym (take-append-drop n s)) ∙ sym (append_assoc before.0 (take n s) (drop n s)),
         Appends-trans _ _ _ before.0 (take n s) before.2 c.in_ok-count.ensures.bytes,
       );
+      kept = c.in_ok-count.ensures.left ∙ c.loop-rest.invariant.kept;
       later = omega (arith, c.loop-rest.invariant.later, c.in_ok-count.ensures.cause.later);
     })
