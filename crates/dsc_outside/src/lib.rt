@@ -2,7 +2,12 @@
 //!
 //! Each trait has a count of faults that never falls, and a call answers `Failed` only where the count rose in
 //! that call, or stands at 2^64 - 1. What an object holds is told or not: forms in memory tell it, the real things
-//! do not, and the clauses on content hold where it is told.
+//! do not, and the clauses on content hold where it is told. A layer above is generic over the traits, and so cannot
+//! know which of the two it was given.
+//!
+//! `MemorySource`, `MemorySink` and `MemoryHost` are exact: they fail in the calls that they were told to fail in,
+//! and in no other but where they find no memory for what they keep. `Absent` fails in each call. The module `real`
+//! has standard input and output and the folder that stands for the machine; it is the edge that is trusted.
 #![tactic(auto)]
 
 mod absent;
