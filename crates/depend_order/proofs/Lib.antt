@@ -1,6 +1,11 @@
+pub mod Answered
 pub mod Marks
+pub mod Options
 pub mod Orders
 pub mod Placing
+pub mod Resolved
+pub mod Resolving
+pub mod SameNames
 pub mod SearchLemmas
 pub mod Splits
 pub mod Walks

@@ -6,11 +6,14 @@
 //! PowerShell Desired State Configuration documentation; ids compare by fold.
 #![tactic(auto)]
 
+mod documents;
 mod error;
+mod names;
 mod numbers;
 mod search;
 mod walk;
 
+pub use documents::order;
 pub use error::OrderError;
 pub use numbers::order_of;
 
