@@ -1,5 +1,7 @@
 pub mod Answered
+pub mod Cycles
 pub mod Marks
+pub mod NumberLemmas
 pub mod Options
 pub mod Orders
 pub mod Placing

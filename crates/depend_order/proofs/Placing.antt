@@ -1,8 +1,7 @@
 -- What the marks and counts of the search say of the order so far, and of the places that are left.
 use Rattle.std.proofs.Common.{◌≡◌, ◌⊎◌, inl, inr, ℕ, zero, suc, ◌+◌, ◌<◌, ◌≤◌, Bool, true, List, [], ◌∷◌, ◌++◌, Some, length, set, refl, sym, ◌∙◌, ap, subst, arith, length-set}
 use Rattle.std.proofs.lemmas.Bool.{cases_lt}
-use Rattle.std.proofs.lemmas.List.Elements.{All-tail}
-use Rattle.std.proofs.lemmas.Option.{none-some, slice_get_within, get_or_from_slice_get}
+use Rattle.std.proofs.lemmas.Option.{slice_get_within}
 use Rattle.std.specs.Global.{Vec}
 use Rattle.std.specs.Prelude.{All, Contains, slice_get, slice_index}
 use Rattle.depend_order.specs.Cycle.{DependsOn, IsLeft, IsLeastLeft, IsFirstLeft}
@@ -10,6 +9,7 @@ use Rattle.depend_order.specs.Numbers.{numbers_of, Lists, AreBelow}
 use Rattle.depend_order.specs.Order.{IsReady, IsNext, IsEarliestReady}
 use Rattle.depend_order.specs.Search.{IsMarked, AreMarked, IsBlocked, AreMet, IsPassed, IsFound, GoesOn}
 use Rattle.depend_order.proofs.Marks.{IsMarking, marked_kept}
+use Rattle.depend_order.proofs.NumberLemmas.{number_below}
 use Rattle.depend_order.proofs.Orders.{stopped}
 
 -- a mark more leaves the counts as they are
@@ -20,14 +20,6 @@ AreMet-mark depends marks met r lt are = record {
   within = are.within;
   marked = λ s place k q within is. marked_kept marks r (omega (arith, are.marks_all)) q (are.marked s place k q within is);
 }
-
--- a dependency is a place
-number_below : (count : ℕ) (depends : List (Vec ℕ)) (r k q : ℕ) → AreBelow count depends → Lists depends r k q → q < count
-number_below count [] r k q below is = absurd (none-some q is)
-number_below count (numbers ∷ more) zero k q below is =
-    subst (λ (n : ℕ). n < count) (get_or_from_slice_get numbers.items k q 0 is)
-    (below 0 numbers (omega arith) k 0 (slice_get_within numbers.items k q is))
-number_below count (numbers ∷ more) (suc r) k q below is = number_below count more r k q (All-tail (λ v. All (λ n. n < count) v.items) numbers more below) is
 
 module _ (depends : List (Vec ℕ)) (marks : List Bool) (met : List ℕ) (list : List ℕ) (marking : IsMarking (length depends) list marks) (are : AreMet depends marks met) where
   passed_waits : (r : ℕ) → IsPassed depends marks met r → IsReady (length depends) (DependsOn (Lists depends)) list r → ⊥

@@ -13,6 +13,7 @@ use Rattle.mof_values.specs.Fold.{fold_case, SameName}
 use Rattle.depend_order.specs.Documents.{Means, Names, HasDistinctIds}
 use Rattle.depend_order.specs.Index.{AreResolved}
 use Rattle.depend_order.specs.Numbers.{numbers_of, Lists, AreBelow}
+use Rattle.depend_order.proofs.NumberLemmas.{listed_at}
 use Rattle.depend_order.proofs.Options.{some_of, some_is}
 use Rattle.depend_order.proofs.SameNames.{Within}
 
@@ -72,13 +73,13 @@ module _ (document : Document) (depends : List (Vec ℕ)) (resolved : AreResolve
       let place = some_of (slice_get places.0.items k) (Means document.resources name.0)
       (MatchOption-at_some (Unit {0}) (λ w. IsSomeAnd (slice_get places.0.items k) (Means document.resources w)) name.0 name.1 (AllZip-left (Means document.resources) resource.0.depends places.0.items places.2 k)) in
       let same : place.0 ≡ q = means_one document distinct name.0 place.0 q place.2 name.2 in
-      ap (λ (o : Option (Vec ℕ)). slice_get (option_map_or (λ v. v.items) o []) k) places.1 ∙ place.1 ∙ ap (λ (n : ℕ). Some n) same
+      listed_at depends r places.0 k q places.1 (rw same at place.1)
 
   pub resolved_below : AreBelow (length depends) depends
   resolved_below r places lt k q within =
       let numbers = get_or depends r places in
       let listed : Lists depends r k (get_or numbers.items k q) =
-      ap (λ (o : Option (Vec ℕ)). slice_get (option_map_or (λ v. v.items) o []) k) (slice_get-get_or depends r places lt) ∙ slice_get-get_or numbers.items k q within in
+      listed_at depends r numbers k (get_or numbers.items k q) (slice_get-get_or depends r places lt) (slice_get-get_or numbers.items k q within) in
       let resource = some_of (slice_get document.resources r) (λ resource. IsSomeAnd (slice_get resource.depends k) (λ name. Means document.resources name (get_or numbers.items k q))) (lists_are_names r k (get_or numbers.items k q) listed) in
       let name = some_of (slice_get resource.0.depends k) (λ name. Means document.resources name (get_or numbers.items k q)) resource.2 in
       let there = some_of (slice_get document.resources (get_or numbers.items k q)) (λ other. SameName name.0 other.id) name.2 in

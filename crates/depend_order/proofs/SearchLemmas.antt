@@ -1,16 +1,10 @@
 -- The counts of marked dependencies, when one of them grows.
 use Rattle.std.proofs.Common.{◌≡◌, ◌≢◌, ◌⊎◌, inl, inr, ⊎_elim, ℕ, ◌+◌, ◌<◌, ◌≤◌, Bool, List, [], length, get_or, set, refl, sym, ap, subst, ◌∙◌, arith, length-set, get_or-set_same, get_or-set_other}
 use Rattle.std.proofs.lemmas.Bool.{cases_eq}
-use Rattle.std.proofs.lemmas.Option.{slice_get_read}
 use Rattle.std.specs.Global.{Vec}
-use Rattle.std.specs.Option.{option_map_or}
 use Rattle.std.specs.Prelude.{slice_index}
 use Rattle.depend_order.specs.Numbers.{numbers_of}
 use Rattle.depend_order.specs.Search.{IsMarked, AreMarked, IsBlocked, AreMet, IsPassed, IsFound}
-
--- the list that stands at a place
-pub numbers_of_read : (depends : List (Vec ℕ)) (r : ℕ) (numbers : Vec ℕ) → r < length depends → numbers ≡ get_or depends r numbers → numbers_of depends r ≡ numbers.items
-numbers_of_read depends r numbers lt is = ap (λ o. option_map_or (λ v. v.items) o []) (slice_get_read depends (length depends) r numbers refl lt is)
 
 -- r's list is read, and so many of its first numbers are marked
 module _ (depends : List (Vec ℕ)) (marks : List Bool) (met : List ℕ) (r count : ℕ) (numbers : List ℕ) (are : AreMet depends marks met) (place : r < length depends) (read : numbers_of depends r ≡ numbers) (within : count ≤ length numbers) (marked : AreMarked marks count numbers) where

@@ -2,8 +2,7 @@
 use Rattle.std.proofs.Common.{◌≡◌, ◌⊎◌, inl, inr, ℕ, ◌+◌, ◌<◌, ◌≤◌, List, [], ◌∷◌, ◌++◌, length, refl, sym, ◌∙◌, ap, subst, arith, length-append, append_assoc}
 use Rattle.std.specs.Prelude.{Contains}
 use Rattle.dsc_terms.specs.Lists.{IsOnce}
-use Rattle.depend_order.specs.Cycle.{DependsOn, IsLeft, IsLeastLeft, IsFirstLeft, IsWalk, IsCycle}
-use Rattle.depend_order.specs.Order.{IsOrder}
+use Rattle.depend_order.specs.Cycle.{IsLeft, IsLeastLeft, IsFirstLeft, IsWalk}
 use Rattle.depend_order.proofs.Splits.{split_push, pair_push}
 
 module _ (count : ℕ) (names : ℕ → ℕ → ℕ → Type 0) where
@@ -33,14 +32,3 @@ once_push list r once absent a s b p has = elim (split_push list r a s b p) [
   | inl last ↦ absent (subst (λ (t : ℕ). Contains list t) (sym last.1) (subst (λ (l : List ℕ). Contains l s) (sym last.0) has))
   | inr more ↦ once a s more.0 more.1 has
 ]
-
--- an order and a cycle exclude each other
-pub cycle_no_order : (count : ℕ) (names : ℕ → ℕ → ℕ → Type 0) (cycle list : List ℕ) → IsCycle count names cycle → IsOrder count (DependsOn names) list → ⊥
-cycle_no_order count names cycle list is order = go is.lead is.walk
-  where
-    refuted : (r : ℕ) → IsLeft count names r → ⊥
-    refuted r left = left.unplaced list order.earliest (order.all r left.place)
-
-    go : (lead : List ℕ) → IsWalk count names (lead ++ is.first ∷ is.rest ++ is.first ∷ []) → ⊥
-    go [] walk = refuted is.first (walk.begins is.first (is.rest ++ is.first ∷ []) refl).left
-    go (r ∷ lead) walk = refuted r (walk.begins r (lead ++ is.first ∷ is.rest ++ is.first ∷ []) refl).left

@@ -39,3 +39,8 @@ pub record IsCycle (count : ℕ) (names : ℕ → ℕ → ℕ → Type 0) (cycle
   pub is : cycle ≡ first ∷ rest
   pub once : IsOnce (lead ++ first ∷ rest)
   pub walk : IsWalk count names (lead ++ first ∷ rest ++ first ∷ [])
+
+-- each place depends on the next, and the last on the first
+abbrev pub IsClosed : (ℕ → ℕ → Type 0) → List ℕ → Type 0
+IsClosed depends [] = ⊥
+IsClosed depends (first ∷ rest) = (a : List ℕ) (r s : ℕ) (b : List ℕ) → first ∷ rest ++ first ∷ [] ≡ a ++ r ∷ s ∷ b → depends r s

@@ -1,4 +1,4 @@
--- What the search for the next place keeps.
+-- What the search for the next place keeps, and what it hands to the walk.
 use Rattle.std.specs.Prelude.{◌≡◌, ◌⊎◌, ℕ, ◌<◌, ◌≤◌, Bool, true, false, List, length, Some, slice_get, slice_index, slice_index_or}
 use Rattle.std.specs.Global.{Vec}
 use Rattle.depend_order.specs.Cycle.{IsLeft, IsFirstLeft}

@@ -8,6 +8,7 @@
 
 mod documents;
 mod error;
+mod laws;
 mod names;
 mod numbers;
 mod search;
@@ -15,6 +16,7 @@ mod walk;
 
 pub use documents::order;
 pub use error::OrderError;
+pub use laws::{order_laws, order_of_laws};
 pub use numbers::order_of;
 
 #[cfg(test)]

@@ -6,7 +6,7 @@ use Rattle.depend_order.specs.Search.{AreMet, IsFound}
 use Rattle.depend_order.proofs.Marks.{marking_push}
 use Rattle.depend_order.proofs.Orders.{earliest_push}
 use Rattle.depend_order.proofs.Placing.{AreMet-mark, next_found, least_left, goes_on}
-use Rattle.depend_order.proofs.Walks.{cycle_no_order}
+use Rattle.depend_order.proofs.Cycles.{never_both}
 use Rattle.depend_order.proofs.numbers.order_of.Goals as goal
 
 pub loop-place-preserved : goal.loop-place-preserved
@@ -45,4 +45,4 @@ closed_walk-requires-clause-at c =
 
 pub returns-in_ok-cycle-in-Some-first_unmarked-clause-no_order :
     goal.returns-in_ok-cycle-in-Some-first_unmarked-clause-no_order
-returns-in_ok-cycle-in-Some-first_unmarked-clause-no_order c = λ order is. cycle_no_order _ (Lists c.args.depends.now) _ order c.in_ok-cycle-in-Some-first_unmarked.ensures is
+returns-in_ok-cycle-in-Some-first_unmarked-clause-no_order c = λ order is. never_both (length c.args.depends.now) (Lists c.args.depends.now) order _ is c.in_ok-cycle-in-Some-first_unmarked.ensures

@@ -1,7 +1,8 @@
 use Rattle.std.proofs.Common.{rules, ◌≡◌, ◌<◌, ◌≤◌, ℕ, length, slice_index, arith, ap, sym, subst, ◌∙◌, inl, below_more}
 use Rattle.depend_order.specs.Numbers.{numbers_of}
 use Rattle.depend_order.specs.Search.{IsMarked, AreMarked, IsBlocked, AreMet, IsPassed, IsFound}
-use Rattle.depend_order.proofs.SearchLemmas.{numbers_of_read, AreMet-set, passed_blocked, IsFound-all}
+use Rattle.depend_order.proofs.NumberLemmas.{numbers_of_read}
+use Rattle.depend_order.proofs.SearchLemmas.{AreMet-set, passed_blocked, IsFound-all}
 use Rattle.depend_order.proofs.search.next_place.Goals as goal
 use Rattle.depend_order.proofs.search.next_place.Goals.{then-not-marks-place+else-count-len, else-not-marks-place}
 

@@ -6,7 +6,7 @@ use Rattle.depend_order.specs.Cycle.{IsLeft, IsFirstLeft, IsWalk}
 use Rattle.depend_order.specs.Numbers.{numbers_of, Lists}
 use Rattle.depend_order.proofs.Marks.{marking_push}
 use Rattle.depend_order.proofs.Walks.{walk_push, once_push}
-use Rattle.depend_order.proofs.SearchLemmas.{numbers_of_read}
+use Rattle.depend_order.proofs.NumberLemmas.{numbers_of_read}
 use Rattle.depend_order.proofs.walk.closed_walk.Goals as goal
 
 pub index-place-requires : goal.index-place-requires
