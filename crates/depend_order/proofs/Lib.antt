@@ -1,0 +1,13 @@
+pub mod Answered
+pub mod Cycles
+pub mod Marks
+pub mod NumberLemmas
+pub mod Options
+pub mod Orders
+pub mod Placing
+pub mod Resolved
+pub mod Resolving
+pub mod SameNames
+pub mod SearchLemmas
+pub mod Splits
+pub mod Walks

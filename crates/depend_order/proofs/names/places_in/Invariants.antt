@@ -1,0 +1,7 @@
+use Rattle.std.proofs.Common.{take}
+use Rattle.std.specs.List.{AllZip}
+use Rattle.depend_order.specs.Index.{IsKept}
+use Rattle.depend_order.proofs.names.places_in.Given as goal
+
+abbrev pub invariant-loop-name : goal.invariant-loop-name
+invariant-loop-name l = AllZip (IsKept l.index) (take l.name-index l.names) l.places.items

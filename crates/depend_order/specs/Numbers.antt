@@ -1,0 +1,16 @@
+-- Dependencies that are given as numbers.
+use Rattle.std.specs.Prelude.{◌≡◌, ℕ, ◌<◌, List, [], All, Some, slice_get}
+use Rattle.std.specs.Option.{option_map_or}
+use Rattle.std.specs.Global.{Vec}
+
+-- the numbers of the places that r depends on, as listed; none where there is no such place
+abbrev pub numbers_of : List (Vec ℕ) → ℕ → List ℕ
+numbers_of depends r = option_map_or (λ numbers. numbers.items) (slice_get depends r) []
+
+-- the k-th number in r's list is q
+abbrev pub Lists : List (Vec ℕ) → ℕ → ℕ → ℕ → Type 0
+Lists depends r k q = slice_get (numbers_of depends r) k ≡ Some q
+
+-- each number is below the count
+abbrev pub AreBelow : ℕ → List (Vec ℕ) → Type 0
+AreBelow count depends = All (λ numbers. All (λ q. q < count) numbers.items) depends

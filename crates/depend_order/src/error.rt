@@ -1,0 +1,44 @@
+//! Why there is no order.
+ghost use Rattle.depend_order.specs.declared.error.OrderError.TheVariants.{Memory};
+
+use mof_values::Items;
+use std::alloc::{AllocError, AllocFailed};
+use std::fmt;
+
+/// Why the places have no order.
+#[derive(Debug, Drop, PartialEq)]
+pub enum OrderError {
+    /// The dependencies lead round: each of these places depends on the next, and the last on the first.
+    Cycle(Items<u32>),
+
+    Memory,
+}
+
+impl From<AllocError> for OrderError {
+    ghost use Rattle.std.specs.Prelude.{◌≡◌};
+
+    ghost from_gives = { λ _ e. e ≡ Memory };
+
+    fn from(_: AllocError) -> Self {
+        OrderError::Memory
+    }
+}
+
+impl<T: Drop> From<AllocFailed<T>> for OrderError {
+    ghost use Rattle.std.specs.Prelude.{◌≡◌};
+
+    ghost from_gives = { λ _ e. e ≡ Memory };
+
+    fn from(_: AllocFailed<T>) -> Self {
+        OrderError::Memory
+    }
+}
+
+impl fmt::Display for OrderError {
+    fn fmt<W: fmt::Write>(&self, f: &mut fmt::Formatter<W>) -> fmt::Result {
+        f.write_str(match self {
+            OrderError::Cycle(_) => "the dependencies lead round",
+            OrderError::Memory => "out of memory",
+        })
+    }
+}

@@ -1,0 +1,25 @@
+//! Laws of orders and cycles. The calls do nothing; their clauses are the laws.
+ghost use Rattle.std.specs.Prelude.{length};
+ghost use Rattle.depend_order.specs.Cycle.{DependsOn};
+ghost use Rattle.depend_order.specs.Documents.{HasDistinctIds, IsDependency, Names};
+ghost use Rattle.depend_order.specs.Laws.{AtMostOneCycle, AtMostOneOrder, CyclesAreClosed, NeverBoth};
+ghost use Rattle.depend_order.specs.Numbers.{Lists};
+
+use dsc_document::Document;
+
+/// A document has at most one order or one cycle, and never both.
+pub fn order_laws(document: &Document)
+    requires { HasDistinctIds document.now }
+    ensures one_order { AtMostOneOrder (length document.now.resources) (IsDependency document.now) }
+    ensures one_cycle { AtMostOneCycle (length document.now.resources) (Names document.now) }
+    ensures never_both { NeverBoth (length document.now.resources) (Names document.now) }
+    ensures closed { CyclesAreClosed (length document.now.resources) (Names document.now) }
+{}
+
+/// Places whose dependencies are numbers have at most one order or one cycle, and never both.
+pub fn order_of_laws(depends: &[Vec<u32>])
+    ensures one_order { AtMostOneOrder (length depends.now) (DependsOn (Lists depends.now)) }
+    ensures one_cycle { AtMostOneCycle (length depends.now) (Lists depends.now) }
+    ensures never_both { NeverBoth (length depends.now) (Lists depends.now) }
+    ensures closed { CyclesAreClosed (length depends.now) (Lists depends.now) }
+{}

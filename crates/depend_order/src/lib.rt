@@ -1,0 +1,23 @@
+//! The order in which the resources of a document are applied.
+//!
+//! At each position of the order stands the earliest resource whose dependencies all stand before it. A layer
+//! above may rely on it that this order is the only one, and that where there is none the error names a closed
+//! walk: resources of which each depends on the next and the last on the first. DependsOn is that of the
+//! PowerShell Desired State Configuration documentation; ids compare by fold.
+#![tactic(auto)]
+
+mod documents;
+mod error;
+mod laws;
+mod names;
+mod numbers;
+mod search;
+mod walk;
+
+pub use documents::order;
+pub use error::OrderError;
+pub use laws::{order_laws, order_of_laws};
+pub use numbers::order_of;
+
+#[cfg(test)]
+mod tests;
