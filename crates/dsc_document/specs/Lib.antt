@@ -1,3 +1,2 @@
-pub mod Dependency
 pub mod First
 pub mod Places

@@ -2,7 +2,7 @@
 use Rattle.std.specs.Prelude.{◌≡◌, ◌⊎◌, ℕ, ◌<◌, List, [], ◌∷◌, ◌++◌, length, Contains}
 use Rattle.dsc_terms.specs.Lists.{Precedes}
 use Rattle.dsc_document.specs.declared.document.Document.{Document}
-use Rattle.dsc_document.specs.Dependency.{DependsOn}
+use Rattle.depend_order.specs.Documents.{IsDependency}
 use Rattle.lcm_program.specs.declared.runs.RunMode.{RunMode}
 use Rattle.lcm_program.specs.declared.runs.RunMode.TheVariants.{Monitor, Repair}
 use Rattle.lcm_program.specs.declared.entry.TestAnswer.TheVariants as tests
@@ -13,7 +13,7 @@ use Rattle.lcm_program.specs.Trace.{HasEntry, EndsWith, IsFinal, Succeeded, plac
 
 -- a repair waits for the dependencies: the last entry of each is a test that answered yes
 abbrev pub IsReady : Document → RunMode → List Entry → ℕ → Type 0
-IsReady document mode before r = mode ≡ Repair → (q : ℕ) → DependsOn document r q → Succeeded before q
+IsReady document mode before r = mode ≡ Repair → (q : ℕ) → IsDependency document r q → Succeeded before q
 
 -- no entry was the last of its run
 abbrev pub GoesOn : List Entry → Type 0
