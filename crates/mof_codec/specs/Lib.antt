@@ -5,6 +5,7 @@ pub mod Integers
 pub mod Tokens
 pub mod Grammar
 pub mod Encodings
+pub mod Decoding
 pub mod Limits
 pub mod Canonical
 pub mod Fronts

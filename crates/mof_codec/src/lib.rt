@@ -1,8 +1,15 @@
 //! Management documents as text: the MOF instance syntax of DMTF DSP0004, within one profile of it.
 #![tactic(auto)]
 
+mod decoding;
+mod encoding;
 mod mof_error;
 mod text_error;
 
+pub use decoding::decode_text;
+pub use encoding::{ByteOrder, Encoding};
 pub use mof_error::{Form, MofError};
 pub use text_error::TextError;
+
+#[cfg(test)]
+mod tests;
