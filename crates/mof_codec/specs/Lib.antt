@@ -6,6 +6,7 @@ pub mod Tokens
 pub mod Grammar
 pub mod Encodings
 pub mod Decoding
+pub mod Scanning
 pub mod Limits
 pub mod Canonical
 pub mod Fronts

@@ -4,6 +4,7 @@
 mod decoding;
 mod encoding;
 mod mof_error;
+mod scan;
 mod text_error;
 
 pub use decoding::decode_text;
