@@ -1,3 +1,7 @@
 pub mod Bodies
 pub mod Scans
 pub mod Slices
+pub mod Literals
+pub mod Suffixes
+pub mod FirstTokens
+pub mod Walking

@@ -9,6 +9,7 @@ use Rattle.mof_codec.specs.Separators.{LineComment, at_end, at_feed, over, NoEnd
 use Rattle.mof_codec.specs.Strings.{short_escape, is_surrogate, HexDigits, full, ended, digit, Escape, short, hexadecimal, Quoted, closed, plain, escaped}
 use Rattle.mof_codec.specs.Integers.{Magnitude, decimal_value, octal_value, hex_value, binary_value}
 use Rattle.mof_codec.specs.Tokens.{Identifier, identifier}
+use Rattle.mof_codec.specs.Leads.{StandsMagnitude}
 use Rattle.mof_codec.specs.Scanning.{is_in_line, after, block_rest, comment_rest, separator_rest, identifier_rest, hex_tail, scalar_rest, hex_escape_rest, escape_rest, stopped, behind_b, binary_rest, behind_x, zero_rest, unmarked_rest, either_rest, magnitude_rest}
 
 -- choices
@@ -269,10 +270,6 @@ magnitude-read cs n rest (octal_value us ds r run) s =
 magnitude-read cs n rest (hex_value x d us ds r is run) s =
     either-none (binary_rest (digit_zero ∷ x ∷ us)) (unmarked_rest (digit_zero ∷ x ∷ us)) (Some r) (no_binary_x x us is) (rw is (behind_x-read us r d ds run s))
 magnitude-read cs n rest (binary_value d b us ds r run is) s = either-some (binary_rest us) (unmarked_rest us) r (binary-read us r d b ds run is s)
-
--- an integer without a sign that no identifier character follows
-abbrev pub StandsMagnitude : List ℕ → List ℕ → Type 0
-StandsMagnitude cs rest = (n : ℕ) × Magnitude cs n rest × Stops is_next rest
 
 read-behind_b : (cs xs rest : List ℕ) (c : ℕ) → digit_of 2 c ≡ true → Run (digit_of 2) cs xs (after (digit_of 2) cs) → (zs : List ℕ) → after (digit_of 2) cs ≡ zs
     → behind_b zs ≡ Some rest → StandsMagnitude (c ∷ cs) rest

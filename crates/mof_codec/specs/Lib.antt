@@ -6,6 +6,8 @@ pub mod Tokens
 pub mod Grammar
 pub mod Encodings
 pub mod Decoding
+pub mod Walk
+pub mod Leads
 pub mod Scanning
 pub mod Limits
 pub mod Canonical

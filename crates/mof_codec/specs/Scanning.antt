@@ -6,7 +6,7 @@ use Rattle.mof_values.specs.Ident.{is_first, is_next}
 use Rattle.mof_codec.specs.declared.scan.Class.{Class}
 use Rattle.mof_codec.specs.declared.scan.Class.TheVariants as classes
 use Rattle.mof_codec.specs.Characters.{line_feed, slash, star, digit_zero, comma, semicolon, equals_sign, left_brace, right_brace, is_blank, is_x, is_b, digit_of}
-use Rattle.mof_codec.specs.Strings.{short_escape, is_surrogate}
+use Rattle.mof_codec.specs.Strings.{short_escape, is_surrogate, Quoted}
 
 -- the characters that a comment's line goes on with
 abbrev pub is_in_line : ℕ → Bool
@@ -100,5 +100,11 @@ either_rest None other = other
 abbrev pub magnitude_rest : List ℕ → Option (List ℕ)
 magnitude_rest cs = either_rest (binary_rest cs) (unmarked_rest cs)
 
-abbrev pub is_mark : ℕ → Bool
-is_mark c = c == left_brace || c == right_brace || c == equals_sign || c == semicolon || c == comma
+-- the rest is behind such a construct, and is behind no other
+pub record IsOnly (Stands : List ℕ → List ℕ → Type 0) (cs rest : List ℕ) : Type 0 where
+  pub stands : Stands cs rest
+  pub only : (other : List ℕ) → Stands cs other → other ≡ rest
+
+-- the characters behind a quote are those of a literal up to and with the other, and then the rest
+abbrev pub StandsQuoted : List ℕ → List ℕ → Type 0
+StandsQuoted cs rest = (text : List ℕ) × Quoted cs text rest

@@ -170,8 +170,8 @@ fn stopped(chars: &[char]) -> Option<&[char]>
     }
 }
 
-// Behind an escape, of which the backslash was read.
-fn escape_rest(chars: &[char]) -> Option<&[char]>
+/// Behind an escape, of which the backslash was read.
+pub(crate) fn escape_rest(chars: &[char]) -> Option<&[char]>
     ensures { option_copied result ≡ escape_rest chars.now }
 {
     match chars {

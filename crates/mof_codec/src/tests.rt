@@ -55,3 +55,92 @@ fn a_sequence_that_is_no_character_is_refused_at_its_first_byte(rt: HostRuntime)
         );
     }
 }
+
+// Each token as the letter of its kind, where it begins and where it ends; then where the walk ended.
+fn walked(rt: &impl AllocGlobal, text: &str) -> Result<String, Fail> {
+    let chars: Vec<char> = text.chars().collect(rt.alloc())?;
+    if chars.len() > 1000 {
+        return Err("a text for a table is short".into());
+    }
+    let mut out = String::new(rt.alloc());
+    let mut all = tokens(&chars);
+    while let Some(token) = all.next() {
+        let letter = match token.kind {
+            TokenKind::Word => "W",
+            TokenKind::Alias => "A",
+            TokenKind::Literal => "L",
+            TokenKind::Integer => "I",
+            TokenKind::Mark => "M",
+        };
+        write!(out, "{letter}{}-{} ", token.from, token.to)?;
+    }
+    write!(out, "@{}", all.place())?;
+    Ok(out)
+}
+
+#[test]
+fn a_text_is_walked_token_by_token(rt: HostRuntime) -> Result<(), Fail> {
+    for (text, want) in [
+        ("", "@0"),
+        ("  \t\r\n", "@5"),
+        (
+            "instance of as as $of {};",
+            "W0-8 W9-11 W12-14 W15-17 A18-21 M22-23 M23-24 M24-25 @25",
+        ),
+        ("X=\"ab\" \"c\";", "W0-1 M1-2 L2-6 L7-10 M10-11 @11"),
+        ("// a", "@4"),
+        ("// a\nb", "W5-6 @6"),
+        ("// a\rb", "@6"),
+        ("/* a */b", "W7-8 @8"),
+        ("/**/b/***/", "W4-5 @10"),
+        ("/*/", "@0"),
+        ("a/* b", "W0-1 @1"),
+        ("a /x", "W0-1 @2"),
+        ("0 00 -0", "I0-1 I2-4 I5-7 @7"),
+        ("08", "@0"),
+        ("07 08", "I0-2 @3"),
+        ("0x", "@0"),
+        ("0x1F,+0Xff", "I0-4 M4-5 I5-10 @10"),
+        ("101b 1B 0b 12b", "I0-4 I5-7 I8-10 @11"),
+        ("1a", "@0"),
+        ("+", "@0"),
+        ("1.5", "I0-1 @1"),
+        ("99999999999999999999", "I0-20 @20"),
+        ("$", "@0"),
+        ("$1", "@0"),
+        ("$A$B", "A0-2 A2-4 @4"),
+        ("\"\\b\\t\\n\\f\\r\\\"\\'\\\\\"", "L0-18 @18"),
+        ("\"\\B\"", "@0"),
+        (
+            "\"\\x4\"\"\\x41g\"\"\\X041\"\"\\x0041F\"",
+            "L0-5 L5-12 L12-19 L19-28 @28",
+        ),
+        ("\"\\x\"", "@0"),
+        ("\"\\xD800\"", "@0"),
+        ("\"\\xD80g\\xE000\"", "L0-14 @14"),
+        ("\"a\nb\"", "L0-5 @5"),
+        ("\"ab", "@0"),
+        ("\u{feff}_9\u{ffef}", "W0-4 @4"),
+        ("\u{fff0}", "@0"),
+        ("a'b'", "W0-1 @1"),
+    ] {
+        assert_eq!(rt; walked(&rt, text)?.as_str(), want, "{text}");
+    }
+    Ok(())
+}
+
+#[test]
+fn a_token_is_the_slice_of_its_span(rt: HostRuntime) -> Result<(), Fail> {
+    let chars: Vec<char> = "of $A".chars().collect(rt.alloc())?;
+    assert_eq!(rt; chars.len(), 5);
+    let mut all = tokens(&chars);
+    assert_eq!(rt; all.place(), 0);
+    let first = all.next().ok_or("no first token")?;
+    assert_eq!(rt; first.text, ['o', 'f'].as_slice());
+    let second = all.next().ok_or("no second token")?;
+    assert_eq!(rt; second.text, ['$', 'A'].as_slice());
+    assert!(rt; all.next().is_none());
+    assert!(rt; all.next().is_none());
+    assert_eq!(rt; all.place(), 5);
+    Ok(())
+}
