@@ -1,20 +1,20 @@
 -- The token that the first character tells is the one that stands there.
-use Rattle.std.proofs.Common.{◌≡◌, ◌⊎◌, inl, inr, ◌<◌, ℕ, Bool, true, false, cond, List, [], ◌∷◌, length, Option, Some, None, refl, sym, ap, subst, ◌∙◌, arith, Bor}
+use Rattle.std.proofs.Common.{◌≡◌, ◌⊎◌, inl, inr, ◌<◌, ℕ, Bool, true, false, cond, List, [], ◌∷◌, length, Option, Some, None, refl, sym, subst, ◌∙◌, arith, Bor}
 use Rattle.std.specs.Option.{option_copied}
 use Rattle.std.specs.Prelude.{◌==◌, ◌||◌, IfSome, IfNone, ℤ, pos, neg_ℤ}
 use Rattle.std.proofs.lemmas.Bool.Decides.{nat_tests}
 use Rattle.mof_values.specs.Ident.{is_first, is_next}
-use Rattle.mof_codec.specs.Characters.{quote, dollar, plus_sign, minus_sign, comma, semicolon, equals_sign, left_brace, right_brace, digit_zero, digit_of, Run, stop, more, Stops}
+use Rattle.mof_codec.specs.Characters.{quote, dollar, plus_sign, minus_sign, comma, semicolon, equals_sign, left_brace, right_brace, digit_of, Run, more, Stops}
 use Rattle.mof_codec.specs.Integers.{Magnitude, decimal_value, octal_value, hex_value, binary_value, IntegerValue, unsigned, plus, minus}
 use Rattle.mof_codec.specs.Tokens.{Identifier, identifier, Lexeme, Word, AliasName, Literal, Number, LeftBrace, RightBrace, EqualsSign, Semicolon, Comma, IsToken, word, alias, literal, integer, left_brace_mark, right_brace_mark, equals_mark, semicolon_mark, comma_mark}
 use Rattle.mof_codec.specs.declared.token.TokenKind.{TokenKind}
 use Rattle.mof_codec.specs.declared.token.TokenKind.TheVariants as kinds
 use Rattle.mof_codec.specs.declared.lead.Lead.{Lead}
 use Rattle.mof_codec.specs.declared.lead.Lead.TheVariants as leads
-use Rattle.mof_codec.specs.Scanning.{IsOnly, StandsQuoted, identifier_rest, magnitude_rest}
-use Rattle.mof_codec.specs.Leads.{is_mark, is_sign, lead_of, kind_by, StandsIdentifier, StandsMagnitude, StandsBy, OnlyBy, NoneBy}
+use Rattle.mof_codec.specs.Scanning.{IsOnly, StandsQuoted}
+use Rattle.mof_codec.specs.Leads.{is_mark, is_sign, lead_of, kind_by, StandsMagnitude, StandsBy, OnlyBy, NoneBy}
 use Rattle.mof_codec.specs.Walk.{kind_of, StandsToken, NoToken}
-use Rattle.mof_codec.proofs.Scans.{some_same, test_or, clash, digit_wider, identifier-read, read-identifier, magnitude-read, read-magnitude}
+use Rattle.mof_codec.proofs.Scans.{some_same, digit_wider}
 
 -- what the first character tells
 

@@ -1,12 +1,12 @@
 -- What the scanner computes is what stands behind the constructs of the definitions, and behind no other.
-use Rattle.std.proofs.Common.{◌≡◌, ◌⊎◌, inl, inr, ◌<◌, ◌≤◌, ◌+◌, ◌*◌, ℕ, zero, suc, Bool, true, false, cond, not, List, [], ◌∷◌, ◌++◌, Option, Some, None, is_some, refl, sym, ap, subst, ◌∙◌, arith}
-use Rattle.std.specs.Prelude.{◌==◌, ◌&&◌, ◌||◌, if◌then◌else◌}
+use Rattle.std.proofs.Common.{◌≡◌, ◌⊎◌, inl, inr, ◌≤◌, ◌+◌, ◌*◌, ℕ, zero, suc, Bool, true, false, cond, List, [], ◌∷◌, Option, Some, None, is_some, refl, sym, ap, subst, ◌∙◌, arith}
+use Rattle.std.specs.Prelude.{◌==◌, ◌&&◌, if◌then◌else◌}
 use Rattle.std.proofs.lemmas.Bool.Decides.{nat_tests}
-use Rattle.std.specs.Char.{digit_value, is_digit, to_ascii_lowercase}
+use Rattle.std.specs.Char.{digit_value}
 use Rattle.mof_values.specs.Ident.{is_first, is_next}
-use Rattle.mof_codec.specs.Characters.{line_feed, slash, star, quote, backslash, digit_zero, is_blank, digit_of, is_x, is_b, Stops, Run, stop, more}
-use Rattle.mof_codec.specs.Separators.{LineComment, at_end, at_feed, over, NoEnd, BlockComment, shut, inside, Separator, blank, line, block, Separators, none, another}
-use Rattle.mof_codec.specs.Strings.{short_escape, is_surrogate, HexDigits, full, ended, digit, Escape, short, hexadecimal, Quoted, closed, plain, escaped}
+use Rattle.mof_codec.specs.Characters.{line_feed, slash, star, digit_zero, is_blank, digit_of, is_x, is_b, Stops, Run, stop, more}
+use Rattle.mof_codec.specs.Separators.{LineComment, at_end, at_feed, over, BlockComment, shut, inside, Separator, blank, line, block}
+use Rattle.mof_codec.specs.Strings.{short_escape, is_surrogate, HexDigits, full, ended, digit, Escape, short, hexadecimal}
 use Rattle.mof_codec.specs.Integers.{Magnitude, decimal_value, octal_value, hex_value, binary_value}
 use Rattle.mof_codec.specs.Tokens.{Identifier, identifier}
 use Rattle.mof_codec.specs.Leads.{StandsMagnitude}

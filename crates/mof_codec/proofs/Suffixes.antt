@@ -1,8 +1,8 @@
 -- What is behind a construct is the end of the characters that it was read from.
-use Rattle.std.proofs.Common.{◌≡◌, ◌<◌, ◌≤◌, ◌+◌, ◌-◌, ◌*◌, ℕ, zero, suc, Bool, true, List, [], ◌∷◌, ◌++◌, length, take, drop, refl, sym, ap, ◌∙◌, append_assoc, length-append, arith}
-use Rattle.std.proofs.lemmas.List.{drop_at, take_at}
-use Rattle.mof_values.specs.Ident.{is_first, is_next}
-use Rattle.mof_codec.specs.Characters.{digit_of, Stops, Run, stop, more}
+use Rattle.std.proofs.Common.{◌≡◌, ◌<◌, ◌≤◌, ◌+◌, ◌-◌, ℕ, Bool, List, [], ◌∷◌, ◌++◌, length, drop, refl, sym, ap, ◌∙◌, append_assoc, length-append, arith}
+use Rattle.std.proofs.lemmas.List.{drop_at}
+use Rattle.mof_values.specs.Ident.{is_next}
+use Rattle.mof_codec.specs.Characters.{digit_of, Run, stop, more}
 use Rattle.mof_codec.specs.Separators.{LineComment, at_end, at_feed, over, BlockComment, shut, inside, Separator, blank, line, block, Separators, none, another}
 use Rattle.mof_codec.specs.Strings.{HexDigits, full, ended, digit, Escape, short, hexadecimal, Quoted, closed, plain, escaped}
 use Rattle.mof_codec.specs.Integers.{Magnitude, decimal_value, octal_value, hex_value, binary_value, IntegerValue, unsigned, plus, minus}

@@ -1,5 +1,5 @@
 -- Which token a character begins, and what stands behind it: the steps of the walk.
-use Rattle.std.specs.Prelude.{◌≡◌, ℕ, Bool, ◌||◌, ◌==◌, if◌then◌else◌, List, [], ◌∷◌}
+use Rattle.std.specs.Prelude.{◌≡◌, ℕ, Bool, ◌||◌, ◌==◌, if◌then◌else◌, List}
 use Rattle.mof_codec.specs.declared.lead.Lead.{Lead}
 use Rattle.mof_codec.specs.declared.lead.Lead.TheVariants as leads
 use Rattle.mof_codec.specs.declared.token.TokenKind.{TokenKind}

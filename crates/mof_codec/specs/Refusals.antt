@@ -1,7 +1,6 @@
 -- Why bytes are refused, and which reason wins.
 use Rattle.std.specs.Prelude.{◌≡◌, ◌≤◌, ◌<◌, ◌⊎◌, ℕ, ℤ, List, [], length, drop, slice_range, ⊤}
 use Rattle.mof_values.specs.Ident.{is_next}
-use Rattle.mof_values.specs.declared.instance.Instance.{Instance}
 use Rattle.mof_codec.specs.declared.mof_error.MofError.{MofError}
 use Rattle.mof_codec.specs.declared.mof_error.MofError.TheVariants.{TooLong, Text, Syntax, OutOfProfile, NumberRange, TooMany, Memory}
 use Rattle.mof_codec.specs.Characters.{Stops}

@@ -1,11 +1,11 @@
 -- What the steps of the scanner compute: the characters behind a construct, where it stands. That they stand behind what
 -- the definitions of separators and tokens say is proved of them in proofs/.
-use Rattle.std.specs.Prelude.{◌≡◌, ◌<◌, ℕ, zero, suc, ◌+◌, ◌*◌, Bool, true, false, not, ◌&&◌, ◌||◌, ◌==◌, if◌then◌else◌, List, [], ◌∷◌, Option, Some, None, is_some, IfNone, nat_le}
+use Rattle.std.specs.Prelude.{◌≡◌, ◌<◌, ℕ, zero, suc, ◌+◌, ◌*◌, Bool, true, not, ◌&&◌, ◌==◌, if◌then◌else◌, List, [], ◌∷◌, Option, Some, None, is_some}
 use Rattle.std.specs.Char.{digit_value}
 use Rattle.mof_values.specs.Ident.{is_first, is_next}
 use Rattle.mof_codec.specs.declared.scan.Class.{Class}
 use Rattle.mof_codec.specs.declared.scan.Class.TheVariants as classes
-use Rattle.mof_codec.specs.Characters.{line_feed, slash, star, digit_zero, comma, semicolon, equals_sign, left_brace, right_brace, is_blank, is_x, is_b, digit_of}
+use Rattle.mof_codec.specs.Characters.{line_feed, slash, star, digit_zero, is_blank, is_x, is_b, digit_of}
 use Rattle.mof_codec.specs.Strings.{short_escape, is_surrogate, Quoted}
 
 -- the characters that a comment's line goes on with

@@ -1,4 +1,3 @@
-use Rattle.std.proofs.Common.{rules, refl}
 use Rattle.mof_codec.proofs.Bodies.{ReadsBody-next}
 use Rattle.mof_codec.proofs.decoding.decode_utf16.Goals as goal
 

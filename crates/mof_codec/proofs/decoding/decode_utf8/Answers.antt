@@ -1,6 +1,4 @@
-use Rattle.std.proofs.Common.{rules, refl, ◌∙◌}
-use Rattle.std.specs.Prelude.{encode_utf8_all}
-use Rattle.std.specs.Str.{IsValidUpTo}
+use Rattle.std.proofs.Common.{refl, ◌∙◌}
 use Rattle.mof_codec.proofs.Bodies.{IsBody-from_utf8, IsBodyFault-from_utf8}
 use Rattle.mof_codec.proofs.decoding.decode_utf8.Goals as goal
 

@@ -1,4 +1,3 @@
-use Rattle.std.proofs.Common.{◌≡◌, refl, sym, ◌∙◌}
 use Rattle.mof_codec.proofs.Slices.{first_and_rest}
 use Rattle.mof_codec.proofs.FirstTokens.{StandsToken-by, NoToken-by, NoToken-short}
 use Rattle.mof_codec.proofs.lead.first_token.Goals as goal

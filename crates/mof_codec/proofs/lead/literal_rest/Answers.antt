@@ -1,4 +1,4 @@
-use Rattle.std.proofs.Common.{◌≡◌, refl, sym, ◌∙◌}
+use Rattle.std.proofs.Common.{refl, sym}
 use Rattle.mof_codec.proofs.Slices.{first_and_rest}
 use Rattle.mof_codec.proofs.Literals.{at_char, ends_at_quote, goes_on_plain, goes_on_escaped, no_escape_there, escape_shorter, ne_test, no_short}
 use Rattle.mof_codec.proofs.lead.literal_rest.Goals as goal

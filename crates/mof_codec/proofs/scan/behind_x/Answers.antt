@@ -1,4 +1,4 @@
-use Rattle.std.proofs.Common.{◌≡◌, sym, ◌∙◌}
+use Rattle.std.proofs.Common.{sym, ◌∙◌}
 use Rattle.mof_codec.proofs.Slices.{first_and_rest}
 use Rattle.mof_codec.proofs.Scans.{behind_x_step}
 use Rattle.mof_codec.proofs.scan.behind_x.Goals as goal

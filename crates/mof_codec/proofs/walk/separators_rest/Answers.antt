@@ -1,4 +1,3 @@
-use Rattle.std.proofs.Common.{refl}
 use Rattle.mof_codec.specs.Separators.{none}
 use Rattle.mof_codec.proofs.Walking.{separators_on, separator_shorter}
 use Rattle.mof_codec.proofs.walk.separators_rest.Goals as goal
