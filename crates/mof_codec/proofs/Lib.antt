@@ -5,3 +5,4 @@ pub mod Literals
 pub mod Suffixes
 pub mod FirstTokens
 pub mod Walking
+pub mod Absent

@@ -1,0 +1,5 @@
+pub mod Separating
+pub mod Literals
+pub mod Integers
+pub mod Identifiers
+pub mod Rules
