@@ -18,7 +18,7 @@ use Rattle.mof_codec.proofs.Scans.{some_same, digit_wider}
 
 -- what the first character tells
 
-word_lead : (c : ℕ) → is_first c ≡ true → lead_of c ≡ leads.Other
+pub word_lead : (c : ℕ) → is_first c ≡ true → lead_of c ≡ leads.Other
 word_lead c h =
     let m : is_mark c ≡ false = grind (arith, nat_tests) in
     let q : (c == quote) ≡ false = grind (arith, nat_tests) in
@@ -27,7 +27,7 @@ word_lead c h =
     let n : digit_of 10 c ≡ false = grind (arith, nat_tests) in
     rw (m, q, d, s, n) refl
 
-digit_lead : (c : ℕ) → digit_of 10 c ≡ true → lead_of c ≡ leads.Digit
+pub digit_lead : (c : ℕ) → digit_of 10 c ≡ true → lead_of c ≡ leads.Digit
 digit_lead c h =
     let m : is_mark c ≡ false = grind (arith, nat_tests) in
     let q : (c == quote) ≡ false = grind (arith, nat_tests) in
@@ -35,13 +35,13 @@ digit_lead c h =
     let s : is_sign c ≡ false = grind (arith, nat_tests) in
     rw (m, q, d, s, h) refl
 
-identifier_first : (c : ℕ) (cs name rest : List ℕ) → Identifier (c ∷ cs) name rest → is_first c ≡ true
+pub identifier_first : (c : ℕ) (cs name rest : List ℕ) → Identifier (c ∷ cs) name rest → is_first c ≡ true
 identifier_first c cs name rest (identifier d us tail r e run s) = e
 
 run_first : (base c d : ℕ) (cs ds rest : List ℕ) → Run (digit_of base) (c ∷ cs) (d ∷ ds) rest → digit_of base c ≡ true
 run_first base c d cs ds rest (more x us v r e run) = e
 
-magnitude_first : (c : ℕ) (cs : List ℕ) (n : ℕ) (rest : List ℕ) → Magnitude (c ∷ cs) n rest → digit_of 10 c ≡ true
+pub magnitude_first : (c : ℕ) (cs : List ℕ) (n : ℕ) (rest : List ℕ) → Magnitude (c ∷ cs) n rest → digit_of 10 c ≡ true
 magnitude_first c cs n rest (decimal_value d us ds r nz is run) = is
 magnitude_first c cs n rest (octal_value us ds r run) = refl
 magnitude_first c cs n rest (hex_value x d us ds r is run) = refl

@@ -6,3 +6,5 @@ pub mod Suffixes
 pub mod FirstTokens
 pub mod Walking
 pub mod Absent
+pub mod FrontLaws
+pub mod UniqueTokens

@@ -203,7 +203,7 @@ run_stopped base cs rest e =
     (taken (digit_of base) cs, subst (λ (r : List ℕ). Run (digit_of base) cs (taken (digit_of base) cs) r) s.0 (run_taken (digit_of base) cs), s.1)
 
 -- behind digits that no b follows no binary integer ends
-no_b : (base : ℕ) (cs ds rest : List ℕ) → base ≤ 10 → Run (digit_of base) cs ds rest → Stops is_next rest → behind_b (after (digit_of 2) cs) ≡ None
+pub no_b : (base : ℕ) (cs ds rest : List ℕ) → base ≤ 10 → Run (digit_of base) cs ds rest → Stops is_next rest → behind_b (after (digit_of 2) cs) ≡ None
 no_b base cs ds [] small (stop r) s = refl
 no_b base cs ds (c ∷ cs') small (stop r) s = rw (two, none_b) refl
   where
@@ -220,7 +220,7 @@ no_b base cs ds rest small (more c us v r e run) s = elim (test_or (digit_of 2 c
     none_b : is_b c ≡ false
     none_b = elim (test_or (is_b c)) [ inl is ↦ absurd (clash (sym (digit_wider base 10 c small e) ∙ b_no_decimal c is)) | inr not_b ↦ not_b ]
 
-no_binary : (base d : ℕ) (cs ds rest : List ℕ) → base ≤ 10 → Run (digit_of base) cs ds rest → Stops is_next rest → binary_rest (d ∷ cs) ≡ None
+pub no_binary : (base d : ℕ) (cs ds rest : List ℕ) → base ≤ 10 → Run (digit_of base) cs ds rest → Stops is_next rest → binary_rest (d ∷ cs) ≡ None
 no_binary base d cs ds rest small run s = elim (test_or (digit_of 2 d)) [
   | inl is ↦ rw is (no_b base cs ds rest small run s)
   | inr not_two ↦ rw not_two refl
@@ -236,10 +236,10 @@ some_either : (a b : Option (List ℕ)) (rest : List ℕ) → either_rest a b �
 some_either None b rest e = inr e
 some_either (Some r) b rest e = inl e
 
-no_x : (c : ℕ) → is_next c ≡ false → is_x c ≡ false
+pub no_x : (c : ℕ) → is_next c ≡ false → is_x c ≡ false
 no_x c s = elim (test_or (is_x c)) [ inl is ↦ absurd (clash (sym (x_next c is) ∙ s)) | inr not_x ↦ not_x ]
 
-digit_no_x : (base c : ℕ) → base ≤ 16 → digit_of base c ≡ true → is_x c ≡ false
+pub digit_no_x : (base c : ℕ) → base ≤ 16 → digit_of base c ≡ true → is_x c ≡ false
 digit_no_x base c small e = elim (test_or (is_x c)) [ inl is ↦ absurd (clash (sym (digit_wider base 16 c small e) ∙ x_no_digit c is)) | inr not_x ↦ not_x ]
 
 zero-read : (cs ds rest : List ℕ) → Run (digit_of 8) cs ds rest → Stops is_next rest → zero_rest cs ≡ Some rest
@@ -247,7 +247,7 @@ zero-read cs ds [] (stop r) s = refl
 zero-read cs ds (c ∷ rest) (stop r) s = rw (no_x c s) (stopped-run 8 (c ∷ rest) (c ∷ rest) (omega arith) ([], stop (c ∷ rest), s))
 zero-read cs ds rest (more c us v r e run) s = rw (digit_no_x 8 c (omega arith) e) (stopped-run 8 (c ∷ us) r (omega arith) (c ∷ v, more c us v r e run, s))
 
-no_binary_x : (x : ℕ) (cs : List ℕ) → is_x x ≡ true → behind_b (after (digit_of 2) (x ∷ cs)) ≡ None
+pub no_binary_x : (x : ℕ) (cs : List ℕ) → is_x x ≡ true → behind_b (after (digit_of 2) (x ∷ cs)) ≡ None
 no_binary_x x cs is = rw (two, x_no_b x is) refl
   where
     two : digit_of 2 x ≡ false
@@ -256,7 +256,7 @@ no_binary_x x cs is = rw (two, x_no_b x is) refl
 behind_x-read : (cs rest : List ℕ) (d : ℕ) (ds : List ℕ) → Run (digit_of 16) cs (d ∷ ds) rest → Stops is_next rest → behind_x cs ≡ Some rest
 behind_x-read cs rest d ds (more c us v r e run) s = rw e (stopped-run 16 us r (omega arith) (v, run, s))
 
-binary-read : (cs rest : List ℕ) (d b : ℕ) (ds : List ℕ) → Run (digit_of 2) cs (d ∷ ds) (b ∷ rest) → is_b b ≡ true → Stops is_next rest → binary_rest cs ≡ Some rest
+pub binary-read : (cs rest : List ℕ) (d b : ℕ) (ds : List ℕ) → Run (digit_of 2) cs (d ∷ ds) (b ∷ rest) → is_b b ≡ true → Stops is_next rest → binary_rest cs ≡ Some rest
 binary-read cs rest d b ds (more c us v r e run) is s = rw (e, after-run (digit_of 2) us v (b ∷ rest) run two, is) (stopped-stops rest s)
   where
     two : digit_of 2 b ≡ false
@@ -323,7 +323,7 @@ read-magnitude cs rest e = elim (some_either (binary_rest cs) (unmarked_rest cs)
 
 -- escapes
 
-hex-read : (count value total : ℕ) (cs rest : List ℕ) → HexDigits count value cs total rest → ((hex_tail count value cs).0 ≡ total) × ((hex_tail count value cs).1 ≡ rest)
+pub hex-read : (count value total : ℕ) (cs rest : List ℕ) → HexDigits count value cs total rest → ((hex_tail count value cs).0 ≡ total) × ((hex_tail count value cs).1 ≡ rest)
 hex-read zero value total cs rest (full v r) = (refl, refl)
 hex-read zero value total cs rest (ended n v r s) = (refl, refl)
 hex-read (suc count) value total cs [] (ended n v r s) = (refl, refl)
@@ -344,7 +344,7 @@ if_true b x y z is e = rw is e
 if_false : (b : Bool) (x y z : Option (List ℕ)) → b ≡ false → y ≡ z → cond b x y ≡ z
 if_false b x y z is e = rw is e
 
-x_no_short : (c : ℕ) → is_x c ≡ true → is_some (short_escape c) ≡ false
+pub x_no_short : (c : ℕ) → is_x c ≡ true → is_some (short_escape c) ≡ false
 x_no_short c h = grind (arith, nat_tests)
 
 scalar-read : (tail : ℕ × List ℕ) (value : ℕ) (rest : List ℕ) → tail.0 ≡ value → tail.1 ≡ rest → is_surrogate value ≡ false → scalar_rest tail ≡ Some rest
