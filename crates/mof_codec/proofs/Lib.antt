@@ -8,3 +8,4 @@ pub mod Walking
 pub mod Absent
 pub mod FrontLaws
 pub mod UniqueTokens
+pub mod UniqueRules
