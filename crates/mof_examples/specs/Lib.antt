@@ -3,3 +3,5 @@ pub mod Literals
 pub mod Integers
 pub mod Identifiers
 pub mod Rules
+pub mod Canon
+pub mod Laws
