@@ -1,1 +1,2 @@
 pub mod NotHeld
+pub mod Refusing

@@ -5,3 +5,4 @@ pub mod Identifiers
 pub mod Rules
 pub mod Canon
 pub mod Laws
+pub mod Refused

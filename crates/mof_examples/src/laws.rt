@@ -5,6 +5,7 @@ ghost use Rattle.mof_examples.specs.Integers.{IntegerExamples};
 ghost use Rattle.mof_examples.specs.Literals.{LiteralExamples};
 ghost use Rattle.mof_examples.specs.Rules.{RuleExamples};
 ghost use Rattle.mof_examples.specs.Canon.{CanonicalExamples};
+ghost use Rattle.mof_examples.specs.Refused.{RefusalExamples};
 ghost use Rattle.mof_examples.specs.Laws.{DividesOnce, SpellsOne, FrontsOfFronts, GoesWrongOnce, GoesWrongByTheNext};
 
 pub fn separators_are_spelled()
@@ -46,4 +47,8 @@ pub fn a_front_of_a_front_is_one()
 pub fn a_text_goes_wrong_at_one_place()
     ensures once { GoesWrongOnce }
     ensures next { GoesWrongByTheNext }
+{}
+
+pub fn texts_are_refused_at_their_first_character()
+    ensures { RefusalExamples }
 {}

@@ -11,4 +11,5 @@ pub use laws::{
     a_front_of_a_front_is_one, a_text_goes_wrong_at_one_place, a_text_spells_one_list,
     canonical_texts_are_these, characters_divide_into_tokens_in_one_way, identifiers_are_spelled,
     integers_are_spelled, literals_are_spelled, rules_hold, separators_are_spelled,
+    texts_are_refused_at_their_first_character,
 };
