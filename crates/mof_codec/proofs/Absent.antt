@@ -1,8 +1,7 @@
 -- What the scanner does not read does not stand there.
-use Rattle.std.proofs.Common.{◌≡◌, ℕ, List, [], ◌∷◌, Option, Some, None, sym, subst, ◌∙◌}
-use Rattle.mof_codec.specs.Separators.{Separator}
+use Rattle.std.proofs.Common.{◌≡◌, ℕ, List, ◌∷◌, Some, None, sym, subst, ◌∙◌}
 use Rattle.mof_codec.specs.Strings.{Escape}
-use Rattle.mof_codec.specs.Tokens.{Lexeme, Identifier, IsToken}
+use Rattle.mof_codec.specs.Tokens.{Identifier}
 use Rattle.mof_codec.specs.Walk.{NoToken, NoSeparator}
 use Rattle.mof_codec.specs.Scanning.{identifier_rest, magnitude_rest, escape_rest, separator_rest}
 use Rattle.mof_codec.specs.Leads.{lead_of, StandsBy}

@@ -1,21 +1,21 @@
 -- Characters divide into tokens in one way, and each token stands for one thing.
-use Rattle.std.proofs.Common.{◌≡◌, ◌⊎◌, inl, inr, ◌<◌, ◌≤◌, ◌+◌, ◌*◌, ℕ, Bool, true, false, cond, List, [], ◌∷◌, ◌++◌, length, Option, Some, None, is_some, refl, sym, ap, subst, ◌∙◌, arith}
+use Rattle.std.proofs.Common.{◌≡◌, inl, inr, ℕ, Bool, true, false, cond, List, [], ◌∷◌, Option, Some, None, is_some, refl, sym, ap, subst, ◌∙◌, arith}
 use Rattle.std.specs.Prelude.{◌==◌, ◌||◌, if◌then◌else◌, unwrap_or, ℤ, pos, neg_ℤ}
 use Rattle.std.proofs.lemmas.Bool.Decides.{nat_tests}
 use Rattle.std.specs.Char.{digit_value}
 use Rattle.std.specs.Str.Parse.{digits_value}
 use Rattle.mof_values.specs.Ident.{is_first, is_next}
-use Rattle.mof_codec.specs.Characters.{quote, backslash, dollar, plus_sign, minus_sign, comma, semicolon, equals_sign, left_brace, right_brace, digit_zero, is_blank, digit_of, is_x, is_b, Run, stop, more, Stops}
+use Rattle.mof_codec.specs.Characters.{quote, backslash, dollar, plus_sign, minus_sign, comma, semicolon, equals_sign, left_brace, right_brace, digit_zero, is_blank, digit_of, is_x, Run, stop, more, Stops}
 use Rattle.mof_codec.specs.Separators.{Separator, blank, line, block}
 use Rattle.mof_codec.specs.Strings.{short_escape, Escape, short, hexadecimal, Quoted, closed, plain, escaped}
 use Rattle.mof_codec.specs.Integers.{Magnitude, decimal_value, octal_value, hex_value, binary_value, IntegerValue, unsigned, plus, minus}
 use Rattle.mof_codec.specs.Tokens.{Identifier, identifier, Lexeme, Word, AliasName, Literal, Number, LeftBrace, RightBrace, EqualsSign, Semicolon, Comma, IsToken, word, alias, literal, integer, left_brace_mark, right_brace_mark, equals_mark, semicolon_mark, comma_mark, Lexes, end, separator, token}
-use Rattle.mof_codec.specs.Scanning.{after, binary_rest, magnitude_rest, escape_rest, hex_tail}
+use Rattle.mof_codec.specs.Scanning.{binary_rest, hex_tail}
 use Rattle.mof_codec.specs.declared.lead.Lead.{Lead}
 use Rattle.mof_codec.specs.declared.lead.Lead.TheVariants as leads
-use Rattle.mof_codec.specs.Leads.{lead_of, StandsBy}
-use Rattle.mof_codec.proofs.Scans.{some_same, test_or, clash, digit_wider, stops_digit, b_no_decimal, after-run, no_binary, no_b, no_binary_x, binary-read, no_x, digit_no_x, hex-read, x_no_short, identifier-read, magnitude-read, escape-read, separator-read}
-use Rattle.mof_codec.proofs.FirstTokens.{word_lead, digit_lead, identifier_first, magnitude_first, token_stands}
+use Rattle.mof_codec.specs.Leads.{lead_of}
+use Rattle.mof_codec.proofs.Scans.{some_same, test_or, clash, digit_wider, stops_digit, b_no_decimal, no_binary, no_b, no_binary_x, binary-read, no_x, digit_no_x, hex-read, x_no_short, identifier-read, magnitude-read, escape-read, separator-read}
+use Rattle.mof_codec.proofs.FirstTokens.{word_lead, digit_lead, identifier_first, magnitude_first}
 use Rattle.mof_codec.proofs.Suffixes.{EndsWithin, separator_ends, token_ends}
 
 -- runs

@@ -1,11 +1,9 @@
 -- What the rules do not hold of.
-use Rattle.std.proofs.Common.{◌≡◌, ℕ, List, [], ◌∷◌, Option, Some, None, pos, codes, refl, sym, ap, subst, ◌∙◌, ◌++◌, arith}
-use Rattle.mof_values.specs.declared.instance.Instance.{Instance}
+use Rattle.std.proofs.Common.{◌≡◌, ℕ, List, [], ◌∷◌, codes, refl, sym, subst, ◌++◌, arith}
 use Rattle.mof_values.specs.declared.instance.Property.{Property}
 use Rattle.mof_values.specs.declared.value.Scalar.{Scalar}
-use Rattle.mof_values.specs.declared.value.Value.{Value}
-use Rattle.mof_codec.specs.Tokens.{Lexeme, Word, AliasName, Literal, Number, LeftBrace, RightBrace, EqualsSign, Semicolon, Comma}
-use Rattle.mof_codec.specs.Grammar.{StringValue, last, joined, ConstantValue, string_value, integer_value, true_value, false_value, null_value, alias_identifier, Elements, closing, element, Initializer, constant, empty_array, array, ValueInitializers, done, value_initializer, AliasClause, unnamed, named, InstanceDeclarations, nothing, instance_declaration}
+use Rattle.mof_codec.specs.Tokens.{Lexeme, Word, Number, LeftBrace, RightBrace, EqualsSign, Semicolon, Comma}
+use Rattle.mof_codec.specs.Grammar.{StringValue, last, joined, ConstantValue, string_value, integer_value, true_value, false_value, null_value, alias_identifier, Elements, element, constant, array, ValueInitializers, unnamed, instance_declaration}
 use Rattle.mof_examples.specs.Rules.{one, declared, NoConstant, NoInitializer, NoDeclarations}
 
 -- the tokens do not begin with a mark or with a word that is no keyword

@@ -1,7 +1,5 @@
 -- Canonical texts, by example.
-use Rattle.std.specs.Prelude.{◌≡◌, codes, List, [], ◌∷◌, ℕ, ℤ, pos, negsuc, Bool, true, false, Option, Some, None}
-use Rattle.mof_values.specs.declared.instance.Instance.{Instance}
-use Rattle.mof_values.specs.declared.value.Scalar.{Scalar}
+use Rattle.std.specs.Prelude.{◌≡◌, codes, [], ◌∷◌, pos, negsuc, true, false, Some, None}
 use Rattle.mof_values.specs.declared.value.Scalar.TheVariants as scalars
 use Rattle.mof_values.specs.declared.value.Value.TheVariants.{One, Many}
 use Rattle.mof_codec.specs.Canonical.{canonical_text, canonical_literal, canonical_scalar}

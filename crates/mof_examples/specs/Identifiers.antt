@@ -1,6 +1,6 @@
 -- Which characters are identifiers and aliases, by example.
 use Rattle.std.specs.Prelude.{codes, List, [], ◌∷◌, ℕ}
-use Rattle.mof_codec.specs.Tokens.{Identifier, IsToken, Word, AliasName, Comma, LeftBrace}
+use Rattle.mof_codec.specs.Tokens.{Identifier, IsToken, Word, AliasName}
 use Rattle.mof_codec.specs.Walk.{NoToken}
 
 -- no identifier begins the characters

@@ -1,5 +1,5 @@
 -- Which characters are integers, and of which value, by example.
-use Rattle.std.specs.Prelude.{codes, List, [], ◌∷◌, ℕ, ℤ, pos, negsuc}
+use Rattle.std.specs.Prelude.{codes, List, [], ℕ, ℤ, pos, negsuc}
 use Rattle.mof_codec.specs.Tokens.{IsToken, Number}
 use Rattle.mof_codec.specs.Walk.{NoToken}
 

@@ -1,5 +1,5 @@
 -- Which refusals apply to texts that go wrong with their first character, by example.
-use Rattle.std.specs.Prelude.{codes, List, ℕ}
+use Rattle.std.specs.Prelude.{codes, ℕ}
 use Rattle.mof_codec.specs.declared.mof_error.MofError.TheVariants.{OutOfProfile, Syntax}
 use Rattle.mof_codec.specs.declared.mof_error.Form.TheVariants as forms
 use Rattle.mof_codec.specs.Refusals.{Applies, Wins}

@@ -1,5 +1,5 @@
 -- Which tokens the rules hold of, and which values they stand for, by example.
-use Rattle.std.specs.Prelude.{codes, List, [], ◌∷◌, ℕ, pos, Bool, true, false, Option, Some, None}
+use Rattle.std.specs.Prelude.{codes, List, [], ◌∷◌, ℕ, pos, true, false, Option, Some, None}
 use Rattle.mof_values.specs.declared.instance.Instance.{Instance}
 use Rattle.mof_values.specs.declared.instance.Property.{Property}
 use Rattle.mof_values.specs.declared.value.Scalar.{Scalar}
@@ -7,7 +7,7 @@ use Rattle.mof_values.specs.declared.value.Scalar.TheVariants as scalars
 use Rattle.mof_values.specs.declared.value.Value.{Value}
 use Rattle.mof_values.specs.declared.value.Value.TheVariants.{One, Many}
 use Rattle.mof_codec.specs.Tokens.{Lexeme, Word, AliasName, Literal, Number, LeftBrace, RightBrace, EqualsSign, Semicolon, Comma}
-use Rattle.mof_codec.specs.Grammar.{StringValue, ConstantValue, Initializer, ValueInitializers, InstanceDeclarations, WideSpells}
+use Rattle.mof_codec.specs.Grammar.{StringValue, ConstantValue, Initializer, InstanceDeclarations, WideSpells}
 
 -- tokens behind `instance of A`
 abbrev pub declared : List Lexeme → List Lexeme

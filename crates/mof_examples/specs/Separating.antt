@@ -1,5 +1,5 @@
 -- Which characters are separators, by example.
-use Rattle.std.specs.Prelude.{codes, List, [], ◌∷◌, ℕ}
+use Rattle.std.specs.Prelude.{codes, [], ◌∷◌}
 use Rattle.mof_codec.specs.Separators.{Separator, Separators}
 use Rattle.mof_codec.specs.Walk.{NoSeparator}
 

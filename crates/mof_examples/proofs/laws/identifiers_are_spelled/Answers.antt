@@ -1,4 +1,4 @@
-use Rattle.std.proofs.Common.{refl, codes, [], ◌∷◌}
+use Rattle.std.proofs.Common.{refl, codes, []}
 use Rattle.mof_codec.specs.Characters.{more, stop}
 use Rattle.mof_codec.specs.Tokens.{identifier, word, alias}
 use Rattle.mof_codec.proofs.Absent.{no_identifier, no_dollar_token}

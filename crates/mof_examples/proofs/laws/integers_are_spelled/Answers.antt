@@ -1,4 +1,4 @@
-use Rattle.std.proofs.Common.{refl, codes, [], ◌∷◌, pos, negsuc}
+use Rattle.std.proofs.Common.{refl, codes, []}
 use Rattle.mof_codec.specs.Characters.{more, stop}
 use Rattle.mof_codec.specs.Integers.{decimal_value, octal_value, hex_value, binary_value, unsigned, plus, minus}
 use Rattle.mof_codec.specs.Tokens.{integer}

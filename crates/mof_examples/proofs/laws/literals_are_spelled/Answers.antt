@@ -1,4 +1,4 @@
-use Rattle.std.proofs.Common.{refl, codes, [], ◌∷◌}
+use Rattle.std.proofs.Common.{refl, codes, []}
 use Rattle.mof_codec.specs.Strings.{full, ended, digit, short, hexadecimal, closed, plain, escaped}
 use Rattle.mof_codec.specs.Tokens.{literal}
 use Rattle.mof_codec.proofs.Absent.{no_escape}
