@@ -1,4 +1,4 @@
--- The encodings of a text as bytes (Unicode: UTF-8, section 3.9, table 3-7; UTF-16, RFC 2781; the byte order mark, section 23.8).
+-- The encodings of a text as bytes (UTF-8: RFC 3629; UTF-16: RFC 2781; the byte order mark: Unicode, section 23.8).
 use Rattle.std.specs.Prelude.{◌≡◌, ◌≢◌, ℕ, ◌/◌, ◌%◌, ◌<◌, true, List, [], ◌∷◌, ◌++◌, length, take, drop, nat_eq, if◌then◌else◌, encode_utf8}
 use Rattle.std.specs.List.{flat_map, starts_with}
 use Rattle.std.specs.Char.{IsScalar}

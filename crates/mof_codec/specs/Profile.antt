@@ -13,7 +13,7 @@ pub record WordStands (text : List ℕ) (at : ℕ) (word : List ℕ) : Type 0 wh
   pub same : SameName (slice_range text at (at + length word)) word
   pub stops : Stops is_next (drop (at + length word) text)
 
--- decimal digits, none among them
+-- each is a decimal digit; there may be none
 abbrev pub AreDigits : List ℕ → Type 0
 AreDigits [] = Unit {0}
 AreDigits (c ∷ cs) = (digit_of 10 c ≡ true) × AreDigits cs

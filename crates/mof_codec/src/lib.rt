@@ -1,4 +1,9 @@
 //! Management documents as text: the MOF instance syntax of DMTF DSP0004, within one profile of it.
+//!
+//! A layer above may rely on this: `decode_text` gives exactly the characters that the bytes encode, or the first byte
+//! that is none; `tokens` gives each token where it stands, as long as the syntax allows, and where the walk ended.
+//! specs/ states the syntax as relations between bytes, characters, tokens and instances, with the limits, the
+//! canonical text and every reason to refuse a text.
 #![tactic(auto)]
 
 mod decoding;

@@ -144,3 +144,71 @@ fn a_token_is_the_slice_of_its_span(rt: HostRuntime) -> Result<(), Fail> {
     assert_eq!(rt; all.place(), 5);
     Ok(())
 }
+
+#[test]
+fn errors_are_printed_as_sentences(rt: HostRuntime) -> Result<(), Fail> {
+    for (error, text) in [
+        (MofError::TooLong, "longer than a document may be"),
+        (MofError::Text { at: 2 }, "no character at byte 2"),
+        (
+            MofError::Syntax { at: 23 },
+            "not in the grammar at character 23",
+        ),
+        (
+            MofError::OutOfProfile {
+                at: 20,
+                what: Form::Real,
+            },
+            "real at character 20 is out of the profile",
+        ),
+        (
+            MofError::OutOfProfile {
+                at: 0,
+                what: Form::Pragma,
+            },
+            "pragma at character 0 is out of the profile",
+        ),
+        (
+            MofError::OutOfProfile {
+                at: 0,
+                what: Form::Qualifiers,
+            },
+            "qualifiers at character 0 is out of the profile",
+        ),
+        (
+            MofError::OutOfProfile {
+                at: 0,
+                what: Form::Class,
+            },
+            "class at character 0 is out of the profile",
+        ),
+        (
+            MofError::OutOfProfile {
+                at: 0,
+                what: Form::Qualifier,
+            },
+            "qualifier at character 0 is out of the profile",
+        ),
+        (
+            MofError::OutOfProfile {
+                at: 7,
+                what: Form::Character,
+            },
+            "character at character 7 is out of the profile",
+        ),
+        (
+            MofError::NumberRange { at: 72 },
+            "integer at character 72 out of range",
+        ),
+        (MofError::TooMany { at: 5 }, "past a limit at character 5"),
+        (MofError::Memory, "out of memory"),
+    ] {
+        assert_eq!(rt; format!(in rt.alloc(); "{error}")?.as_str(), text);
+    }
+    let torn = TextError::TextFault { at: 3 };
+    assert_eq!(rt;
+        format!(in rt.alloc(); "{torn}")?.as_str(),
+        "no character at byte 3"
+    );
+    Ok(())
+}
