@@ -6,7 +6,7 @@ use Rattle.mof_values.specs.declared.instance.Property.{Property}
 use Rattle.mof_codec.specs.FirstForm.{is_word, property_tokens, IsPlainProperty, literal_of, Spaced}
 use Rattle.mof_codec.specs.FirstReading.{behind_gap, behind_mark}
 use Rattle.mof_codec.specs.FirstParts.{Reads, Lacks, body_tokens, IsPlainBody}
-use Rattle.mof_codec.proofs.FirstTokens.{Tokens, IsWord, stands, word_begins, mark_is, mark_read, mark_spelled}
+use Rattle.mof_codec.proofs.FirstFormTokens.{Tokens, IsWord, stands, word_begins, mark_is, mark_read, mark_spelled}
 use Rattle.mof_codec.proofs.FirstParts.{name_word, body_before}
 use Rattle.mof_codec.proofs.FirstLists as Lists
 

@@ -4,7 +4,7 @@ use Rattle.std.specs.List.{AllByRecursion, flat_map}
 use Rattle.std.proofs.lemmas.Grind.{flat_map-append}
 use Rattle.mof_codec.specs.FirstForm.{Spaced}
 use Rattle.mof_codec.specs.FirstParts.{Reads, Lacks}
-use Rattle.mof_codec.proofs.FirstTokens.{Tokens}
+use Rattle.mof_codec.proofs.FirstFormTokens.{Tokens}
 
 all_push : {A : Type 0} (P : A → Type 0) (xs : List A) (x : A) → AllByRecursion P xs → P x → AllByRecursion P (xs ++ x ∷ [])
 all_push P [] x all is = (is, tt)

@@ -13,7 +13,7 @@ use Rattle.mof_values.specs.declared.value.Scalar.TheVariants as scalars
 use Rattle.mof_codec.specs.FirstForm.{Each, is_plain, is_word, IsName, quoted, literal_of, property_tokens, instance_tokens, IsPlainValue, IsPlainProperty, IsPlainInstance, Spaced}
 use Rattle.mof_codec.specs.FirstReading.{word_at, behind_mark, behind_keyword, literal_at, property_at, head_at}
 use Rattle.mof_codec.specs.FirstParts.{Reads, Lacks, body_tokens, IsPlainBody}
-use Rattle.mof_codec.proofs.FirstTokens.{Tokens, IsWord, word_read, word_spelled, word_all, mark_read, mark_spelled, keyword_read, keyword_spelled, literal_read, literal_spelled, literal_plain}
+use Rattle.mof_codec.proofs.FirstFormTokens.{Tokens, IsWord, word_read, word_spelled, word_all, mark_read, mark_spelled, keyword_read, keyword_spelled, literal_read, literal_spelled, literal_plain}
 
 pub name_word : (name : List ℕ) → IsName name → IsWord name
 name_word [] h = let no : false ≡ true = h.ident in absurd cc

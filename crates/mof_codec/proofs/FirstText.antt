@@ -7,7 +7,7 @@ use Rattle.mof_values.specs.declared.instance.Instance.{Instance}
 use Rattle.mof_codec.specs.FirstForm.{instance_tokens, property_tokens, IsPlainInstance, Spaced, SpellsFirst}
 use Rattle.mof_codec.specs.FirstReading.{behind_gap}
 use Rattle.mof_codec.specs.FirstParts.{Reads, Lacks}
-use Rattle.mof_codec.proofs.FirstTokens.{Tokens, stands, ends, spaced_end}
+use Rattle.mof_codec.proofs.FirstFormTokens.{Tokens, stands, ends, spaced_end}
 use Rattle.mof_codec.proofs.FirstLists as Lists
 
 -- nothing follows the declarations

@@ -1,201 +1,212 @@
--- A token that is spelled at the front is read, and what is read is spelled there.
-use Rattle.std.proofs.Common.{◌≡◌, ◌⊎◌, inl, inr, ℕ, Bool, true, false, ◌&&◌, cond, eqb, List, [], ◌∷◌, ◌++◌, Option, Some, None, take, drop, eq-eqb, refl, sym, ◌∙◌, ap, subst, arith, append_assoc, append-nil, take-append-drop}
-use Rattle.std.specs.List.{prefix_len}
-use Rattle.std.specs.Option.{option_and_then}
-use Rattle.std.specs.Str.{bytes_eq}
-use Rattle.std.proofs.lemmas.Bool.{eqb-true}
+-- The token that the first character tells is the one that stands there.
+use Rattle.std.proofs.Common.{◌≡◌, ◌⊎◌, inl, inr, ◌<◌, ℕ, Bool, true, false, cond, List, [], ◌∷◌, length, Option, Some, None, refl, sym, subst, ◌∙◌, arith, Bor}
+use Rattle.std.specs.Option.{option_copied}
+use Rattle.std.specs.Prelude.{◌==◌, ◌||◌, IfSome, IfNone, ℤ, pos, neg_ℤ}
 use Rattle.std.proofs.lemmas.Bool.Decides.{nat_tests}
-use Rattle.std.proofs.lemmas.Option.{same_Some, none-some, option_and_then_some}
-use Rattle.std.proofs.lemmas.Slice.Eq.{bytes_eq-Decides}
-use Rattle.mof_codec.specs.FirstForm.{Each, is_separator, is_plain, is_word, quoted, ends_with_word, begins_with_word, Apart, Spaced, end, next}
-use Rattle.mof_codec.specs.FirstReading.{behind_gap, mark_of, behind_mark, run_of, word_at, behind_keyword, closed, text_of, literal_at}
-use Rattle.mof_codec.proofs.FirstRuns.{Stops, front_passes, back_stops, take_run, drop_run}
+use Rattle.mof_values.specs.Ident.{is_first, is_next}
+use Rattle.mof_codec.specs.Characters.{quote, dollar, plus_sign, minus_sign, comma, semicolon, equals_sign, left_brace, right_brace, digit_of, Run, more, Stops}
+use Rattle.mof_codec.specs.Integers.{Magnitude, decimal_value, octal_value, hex_value, binary_value, IntegerValue, unsigned, plus, minus}
+use Rattle.mof_codec.specs.Tokens.{Identifier, identifier, Lexeme, Word, AliasName, Literal, Number, LeftBrace, RightBrace, EqualsSign, Semicolon, Comma, IsToken, word, alias, literal, integer, left_brace_mark, right_brace_mark, equals_mark, semicolon_mark, comma_mark}
+use Rattle.mof_codec.specs.declared.token.TokenKind.{TokenKind}
+use Rattle.mof_codec.specs.declared.token.TokenKind.TheVariants as kinds
+use Rattle.mof_codec.specs.declared.lead.Lead.{Lead}
+use Rattle.mof_codec.specs.declared.lead.Lead.TheVariants as leads
+use Rattle.mof_codec.specs.Scanning.{IsOnly, StandsQuoted}
+use Rattle.mof_codec.specs.Leads.{is_mark, is_sign, lead_of, kind_by, StandsMagnitude, StandsBy, OnlyBy, NoneBy}
+use Rattle.mof_codec.specs.Walk.{kind_of, StandsToken, NoToken}
+use Rattle.mof_codec.proofs.Scans.{some_same, digit_wider}
 
-abbrev pub Tokens : Type 0
-Tokens = List (List ℕ)
+-- what the first character tells
 
-chosen : {A : Type 0} (b : Bool) (x y z : A) → cond b x y ≡ z → ((b ≡ true) × (x ≡ z)) ⊎ ((b ≡ false) × (y ≡ z))
-chosen true x y z e = inl (refl, e)
-chosen false x y z e = inr (refl, e)
+pub word_lead : (c : ℕ) → is_first c ≡ true → lead_of c ≡ leads.Other
+word_lead c h =
+    let m : is_mark c ≡ false = grind (arith, nat_tests) in
+    let q : (c == quote) ≡ false = grind (arith, nat_tests) in
+    let d : (c == dollar) ≡ false = grind (arith, nat_tests) in
+    let s : is_sign c ≡ false = grind (arith, nat_tests) in
+    let n : digit_of 10 c ≡ false = grind (arith, nat_tests) in
+    rw (m, q, d, s, n) refl
 
--- the token begins with no separator
-abbrev pub Begins : List ℕ → Type 0
-Begins [] = ⊥
-Begins (c ∷ cs) = is_separator c ≡ false
+pub digit_lead : (c : ℕ) → digit_of 10 c ≡ true → lead_of c ≡ leads.Digit
+digit_lead c h =
+    let m : is_mark c ≡ false = grind (arith, nat_tests) in
+    let q : (c == quote) ≡ false = grind (arith, nat_tests) in
+    let d : (c == dollar) ≡ false = grind (arith, nat_tests) in
+    let s : is_sign c ≡ false = grind (arith, nat_tests) in
+    rw (m, q, d, s, h) refl
 
--- the text behind separators is the token and the rest
-pub record Stands (token : List ℕ) (tokens : Tokens) (cs : List ℕ) : Type 0 where
-  pub rest : List ℕ
-  pub is : behind_gap cs ≡ token ++ rest
-  pub apart : Apart token rest
-  pub spaced : Spaced tokens rest
+pub identifier_first : (c : ℕ) (cs name rest : List ℕ) → Identifier (c ∷ cs) name rest → is_first c ≡ true
+identifier_first c cs name rest (identifier d us tail r e run s) = e
 
-pub stands : (token : List ℕ) (tokens : Tokens) (cs : List ℕ) → Begins token → Spaced (token ∷ tokens) cs → Stands token tokens cs
-stands [] tokens cs begins spaced = absurd begins
-stands (c ∷ token) tokens cs begins (next gap cs1 rest tokens1 is_gap apart spaced) =
-    record { rest = rest; is = drop_run is_separator gap (c ∷ (token ++ rest)) is_gap begins; apart = apart; spaced = spaced }
+run_first : (base c d : ℕ) (cs ds rest : List ℕ) → Run (digit_of base) (c ∷ cs) (d ∷ ds) rest → digit_of base c ≡ true
+run_first base c d cs ds rest (more x us v r e run) = e
 
-pub spaced_at : (token : List ℕ) (tokens : Tokens) (cs rest : List ℕ) → behind_gap cs ≡ token ++ rest → Apart token rest → Spaced tokens rest → Spaced (token ∷ tokens) cs
-spaced_at token tokens cs rest is apart spaced =
-    let n = prefix_len is_separator cs in
-    subst (λ (x : List ℕ). Spaced (token ∷ tokens) x) (ap (λ (x : List ℕ). take n cs ++ x) (sym is) ∙ take-append-drop n cs) (next (take n cs) token rest tokens (front_passes is_separator cs) apart spaced)
+pub magnitude_first : (c : ℕ) (cs : List ℕ) (n : ℕ) (rest : List ℕ) → Magnitude (c ∷ cs) n rest → digit_of 10 c ≡ true
+magnitude_first c cs n rest (decimal_value d us ds r nz is run) = is
+magnitude_first c cs n rest (octal_value us ds r run) = refl
+magnitude_first c cs n rest (hex_value x d us ds r is run) = refl
+magnitude_first c cs n rest (binary_value d b us ds r run is) = digit_wider 2 10 c (omega arith) (run_first 2 c d cs ds (b ∷ r) run)
 
-pub spaced_end : (cs : List ℕ) → behind_gap cs ≡ [] → Spaced [] cs
-spaced_end cs none =
-    let n = prefix_len is_separator cs in
-    subst (λ (x : List ℕ). Spaced [] x) (sym (append-nil (take n cs)) ∙ ap (λ (x : List ℕ). take n cs ++ x) (sym none) ∙ take-append-drop n cs) (end (take n cs) (front_passes is_separator cs))
+by_lead : (c : ℕ) (cs rest : List ℕ) (lead : Lead) → lead_of c ≡ lead → StandsBy lead (c ∷ cs) cs rest → StandsBy (lead_of c) (c ∷ cs) cs rest
+by_lead c cs rest lead is s = subst (λ (l : Lead). StandsBy l (c ∷ cs) cs rest) (sym is) s
 
-pub ends : (cs : List ℕ) → Spaced [] cs → behind_gap cs ≡ []
-ends cs (end gap is_gap) = ap behind_gap (sym (append-nil gap)) ∙ drop_run is_separator gap [] is_gap tt
+integer_stands : (c : ℕ) (cs : List ℕ) (z : ℤ) (rest : List ℕ) → IntegerValue (c ∷ cs) z rest → Stops is_next rest → StandsBy (lead_of c) (c ∷ cs) cs rest
+integer_stands c cs z rest (unsigned us n r m) s = by_lead c cs r leads.Digit (digit_lead c (magnitude_first c cs n r m)) (n, m, s)
+integer_stands c cs z rest (plus us n r m) s = (n, m, s)
+integer_stands c cs z rest (minus us n r m) s = (n, m, s)
 
--- marks
+pub token_stands : (c : ℕ) (cs : List ℕ) (t : Lexeme) (rest : List ℕ) → IsToken (c ∷ cs) t rest → StandsBy (lead_of c) (c ∷ cs) cs rest
+token_stands c cs t rest (word us name r i) = by_lead c cs r leads.Other (word_lead c (identifier_first c cs name r i)) (name, i)
+token_stands c cs t rest (alias us name r i) = (name, i)
+token_stands c cs t rest (literal us text r q) = (text, q)
+token_stands c cs t rest (integer us z r i s) = integer_stands c cs z r i s
+token_stands c cs t rest (left_brace_mark r) = refl
+token_stands c cs t rest (right_brace_mark r) = refl
+token_stands c cs t rest (equals_mark r) = refl
+token_stands c cs t rest (semicolon_mark r) = refl
+token_stands c cs t rest (comma_mark r) = refl
 
-same_is_true : (m : ℕ) → eqb m m ≡ true
-same_is_true m = eq-eqb m m refl
+-- a token of that kind stands there
 
-pub mark_read : (m : ℕ) (tokens : Tokens) (cs : List ℕ) → is_separator m ≡ false → Spaced ((m ∷ []) ∷ tokens) cs
-    → (rest : List ℕ) × (behind_mark m cs ≡ Some rest) × Spaced tokens rest
-unfolding mark_of
-mark_read m tokens cs begins spaced =
-    let s = stands (m ∷ []) tokens cs begins spaced in
-    (s.rest, ap (mark_of m) s.is ∙ rw (same_is_true m) refl, s.spaced)
+abbrev pub HasToken : List ℕ → TokenKind → List ℕ → Type 0
+HasToken cs kind rest = (t : Lexeme) × IsToken cs t rest × (kind_of t ≡ kind)
 
-pub mark_is : (m : ℕ) (cs rest : List ℕ) → mark_of m cs ≡ Some rest → cs ≡ m ∷ rest
-unfolding mark_of
-mark_is m [] rest e = absurd (none-some rest e)
-mark_is m (c ∷ cs) rest e = elim (chosen (eqb c m) (Some cs) None (Some rest) e) [
-  | inl is ↦ let same : c ≡ m = eqb-true c m is.0 in let behind : cs ≡ rest = same_Some cs rest is.1 in cc
-  | inr other ↦ absurd (none-some rest other.1)
-]
+equal : (x y : ℕ) → (x == y) ≡ true → x ≡ y
+equal x y h = grind (arith, nat_tests)
 
-pub mark_spelled : (m : ℕ) (tokens : Tokens) (cs rest : List ℕ) → is_word m ≡ false → behind_mark m cs ≡ Some rest → Spaced tokens rest
-    → Spaced ((m ∷ []) ∷ tokens) cs
-mark_spelled m tokens cs rest no_word e spaced = spaced_at (m ∷ []) tokens cs rest (mark_is m (behind_gap cs) rest e) (rw no_word refl) spaced
+split : (b : Bool) (x y z : Lead) → cond b x y ≡ z → ((b ≡ true) × (x ≡ z)) ⊎ ((b ≡ false) × (y ≡ z))
+split true x y z e = inl (refl, e)
+split false x y z e = inr (refl, e)
 
--- words
+-- which of two tests holds
+either : (a b : Bool) → (a || b) ≡ true → (a ≡ true) ⊎ (b ≡ true)
+either true b h = inl refl
+either false b h = inr h
 
--- a word is one character of an identifier at least, and has no other
-abbrev pub IsWord : List ℕ → Type 0
-IsWord [] = ⊥
-IsWord (c ∷ cs) = Each is_word (c ∷ cs)
+-- the tests in their order
+pub record Tests (c : ℕ) (lead : Lead) : Type 0 where
+  pub mark : lead ≡ leads.Mark → is_mark c ≡ true
+  pub quote_is : lead ≡ leads.Quote → (c == quote) ≡ true
+  pub dollar_is : lead ≡ leads.Dollar → (c == dollar) ≡ true
+  pub sign : lead ≡ leads.Sign → is_sign c ≡ true
 
-word_no_separator : (c : ℕ) → is_word c ≡ true → is_separator c ≡ false
-word_no_separator c h = grind (arith, nat_tests)
-
-pub word_begins : (word : List ℕ) → IsWord word → Begins word
-word_begins [] h = h
-word_begins (c ∷ cs) h = word_no_separator c h.0
-
-ends_true : (cs : List ℕ) → Each is_word cs → ends_with_word true cs ≡ true
-ends_true [] all = refl
-ends_true (c ∷ cs) all = rw all.0 (ends_true cs all.1)
-
-word_ends : (word : List ℕ) → IsWord word → ends_with_word false word ≡ true
-word_ends [] h = absurd h
-word_ends (c ∷ cs) h = rw h.0 (ends_true cs h.1)
-
-apart_stops : (b : Bool) (rest : List ℕ) → b ≡ true → (b && begins_with_word rest) ≡ false → Stops is_word rest
-apart_stops b [] is apart = tt
-apart_stops b (c ∷ rest) is apart = rw is at apart
-
-stops_apart : (b : Bool) (rest : List ℕ) → Stops is_word rest → (b && begins_with_word rest) ≡ false
-stops_apart false rest stops = refl
-stops_apart true [] stops = refl
-stops_apart true (c ∷ rest) stops = stops
-
-word_each : (word : List ℕ) → IsWord word → Each is_word word
-word_each [] h = absurd h
-word_each (c ∷ cs) h = h
-
-run_read : (word rest : List ℕ) → Each is_word word → Stops is_word rest → run_of (word ++ rest) ≡ (word, rest)
-unfolding run_of
-run_read word rest all stops = rw (take_run is_word word rest all stops, drop_run is_word word rest all stops) refl
-
-pub word_read : (word : List ℕ) (tokens : Tokens) (cs : List ℕ) → IsWord word → Spaced (word ∷ tokens) cs
-    → (rest : List ℕ) × (word_at cs ≡ (word, rest)) × Spaced tokens rest
-word_read word tokens cs is spaced =
-    let s = stands word tokens cs (word_begins word is) spaced in
-    (s.rest, ap run_of s.is ∙ run_read word s.rest (word_each word is) (apart_stops (ends_with_word false word) s.rest (word_ends word is) s.apart), s.spaced)
-
-pub word_spelled : (tokens : Tokens) (cs : List ℕ) → Spaced tokens (word_at cs).1 → Spaced ((word_at cs).0 ∷ tokens) cs
-unfolding run_of
-word_spelled tokens cs spaced =
-    let behind = behind_gap cs in
-    let n = prefix_len is_word behind in
-    spaced_at (take n behind) tokens cs (drop n behind) (sym (take-append-drop n behind)) (stops_apart (ends_with_word false (take n behind)) (drop n behind) (back_stops is_word behind)) spaced
-
-pub word_all : (cs : List ℕ) → Each is_word (word_at cs).0
-unfolding run_of
-word_all cs = front_passes is_word (behind_gap cs)
-
--- keywords
-
-pub keyword_read : (keyword : List ℕ) (tokens : Tokens) (cs : List ℕ) → IsWord keyword → Spaced (keyword ∷ tokens) cs
-    → (rest : List ℕ) × (behind_keyword keyword cs ≡ Some rest) × Spaced tokens rest
-unfolding behind_keyword
-keyword_read keyword tokens cs is spaced =
-    let read = word_read keyword tokens cs is spaced in
-    let test : List ℕ × List ℕ → Option (List ℕ) = λ w. cond (bytes_eq w.0 keyword) (Some w.1) None in
-    (read.0, ap test read.1 ∙ rw ((bytes_eq-Decides keyword keyword).1 refl) refl, read.2)
-
-pub keyword_spelled : (keyword : List ℕ) (tokens : Tokens) (cs rest : List ℕ) → behind_keyword keyword cs ≡ Some rest → Spaced tokens rest
-    → Spaced (keyword ∷ tokens) cs
-unfolding behind_keyword
-keyword_spelled keyword tokens cs rest e spaced =
-    let found = word_at cs in
-    elim (chosen (bytes_eq found.0 keyword) (Some found.1) None (Some rest) e) [
-      | inl is ↦
-          subst (λ (x : List ℕ). Spaced (x ∷ tokens) cs) ((bytes_eq-Decides found.0 keyword).0 is.0)
-          (word_spelled tokens cs (subst (λ (x : List ℕ). Spaced tokens x) (sym (same_Some found.1 rest is.1)) spaced))
-      | inr other ↦ absurd (none-some rest other.1)
+tests_of : (c : ℕ) (lead : Lead) → lead_of c ≡ lead → Tests c lead
+tests_of c lead h = elim (split (is_mark c) _ _ _ h) [
+  | inl a ↦ record { mark = λ e. a.0; quote_is = λ e. absurd cc; dollar_is = λ e. absurd cc; sign = λ e. absurd cc }
+  | inr a ↦ elim (split (c == quote) _ _ _ a.1) [
+    | inl b ↦ record { mark = λ e. absurd cc; quote_is = λ e. b.0; dollar_is = λ e. absurd cc; sign = λ e. absurd cc }
+    | inr b ↦ elim (split (c == dollar) _ _ _ b.1) [
+      | inl d ↦ record { mark = λ e. absurd cc; quote_is = λ e. absurd cc; dollar_is = λ e. d.0; sign = λ e. absurd cc }
+      | inr d ↦ elim (split (is_sign c) _ _ _ d.1) [
+        | inl f ↦ record { mark = λ e. absurd cc; quote_is = λ e. absurd cc; dollar_is = λ e. absurd cc; sign = λ e. f.0 }
+        | inr f ↦ elim (split (digit_of 10 c) _ _ _ f.1) [
+          | inl g ↦ record { mark = λ e. absurd cc; quote_is = λ e. absurd cc; dollar_is = λ e. absurd cc; sign = λ e. absurd cc }
+          | inr g ↦ record { mark = λ e. absurd cc; quote_is = λ e. absurd cc; dollar_is = λ e. absurd cc; sign = λ e. absurd cc }
+        ]
+      ]
     ]
-
--- literals
-
-text_read : (text rest : List ℕ) → Each is_plain text → text_of ((text ++ 34 ∷ []) ++ rest) ≡ Some (text, rest)
-unfolding text_of
-text_read text rest all =
-    rw (append_assoc text (34 ∷ []) rest, take_run is_plain text (34 ∷ rest) all refl, drop_run is_plain text (34 ∷ rest) all refl) refl
-
-pub literal_read : (text : List ℕ) (tokens : Tokens) (cs : List ℕ) → Each is_plain text → Spaced (quoted text ∷ tokens) cs
-    → (rest : List ℕ) × (literal_at cs ≡ Some (text, rest)) × Spaced tokens rest
-unfolding literal_at mark_of
-literal_read text tokens cs all spaced =
-    let s = stands (quoted text) tokens cs refl spaced in
-    (s.rest, ap (λ (x : List ℕ). option_and_then text_of (mark_of 34 x)) s.is ∙ text_read text s.rest all, s.spaced)
-
-closed_is : (body back text rest : List ℕ) → closed body back ≡ Some (text, rest) → (body ≡ text) × (back ≡ 34 ∷ rest)
-closed_is body [] text rest e = absurd (none-some (text, rest) e)
-closed_is body (c ∷ back) text rest e = elim (chosen (eqb c 34) (Some (body, back)) None (Some (text, rest)) e) [
-  | inl is ↦
-      let quote : c ≡ 34 = eqb-true c 34 is.0 in
-      let both : (body, back) ≡ (text, rest) = same_Some (body, back) (text, rest) is.1 in
-      (ap (λ (x : List ℕ × List ℕ). x.0) both, rw (quote, ap (λ (x : List ℕ × List ℕ). x.1) both) refl)
-  | inr other ↦ absurd (none-some (text, rest) other.1)
+  ]
 ]
 
-text_is : (cs text rest : List ℕ) → text_of cs ≡ Some (text, rest) → Each is_plain text × (cs ≡ (text ++ 34 ∷ []) ++ rest)
-unfolding text_of
-text_is cs text rest e =
-    let n = prefix_len is_plain cs in
-    let is = closed_is (take n cs) (drop n cs) text rest e in (
-      subst (λ (x : List ℕ). Each is_plain x) is.0 (front_passes is_plain cs),
-      sym (take-append-drop n cs) ∙ rw (is.0, is.1) (sym (append_assoc text (34 ∷ []) rest)),
-    )
+tests : (c : ℕ) → Tests c (lead_of c)
+tests c = tests_of c (lead_of c) refl
 
-ends_at : (before : Bool) (cs : List ℕ) (c : ℕ) → ends_with_word before (cs ++ c ∷ []) ≡ is_word c
-ends_at before [] c = refl
-ends_at before (d ∷ cs) c = ends_at (is_word d) cs c
+mark_at : (c d : ℕ) (cs : List ℕ) → (c == d) ≡ true → HasToken (d ∷ cs) kinds.Mark cs → HasToken (c ∷ cs) kinds.Mark cs
+mark_at c d cs h t = subst (λ (x : ℕ). HasToken (x ∷ cs) kinds.Mark cs) (sym (equal c d h)) t
 
-pub literal_plain : (text cs rest : List ℕ) → literal_at cs ≡ Some (text, rest) → Each is_plain text
-unfolding literal_at
-literal_plain text cs rest e =
-    option_and_then_some text_of (behind_mark 34 cs) (text, rest) e (λ behind mark inner. (text_is behind text rest inner).0)
+mark_is : (c : ℕ) (cs : List ℕ) → is_mark c ≡ true → HasToken (c ∷ cs) kinds.Mark cs
+mark_is c cs h = elim (either _ _ h) [
+  | inr last_is ↦ mark_at c comma cs last_is (Comma, comma_mark cs, refl)
+  | inl h4 ↦ elim (either _ _ h4) [
+    | inr is ↦ mark_at c semicolon cs is (Semicolon, semicolon_mark cs, refl)
+    | inl h3 ↦ elim (either _ _ h3) [
+      | inr is ↦ mark_at c equals_sign cs is (EqualsSign, equals_mark cs, refl)
+      | inl h2 ↦ elim (either _ _ h2) [
+        | inr is ↦ mark_at c right_brace cs is (RightBrace, right_brace_mark cs, refl)
+        | inl is ↦ mark_at c left_brace cs is (LeftBrace, left_brace_mark cs, refl)
+      ]
+    ]
+  ]
+]
 
-pub literal_spelled : (text : List ℕ) (tokens : Tokens) (cs rest : List ℕ) → literal_at cs ≡ Some (text, rest) → Spaced tokens rest
-    → Spaced (quoted text ∷ tokens) cs
-unfolding literal_at
-literal_spelled text tokens cs rest e spaced =
-    option_and_then_some text_of (behind_mark 34 cs) (text, rest) e (λ behind mark inner.
-    spaced_at (quoted text) tokens cs rest (mark_is 34 (behind_gap cs) behind mark ∙ ap (λ (x : List ℕ). 34 ∷ x) (text_is behind text rest inner).1)
-    (rw (ends_at false text 34) refl) spaced)
+sign_is : (c : ℕ) (cs rest : List ℕ) → is_sign c ≡ true → StandsMagnitude cs rest → HasToken (c ∷ cs) kinds.Integer rest
+sign_is c cs rest h m = elim (either _ _ h) [
+  | inl is ↦ subst (λ (x : ℕ). HasToken (x ∷ cs) kinds.Integer rest) (sym (equal c plus_sign is)) (Number (pos m.0), integer (plus_sign ∷ cs) (pos m.0) rest (plus cs m.0 rest m.1) m.2, refl)
+  | inr is ↦ subst (λ (x : ℕ). HasToken (x ∷ cs) kinds.Integer rest) (sym (equal c minus_sign is)) (Number (neg_ℤ (pos m.0)), integer (minus_sign ∷ cs) (neg_ℤ (pos m.0)) rest (minus cs m.0 rest m.1) m.2, refl)
+]
+
+stands_token : (c : ℕ) (cs rest : List ℕ) (lead : Lead) → Tests c lead → StandsBy lead (c ∷ cs) cs rest → HasToken (c ∷ cs) (kind_by lead) rest
+stands_token c cs rest leads.Mark t s = subst (λ (r : List ℕ). HasToken (c ∷ cs) kinds.Mark r) s (mark_is c cs (t.mark refl))
+stands_token c cs rest leads.Quote t s = subst (λ (x : ℕ). HasToken (x ∷ cs) kinds.Literal rest) (sym (equal c quote (t.quote_is refl))) (Literal s.0, literal cs s.0 rest s.1, refl)
+stands_token c cs rest leads.Dollar t s = subst (λ (x : ℕ). HasToken (x ∷ cs) kinds.Alias rest) (sym (equal c dollar (t.dollar_is refl))) (AliasName s.0, alias cs s.0 rest s.1, refl)
+stands_token c cs rest leads.Sign t s = sign_is c cs rest (t.sign refl) s
+stands_token c cs rest leads.Digit t s = (Number (pos s.0), integer (c ∷ cs) (pos s.0) rest (unsigned (c ∷ cs) s.0 rest s.1) s.2, refl)
+stands_token c cs rest leads.Other t s = (Word s.0, word (c ∷ cs) s.0 rest s.1, refl)
+
+-- the answers of the steps
+
+pub StandsToken-by : (chars others rest : List ℕ) (c : ℕ) (lead : Lead) → chars ≡ c ∷ others → lead ≡ lead_of c → OnlyBy lead chars others rest → StandsToken chars (kind_by lead) rest
+StandsToken-by chars others rest c lead cut is o =
+    let at : OnlyBy (lead_of c) (c ∷ others) others rest = subst (λ (l : Lead). OnlyBy l (c ∷ others) others rest) is (subst (λ (xs : List ℕ). OnlyBy lead xs others rest) cut o) in
+    let t = stands_token c others rest (lead_of c) (tests c) at.stands in
+    let there : StandsToken (c ∷ others) (kind_by (lead_of c)) rest = record {
+      lexeme = t.0;
+      stands = t.1;
+      is_kind = t.2;
+      only = λ other behind i. at.only behind (token_stands c others other behind i);
+    } in
+    subst (λ (l : Lead). StandsToken chars (kind_by l) rest) (sym is) (subst (λ (xs : List ℕ). StandsToken xs (kind_by (lead_of c)) rest) (sym cut) there)
+
+pub NoToken-by : (chars others : List ℕ) (c : ℕ) (lead : Lead) → chars ≡ c ∷ others → lead ≡ lead_of c → NoneBy lead chars others → NoToken chars
+NoToken-by chars others c lead cut is n = λ t rest i.
+    let i' : IsToken (c ∷ others) t rest = subst (λ (xs : List ℕ). IsToken xs t rest) cut i in
+    n rest (subst (λ (xs : List ℕ). StandsBy lead xs others rest) (sym cut) (subst (λ (l : Lead). StandsBy l (c ∷ others) others rest) (sym is) (token_stands c others t rest i')))
+
+pub NoToken-short : (chars : List ℕ) → length chars < 1 → NoToken chars
+NoToken-short (c ∷ cs) h t rest i = absurd (omega arith)
+NoToken-short [] h t rest i = absurd (none_begins t rest i)
+  where
+    no_identifier : (name r : List ℕ) → Identifier [] name r → ⊥
+    no_identifier name r e = elim e [ ]
+
+    no_magnitude : (n : ℕ) (r : List ℕ) → Magnitude [] n r → ⊥
+    no_magnitude n r (binary_value d b us ds q run is) = no_run d ds (b ∷ q) run
+      where
+        no_run : (x : ℕ) (xs ys : List ℕ) → Run (digit_of 2) [] (x ∷ xs) ys → ⊥
+        no_run x xs ys e = elim e [ ]
+
+    no_integer : (z : ℤ) (r : List ℕ) → IntegerValue [] z r → ⊥
+    no_integer z r (unsigned us n q m) = no_magnitude n q m
+
+    none_begins : (u : Lexeme) (r : List ℕ) → IsToken [] u r → ⊥
+    none_begins u r (word us name q e) = no_identifier name q e
+    none_begins u r (integer us z q e s) = no_integer z q e
+
+-- the steps behind the first character
+
+pub some_behind : (lead L : Lead) (chars others : List ℕ) (f : Option (List ℕ)) (r : Option (Bor (List ℕ))) → lead ≡ L → option_copied r ≡ f
+    → ((rest : List ℕ) → StandsBy L chars others rest → f ≡ Some rest) → ((rest : List ℕ) → f ≡ Some rest → StandsBy L chars others rest)
+    → IfSome r (λ rest. OnlyBy lead chars others rest.now)
+some_behind lead L chars others f None is e to from = tt
+some_behind lead L chars others f (Some b) is e to from = subst (λ (l : Lead). OnlyBy l chars others b.now) (sym is) (record {
+  stands = from b.now (sym e);
+  only = λ other s. some_same other b.now (sym (to other s) ∙ sym e);
+})
+
+pub none_behind : (lead L : Lead) (chars others : List ℕ) (f : Option (List ℕ)) (r : Option (Bor (List ℕ))) → lead ≡ L → option_copied r ≡ f
+    → ((rest : List ℕ) → StandsBy L chars others rest → f ≡ Some rest) → IfNone r (NoneBy lead chars others)
+none_behind lead L chars others f (Some b) is e to = tt
+none_behind lead L chars others f None is e to = subst (λ (l : Lead). NoneBy l chars others) (sym is) (λ rest s. absurd (apart rest (e ∙ to rest s)))
+  where
+    apart : (xs : List ℕ) → None ≡ Some xs → ⊥
+    apart xs h = cc
+
+pub quoted_behind : (lead : Lead) (chars others : List ℕ) (r : Option (Bor (List ℕ))) → lead ≡ leads.Quote
+    → IfSome r (λ rest. IsOnly StandsQuoted others rest.now) → IfSome r (λ rest. OnlyBy lead chars others rest.now)
+quoted_behind lead chars others None is h = tt
+quoted_behind lead chars others (Some b) is h = subst (λ (l : Lead). OnlyBy l chars others b.now) (sym is) (record { stands = h.stands; only = h.only })
+
+pub no_quoted_behind : (lead : Lead) (chars others : List ℕ) (r : Option (Bor (List ℕ))) → lead ≡ leads.Quote
+    → IfNone r ((rest : List ℕ) → StandsQuoted others rest → ⊥) → IfNone r (NoneBy lead chars others)
+no_quoted_behind lead chars others (Some b) is h = tt
+no_quoted_behind lead chars others None is h = subst (λ (l : Lead). NoneBy l chars others) (sym is) h

@@ -1,5 +1,16 @@
-pub mod FirstRuns
+pub mod Bodies
+pub mod Scans
+pub mod Slices
+pub mod Literals
+pub mod Suffixes
 pub mod FirstTokens
+pub mod Walking
+pub mod Absent
+pub mod FrontLaws
+pub mod UniqueTokens
+pub mod UniqueRules
+pub mod FirstRuns
+pub mod FirstFormTokens
 pub mod FirstParts
 pub mod FirstLists
 pub mod FirstBody

@@ -1,5 +1,5 @@
 -- The canonical text of instances: the one spelling that is written (DSP0004, "Instance declarations").
-use Rattle.std.specs.Prelude.{ℕ, ◌+◌, ◌/◌, ◌%◌, Bool, true, false, cond, nat_lt, ◌==◌, if◌then◌else◌, List, [], ◌∷◌, ◌++◌, Option, Some, None, codes}
+use Rattle.std.specs.Prelude.{ℕ, ◌/◌, ◌%◌, true, false, nat_lt, ◌==◌, if◌then◌else◌, List, [], ◌∷◌, ◌++◌, Option, Some, None, codes}
 use Rattle.std.specs.List.{flat_map}
 use Rattle.std.specs.Fmt.{signed_decimal, digit_glyph}
 use Rattle.std.specs.Str.{encode_utf8_all}
@@ -9,7 +9,7 @@ use Rattle.mof_values.specs.declared.value.Scalar.{Scalar}
 use Rattle.mof_values.specs.declared.value.Scalar.TheVariants as scalars
 use Rattle.mof_values.specs.declared.value.Value.{Value}
 use Rattle.mof_values.specs.declared.value.Value.TheVariants.{One, Many}
-use Rattle.mof_codec.specs.Characters.{line_feed, quote, backslash, dollar}
+use Rattle.mof_codec.specs.Characters.{quote, dollar}
 
 -- the digit in upper case
 abbrev pub hex_glyph : ℕ → ℕ

@@ -1,12 +1,12 @@
 -- The declarations, properties, elements and identifiers that are the first past their limits.
-use Rattle.std.specs.Prelude.{◌≡◌, ◌<◌, ◌+◌, ◌||◌, ℕ, Bool, true, false, ◌==◌, List, [], ◌∷◌, ◌++◌, length, take, drop, slice_index, codes}
+use Rattle.std.specs.Prelude.{◌≡◌, ◌<◌, ◌+◌, ◌||◌, ℕ, true, false, ◌==◌, List, [], ◌∷◌, ◌++◌, length, take, drop, slice_index, codes}
 use Rattle.std.specs.Char.{to_ascii_lowercase}
-use Rattle.mof_values.specs.Ident.{is_first, is_next}
+use Rattle.mof_values.specs.Ident.{is_first}
 use Rattle.mof_values.specs.declared.instance.Instance.{Instance}
 use Rattle.mof_values.specs.declared.instance.Property.{Property}
 use Rattle.mof_values.specs.declared.value.Value.{Value}
 use Rattle.mof_values.specs.declared.value.Value.TheVariants.{One, Many}
-use Rattle.mof_codec.specs.Characters.{slash, is_blank, Run}
+use Rattle.mof_codec.specs.Characters.{slash, is_blank}
 use Rattle.mof_codec.specs.Tokens.{Identifier}
 use Rattle.mof_codec.specs.Grammar.{WideSpells}
 use Rattle.mof_codec.specs.Limits.{instances_limit, properties_limit, elements_limit, identifier_limit}

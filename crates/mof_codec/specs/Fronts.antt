@@ -1,5 +1,5 @@
 -- With which prefixes a text of the wide grammar begins, and where a text that is none goes wrong.
-use Rattle.std.specs.Prelude.{◌≡◌, ◌≤◌, ◌<◌, ◌⊎◌, ℕ, List, [], ◌∷◌, ◌++◌, length, take, drop, slice_range}
+use Rattle.std.specs.Prelude.{◌≤◌, ◌⊎◌, ℕ, List, [], ◌∷◌, ◌++◌, length, take}
 use Rattle.mof_codec.specs.Grammar.{Wide}
 
 -- some text of the wide grammar begins with these characters

@@ -2,7 +2,7 @@
 -- "Arrays" and the grammar of its annex, whose rules lend their names). Each rule holds of the tokens in front of a rest.
 --
 -- The grammar is the wide one: integers of any size, identifiers of any length, any number of parts.
-use Rattle.std.specs.Prelude.{◌≡◌, ℕ, Bool, true, false, List, [], ◌∷◌, ◌++◌, ℤ, Option, Some, None, codes}
+use Rattle.std.specs.Prelude.{ℕ, true, false, List, [], ◌∷◌, ◌++◌, ℤ, Option, Some, None, codes}
 use Rattle.mof_values.specs.Fold.{SameName}
 use Rattle.mof_values.specs.declared.instance.Instance.{Instance}
 use Rattle.mof_values.specs.declared.instance.Property.{Property}

@@ -1,5 +1,5 @@
 -- Integer literals of each base (DSP0004, "Integer constants", and integerValue in its annex).
-use Rattle.std.specs.Prelude.{◌≡◌, ℕ, Bool, true, false, ◌==◌, List, [], ◌∷◌, ℤ, pos, neg_ℤ}
+use Rattle.std.specs.Prelude.{◌≡◌, ℕ, true, false, ◌==◌, List, ◌∷◌, ℤ, pos, neg_ℤ}
 use Rattle.std.specs.Str.Parse.{digits_value}
 use Rattle.mof_codec.specs.Characters.{digit_zero, plus_sign, minus_sign, digit_of, is_x, is_b, Run}
 

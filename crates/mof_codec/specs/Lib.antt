@@ -5,6 +5,10 @@ pub mod Integers
 pub mod Tokens
 pub mod Grammar
 pub mod Encodings
+pub mod Decoding
+pub mod Walk
+pub mod Leads
+pub mod Scanning
 pub mod Limits
 pub mod Canonical
 pub mod Fronts

@@ -1,6 +1,6 @@
 -- The forms of DSP0004 that are left out ("Compiler directives", "Qualifiers", "Class declarations", "Character
 -- constants", "Floating-point constants"), each where it stands in a text that goes wrong at `fault`.
-use Rattle.std.specs.Prelude.{◌≡◌, ◌≤◌, ◌<◌, ◌+◌, ◌||◌, ℕ, Bool, true, ◌==◌, List, [], ◌∷◌, length, drop, slice_range, slice_index, codes}
+use Rattle.std.specs.Prelude.{◌≡◌, ◌≤◌, ◌+◌, ◌||◌, ℕ, true, ◌==◌, List, [], ◌∷◌, length, drop, slice_range, slice_index, codes}
 use Rattle.mof_values.specs.Fold.{SameName}
 use Rattle.mof_values.specs.Ident.{is_next}
 use Rattle.mof_codec.specs.declared.mof_error.Form.{Form}
@@ -13,7 +13,7 @@ pub record WordStands (text : List ℕ) (at : ℕ) (word : List ℕ) : Type 0 wh
   pub same : SameName (slice_range text at (at + length word)) word
   pub stops : Stops is_next (drop (at + length word) text)
 
--- decimal digits, none among them
+-- each is a decimal digit; there may be none
 abbrev pub AreDigits : List ℕ → Type 0
 AreDigits [] = Unit {0}
 AreDigits (c ∷ cs) = (digit_of 10 c ≡ true) × AreDigits cs

@@ -7,10 +7,17 @@ use Rattle.mof_codec.specs.declared.mof_error.MofError.TheVariants.{TooLong, Tex
 use Rattle.mof_codec.specs.Characters.{Stops}
 use Rattle.mof_codec.specs.Encodings.{Chars, IsTextFault}
 use Rattle.mof_codec.specs.Tokens.{IsToken, Number}
-use Rattle.mof_codec.specs.Limits.{document_limit, IsOutOfRange}
+use Rattle.mof_codec.specs.Limits.{document_limit, IsOutOfRange, Spells}
 use Rattle.mof_codec.specs.Fronts.{IsSyntaxFault, GoesUpTo, BeginsScalar}
 use Rattle.mof_codec.specs.Profile as profile
 use Rattle.mof_codec.specs.Counts as counts
+
+-- the bytes are within the limit, and are characters that spell these instances
+pub record Reads (bytes : List ℕ) (instances : List Instance) : Type 0 where
+  pub within : length bytes ≤ document_limit
+  pub text : List ℕ
+  pub decoded : Chars bytes text
+  pub spelled : Spells text instances
 
 -- an integer literal begins at `at`, is as long as the text up to `end` allows, and is out of range
 pub record BeginsExcessNumber (text : List ℕ) (end at : ℕ) : Type 0 where

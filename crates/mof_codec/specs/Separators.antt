@@ -1,5 +1,5 @@
 -- What may stand before, between and after tokens (DSP0004, "Comments"; white space by its annex's grammar).
-use Rattle.std.specs.Prelude.{◌≡◌, ℕ, Bool, true, false, ◌&&◌, ◌==◌, List, [], ◌∷◌}
+use Rattle.std.specs.Prelude.{◌≡◌, ℕ, true, false, ◌&&◌, ◌==◌, List, [], ◌∷◌}
 use Rattle.mof_codec.specs.Characters.{line_feed, slash, star, is_blank}
 
 -- the characters behind `//`, up to and without the next line feed or up to the end, and the rest

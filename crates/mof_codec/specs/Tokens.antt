@@ -1,5 +1,5 @@
 -- Tokens, and how characters divide into them (DSP0004, "MOF Syntax Grammar Description").
-use Rattle.std.specs.Prelude.{◌≡◌, ℕ, Bool, true, List, [], ◌∷◌, ℤ}
+use Rattle.std.specs.Prelude.{◌≡◌, ℕ, true, List, [], ◌∷◌, ℤ}
 use Rattle.mof_values.specs.Ident.{is_first, is_next}
 use Rattle.mof_codec.specs.Characters.{quote, dollar, comma, semicolon, equals_sign, left_brace, right_brace, Run, Stops}
 use Rattle.mof_codec.specs.Strings.{Quoted}

@@ -1,0 +1,28 @@
+//! Tokens.
+
+/// A token of the instance syntax. Places count characters from 0.
+#[derive(Clone, Copy, Debug, PartialEq, Eq)]
+pub struct Token<'a> {
+    pub kind: TokenKind,
+
+    /// The characters from `from` up to `to`.
+    pub text: &'a [char],
+
+    pub from: u32,
+    pub to: u32,
+}
+
+#[derive(Clone, Copy, Debug, PartialEq, Eq)]
+pub enum TokenKind {
+    /// An identifier; its place alone decides which is a keyword.
+    Word,
+
+    /// `$` and an identifier.
+    Alias,
+
+    Literal,
+    Integer,
+
+    /// One of `{`, `}`, `=`, `;` and `,`.
+    Mark,
+}

@@ -1,0 +1,54 @@
+//! The examples and the laws.
+ghost use Rattle.mof_examples.specs.Separating.{SeparatorExamples};
+ghost use Rattle.mof_examples.specs.Identifiers.{IdentifierExamples};
+ghost use Rattle.mof_examples.specs.Integers.{IntegerExamples};
+ghost use Rattle.mof_examples.specs.Literals.{LiteralExamples};
+ghost use Rattle.mof_examples.specs.Rules.{RuleExamples};
+ghost use Rattle.mof_examples.specs.Canon.{CanonicalExamples};
+ghost use Rattle.mof_examples.specs.Refused.{RefusalExamples};
+ghost use Rattle.mof_examples.specs.Laws.{DividesOnce, SpellsOne, FrontsOfFronts, GoesWrongOnce, GoesWrongByTheNext};
+
+pub fn separators_are_spelled()
+    ensures { SeparatorExamples }
+{}
+
+pub fn identifiers_are_spelled()
+    ensures { IdentifierExamples }
+{}
+
+pub fn integers_are_spelled()
+    ensures { IntegerExamples }
+{}
+
+pub fn literals_are_spelled()
+    ensures { LiteralExamples }
+{}
+
+pub fn rules_hold()
+    ensures { RuleExamples }
+{}
+
+pub fn canonical_texts_are_these()
+    ensures { CanonicalExamples }
+{}
+
+pub fn characters_divide_into_tokens_in_one_way()
+    ensures { DividesOnce }
+{}
+
+pub fn a_text_spells_one_list()
+    ensures { SpellsOne }
+{}
+
+pub fn a_front_of_a_front_is_one()
+    ensures { FrontsOfFronts }
+{}
+
+pub fn a_text_goes_wrong_at_one_place()
+    ensures once { GoesWrongOnce }
+    ensures next { GoesWrongByTheNext }
+{}
+
+pub fn texts_are_refused_at_their_first_character()
+    ensures { RefusalExamples }
+{}
