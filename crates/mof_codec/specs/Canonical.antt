@@ -1,4 +1,4 @@
--- The canonical text of instances: the one spelling that is written (DSP0004, "Instance declarations").
+-- The canonical text of instances: of the spellings that DSP0004, "Instance declarations", allows, the one that is written.
 use Rattle.std.specs.Prelude.{ℕ, ◌/◌, ◌%◌, true, false, nat_lt, ◌==◌, if◌then◌else◌, List, [], ◌∷◌, ◌++◌, Option, Some, None, codes}
 use Rattle.std.specs.List.{flat_map}
 use Rattle.std.specs.Fmt.{signed_decimal, digit_glyph}

@@ -28,7 +28,8 @@ last_elements [] = 0
 last_elements (p ∷ []) = elements_of p.value
 last_elements (p ∷ q ∷ ps) = last_elements (q ∷ ps)
 
--- the text before `at` has as many declarations as it may have, and a further one begins there
+-- the text before `at` has as many declarations as it may have, and a further one begins there with its first letter, so not
+-- with the `c` of a class
 pub record BeginsExcessDeclaration (text : List ℕ) (at : ℕ) : Type 0 where
   pub before : List Instance
   pub spelled : WideSpells (take at text) before

@@ -34,7 +34,9 @@ pub record BeginsScalar (text : List ℕ) (at : ℕ) : Type 0 where
   pub scalar : MayStand text at (36 ∷ 65 ∷ 59 ∷ []) ⊎ MayStand text at (36 ∷ 65 ∷ 44 ∷ [])
   pub outside : MayStand text at (35 ∷ []) → ⊥
 
--- an identifier may begin at `at`: a `z`, with which no keyword begins, may stand there, and a `1` may not
+-- an identifier may begin at `at`: a `z`, with which no keyword begins, may stand there, a `1` may not, and it is within no
+-- literal and no comment, where a `#` might stand
 pub record BeginsIdentifier (text : List ℕ) (at : ℕ) : Type 0 where
   pub letter : MayStand text at (122 ∷ [])
   pub first : MayStand text at (49 ∷ []) → ⊥
+  pub outside : MayStand text at (35 ∷ []) → ⊥

@@ -1,4 +1,4 @@
--- How large a document may be, and which instances are within that.
+-- How large a document may be, and which instances are within that. The sizes are those of this profile.
 use Rattle.std.specs.Prelude.{ℕ, ◌-◌, ◌^◌, ◌≤◌, ◌⊎◌, ℤ, pos, neg_ℤ, ◌≤ℤ◌, ◌<ℤ◌, List, length, IfSome, ⊤}
 use Rattle.std.specs.List.{AllByRecursion}
 use Rattle.mof_values.specs.declared.instance.Instance.{Instance}

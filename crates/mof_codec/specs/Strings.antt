@@ -3,7 +3,7 @@ use Rattle.std.specs.Prelude.{◌≡◌, ℕ, suc, ◌+◌, ◌*◌, Bool, true,
 use Rattle.std.specs.Char.{digit_value}
 use Rattle.mof_codec.specs.Characters.{quote, backslash, is_x, digit_of, Stops}
 
--- what the escape of one character stands for: \b \t \n \f \r \" \' \\
+-- what the escape of one character stands for: \b \t \n \f \r \" \' \\. They are in lower case alone: \B does not exist
 abbrev pub short_escape : ℕ → Option ℕ
 short_escape c =
     if c == 98 then Some 8
@@ -16,7 +16,8 @@ short_escape c =
     else if c == 92 then Some 92
     else None
 
--- U+D800 to U+DFFF
+-- U+D800 to U+DFFF (Unicode, surrogates). No escape stands for one, in this profile; `\xD8` and `\xD80` still are escapes, so it
+-- is the fourth digit of `\xD800` that cannot stand there
 abbrev pub is_surrogate : ℕ → Bool
 is_surrogate v = nat_le 0xD800 v && nat_le v 0xDFFF
 
@@ -28,7 +29,7 @@ pub data HexDigits : ℕ → ℕ → List ℕ → ℕ → List ℕ → Type 0 wh
   digit : (count value d total : ℕ) (cs rest : List ℕ) → digit_of 16 d ≡ true
       → HexDigits count (value * 16 + digit_value d) cs total rest → HexDigits (suc count) value (d ∷ cs) total rest
 
--- the characters behind a backslash, what they stand for, and the rest
+-- the characters behind a backslash, what they stand for, and the rest; the x is in either case
 pub data Escape : List ℕ → ℕ → List ℕ → Type 0 where
   short : (e value : ℕ) (rest : List ℕ) → short_escape e ≡ Some value → Escape (e ∷ rest) value rest
   hexadecimal : (x d value : ℕ) (cs rest : List ℕ) → is_x x ≡ true → digit_of 16 d ≡ true
