@@ -1,5 +1,5 @@
 -- What is answered of each input, from the causes of the refusals.
-use Rattle.std.proofs.Common.{◌≡◌, ◌<◌, ◌≤◌, ℕ, List, Option, Some, None, length, refl, arith}
+use Rattle.std.proofs.Common.{ℕ, List, Option, Some, None, refl, arith}
 use Rattle.std.specs.Prelude.{IfSome}
 use Rattle.dsc_document.specs.declared.document.Document.{Document}
 use Rattle.lcm_program.specs.declared.refusal.Refusal.{Refusal}
@@ -8,9 +8,8 @@ use Rattle.lcm_program.specs.declared.status.InputError.TheVariants.{TooLong, No
 use Rattle.lcm_program.specs.declared.status.Status.{Status}
 use Rattle.lcm_program.specs.declared.status.Status.TheVariants.{Done, NotCompliant, Usage, InputRefused, ReadFault, WriteFault, Memory}
 use Rattle.lcm_program.specs.Refusal.{status_of}
-use Rattle.lcm_program.specs.Input.{Reads, input_limit}
-use Rattle.lcm_program.specs.Unread.{IsRefused, IsNoDocument}
-use Rattle.lcm_program.specs.Program.{IsRun, IsInput, AnswersDocument, AnswersRefused, AnswersEach}
+use Rattle.lcm_program.specs.Unread.{IsRefused}
+use Rattle.lcm_program.specs.Program.{IsRun, IsInput, AnswersEach}
 
 module _ (all : List ℕ) (before now : ℕ) where
   -- each refusal has its cause in this input, and a run is of a document that it is

@@ -1,5 +1,5 @@
 -- Refusals and their statuses.
-use Rattle.std.proofs.Common.{◌≡◌, ap}
+use Rattle.std.proofs.Common.{◌≡◌}
 use Rattle.lcm_program.specs.declared.refusal.Refusal.{Refusal}
 use Rattle.lcm_program.specs.declared.refusal.Refusal.TheVariants.{Usage, Input, ReadFault}
 use Rattle.lcm_program.specs.declared.status.Status.TheVariants as statuses

@@ -1,22 +1,22 @@
 -- How a trace grows by one entry.
-use Rattle.std.proofs.Common.{Option, Some, None, ◌≡◌, ◌⊎◌, inl, inr, ℕ, ◌+◌, ◌<◌, List, [], ◌∷◌, ◌++◌, length, take, drop, get_or, map, refl, sym, ◌∙◌, ap, subst, arith, length-append, All}
+use Rattle.std.proofs.Common.{Option, Some, None, ◌≡◌, inl, inr, ℕ, ◌+◌, ◌<◌, List, [], ◌∷◌, ◌++◌, length, take, drop, get_or, map, refl, sym, ◌∙◌, ap, subst, arith, length-append, All}
 use Rattle.std.specs.Prelude.{Contains}
-use Rattle.std.proofs.lemmas.List.{take_more, take-append-drop, drop_more, map_push}
+use Rattle.std.proofs.lemmas.List.{take_more, map_push}
 use Rattle.std.proofs.lemmas.List.Elements.{Contains-append_left}
 use Rattle.std.proofs.lemmas.List.Sums.{sum_by-append}
-use Rattle.dsc_terms.specs.Lists.{Precedes, IsOnce}
+use Rattle.dsc_terms.specs.Lists.{IsOnce}
 use Rattle.dsc_document.specs.declared.document.Document.{Document}
 use Rattle.lcm_program.specs.declared.runs.RunMode.{RunMode}
-use Rattle.lcm_program.specs.declared.runs.RunMode.TheVariants.{Monitor, Repair}
+use Rattle.lcm_program.specs.declared.runs.RunMode.TheVariants.{Monitor}
 use Rattle.lcm_program.specs.declared.entry.Entry.{Entry}
 use Rattle.lcm_program.specs.declared.entry.Entry.TheVariants.{Tested, Set}
 use Rattle.lcm_program.specs.declared.entry.TestAnswer.{TestAnswer}
 use Rattle.lcm_program.specs.declared.entry.TestAnswer.TheVariants as tests
-use Rattle.lcm_program.specs.Trace.{Chain, place_of, entry_failures, host_failures, HasEntry, EndsWith, IsFinal}
-use Rattle.lcm_program.specs.Legal.{Legal, MayTest, MayFollow, GoesOn, IsFirstTest}
+use Rattle.lcm_program.specs.Trace.{Chain, place_of, entry_failures, host_failures, EndsWith}
+use Rattle.lcm_program.specs.Legal.{Legal, MayTest, MayFollow, GoesOn}
 use Rattle.dsc_outside.specs.Host.{HostState}
 use Rattle.lcm_program.specs.True.{True, TellsTrue, TellsEntry}
-use Rattle.lcm_program.specs.Whole.{Whole, IsReached}
+use Rattle.lcm_program.specs.Whole.{Whole}
 use Rattle.dsc_terms.proofs.Splits.{split_push, split_at, contains_front, precedes, precedes_front}
 
 pub legal_push : (document : Document) (mode : RunMode) (order : List ℕ) (t : List Entry) (e : Entry) → Legal document mode order t → MayFollow document mode order t e

@@ -1,15 +1,15 @@
 -- Which traces a run may leave: the Test and Set of the Local Configuration Manager.
-use Rattle.std.specs.Prelude.{◌≡◌, ◌⊎◌, ℕ, ◌<◌, List, [], ◌∷◌, ◌++◌, length, Contains}
+use Rattle.std.specs.Prelude.{◌≡◌, ◌⊎◌, ℕ, ◌<◌, List, ◌∷◌, ◌++◌, length, Contains}
 use Rattle.dsc_terms.specs.Lists.{Precedes}
 use Rattle.dsc_document.specs.declared.document.Document.{Document}
 use Rattle.depend_order.specs.Documents.{IsDependency}
 use Rattle.lcm_program.specs.declared.runs.RunMode.{RunMode}
-use Rattle.lcm_program.specs.declared.runs.RunMode.TheVariants.{Monitor, Repair}
+use Rattle.lcm_program.specs.declared.runs.RunMode.TheVariants.{Repair}
 use Rattle.lcm_program.specs.declared.entry.TestAnswer.TheVariants as tests
 use Rattle.lcm_program.specs.declared.entry.SetAnswer.TheVariants as sets
 use Rattle.lcm_program.specs.declared.entry.Entry.{Entry}
 use Rattle.lcm_program.specs.declared.entry.Entry.TheVariants.{Tested, Set}
-use Rattle.lcm_program.specs.Trace.{HasEntry, EndsWith, IsFinal, Succeeded, place_of}
+use Rattle.lcm_program.specs.Trace.{HasEntry, EndsWith, IsFinal, Succeeded}
 
 -- a repair waits for the dependencies: the last entry of each is a test that answered yes
 abbrev pub IsReady : Document → RunMode → List Entry → ℕ → Type 0

@@ -4,7 +4,6 @@ use Rattle.std.specs.Io.KnownBytes.{Appends}
 use Rattle.dsc_terms.specs.Counts.{Rose}
 use Rattle.dsc_outside.specs.Host.{HostState}
 use Rattle.dsc_document.specs.declared.document.Document.{Document}
-use Rattle.lcm_program.specs.declared.entry.Entry.{Entry}
 use Rattle.lcm_program.specs.declared.kinds.Kinds.{Kinds}
 use Rattle.lcm_program.specs.declared.status.Status.{Status}
 use Rattle.lcm_program.specs.declared.status.Status.TheVariants.{Done, NotCompliant, Usage, InputRefused, ReadFault, WriteFault, Memory}

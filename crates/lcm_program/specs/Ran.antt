@@ -1,5 +1,5 @@
 -- A run that monitors a document, from one value of the kinds to another.
-use Rattle.std.specs.Prelude.{◌≡◌, ◌⊎◌, ℕ, List, [], length, Option}
+use Rattle.std.specs.Prelude.{ℕ, List, length, Option}
 use Rattle.dsc_terms.specs.Counts.{RoseBy}
 use Rattle.dsc_terms.specs.Lists.{places_below}
 use Rattle.dsc_outside.specs.Host.{HostState}

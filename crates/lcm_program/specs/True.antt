@@ -1,8 +1,7 @@
 -- Which answers are true of a machine.
-use Rattle.std.specs.Prelude.{◌≡◌, ℕ, List, Option, Some, None, ⊤, IfSome, slice_get}
+use Rattle.std.specs.Prelude.{◌≡◌, List, Option, Some, None, ⊤, IfSome, slice_get}
 use Rattle.dsc_outside.specs.Host.{HostState}
 use Rattle.dsc_document.specs.declared.document.Document.{Document}
-use Rattle.lcm_program.specs.declared.entry.Failure.{Failure}
 use Rattle.lcm_program.specs.declared.entry.Failure.TheVariants.{NoSuchResource, HostFailed}
 use Rattle.lcm_program.specs.declared.entry.TestAnswer.{TestAnswer}
 use Rattle.lcm_program.specs.declared.entry.TestAnswer.TheVariants as tests

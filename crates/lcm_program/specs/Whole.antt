@@ -3,12 +3,12 @@ use Rattle.std.specs.Prelude.{◌≡◌, ℕ, List, [], ◌∷◌, ◌++◌, Con
 use Rattle.dsc_terms.specs.Lists.{Precedes}
 use Rattle.dsc_document.specs.declared.document.Document.{Document}
 use Rattle.lcm_program.specs.declared.runs.RunMode.{RunMode}
-use Rattle.lcm_program.specs.declared.runs.RunMode.TheVariants.{Monitor, Repair}
+use Rattle.lcm_program.specs.declared.runs.RunMode.TheVariants.{Repair}
 use Rattle.lcm_program.specs.declared.entry.TestAnswer.TheVariants as tests
 use Rattle.lcm_program.specs.declared.entry.SetAnswer.TheVariants as sets
 use Rattle.lcm_program.specs.declared.entry.Entry.{Entry}
 use Rattle.lcm_program.specs.declared.entry.Entry.TheVariants.{Tested, Set}
-use Rattle.lcm_program.specs.Trace.{HasEntry, EndsWith, IsFinal, Succeeded, place_of}
+use Rattle.lcm_program.specs.Trace.{HasEntry, EndsWith, IsFinal, place_of}
 use Rattle.lcm_program.specs.Legal.{IsReady}
 
 -- where the trace ends with a reboot asked for, or with memory refused, only the resources before that one are asked of it

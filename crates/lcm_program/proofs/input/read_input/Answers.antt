@@ -1,5 +1,4 @@
-use Rattle.std.proofs.Common.{◌≡◌, ◌≤◌, ◌∙◌, sym, subst, List, ℕ, length, arith, ap}
-use Rattle.dsc_document.specs.declared.document.Document.{Document}
+use Rattle.std.proofs.Common.{◌≡◌, ◌∙◌, sym, subst, List, ℕ, length, arith, ap}
 use Rattle.lcm_program.specs.Input.{Reads}
 use Rattle.lcm_program.specs.Unread.{IsNoDocument}
 use Rattle.lcm_program.proofs.Results.{if_some_weaker}

@@ -1,5 +1,4 @@
-use Rattle.std.proofs.Common.{rules, arith, append_assoc}
-use Rattle.std.proofs.lemmas.Grind.{common_steps}
+use Rattle.std.proofs.Common.{rules, append_assoc}
 use Rattle.std.proofs.lemmas.Str.{encodes-append}
 use Rattle.lcm_program.proofs.literal.push_literal.Goals as goal
 

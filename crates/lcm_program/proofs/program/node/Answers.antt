@@ -1,4 +1,3 @@
-use Rattle.std.proofs.Common.{refl}
 use Rattle.lcm_program.specs.declared.refusal.Refusal.TheVariants.{Usage}
 use Rattle.lcm_program.proofs.program.node.Goals as goal
 

@@ -1,4 +1,4 @@
-use Rattle.std.proofs.Common.{inr, ap, arith}
+use Rattle.std.proofs.Common.{inr, arith}
 use Rattle.lcm_program.proofs.Traces.{tells_true_keeps, legal_places}
 use Rattle.lcm_program.proofs.Monitored.{ran, order_below, order_once, length-order}
 use Rattle.lcm_program.proofs.test.run_in_order.Goals as goal

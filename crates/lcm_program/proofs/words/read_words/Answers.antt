@@ -1,4 +1,4 @@
-use Rattle.std.proofs.Common.{◌≡◌, ◌∙◌, ◌<◌, ◌≤◌, ◌-◌, ℕ, sym, ap, refl, rules, arith, List, [], ◌∷◌, length, take, drop, get_or, map, string_bytes, length-drop}
+use Rattle.std.proofs.Common.{◌≡◌, ◌∙◌, ◌<◌, ◌≤◌, ◌-◌, ℕ, sym, ap, rules, arith, List, [], ◌∷◌, length, take, drop, get_or, map, string_bytes, length-drop}
 use Rattle.std.proofs.lemmas.List.{length-take}
 use Rattle.lcm_program.proofs.words.read_words.Goals as goal
 
