@@ -1,13 +1,12 @@
 -- There is at most one cycle, no order beside it, and each of its places depends on the next.
-use Rattle.std.proofs.Common.{◌≡◌, ◌⊎◌, inl, inr, ℕ, ◌+◌, ◌<◌, ◌≤◌, List, [], ◌∷◌, ◌++◌, length, refl, sym, ◌∙◌, ap, subst, arith, length-append, append_assoc, append-nil}
+use Rattle.std.proofs.Common.{◌≡◌, ◌⊎◌, inl, inr, ℕ, List, [], ◌∷◌, ◌++◌, length, refl, sym, ◌∙◌, ap, subst, arith, length-append, append_assoc, append-nil}
 use Rattle.std.proofs.lemmas.Bool.{cases_eq, cases_lt}
 use Rattle.std.proofs.lemmas.List.{same_from_push}
 use Rattle.std.proofs.lemmas.List.Elements.{Contains-append_right}
 use Rattle.std.specs.Prelude.{Contains}
 use Rattle.dsc_terms.specs.Lists.{IsOnce}
-use Rattle.depend_order.specs.Cycle.{DependsOn, IsLeft, IsLeastLeft, IsFirstLeft, IsWalk, IsCycle, IsClosed}
+use Rattle.depend_order.specs.Cycle.{DependsOn, IsLeft, IsFirstLeft, IsWalk, IsClosed}
 use Rattle.depend_order.specs.Laws.{AtMostOneCycle, NeverBoth, CyclesAreClosed}
-use Rattle.depend_order.specs.Order.{IsOrder}
 use Rattle.depend_order.proofs.Splits.{split_push, Contains-split}
 
 -- behind the first, nothing stands twice either
@@ -86,7 +85,7 @@ pub never_both : (count : ℕ) (names : ℕ → ℕ → ℕ → Type 0) → Neve
 never_both count names order cycle is goes = go goes.lead goes.walk
   where
     refuted : (r : ℕ) → IsLeft count names r → ⊥
-    refuted r left = left.unplaced order is.earliest (is.all r left.place)
+    refuted r left = left.unplaced order is.earliest (is.all r left.is_place)
 
     go : (lead : List ℕ) → IsWalk count names (lead ++ goes.first ∷ goes.rest ++ goes.first ∷ []) → ⊥
     go [] walk = refuted goes.first (walk.begins goes.first (goes.rest ++ goes.first ∷ []) refl).left

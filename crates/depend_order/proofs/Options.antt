@@ -1,7 +1,7 @@
 -- Elements of a list by their place.
 use Rattle.std.proofs.Common.{◌≡◌, ◌⊎◌, inl, inr, ℕ, zero, suc, List, [], ◌∷◌, ◌++◌, Option, Some, None, length, refl, sym, ap, subst}
 use Rattle.std.proofs.lemmas.Option.{none-some, same_Some}
-use Rattle.std.specs.Prelude.{IsSomeAnd, MatchOption, slice_get}
+use Rattle.std.specs.Prelude.{IsSomeAnd, slice_get}
 
 module _ {A : Type 0} where
   -- the value of an option that has one with a fact

@@ -1,10 +1,10 @@
 -- Earliest-ready lists: how they grow, and that of two one is the front of the other.
-use Rattle.std.proofs.Common.{◌≡◌, ◌⊎◌, inl, inr, ℕ, ◌+◌, ◌<◌, ◌≤◌, List, [], ◌∷◌, ◌++◌, length, refl, sym, ◌∙◌, ap, subst, arith, length-append, append_assoc, append-nil}
+use Rattle.std.proofs.Common.{◌≡◌, ◌⊎◌, inl, inr, ℕ, List, [], ◌∷◌, ◌++◌, length, refl, sym, ◌∙◌, ap, subst, arith, length-append, append_assoc, append-nil}
 use Rattle.std.proofs.lemmas.List.Elements.{Contains-append_left}
 use Rattle.std.specs.Prelude.{Contains}
 use Rattle.dsc_terms.specs.Lists.{IsOnce}
 use Rattle.depend_order.specs.Order.{IsReady, IsNext, IsEarliestReady, IsOrder}
-use Rattle.depend_order.proofs.Splits.{split_push, split_at, Contains-split}
+use Rattle.depend_order.proofs.Splits.{split_push}
 
 module _ (count : ℕ) (depends : ℕ → ℕ → Type 0) where
   pub earliest_none : IsEarliestReady count depends []
@@ -58,4 +58,4 @@ module _ (count : ℕ) (depends : ℕ → ℕ → Type 0) where
     where
       ends : (long short : List ℕ) → IsOrder count depends long → IsOrder count depends short → (rest : List ℕ) → long ≡ short ++ rest → long ≡ short
       ends long short of also [] p = p ∙ append-nil short
-      ends long short of also (s ∷ rest) p = absurd ((of.earliest short s rest p).ready.absent (also.all s (of.earliest short s rest p).ready.place))
+      ends long short of also (s ∷ rest) p = absurd ((of.earliest short s rest p).ready.absent (also.all s (of.earliest short s rest p).ready.is_place))

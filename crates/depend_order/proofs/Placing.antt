@@ -1,13 +1,13 @@
 -- What the marks and counts of the search say of the order so far, and of the places that are left.
-use Rattle.std.proofs.Common.{◌≡◌, ◌⊎◌, inl, inr, ℕ, zero, suc, ◌+◌, ◌<◌, ◌≤◌, Bool, true, List, [], ◌∷◌, ◌++◌, Some, length, set, refl, sym, ◌∙◌, ap, subst, arith, length-set}
+use Rattle.std.proofs.Common.{◌≡◌, inl, inr, ℕ, ◌<◌, Bool, true, List, Some, length, set, ◌∙◌, arith, length-set}
 use Rattle.std.proofs.lemmas.Bool.{cases_lt}
 use Rattle.std.proofs.lemmas.Option.{slice_get_within}
 use Rattle.std.specs.Global.{Vec}
-use Rattle.std.specs.Prelude.{All, Contains, slice_get, slice_index}
+use Rattle.std.specs.Prelude.{slice_get, slice_index}
 use Rattle.depend_order.specs.Cycle.{DependsOn, IsLeft, IsLeastLeft, IsFirstLeft}
 use Rattle.depend_order.specs.Numbers.{numbers_of, Lists, AreBelow}
 use Rattle.depend_order.specs.Order.{IsReady, IsNext, IsEarliestReady}
-use Rattle.depend_order.specs.Search.{IsMarked, AreMarked, IsBlocked, AreMet, IsPassed, IsFound, GoesOn}
+use Rattle.depend_order.specs.Search.{IsMarked, AreMet, IsPassed, IsFound, GoesOn}
 use Rattle.depend_order.proofs.Marks.{IsMarking, marked_kept}
 use Rattle.depend_order.proofs.NumberLemmas.{number_below}
 use Rattle.depend_order.proofs.Orders.{stopped}
@@ -29,7 +29,7 @@ module _ (depends : List (Vec ℕ)) (marks : List Bool) (met : List ℕ) (list :
   pub next_found : (r : ℕ) → IsFound depends marks met r → IsNext (length depends) (DependsOn (Lists depends)) list r
   next_found r found = record {
     ready = record {
-      place = found.place;
+      is_place = found.is_place;
       absent = λ has. found.unmarked (marking.marked r has);
       met = λ q named. marking.listed q (found.ready named.0 q (slice_get_within (numbers_of depends r) named.0 q named.1) named.1);
     };
@@ -45,8 +45,8 @@ module _ (depends : List (Vec ℕ)) (marks : List Bool) (met : List ℕ) (list :
 
     unmarked_left : (r : ℕ) → r < length depends → (IsMarked marks r → ⊥) → IsLeft (length depends) (Lists depends) r
     unmarked_left r place unmarked = record {
-      place = place;
-      unplaced = λ other also has. unmarked (marking.marked r (stopped (length depends) (DependsOn (Lists depends)) list earliest (λ s ready. passed_waits s (passed s ready.place) ready) other also r has));
+      is_place = place;
+      unplaced = λ other also has. unmarked (marking.marked r (stopped (length depends) (DependsOn (Lists depends)) list earliest (λ s ready. passed_waits s (passed s ready.is_place) ready) other also r has));
     }
 
     pub least_left : (r : ℕ) → r < length depends → (IsMarked marks r → ⊥) → ((s : ℕ) → s < r → IsMarked marks s) → IsLeastLeft (length depends) (Lists depends) r
@@ -68,12 +68,12 @@ module _ (depends : List (Vec ℕ)) (marks : List Bool) (met : List ℕ) (list :
         at = slice_index met r;
         means = blocked.1;
         left = unmarked_left blocked.0 (number_below (length depends) depends r (slice_index met r) blocked.0 below blocked.1) blocked.2;
-        first = λ k q lt is also. left_unmarked q also (are.marked r left.place k q lt is);
+        first = λ k q lt is also. left_unmarked q also (are.marked r left.is_place k q lt is);
       },
     )
 
     pub goes_on : AreBelow (length depends) depends → GoesOn depends met
     goes_on below = record {
       all = are.met_all;
-      first = λ r left. first_left below r left (passed r left.place);
+      first = λ r left. first_left below r left (passed r left.is_place);
     }

@@ -1,7 +1,7 @@
 -- Names and the numbers that they were resolved to.
-use Rattle.std.proofs.Common.{◌≡◌, ◌⊎◌, inl, inr, ℕ, ◌<◌, List, [], Option, Some, None, length, get_or, refl, sym, ◌∙◌, ap, subst, arith}
+use Rattle.std.proofs.Common.{◌≡◌, inl, inr, ℕ, ◌<◌, List, [], Option, Some, None, length, get_or, sym, ◌∙◌, ap, subst, arith}
 use Rattle.std.proofs.lemmas.Bool.{cases_eq, cases_lt}
-use Rattle.std.proofs.lemmas.Option.{none-some, same_Some, MatchOption-at_some, slice_get_within, slice_get-get_or, get_or_from_slice_get}
+use Rattle.std.proofs.lemmas.Option.{none-some, MatchOption-at_some, slice_get_within, slice_get-get_or, get_or_from_slice_get}
 use Rattle.std.proofs.lemmas.Slice.Zip.{AllZip-long, AllZip-left, AllZip-right}
 use Rattle.std.specs.Global.{Vec}
 use Rattle.std.specs.List.{AllZip}
@@ -10,12 +10,14 @@ use Rattle.std.specs.Prelude.{IsSomeAnd, MatchOption, slice_get}
 use Rattle.dsc_document.specs.declared.document.Document.{Document}
 use Rattle.dsc_document.specs.declared.document.Resource.{Resource}
 use Rattle.mof_values.specs.Fold.{fold_case, SameName}
-use Rattle.depend_order.specs.Documents.{Means, Names, HasDistinctIds}
+use Rattle.depend_order.specs.Cycle.{DependsOn, IsCycle}
+use Rattle.depend_order.specs.Documents.{Means, Names, HasDistinctIds, IsOrderOfDocument, IsCycleOfDocument}
 use Rattle.depend_order.specs.Index.{AreResolved}
-use Rattle.depend_order.specs.Numbers.{numbers_of, Lists, AreBelow}
+use Rattle.depend_order.specs.Numbers.{Lists, AreBelow, IsOrderOfNumbers, IsCycleOfNumbers}
+use Rattle.depend_order.specs.Order.{IsOrder}
 use Rattle.depend_order.proofs.NumberLemmas.{listed_at}
 use Rattle.depend_order.proofs.Options.{some_of, some_is}
-use Rattle.depend_order.proofs.SameNames.{Within}
+use Rattle.depend_order.proofs.SameNames.{Within, order_over, cycle_over}
 
 -- names of one place
 module _ (document : Document) (distinct : HasDistinctIds document) where
@@ -84,3 +86,17 @@ module _ (document : Document) (depends : List (Vec ℕ)) (resolved : AreResolve
       let name = some_of (slice_get resource.0.depends k) (λ name. Means document.resources name (get_or numbers.items k q)) resource.2 in
       let there = some_of (slice_get document.resources (get_or numbers.items k q)) (λ other. SameName name.0 other.id) name.2 in
       omega (arith, resolved_count, slice_get_within document.resources (get_or numbers.items k q) there.0 there.1)
+
+  -- the orders and cycles of the numbers are those of the document
+  module _ (distinct : HasDistinctIds document) where
+    pub order_resolved : (order : List ℕ) → IsOrderOfNumbers depends order → IsOrderOfDocument document order
+    order_resolved order is = order_over (length document.resources) (Lists depends) (Names document) lists_are_names (names_are_lists distinct) order
+        (subst (λ (count : ℕ). IsOrder count (DependsOn (Lists depends)) order) resolved_count is)
+
+    pub order_of_names : (order : List ℕ) → IsOrderOfDocument document order → IsOrderOfNumbers depends order
+    order_of_names order is = subst (λ (count : ℕ). IsOrder count (DependsOn (Lists depends)) order) (sym resolved_count)
+        (order_over (length document.resources) (Names document) (Lists depends) (names_are_lists distinct) lists_are_names order is)
+
+    pub cycle_resolved : (cycle : List ℕ) → IsCycleOfNumbers depends cycle → IsCycleOfDocument document cycle
+    cycle_resolved cycle is = cycle_over (length document.resources) (Lists depends) (Names document) lists_are_names (names_are_lists distinct) cycle
+        (subst (λ (count : ℕ). IsCycle count (Lists depends) cycle) resolved_count is)

@@ -1,7 +1,7 @@
 -- Orders and cycles over names that mean the same.
-use Rattle.std.proofs.Common.{◌≡◌, ℕ, List}
-use Rattle.depend_order.specs.Cycle.{DependsOn, IsLeft, IsLeastLeft, IsFirstLeft, IsWalk, IsCycle}
-use Rattle.depend_order.specs.Order.{IsReady, IsNext, IsEarliestReady, IsOrder}
+use Rattle.std.proofs.Common.{ℕ, List}
+use Rattle.depend_order.specs.Cycle.{DependsOn, IsLeft, IsFirstLeft, IsWalk, IsCycle}
+use Rattle.depend_order.specs.Order.{IsReady, IsEarliestReady, IsOrder}
 
 -- what the one names the other names too
 abbrev pub Within : (ℕ → ℕ → ℕ → Type 0) → (ℕ → ℕ → ℕ → Type 0) → Type 0
@@ -9,7 +9,7 @@ Within names other = (r k q : ℕ) → names r k q → other r k q
 
 ready_over : (count : ℕ) (names other : ℕ → ℕ → ℕ → Type 0) → Within other names → (list : List ℕ) (r : ℕ) → IsReady count (DependsOn names) list r → IsReady count (DependsOn other) list r
 ready_over count names other from list r ready = record {
-  place = ready.place;
+  is_place = ready.is_place;
   absent = ready.absent;
   met = λ q named. ready.met q (named.0, from r named.0 q named.1);
 }
@@ -29,7 +29,7 @@ order_over count names other to from list order = record {
 
 left_over : (count : ℕ) (names other : ℕ → ℕ → ℕ → Type 0) → Within names other → Within other names → (r : ℕ) → IsLeft count names r → IsLeft count other r
 left_over count names other to from r left = record {
-  place = left.place;
+  is_place = left.is_place;
   unplaced = λ list earliest. left.unplaced list (earliest_over count other names from to list earliest);
 }
 

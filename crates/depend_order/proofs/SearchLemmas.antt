@@ -1,5 +1,5 @@
 -- The counts of marked dependencies, when one of them grows.
-use Rattle.std.proofs.Common.{◌≡◌, ◌≢◌, ◌⊎◌, inl, inr, ⊎_elim, ℕ, ◌+◌, ◌<◌, ◌≤◌, Bool, List, [], length, get_or, set, refl, sym, ap, subst, ◌∙◌, arith, length-set, get_or-set_same, get_or-set_other}
+use Rattle.std.proofs.Common.{◌≡◌, ◌≢◌, inl, inr, ℕ, ◌+◌, ◌<◌, ◌≤◌, Bool, List, length, set, sym, subst, ◌∙◌, arith, length-set, get_or-set_same, get_or-set_other}
 use Rattle.std.proofs.lemmas.Bool.{cases_eq}
 use Rattle.std.specs.Global.{Vec}
 use Rattle.std.specs.Prelude.{slice_index}
@@ -40,7 +40,7 @@ module _ (depends : List (Vec ℕ)) (marks : List Bool) (met : List ℕ) (r coun
 
     pub IsFound-all : (IsMarked marks r → ⊥) → count ≡ length numbers → IsFound depends marks (set met r count) r
     IsFound-all unmarked all = record {
-      place = place;
+      is_place = place;
       unmarked = unmarked;
       ready = rw (read, ← all) marked;
       passed = before_set;

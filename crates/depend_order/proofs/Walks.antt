@@ -1,8 +1,8 @@
 -- Walks from each place that is left to its first dependency that is left.
-use Rattle.std.proofs.Common.{◌≡◌, ◌⊎◌, inl, inr, ℕ, ◌+◌, ◌<◌, ◌≤◌, List, [], ◌∷◌, ◌++◌, length, refl, sym, ◌∙◌, ap, subst, arith, length-append, append_assoc}
+use Rattle.std.proofs.Common.{◌≡◌, inl, inr, ℕ, List, [], ◌∷◌, ◌++◌, length, sym, ap, subst, arith, length-append}
 use Rattle.std.specs.Prelude.{Contains}
 use Rattle.dsc_terms.specs.Lists.{IsOnce}
-use Rattle.depend_order.specs.Cycle.{IsLeft, IsLeastLeft, IsFirstLeft, IsWalk}
+use Rattle.depend_order.specs.Cycle.{IsLeastLeft, IsFirstLeft, IsWalk}
 use Rattle.depend_order.proofs.Splits.{split_push, pair_push}
 
 module _ (count : ℕ) (names : ℕ → ℕ → ℕ → Type 0) where

@@ -11,7 +11,7 @@ DependsOn names r q = (k : ℕ) × names r k q
 
 -- placing the least ready place again and again never places r
 pub record IsLeft (count : ℕ) (names : ℕ → ℕ → ℕ → Type 0) (r : ℕ) : Type 0 where
-  pub place : r < count
+  pub is_place : r < count
   pub unplaced : (list : List ℕ) → IsEarliestReady count (DependsOn names) list → Contains list r → ⊥
 
 -- the least place that is left
@@ -26,12 +26,14 @@ pub record IsFirstLeft (count : ℕ) (names : ℕ → ℕ → ℕ → Type 0) (r
   pub left : IsLeft count names s
   pub first : (k q : ℕ) → k < at → names r k q → IsLeft count names q → ⊥
 
--- the list begins at the least place that is left, and goes on from each place to its first dependency that is left
+-- the list begins at the least place that is left,
+-- and goes on from each place to its first dependency that is left
 pub record IsWalk (count : ℕ) (names : ℕ → ℕ → ℕ → Type 0) (walk : List ℕ) : Type 0 where
   pub begins : (r : ℕ) (b : List ℕ) → walk ≡ r ∷ b → IsLeastLeft count names r
   pub goes_on : (a : List ℕ) (r s : ℕ) (b : List ℕ) → walk ≡ a ++ r ∷ s ∷ b → IsFirstLeft count names r s
 
--- a walk comes to no place twice before it comes to the first of the cycle again; the cycle is what stands from there on
+-- a walk comes to no place twice until it comes to one of its places again:
+-- the cycle is that place and what stands behind its first visit
 pub record IsCycle (count : ℕ) (names : ℕ → ℕ → ℕ → Type 0) (cycle : List ℕ) : Type 0 where
   pub lead : List ℕ
   pub first : ℕ
@@ -43,4 +45,5 @@ pub record IsCycle (count : ℕ) (names : ℕ → ℕ → ℕ → Type 0) (cycle
 -- each place depends on the next, and the last on the first
 abbrev pub IsClosed : (ℕ → ℕ → Type 0) → List ℕ → Type 0
 IsClosed depends [] = ⊥
-IsClosed depends (first ∷ rest) = (a : List ℕ) (r s : ℕ) (b : List ℕ) → first ∷ rest ++ first ∷ [] ≡ a ++ r ∷ s ∷ b → depends r s
+IsClosed depends (first ∷ rest) =
+    (a : List ℕ) (r s : ℕ) (b : List ℕ) → first ∷ rest ++ first ∷ [] ≡ a ++ r ∷ s ∷ b → depends r s

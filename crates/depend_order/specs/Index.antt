@@ -1,5 +1,5 @@
 -- The places of resources by the folds of their ids.
-use Rattle.std.specs.Prelude.{◌≡◌, ℕ, List, Bool, All, Option, Some, IsSome, IsSomeAnd, slice_get, nat_eq}
+use Rattle.std.specs.Prelude.{◌≡◌, ℕ, List, Option, Some, IsSome, IsSomeAnd, slice_get, nat_eq}
 use Rattle.std.specs.List.{AllZip}
 use Rattle.std.specs.Cmp.Lexicographic.{pointwise}
 use Rattle.std.specs.Global.{Vec}
@@ -17,10 +17,14 @@ Index = HashMap (Vec ℕ) ℕ (BuildHasherDefault FoldHasher)
 abbrev pub place_at : Index → Vec ℕ → Option ℕ
 place_at index fold = get (λ x y. pointwise nat_eq x.items y.items) index fold
 
+-- the resource at q has this fold
+abbrev pub HasFold : List Resource → Vec ℕ → ℕ → Type 0
+HasFold resources fold q = IsSomeAnd (slice_get resources q) (λ resource. fold.items ≡ fold_case resource.id)
+
 -- what is kept are places of resources with that fold, and something is kept for each resource
 pub record IsIndex (resources : List Resource) (index : Index) : Type 0 where
-  pub sound : (fold : Vec ℕ) (q : ℕ) → place_at index fold ≡ Some q → IsSomeAnd (slice_get resources q) (λ resource. fold.items ≡ fold_case resource.id)
-  pub whole : (fold : Vec ℕ) (q : ℕ) → IsSomeAnd (slice_get resources q) (λ resource. fold.items ≡ fold_case resource.id) → IsSome (place_at index fold)
+  pub sound : (fold : Vec ℕ) (q : ℕ) → place_at index fold ≡ Some q → HasFold resources fold q
+  pub whole : (fold : Vec ℕ) (q : ℕ) → HasFold resources fold q → IsSome (place_at index fold)
 
 -- something is kept for the fold of the name
 abbrev pub IsKnown : Index → List ℕ → Type 0
@@ -32,4 +36,5 @@ IsKept index name q = (fold : Vec ℕ) × (fold.items ≡ fold_case name) × (pl
 
 -- the k-th number for a resource is the place that the k-th name in its DependsOn means
 abbrev pub AreResolved : List Resource → List Resource → List (Vec ℕ) → Type 0
-AreResolved all resources depends = AllZip (λ resource places. AllZip (Means all) resource.depends places.items) resources depends
+AreResolved all resources depends =
+    AllZip (λ resource places. AllZip (Means all) resource.depends places.items) resources depends

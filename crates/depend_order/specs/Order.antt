@@ -6,7 +6,7 @@ use Rattle.dsc_terms.specs.Lists.{IsOnce}
 
 -- r is a place that does not stand in the list, and each that it depends on stands there
 pub record IsReady (count : ℕ) (depends : ℕ → ℕ → Type 0) (list : List ℕ) (r : ℕ) : Type 0 where
-  pub place : r < count
+  pub is_place : r < count
   pub absent : Contains list r → ⊥
   pub met : (q : ℕ) → depends r q → Contains list q
 
@@ -17,7 +17,8 @@ pub record IsNext (count : ℕ) (depends : ℕ → ℕ → Type 0) (list : List 
 
 -- at each position stands the least place that is ready behind the earlier ones
 abbrev pub IsEarliestReady : ℕ → (ℕ → ℕ → Type 0) → List ℕ → Type 0
-IsEarliestReady count depends list = (a : List ℕ) (r : ℕ) (b : List ℕ) → list ≡ a ++ r ∷ b → IsNext count depends a r
+IsEarliestReady count depends list =
+    (a : List ℕ) (r : ℕ) (b : List ℕ) → list ≡ a ++ r ∷ b → IsNext count depends a r
 
 -- every place stands once, and at each position the least that is ready
 pub record IsOrder (count : ℕ) (depends : ℕ → ℕ → Type 0) (list : List ℕ) : Type 0 where

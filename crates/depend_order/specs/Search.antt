@@ -29,7 +29,7 @@ IsPassed depends marks met r = IsMarked marks r ⊎ IsBlocked marks (slice_index
 
 -- r has no mark, all its dependencies have one, and every lesser place is passed
 pub record IsFound (depends : List (Vec ℕ)) (marks : List Bool) (met : List ℕ) (r : ℕ) : Type 0 where
-  pub place : r < length depends
+  pub is_place : r < length depends
   pub unmarked : IsMarked marks r → ⊥
   pub ready : AreMarked marks (length (numbers_of depends r)) (numbers_of depends r)
   pub passed : (s : ℕ) → s < r → IsPassed depends marks met s
@@ -38,4 +38,5 @@ pub record IsFound (depends : List (Vec ℕ)) (marks : List Bool) (met : List �
 pub record GoesOn (depends : List (Vec ℕ)) (at : List ℕ) : Type 0 where
   pub all : length at ≡ length depends
   pub first : (r : ℕ) → IsLeft (length depends) (Lists depends) r
-      → (s : ℕ) × (slice_get (numbers_of depends r) (slice_index at r) ≡ Some s) × IsFirstLeft (length depends) (Lists depends) r s
+      → (s : ℕ) × (slice_get (numbers_of depends r) (slice_index at r) ≡ Some s)
+      × IsFirstLeft (length depends) (Lists depends) r s

@@ -1,9 +1,9 @@
 //! Why there is no order.
+ghost use Rattle.std.specs.Prelude.{◌≡◌};
 ghost use Rattle.depend_order.specs.declared.error.OrderError.TheVariants.{Memory};
 
 use mof_values::Items;
 use std::alloc::{AllocError, AllocFailed};
-use std::fmt;
 
 /// Why the places have no order.
 #[derive(Debug, Drop, PartialEq)]
@@ -15,8 +15,6 @@ pub enum OrderError {
 }
 
 impl From<AllocError> for OrderError {
-    ghost use Rattle.std.specs.Prelude.{◌≡◌};
-
     ghost from_gives = { λ _ e. e ≡ Memory };
 
     fn from(_: AllocError) -> Self {
@@ -25,20 +23,9 @@ impl From<AllocError> for OrderError {
 }
 
 impl<T: Drop> From<AllocFailed<T>> for OrderError {
-    ghost use Rattle.std.specs.Prelude.{◌≡◌};
-
     ghost from_gives = { λ _ e. e ≡ Memory };
 
     fn from(_: AllocFailed<T>) -> Self {
         OrderError::Memory
-    }
-}
-
-impl fmt::Display for OrderError {
-    fn fmt<W: fmt::Write>(&self, f: &mut fmt::Formatter<W>) -> fmt::Result {
-        f.write_str(match self {
-            OrderError::Cycle(_) => "the dependencies lead round",
-            OrderError::Memory => "out of memory",
-        })
     }
 }

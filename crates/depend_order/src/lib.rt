@@ -1,9 +1,9 @@
 //! The order in which the resources of a document are applied.
 //!
 //! At each position of the order stands the earliest resource whose dependencies all stand before it. A layer
-//! above may rely on it that this order is the only one, and that where there is none the error names a closed
-//! walk: resources of which each depends on the next and the last on the first. DependsOn is that of the
-//! PowerShell Desired State Configuration documentation; ids compare by fold.
+//! above may rely on it that there is one such order at most, and that where there is none the error names a
+//! closed walk: resources of which each depends on the next, and the last on the first. Names are those of
+//! DependsOn (PowerShell Desired State Configuration, "Resource dependencies"), and compare by fold.
 #![tactic(auto)]
 
 mod documents;

@@ -5,8 +5,8 @@ ghost use Rattle.depend_order.specs.Search.{IsMarked, AreMarked, IsBlocked, AreM
 
 /// The least place that has no mark and whose dependencies all have one.
 ///
-/// `met` counts for each place the first of its dependencies that are known to be marked, so that no dependency is
-/// looked at again once it was found marked.
+/// `met` counts for each place the first of its dependencies that are known to be marked, so that none is looked
+/// at again once it was found marked.
 pub fn next_place(depends: &[Vec<u32>], marks: &[bool], met: &mut [usize]) -> Option<u32>
     requires few { length depends.now < 2 ^ 32 }
     requires below { AreBelow (length depends.now) depends.now }
@@ -52,8 +52,8 @@ pub fn first_unmarked(marks: &[bool]) -> Option<u32>
     ensures least { IfSome result (λ r. (s : ℕ) → s < r → IsMarked marks.now s) }
     ensures none { IfNone result ((r : ℕ) → r < length marks.now → IsMarked marks.now r) }
 {
-    for place in 0..marks.len() {
-        if !marks[place] {
+    for (place, marked) in marks.iter().enumerate() {
+        if !*marked {
             return Some(place as u32);
         }
     }

@@ -9,8 +9,8 @@ use std::alloc::{AllocError, Global};
 
 /// The places from the first visit of a place up to the last before the walk comes to it again.
 ///
-/// The walk begins at the least place that is left, and goes on from each place `r` that is left to its dependency at
-/// `at[r]`, the first that is left.
+/// The walk begins at the least place that is left, and goes on from each place `r` that is left to its
+/// dependency at `at[r]`, the first that is left.
 pub fn closed_walk(
     alloc: Global,
     depends: &[Vec<u32>],
@@ -37,7 +37,8 @@ pub fn closed_walk(
 // The walk from the first visit of the place on.
 fn from_first(walk: &[u32], place: u32) -> &[u32]
     requires { Contains walk.now place }
-    ensures { (lead : List ℕ) × (rest : List ℕ) × (walk.now ≡ lead ++ place ∷ rest) × (result.now ≡ place ∷ rest) }
+    ensures { (lead : List ℕ) × (rest : List ℕ)
+        × (walk.now ≡ lead ++ place ∷ rest) × (result.now ≡ place ∷ rest) }
 {
     let mut rest = walk;
     while let [visited, behind @ ..] = rest {

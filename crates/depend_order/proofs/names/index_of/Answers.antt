@@ -1,6 +1,3 @@
-use Rattle.std.proofs.Common.{◌≡◌, ◌∙◌, ap, sym, length, take, arith, rules}
-use Rattle.std.proofs.lemmas.List.{take_more}
-use Rattle.depend_order.specs.Index.{IsIndex}
 use Rattle.depend_order.proofs.Resolving.{IsIndex-more}
 use Rattle.depend_order.proofs.names.index_of.Goals as goal
 

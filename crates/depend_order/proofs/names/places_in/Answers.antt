@@ -1,5 +1,3 @@
-use Rattle.std.proofs.Common.{◌≡◌, ◌∙◌, ap, sym, rules}
-use Rattle.depend_order.specs.Index.{IsKept, IsKnown}
 use Rattle.depend_order.proofs.Resolving.{none_known, kept_more}
 use Rattle.depend_order.proofs.names.places_in.Goals as goal
 

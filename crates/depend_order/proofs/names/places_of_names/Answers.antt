@@ -1,4 +1,3 @@
-use Rattle.std.proofs.Common.{◌≡◌, ◌∙◌, ap, sym, rules, All, length}
 use Rattle.depend_order.proofs.Resolving.{known_names, resolved_more}
 use Rattle.depend_order.proofs.names.places_of_names.Goals as goal
 

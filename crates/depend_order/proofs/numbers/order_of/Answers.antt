@@ -1,8 +1,7 @@
-use Rattle.std.proofs.Common.{rules, arith, length, ◌≡◌, ◌++◌, set, true, take, drop, ◌∙◌}
+use Rattle.std.proofs.Common.{arith, length, ◌≡◌, drop}
 use Rattle.std.proofs.lemmas.List.{take_at}
 use Rattle.depend_order.specs.Cycle.{DependsOn}
 use Rattle.depend_order.specs.Numbers.{Lists}
-use Rattle.depend_order.specs.Search.{AreMet, IsFound}
 use Rattle.depend_order.proofs.Marks.{marking_push}
 use Rattle.depend_order.proofs.Orders.{earliest_push}
 use Rattle.depend_order.proofs.Placing.{AreMet-mark, next_found, least_left, goes_on}
@@ -20,8 +19,8 @@ loop-place-preserved c =
     let next = next_found depends c.loop-place.marks.items c.next_place.new.met c.loop-place.order.items so_far.marking met place found in
     rw (c.in_ok-push.ensures.items, take_at c.next_place.new.met (drop (length c.next_place.new.met) c.loop-place.met.items) c.loop-place.met.len whole) (record {
       earliest = earliest_push (length depends) (DependsOn (Lists depends)) c.loop-place.order.items place so_far.earliest next;
-      marking = marking_push (length depends) c.loop-place.order.items c.loop-place.marks.items place found.place so_far.marking;
-      met = AreMet-mark depends c.loop-place.marks.items c.next_place.new.met place found.place met;
+      marking = marking_push (length depends) c.loop-place.order.items c.loop-place.marks.items place found.is_place so_far.marking;
+      met = AreMet-mark depends c.loop-place.marks.items c.next_place.new.met place found.is_place met;
     })
 
 pub closed_walk-requires-clause-start : goal.closed_walk-requires-clause-start

@@ -1,6 +1,6 @@
-use Rattle.std.proofs.Common.{rules, ◌≡◌, ◌<◌, ◌≤◌, ℕ, length, slice_index, arith, ap, sym, subst, ◌∙◌, inl, below_more}
+use Rattle.std.proofs.Common.{rules, ◌≡◌, arith, sym, ◌∙◌, inl, below_more}
 use Rattle.depend_order.specs.Numbers.{numbers_of}
-use Rattle.depend_order.specs.Search.{IsMarked, AreMarked, IsBlocked, AreMet, IsPassed, IsFound}
+use Rattle.depend_order.specs.Search.{IsPassed}
 use Rattle.depend_order.proofs.NumberLemmas.{numbers_of_read}
 use Rattle.depend_order.proofs.SearchLemmas.{AreMet-set, passed_blocked, IsFound-all}
 use Rattle.depend_order.proofs.search.next_place.Goals as goal

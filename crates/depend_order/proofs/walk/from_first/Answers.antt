@@ -1,4 +1,3 @@
-use Rattle.std.proofs.Common.{rules, ◌≡◌, ◌<◌, ◌++◌, ◌∷◌, ℕ, List, length}
 use Rattle.std.proofs.lemmas.List.{take_rest}
 use Rattle.depend_order.proofs.Splits.{split_more}
 use Rattle.depend_order.proofs.walk.from_first.Goals as goal
