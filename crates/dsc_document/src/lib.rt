@@ -5,12 +5,23 @@
 //! wherever the form is not kept.
 #![tactic(auto)]
 
+mod aliases;
+mod assembly;
+mod declarations;
+mod depends;
 mod document;
+mod error;
 mod first_form;
+mod headers;
+mod ids;
 mod places;
+mod properties;
+mod rules;
 
 pub use document::{Document, Resource};
+pub use error::DocError;
 pub use first_form::first;
+pub use rules::{check, check_part};
 
 #[cfg(test)]
 mod tests;
