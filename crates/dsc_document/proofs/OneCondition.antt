@@ -80,24 +80,3 @@ each_more P instances n item within is here before k d below =
     (λ e. subst P (is ∙ get_or_default instances n item d within ∙ ap (λ i. get_or instances i d) (sym e)) here)
     (λ ne. before k d (omega arith))
     (cases_eq k n)
-
--- ---- one condition after another
-
-module _ (instances : List Instance) where
-  pub KeepsUpTo-0 : KeepsUpTo 0 instances
-  KeepsUpTo-0 Memory none applies = applies
-  KeepsUpTo-0 _ none applies = absurd (omega arith)
-
-  pub KeepsUpTo-more : (n : ℕ) → KeepsUpTo n instances → NoneApplies (n + 1) instances → KeepsUpTo (n + 1) instances
-  KeepsUpTo-more n kept none refusal up_to applies =
-      ⊎_elim (λ e. none refusal e applies) (λ ne. kept refusal (omega arith) applies) (cases_eq (condition_of refusal) (n + 1))
-
-  pub IsRefusal-after : (n : ℕ) (refusal : DocError) → KeepsUpTo n instances → IsFirstOf (n + 1) instances refusal → IsRefusal instances refusal
-  IsRefusal-after n refusal kept found = record {
-    applies = found.applies;
-    wins = λ other wins applies.
-        ⊎_elim
-        (λ less. let is = found.is in kept other (omega arith) applies)
-        (λ same. found.first other (same.0 ∙ found.is) same.1 applies)
-        wins;
-  }

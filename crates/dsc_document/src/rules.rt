@@ -1,5 +1,5 @@
 //! The rules of documents.
-ghost use Rattle.std.specs.Prelude.{◌≡◌, ◌≢◌, ◌<◌, ◌^◌, ℕ, length, IfOk, IfErr, vec_len};
+ghost use Rattle.std.specs.Prelude.{◌≡◌, ◌≢◌, ◌<◌, ◌^◌, List, length, IfOk, IfErr, vec_len};
 ghost use Rattle.dsc_document.specs.Places.{HoldsNames};
 ghost use Rattle.dsc_document.specs.Rules.{Rules, PartRules, IsRefusal, Applies, condition_of, id_at};
 ghost use Rattle.dsc_document.specs.Conditions.{KeepsUpTo};
@@ -44,6 +44,11 @@ pub fn check_part(alloc: Global, instances: Vec<Instance>) -> Result<Document, D
     let _ids = check_part_rules(alloc, &instances)?;
     Ok(document_of(alloc, instances)?)
 }
+
+/// At most one refusal wins: the instances determine what [`check`] answers, but for `Memory`.
+pub fn one_refusal_wins()
+    ensures { (instances : List Instance) (a b : DocError) → IsRefusal instances a → IsRefusal instances b → a ≡ b }
+{}
 
 // The places of the ids, where all rules but the last are kept.
 fn check_part_rules(alloc: Global, instances: &[Instance]) -> Result<Places, DocError>
