@@ -1,3 +1,5 @@
 pub mod FoldKeys
 pub mod Indexes
 pub mod NamedApart
+pub mod OneCondition
+pub mod Placed

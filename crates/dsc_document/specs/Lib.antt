@@ -1,2 +1,6 @@
+pub mod Conditions
+pub mod Declarations
 pub mod First
+pub mod Names
 pub mod Places
+pub mod Rules

@@ -3,6 +3,7 @@ ghost use Rattle.std.specs.Prelude.{◌≡◌, ◌<◌, ◌^◌, ◌↔◌, List
 ghost use Rattle.std.specs.List.{enumerate_from};
 ghost use Rattle.dsc_document.specs.First.{IsFirstForm, AreEnvironments, NamesEnvironment, IsEnvironment, IsHeader, first_document, resource_at, id_of, name_of, version_of, text_at, text_of, text_property, environment_properties};
 
+use crate::declarations::front;
 use crate::places::Places;
 use crate::{Document, Resource};
 use mof_values::{FirstError, Instance, Items, Property, Scalar, Text, Value, is_spelled};
@@ -151,7 +152,8 @@ fn text_named<'a>(property: &'a Property, name: &str) -> Option<&'a Text>
 fn names_environment(id: &[char]) -> bool
     ensures { IsTrue result ↔ NamesEnvironment id.now }
 {
-    id.len() > 13 && is_spelled(id.split_at(13).0, "[Environment]")
+    let longer = id.len() > 13;
+    longer && is_spelled(id.split_at(13).0, "[Environment]")
 }
 
 // The first 64 characters of the Version, where the instance is a header.
@@ -186,15 +188,5 @@ fn characters<'a>(value: &'a Value) -> &'a [char]
     match value {
         Value::One(Scalar::Text(text)) => text.as_slice(),
         _ => &[],
-    }
-}
-
-fn front(chars: &[char], count: usize) -> &[char]
-    ensures { result.now ≡ take count chars.now }
-{
-    if chars.len() <= count {
-        chars
-    } else {
-        chars.split_at(count).0
     }
 }

@@ -1,16 +1,31 @@
-//! Documents: the resources that a list of instances declares.
+//! Documents: what a list of instance declarations says, after the documents of PowerShell Desired State
+//! Configuration, whose instances are spelled by DMTF DSP0004.
 //!
-//! `first` reads the plain first form: Environment resources, each spelled in one way, and last the header. The
-//! layer above may rely on each resource's place, id and instance, on ids that differ by fold, and on a refusal
-//! wherever the form is not kept.
+//! `check` reads a whole document and `check_part` one part of several. The layer above may rely on the rules:
+//! one header, aliases that are there, ids of their form that differ by fold, lists of texts to depend on, in a
+//! whole document each the id of a resource; and on the resources and the other instances in the order of the
+//! list. A refusal is the first rule that is broken, at its least index.
+//!
+//! `first` reads a plain first form: Environment resources, each spelled in one way, and last the header.
 #![tactic(auto)]
 
+mod aliases;
+mod assembly;
+mod declarations;
+mod depends;
 mod document;
+mod error;
 mod first_form;
+mod headers;
+mod ids;
 mod places;
+mod properties;
+mod rules;
 
 pub use document::{Document, Resource};
+pub use error::DocError;
 pub use first_form::first;
+pub use rules::{check, check_part, one_refusal_wins};
 
 #[cfg(test)]
 mod tests;

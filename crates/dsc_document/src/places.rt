@@ -1,7 +1,7 @@
 //! The places of names that compare by fold.
-ghost use Rattle.std.specs.Prelude.{◌≡◌, ℕ, List, IfOk, OnOk};
+ghost use Rattle.std.specs.Prelude.{◌≡◌, ℕ, List, IfOk, OnOk, option_copied, option_and_then};
 ghost use Rattle.mof_values.specs.Fold.{fold_case};
-ghost use Rattle.dsc_document.specs.Places.{place_of, Puts};
+ghost use Rattle.dsc_document.specs.Places.{place_of, Puts, PutsIfAny};
 
 use std::alloc::{AllocError, Global};
 use std::collections::BTreeMap;
@@ -31,6 +31,18 @@ impl Places {
         Ok(self.by_fold.insert(folded(self.alloc, name)?, place)?)
     }
 
+    /// Puts a name, if there is one.
+    pub fn put_any(&mut self, name: Option<&[char]>, place: u32) -> Result<Option<u32>, AllocError>
+        ensures had { IfOk result (λ had. had ≡ option_and_then (place_of self.old) (option_copied name.entry)) }
+        ensures put { OnOk result (PutsIfAny self.old self.new (option_copied name.entry) place) }
+    {
+        match name {
+            Some(name) => self.put(name, place),
+            None => Ok(None),
+        }
+    }
+
+    /// The place that the name has.
     pub fn find(&self, name: &[char]) -> Result<Option<u32>, AllocError>
         ensures { IfOk result (λ found. found ≡ place_of self.now name.now) }
     {

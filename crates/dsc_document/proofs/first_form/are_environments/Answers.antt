@@ -4,15 +4,8 @@ use Rattle.std.proofs.lemmas.List.{get_or_default}
 use Rattle.mof_values.specs.declared.instance.Instance.{Instance}
 use Rattle.dsc_document.specs.First.{IsEnvironment, id_of, name_of}
 use Rattle.dsc_document.proofs.NamedApart.{named_apart, named_more, named_twice}
+use Rattle.dsc_document.proofs.OneCondition.{each_more}
 use Rattle.dsc_document.proofs.first_form.are_environments.Goals as goal
-
-each_more : (instances : List Instance) (n : ℕ) (item : Instance) → n < length instances → item ≡ get_or instances n item → IsEnvironment item
-    → ((k : ℕ) (d : Instance) → k < n → IsEnvironment (get_or instances k d)) → (k : ℕ) (d : Instance) → k < n + 1 → IsEnvironment (get_or instances k d)
-each_more instances n item within is holds before k d below =
-    ⊎_elim
-    (λ e. subst IsEnvironment (is ∙ get_or_default instances n item d within ∙ ap (λ i. get_or instances i d) (sym e)) holds)
-    (λ ne. before k d (omega arith))
-    (cases_eq k n)
 
 pub returns-then-is_some : goal.returns-then-is_some
 returns-then-is_some c = (
@@ -32,7 +25,7 @@ returns-then-is_some-2 c = (
 
 pub loop-index-preserved : goal.loop-index-preserved
 loop-index-preserved c = record {
-  each = each_more c.args.declarations.now c.loop-index.index c.index-declarations-index.result c.loop-index-test.true c.index-declarations-index.is c.in-Some.ensures.0 c.loop-index.invariant.each;
+  each = each_more IsEnvironment c.args.declarations.now c.loop-index.index c.index-declarations-index.result c.loop-index-test.true c.index-declarations-index.is c.in-Some.ensures.0 c.loop-index.invariant.each;
   ids = named_more id_of c.args.declarations.now c.loop-index.ids c.loop-index.index c.index-declarations-index.result _ _
       c.loop-index-test.true c.index-declarations-index.is (c.as_slice.ensures.value ∙ c.in-Some.ensures.1) c.in_ok-put.ensures.had
       c.loop-index.invariant.ids (sym c.is_some.ensures ∙ c.if-is_some.false) _ c.in_ok-put.ensures.put;

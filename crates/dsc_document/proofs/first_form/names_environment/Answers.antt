@@ -1,4 +1,4 @@
-use Rattle.std.proofs.Common.{◌≡◌, ◌≢◌, ◌<◌, ◌+◌, ℕ, List, [], ◌∷◌, ◌++◌, length, take, drop, sym, ap, ◌∙◌, arith, codes, length-drop}
+use Rattle.std.proofs.Common.{rules, ◌≡◌, ◌≢◌, ◌<◌, ◌+◌, ℕ, List, [], ◌∷◌, ◌++◌, length, take, drop, sym, ap, ◌∙◌, arith, codes, length-drop}
 use Rattle.std.proofs.lemmas.List.{take-append-drop}
 use Rattle.dsc_document.specs.First.{NamesEnvironment}
 use Rattle.dsc_document.proofs.first_form.names_environment.Goals as goal
@@ -14,8 +14,8 @@ names_from_front id longer front = (
 front_from_names : (id : List ℕ) → NamesEnvironment id → take 13 id ≡ codes "[Environment]"
 front_from_names id names = ap (take 13) names.1
 
-pub returns-then-id-gt13 : goal.returns-then-id-gt13
-returns-then-id-gt13 c = (
-  λ spelled. names_from_front c.args.id.now c.if-id-gt13.true (sym c.split_at.ensures.front ∙ c.is_spelled.ensures.0 spelled),
+pub returns-then-longer : goal.returns-then-longer
+returns-then-longer c = (
+  λ spelled. names_from_front c.args.id.now (search rules) (sym c.split_at.ensures.front ∙ c.is_spelled.ensures.0 spelled),
   λ names. c.is_spelled.ensures.1 (c.split_at.ensures.front ∙ front_from_names c.args.id.now names),
 )

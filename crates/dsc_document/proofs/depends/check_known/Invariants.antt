@@ -1,0 +1,10 @@
+use Rattle.std.proofs.Common.{ℕ, ◌<◌, List, get_or}
+use Rattle.mof_values.specs.declared.instance.Instance.{Instance}
+use Rattle.dsc_document.specs.Declarations.{depends_of}
+use Rattle.dsc_document.specs.Rules.{IsFirstUnknown}
+use Rattle.dsc_document.proofs.depends.check_known.Given as goal
+
+-- none of the instances so far
+abbrev pub invariant-loop-index : goal.invariant-loop-index
+invariant-loop-index l =
+    (name : List ℕ) (k : ℕ) (d : Instance) → k < l.index → IsFirstUnknown l.instances (depends_of (get_or l.instances k d)) name → ⊥

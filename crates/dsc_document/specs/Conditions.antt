@@ -1,0 +1,49 @@
+-- One condition of the rules at a time.
+use Rattle.std.specs.Prelude.{◌≡◌, ◌≢◌, ℕ, ◌<◌, ◌≤◌, List, ◌∷◌, ◌++◌, All, Contains, None, is_some, IsTrue, Result, MatchResult}
+use Rattle.mof_values.specs.declared.instance.Instance.{Instance}
+use Rattle.mof_values.specs.declared.value.Scalar.{Scalar}
+use Rattle.mof_values.specs.declared.value.Scalar.TheVariants.{Alias}
+use Rattle.dsc_document.specs.Declarations.{is_header}
+use Rattle.dsc_document.specs.Places.{place_of}
+use Rattle.dsc_document.specs.Rules.{HasAt, Applies, condition_of, indexes_of, StandsBefore}
+use Rattle.dsc_document.specs.declared.places.Places.{Places}
+use Rattle.dsc_document.specs.declared.error.DocError.{DocError}
+use Rattle.dsc_document.specs.declared.error.DocError.TheVariants.{Memory}
+
+abbrev pub NoneApplies : ℕ → List Instance → Type 0
+NoneApplies condition instances = (refusal : DocError) → condition_of refusal ≡ condition → Applies instances refusal → ⊥
+
+abbrev pub KeepsUpTo : ℕ → List Instance → Type 0
+KeepsUpTo condition instances = (refusal : DocError) → condition_of refusal ≤ condition → Applies instances refusal → ⊥
+
+-- the refusal applies, and none of its condition at an earlier index does
+pub record IsFirstOf (condition : ℕ) (instances : List Instance) (refusal : DocError) : Type 0 where
+  pub is : condition_of refusal ≡ condition
+  pub applies : Applies instances refusal
+  pub first : (other : DocError) → condition_of other ≡ condition → StandsBefore (indexes_of other) (indexes_of refusal) → Applies instances other → ⊥
+
+-- the condition was tested
+abbrev pub Tests : {T : Type 0} → ℕ → List Instance → Result T DocError → Type 0
+Tests condition instances result =
+    MatchResult result (λ _. NoneApplies condition instances) (λ refusal. refusal ≢ Memory → IsFirstOf condition instances refusal)
+
+-- ---- what the tests find on their way
+
+-- the scalars hold an alias that has no place
+abbrev pub HoldsUnplaced : Places → List Scalar → Type 0
+HoldsUnplaced places scalars = (alias : List ℕ) × Contains scalars (Alias alias) × (place_of places alias ≡ None)
+
+abbrev pub IsHeaderAt : List Instance → ℕ → Type 0
+IsHeaderAt instances index = HasAt instances index (λ i. IsTrue (is_header i))
+
+-- the first header at a place or behind it
+pub record IsNextHeader (instances : List Instance) (from index : ℕ) : Type 0 where
+  pub behind : from ≤ index
+  pub header : IsHeaderAt instances index
+  pub first : (k : ℕ) → from ≤ k → k < index → IsHeaderAt instances k → ⊥
+
+-- the first of the names that has no place
+abbrev pub IsFirstUnplaced : Places → List (List ℕ) → List ℕ → Type 0
+IsFirstUnplaced places names name =
+    (known : List (List ℕ)) × (rest : List (List ℕ)) × (names ≡ known ++ name ∷ rest)
+    × All (λ n. IsTrue (is_some (place_of places n))) known × (place_of places name ≡ None)
