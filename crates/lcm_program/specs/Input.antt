@@ -1,7 +1,7 @@
 -- Which document an input is.
 use Rattle.std.specs.Prelude.{◌≡◌, ℕ, List}
 use Rattle.mof_values.specs.declared.instance.Instance.{Instance}
-use Rattle.mof_codec.specs.FirstForm.{SpellsFirst}
+use Rattle.mof_syntax.specs.FirstForm.{SpellsFirst}
 use Rattle.dsc_document.specs.declared.document.Document.{Document}
 use Rattle.dsc_document.specs.First.{IsFirstForm, first_document}
 

@@ -2,7 +2,7 @@
 use Rattle.std.specs.Prelude.{◌==◌, ℕ, ◌-◌, List, [], ◌++◌, length, Option, Some, None, codes, slice_get, encode_utf8_all, if◌then◌else◌}
 use Rattle.std.specs.List.{flat_map}
 use Rattle.std.specs.Fmt.{decimal}
-use Rattle.mof_codec.specs.Canonical.{canonical_literal}
+use Rattle.mof_syntax.specs.Canonical.{canonical_literal}
 use Rattle.dsc_document.specs.declared.document.Document.{Document}
 use Rattle.dsc_document.specs.declared.document.Resource.{Resource}
 use Rattle.lcm_program.specs.declared.entry.Failure.{Failure}

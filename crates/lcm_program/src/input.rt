@@ -10,7 +10,7 @@ use crate::status::InputError;
 use crate::streams::{ReadError, read_all};
 use dsc_document::{Document, first};
 use dsc_outside::Source;
-use mof_codec::read_first;
+use mof_syntax::read_first;
 use mof_values::FirstError;
 use std::alloc::Global;
 

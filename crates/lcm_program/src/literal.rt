@@ -1,7 +1,7 @@
 //! Literals of the instance syntax, as they are printed.
 ghost use Rattle.std.specs.Prelude.{◌≡◌, ◌<◌, ◌++◌, OnOk, string_bytes, encode_utf8_all};
 ghost use Rattle.std.specs.List.{flat_map};
-ghost use Rattle.mof_codec.specs.Canonical.{canonical_literal, literal_char, control_escape, hex_glyph};
+ghost use Rattle.mof_syntax.specs.Canonical.{canonical_literal, literal_char, control_escape, hex_glyph};
 
 use std::alloc::AllocError;
 

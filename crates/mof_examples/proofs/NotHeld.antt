@@ -2,8 +2,8 @@
 use Rattle.std.proofs.Common.{◌≡◌, ℕ, List, [], ◌∷◌, codes, refl, sym, subst, ◌++◌, arith}
 use Rattle.mof_values.specs.declared.instance.Property.{Property}
 use Rattle.mof_values.specs.declared.value.Scalar.{Scalar}
-use Rattle.mof_codec.specs.Tokens.{Lexeme, Word, Number, LeftBrace, RightBrace, EqualsSign, Semicolon, Comma}
-use Rattle.mof_codec.specs.Grammar.{StringValue, last, joined, ConstantValue, string_value, integer_value, true_value, false_value, null_value, alias_identifier, Elements, element, constant, array, ValueInitializers, unnamed, instance_declaration}
+use Rattle.mof_syntax.specs.Tokens.{Lexeme, Word, Number, LeftBrace, RightBrace, EqualsSign, Semicolon, Comma}
+use Rattle.mof_syntax.specs.Grammar.{StringValue, last, joined, ConstantValue, string_value, integer_value, true_value, false_value, null_value, alias_identifier, Elements, element, constant, array, ValueInitializers, unnamed, instance_declaration}
 use Rattle.mof_examples.specs.Rules.{one, declared, NoConstant, NoInitializer, NoDeclarations}
 
 -- the tokens do not begin with a mark or with a word that is no keyword

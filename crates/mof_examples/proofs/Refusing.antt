@@ -6,18 +6,18 @@ use Rattle.std.proofs.lemmas.Bool.Decides.{nat_tests}
 use Rattle.std.specs.Char.{to_ascii_lowercase}
 use Rattle.mof_values.specs.Fold.{SameName}
 use Rattle.mof_values.specs.declared.instance.Instance.{Instance}
-use Rattle.mof_codec.specs.declared.mof_error.MofError.{MofError}
-use Rattle.mof_codec.specs.declared.mof_error.MofError.TheVariants.{TooLong, Text, Syntax, OutOfProfile, NumberRange, TooMany, Memory}
-use Rattle.mof_codec.specs.declared.mof_error.Form.{Form}
-use Rattle.mof_codec.specs.Characters.{is_blank}
-use Rattle.mof_codec.specs.Separators.{Separator, blank, line, block}
-use Rattle.mof_codec.specs.Tokens.{Lexeme, Word, Identifier, identifier, IsToken, word, Lexes, end, separator, token}
-use Rattle.mof_codec.specs.Grammar.{InstanceDeclarations, nothing, instance_declaration, Wide}
-use Rattle.mof_codec.specs.Fronts.{IsFront, IsSyntaxFault, BeginsDeclaration}
-use Rattle.mof_codec.specs.declared.mof_error.Form.TheVariants as forms
-use Rattle.mof_codec.specs.Profile.{class}
-use Rattle.mof_codec.specs.Profile as profile
-use Rattle.mof_codec.specs.Refusals.{Applies, WinsOver, Wins}
+use Rattle.mof_syntax.specs.declared.mof_error.MofError.{MofError}
+use Rattle.mof_syntax.specs.declared.mof_error.MofError.TheVariants.{TooLong, Text, Syntax, OutOfProfile, NumberRange, TooMany, Memory}
+use Rattle.mof_syntax.specs.declared.mof_error.Form.{Form}
+use Rattle.mof_syntax.specs.Characters.{is_blank}
+use Rattle.mof_syntax.specs.Separators.{Separator, blank, line, block}
+use Rattle.mof_syntax.specs.Tokens.{Lexeme, Word, Identifier, identifier, IsToken, word, Lexes, end, separator, token}
+use Rattle.mof_syntax.specs.Grammar.{InstanceDeclarations, nothing, instance_declaration, Wide}
+use Rattle.mof_syntax.specs.Fronts.{IsFront, IsSyntaxFault, BeginsDeclaration}
+use Rattle.mof_syntax.specs.declared.mof_error.Form.TheVariants as forms
+use Rattle.mof_syntax.specs.Profile.{class}
+use Rattle.mof_syntax.specs.Profile as profile
+use Rattle.mof_syntax.specs.Refusals.{Applies, WinsOver, Wins}
 
 separator_first : (c : ℕ) (cs rest : List ℕ) → Separator (c ∷ cs) rest → (is_blank c ≡ true) ⊎ (c ≡ 47)
 separator_first c cs rest (blank d r h) = inl h

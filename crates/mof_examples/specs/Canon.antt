@@ -2,7 +2,7 @@
 use Rattle.std.specs.Prelude.{◌≡◌, codes, [], ◌∷◌, pos, negsuc, true, false, Some, None}
 use Rattle.mof_values.specs.declared.value.Scalar.TheVariants as scalars
 use Rattle.mof_values.specs.declared.value.Value.TheVariants.{One, Many}
-use Rattle.mof_codec.specs.Canonical.{canonical_text, canonical_literal, canonical_scalar}
+use Rattle.mof_syntax.specs.Canonical.{canonical_text, canonical_literal, canonical_scalar}
 use Rattle.mof_examples.specs.Rules.{instance_of, property_of}
 
 pub record CanonicalExamples : Type 0 where

@@ -1,7 +1,7 @@
 -- Which characters are identifiers and aliases, by example.
 use Rattle.std.specs.Prelude.{codes, List, [], ◌∷◌, ℕ}
-use Rattle.mof_codec.specs.Tokens.{Identifier, IsToken, Word, AliasName}
-use Rattle.mof_codec.specs.Walk.{NoToken}
+use Rattle.mof_syntax.specs.Tokens.{Identifier, IsToken, Word, AliasName}
+use Rattle.mof_syntax.specs.Walk.{NoToken}
 
 -- no identifier begins the characters
 abbrev pub NoIdentifier : List ℕ → Type 0

@@ -1,7 +1,7 @@
 -- Which characters are integers, and of which value, by example.
 use Rattle.std.specs.Prelude.{codes, List, [], ℕ, ℤ, pos, negsuc}
-use Rattle.mof_codec.specs.Tokens.{IsToken, Number}
-use Rattle.mof_codec.specs.Walk.{NoToken}
+use Rattle.mof_syntax.specs.Tokens.{IsToken, Number}
+use Rattle.mof_syntax.specs.Walk.{NoToken}
 
 -- the characters are this integer and nothing else
 abbrev pub Spells : List ℕ → ℤ → Type 0

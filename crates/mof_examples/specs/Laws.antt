@@ -1,9 +1,9 @@
 -- Laws of the definitions.
 use Rattle.std.specs.Prelude.{◌≡◌, ◌≤◌, ◌<◌, ◌+◌, ℕ, List, ◌++◌, length, take}
 use Rattle.mof_values.specs.declared.instance.Instance.{Instance}
-use Rattle.mof_codec.specs.Tokens.{Lexeme, Lexes}
-use Rattle.mof_codec.specs.Grammar.{Wide, WideSpells}
-use Rattle.mof_codec.specs.Fronts.{IsFront, IsSyntaxFault}
+use Rattle.mof_syntax.specs.Tokens.{Lexeme, Lexes}
+use Rattle.mof_syntax.specs.Grammar.{Wide, WideSpells}
+use Rattle.mof_syntax.specs.Fronts.{IsFront, IsSyntaxFault}
 
 -- characters divide into tokens in one way
 abbrev pub DividesOnce : Type 0

@@ -1,7 +1,7 @@
 -- Which characters are string literals, and of which text, by example.
 use Rattle.std.specs.Prelude.{codes, List, [], ℕ}
-use Rattle.mof_codec.specs.Strings.{Escape}
-use Rattle.mof_codec.specs.Tokens.{IsToken, Literal}
+use Rattle.mof_syntax.specs.Strings.{Escape}
+use Rattle.mof_syntax.specs.Tokens.{IsToken, Literal}
 
 -- the characters are a literal of this text and nothing else
 abbrev pub Spells : List ℕ → List ℕ → Type 0

@@ -1,8 +1,8 @@
 -- Which refusals apply to texts that go wrong with their first character, by example.
 use Rattle.std.specs.Prelude.{codes, ℕ}
-use Rattle.mof_codec.specs.declared.mof_error.MofError.TheVariants.{OutOfProfile, Syntax}
-use Rattle.mof_codec.specs.declared.mof_error.Form.TheVariants as forms
-use Rattle.mof_codec.specs.Refusals.{Applies, Wins}
+use Rattle.mof_syntax.specs.declared.mof_error.MofError.TheVariants.{OutOfProfile, Syntax}
+use Rattle.mof_syntax.specs.declared.mof_error.Form.TheVariants as forms
+use Rattle.mof_syntax.specs.Refusals.{Applies, Wins}
 
 pub record RefusalExamples : Type 0 where
   pub pragma : Wins (codes "#pragma locale (\"en\")") (OutOfProfile 0 forms.Pragma)

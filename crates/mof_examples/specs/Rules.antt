@@ -6,8 +6,8 @@ use Rattle.mof_values.specs.declared.value.Scalar.{Scalar}
 use Rattle.mof_values.specs.declared.value.Scalar.TheVariants as scalars
 use Rattle.mof_values.specs.declared.value.Value.{Value}
 use Rattle.mof_values.specs.declared.value.Value.TheVariants.{One, Many}
-use Rattle.mof_codec.specs.Tokens.{Lexeme, Word, AliasName, Literal, Number, LeftBrace, RightBrace, EqualsSign, Semicolon, Comma}
-use Rattle.mof_codec.specs.Grammar.{StringValue, ConstantValue, Initializer, InstanceDeclarations, WideSpells}
+use Rattle.mof_syntax.specs.Tokens.{Lexeme, Word, AliasName, Literal, Number, LeftBrace, RightBrace, EqualsSign, Semicolon, Comma}
+use Rattle.mof_syntax.specs.Grammar.{StringValue, ConstantValue, Initializer, InstanceDeclarations, WideSpells}
 
 -- tokens behind `instance of A`
 abbrev pub declared : List Lexeme → List Lexeme

@@ -1,7 +1,7 @@
 -- Which characters are separators, by example.
 use Rattle.std.specs.Prelude.{codes, [], ◌∷◌}
-use Rattle.mof_codec.specs.Separators.{Separator, Separators}
-use Rattle.mof_codec.specs.Walk.{NoSeparator}
+use Rattle.mof_syntax.specs.Separators.{Separator, Separators}
+use Rattle.mof_syntax.specs.Walk.{NoSeparator}
 
 pub record SeparatorExamples : Type 0 where
   pub tab : Separator (codes "\tb") (codes "b")

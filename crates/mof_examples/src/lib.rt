@@ -1,4 +1,4 @@
-//! Examples of the instance syntax of DMTF DSP0004, proved of the definitions that mof_codec states it by: for each rule
+//! Examples of the instance syntax of DMTF DSP0004, proved of the definitions that mof_syntax states it by: for each rule
 //! characters or tokens that it holds of, with the value that they stand for, and near ones that it does not hold of; and
 //! the laws that these definitions keep.
 //!

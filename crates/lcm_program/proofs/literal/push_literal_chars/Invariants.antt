@@ -1,6 +1,6 @@
 use Rattle.std.proofs.Common.{◌≡◌, ◌++◌, length, string_bytes, encode_utf8_all}
 use Rattle.std.specs.List.{flat_map}
-use Rattle.mof_codec.specs.Canonical.{literal_char}
+use Rattle.mof_syntax.specs.Canonical.{literal_char}
 use Rattle.lcm_program.proofs.literal.push_literal_chars.Given as goal
 
 abbrev pub invariant-loop-left : goal.invariant-loop-left

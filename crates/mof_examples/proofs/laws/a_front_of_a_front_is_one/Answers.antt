@@ -1,4 +1,4 @@
-use Rattle.mof_codec.proofs.FrontLaws.{IsFront-append}
+use Rattle.mof_syntax.proofs.FrontLaws.{IsFront-append}
 use Rattle.mof_examples.proofs.laws.a_front_of_a_front_is_one.Goals as goal
 
 pub returns : goal.returns

@@ -1,5 +1,5 @@
 use Rattle.std.proofs.Common.{◌≤◌, ◌≡◌, ℕ, arith}
-use Rattle.mof_codec.proofs.FrontLaws.{IsSyntaxFault-from_next}
+use Rattle.mof_syntax.proofs.FrontLaws.{IsSyntaxFault-from_next}
 use Rattle.mof_examples.proofs.laws.a_text_goes_wrong_at_one_place.Goals as goal
 
 both_ways : (m n : ℕ) → m ≤ n → n ≤ m → m ≡ n

@@ -1,4 +1,4 @@
-use Rattle.mof_codec.proofs.UniqueRules.{spells_same}
+use Rattle.mof_syntax.proofs.UniqueRules.{spells_same}
 use Rattle.mof_examples.proofs.laws.a_text_spells_one_list.Goals as goal
 
 pub returns : goal.returns

@@ -1,4 +1,4 @@
-use Rattle.mof_codec.proofs.UniqueTokens.{lexes_same}
+use Rattle.mof_syntax.proofs.UniqueTokens.{lexes_same}
 use Rattle.mof_examples.proofs.laws.characters_divide_into_tokens_in_one_way.Goals as goal
 
 pub returns : goal.returns

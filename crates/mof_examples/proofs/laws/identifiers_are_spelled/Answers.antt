@@ -1,7 +1,7 @@
 use Rattle.std.proofs.Common.{refl, codes, []}
-use Rattle.mof_codec.specs.Characters.{more, stop}
-use Rattle.mof_codec.specs.Tokens.{identifier, word, alias}
-use Rattle.mof_codec.proofs.Absent.{no_identifier, no_dollar_token}
+use Rattle.mof_syntax.specs.Characters.{more, stop}
+use Rattle.mof_syntax.specs.Tokens.{identifier, word, alias}
+use Rattle.mof_syntax.proofs.Absent.{no_identifier, no_dollar_token}
 use Rattle.mof_examples.proofs.laws.identifiers_are_spelled.Goals as goal
 
 pub returns : goal.returns

@@ -1,8 +1,8 @@
 use Rattle.std.proofs.Common.{refl, codes, []}
-use Rattle.mof_codec.specs.Characters.{more, stop}
-use Rattle.mof_codec.specs.Integers.{decimal_value, octal_value, hex_value, binary_value, unsigned, plus, minus}
-use Rattle.mof_codec.specs.Tokens.{integer}
-use Rattle.mof_codec.proofs.Absent.{no_digit_token, no_sign_token}
+use Rattle.mof_syntax.specs.Characters.{more, stop}
+use Rattle.mof_syntax.specs.Integers.{decimal_value, octal_value, hex_value, binary_value, unsigned, plus, minus}
+use Rattle.mof_syntax.specs.Tokens.{integer}
+use Rattle.mof_syntax.proofs.Absent.{no_digit_token, no_sign_token}
 use Rattle.mof_examples.proofs.laws.integers_are_spelled.Goals as goal
 
 pub returns : goal.returns

@@ -1,7 +1,7 @@
 use Rattle.std.proofs.Common.{refl, codes, []}
-use Rattle.mof_codec.specs.Strings.{full, ended, digit, short, hexadecimal, closed, plain, escaped}
-use Rattle.mof_codec.specs.Tokens.{literal}
-use Rattle.mof_codec.proofs.Absent.{no_escape}
+use Rattle.mof_syntax.specs.Strings.{full, ended, digit, short, hexadecimal, closed, plain, escaped}
+use Rattle.mof_syntax.specs.Tokens.{literal}
+use Rattle.mof_syntax.proofs.Absent.{no_escape}
 use Rattle.mof_examples.proofs.laws.literals_are_spelled.Goals as goal
 
 pub returns : goal.returns

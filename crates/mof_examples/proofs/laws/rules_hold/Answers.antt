@@ -1,9 +1,9 @@
 use Rattle.std.proofs.Common.{refl, codes, [], ◌∷◌, pos, None, Some}
-use Rattle.mof_codec.specs.Characters.{more, stop}
-use Rattle.mof_codec.specs.Integers.{decimal_value, unsigned}
-use Rattle.mof_codec.specs.Separators.{blank}
-use Rattle.mof_codec.specs.Tokens.{Word, LeftBrace, RightBrace, EqualsSign, Semicolon, Comma, identifier, word, integer, left_brace_mark, right_brace_mark, equals_mark, semicolon_mark, end, separator, token}
-use Rattle.mof_codec.specs.Grammar.{last, joined, integer_value, true_value, false_value, null_value, alias_identifier, closing, element, constant, empty_array, array, done, value_initializer, unnamed, named, nothing, instance_declaration}
+use Rattle.mof_syntax.specs.Characters.{more, stop}
+use Rattle.mof_syntax.specs.Integers.{decimal_value, unsigned}
+use Rattle.mof_syntax.specs.Separators.{blank}
+use Rattle.mof_syntax.specs.Tokens.{Word, LeftBrace, RightBrace, EqualsSign, Semicolon, Comma, identifier, word, integer, left_brace_mark, right_brace_mark, equals_mark, semicolon_mark, end, separator, token}
+use Rattle.mof_syntax.specs.Grammar.{last, joined, integer_value, true_value, false_value, null_value, alias_identifier, closing, element, constant, empty_array, array, done, value_initializer, unnamed, named, nothing, instance_declaration}
 use Rattle.mof_examples.proofs.NotHeld.{no_other_word, no_nested_array, no_comma_at_the_end, no_comma_between, no_semicolon_at_the_end, no_class, no_other_keyword}
 use Rattle.mof_examples.specs.Rules.{one, declared}
 use Rattle.mof_examples.proofs.laws.rules_hold.Goals as goal

@@ -1,6 +1,6 @@
 use Rattle.std.proofs.Common.{refl, codes, []}
-use Rattle.mof_codec.specs.Separators.{blank, line, block, at_end, at_feed, over, shut, inside, none, another}
-use Rattle.mof_codec.proofs.Absent.{no_separator}
+use Rattle.mof_syntax.specs.Separators.{blank, line, block, at_end, at_feed, over, shut, inside, none, another}
+use Rattle.mof_syntax.proofs.Absent.{no_separator}
 use Rattle.mof_examples.proofs.laws.separators_are_spelled.Goals as goal
 
 pub returns : goal.returns

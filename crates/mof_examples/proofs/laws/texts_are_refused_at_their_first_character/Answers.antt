@@ -1,6 +1,6 @@
 use Rattle.std.proofs.Common.{refl, []}
-use Rattle.mof_codec.specs.declared.mof_error.Form.TheVariants as forms
-use Rattle.mof_codec.specs.Profile.{pragma, qualifiers, class, qualifier}
+use Rattle.mof_syntax.specs.declared.mof_error.Form.TheVariants as forms
+use Rattle.mof_syntax.specs.Profile.{pragma, qualifiers, class, qualifier}
 use Rattle.mof_examples.proofs.Refusing.{empty_wide, wrong_at_once, begins_at_once, form_refused, no_class}
 use Rattle.mof_examples.proofs.laws.texts_are_refused_at_their_first_character.Goals as goal
 

@@ -1,0 +1,105 @@
+//! Bytes to characters.
+ghost use Rattle.std.specs.Prelude.{◌≡◌, ◌++◌, ◌+◌, ◌^◌, ◌<◌, length, IfOk, IfErr, IfSome, IfNone, MatchOption, encode_utf8_all};
+ghost use Rattle.mof_syntax.specs.Encodings.{Chars, unit_bytes};
+ghost use Rattle.mof_syntax.specs.Decoding.{RefusesBytes, RefusesBody, IsBody, StartsChar, StartsNoChar};
+ghost use Rattle.mof_syntax.specs.declared.encoding.Encoding.TheVariants.{Utf8, Utf16};
+
+use crate::encoding::{ByteOrder, Encoding, behind_mark};
+use crate::text_error::TextError;
+use mof_values::Text;
+use std::alloc::{AllocError, Global};
+
+/// The characters that the bytes are: UTF-8, or UTF-16 with a mark. The mark is no character of the text.
+pub fn decode_text(alloc: Global, bytes: &[u8]) -> Result<Text, TextError>
+    ensures ok { IfOk result (λ text. Chars bytes.now text) }
+    ensures refused { IfErr result (λ e. RefusesBytes bytes.now e) }
+{
+    let (encoding, body) = behind_mark(bytes);
+    let marked = bytes.len() - body.len();
+    match encoding {
+        Encoding::Utf8 | Encoding::Utf8Marked => decode_utf8(alloc, body, marked),
+        Encoding::Utf16(order) => decode_utf16(alloc, order, body, marked),
+    }
+}
+
+// Places count the bytes before the body too.
+fn decode_utf8(alloc: Global, body: &[u8], marked: usize) -> Result<Text, TextError>
+    requires { marked + length body.now < 2 ^ 64 }
+    ensures ok { IfOk result (λ text. IsBody Encoding.Utf8 body.now text) }
+    ensures refused { IfErr result (λ e. RefusesBody Encoding.Utf8 body.now marked e) }
+{
+    match str::from_utf8(body) {
+        Ok(text) => Ok(chars_of(alloc, text)?),
+        Err(e) => Err(TextError::TextFault {
+            at: marked + e.valid_up_to(),
+        }),
+    }
+}
+
+fn chars_of(alloc: Global, text: &str) -> Result<Text, AllocError>
+    ensures { IfOk result (λ chars. encode_utf8_all chars ≡ text.now) }
+{
+    Ok(Text::of(text.chars().collect(alloc)?))
+}
+
+fn decode_utf16(
+    alloc: Global,
+    order: ByteOrder,
+    body: &[u8],
+    marked: usize,
+) -> Result<Text, TextError>
+    requires { marked + length body.now < 2 ^ 64 }
+    ensures ok { IfOk result (λ text. IsBody (Encoding.Utf16 order) body.now text) }
+    ensures refused { IfErr result (λ e. RefusesBody (Encoding.Utf16 order) body.now marked e) }
+{
+    let mut chars = Vec::new(alloc);
+    let mut left = body;
+    while !left.is_empty() {
+        let Some((c, rest)) = first_char(order, left) else {
+            return Err(TextError::TextFault {
+                at: marked + (body.len() - left.len()),
+            });
+        };
+        chars.push(c)?;
+        left = rest;
+    }
+    Ok(Text::of(chars))
+}
+
+// The character that begins the bytes of UTF-16, and the rest.
+fn first_char(order: ByteOrder, bytes: &[u8]) -> Option<(char, &[u8])>
+    ensures some { IfSome result (λ found. StartsChar (Encoding.Utf16 order) bytes.now found.0 found.1.now) }
+    ensures none { IfNone result (StartsNoChar (Encoding.Utf16 order) bytes.now) }
+{
+    let (unit, behind) = first_unit(order, bytes)?;
+    match unit {
+        0xd800..=0xdbff => {
+            let (low, rest) = first_unit(order, behind)?;
+            match low {
+                0xdc00..=0xdfff => {
+                    let code = 0x1_0000
+                        + (u32::from(unit) - 0xd800) * 0x400
+                        + (u32::from(low) - 0xdc00);
+                    Some((char::from_u32(code)?, rest))
+                }
+                _ => None,
+            }
+        }
+        _ => Some((char::from_u32(u32::from(unit))?, behind)),
+    }
+}
+
+// The unit of UTF-16 that begins the bytes, and the rest.
+fn first_unit(order: ByteOrder, bytes: &[u8]) -> Option<(u16, &[u8])>
+    ensures some { IfSome result (λ found. bytes.now ≡ unit_bytes order found.0 ++ found.1.now) }
+    ensures none { IfNone result (length bytes.now < 2) }
+{
+    let [first, second, rest @ ..] = bytes else {
+        return None;
+    };
+    let (least, greatest) = match order {
+        ByteOrder::LittleEndian => (*first, *second),
+        ByteOrder::BigEndian => (*second, *first),
+    };
+    Some((u16::from(greatest) * 256 + u16::from(least), rest))
+}

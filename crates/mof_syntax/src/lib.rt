@@ -1,0 +1,31 @@
+//! Management documents as text: the MOF instance syntax of DMTF DSP0004, within one profile of it.
+//!
+//! A layer above may rely on this: `decode_text` gives exactly the characters that the bytes encode, or the first byte
+//! that is none; `tokens` gives each token where it stands, as long as the syntax allows, and where the walk ended;
+//! `read_first` gives exactly the instances that a text of the plain first form spells, and refuses every other text.
+//! specs/ states the syntax as relations between bytes, characters, tokens and instances, with the limits, the
+//! canonical text and every reason to refuse a text.
+#![tactic(auto)]
+
+mod decoding;
+mod encoding;
+mod first;
+mod lead;
+mod mof_error;
+mod scan;
+mod text_error;
+mod token;
+mod tokenize;
+mod walk;
+
+pub use decoding::decode_text;
+pub use encoding::{ByteOrder, Encoding};
+pub use first::read_first;
+pub use mof_error::{Form, MofError};
+pub use text_error::TextError;
+pub use token::{Token, TokenKind};
+pub use tokenize::tokens;
+pub use walk::Tokens;
+
+#[cfg(test)]
+mod tests;
