@@ -1,0 +1,4 @@
+pub mod Goes
+pub mod Walks
+pub mod Runs
+pub mod Forward
