@@ -66,10 +66,6 @@ After E cs acc h p e = Runs E cs h p (tally e acc)
 abbrev pub Any : List Event → Type 0
 Any acc = Unit {0}
 
--- the characters complete a text of the grammar from the place on
-abbrev pub From : Place → List ℕ → Type 0
-From p cs = (ts : List Lexeme) × Lexes cs ts × Goes p ts
-
 pub split : (b : Bool) (x y : Option State) (P : Half → Place → Event → Type 0) → Next (cond b x y) P → ((b ≡ true) × Next x P) ⊎ ((b ≡ false) × Next y P)
 split true x y P h = inl (refl, h)
 split false x y P h = inr (refl, h)
