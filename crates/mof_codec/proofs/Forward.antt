@@ -37,7 +37,8 @@ use Rattle.mof_codec.specs.declared.machine.state.Event.TheVariants as events
 use Rattle.mof_codec.specs.Machine.{mark as marking, letters, is_sign, is_no_char, go, begin, keyed, first_letter, number_begun, value_word, numbered, step, is_whole, kind_of, opened}
 use Rattle.mof_codec.proofs.Goes.{IsKey, IsWordValue}
 use Rattle.mof_codec.proofs.Walks.{Walks}
-use Rattle.mof_codec.proofs.Runs.{Next, Whole, RunsTo, Ends, Runs, After, tally, test_or, not_next, octal_no_x, bit_no_x, b_no_x, b_no_bit, b_no_octal, b_no_digit, bit_digit, bit_octal, first_next, digit_no_first, sign_no_first, sign_no_digit, short_no_x, hex_no_quote}
+use Rattle.mof_codec.specs.Walked.{tally}
+use Rattle.mof_codec.proofs.Runs.{Next, Whole, RunsTo, Ends, Runs, After, test_or, not_next, octal_no_x, bit_no_x, b_no_x, b_no_bit, b_no_octal, b_no_digit, bit_digit, bit_octal, first_next, digit_no_first, sign_no_first, sign_no_digit, short_no_x, hex_no_quote}
 
 module _ (E : List Event → Type 0) (p : Place) (acc : List Event) where
   -- words

@@ -37,7 +37,8 @@ use Rattle.mof_codec.specs.declared.machine.state.Event.TheVariants as events
 use Rattle.std.specs.List.{AllByRecursion}
 use Rattle.mof_codec.specs.Machine.{letters, is_sign, is_no_char, go, begin, gapped, keyed, first_letter, number_begun, value_word, scalar_begun, numbered, step, is_whole, kind_of, opened, quoted, digit_on, key_on, key_read, head_of}
 use Rattle.mof_codec.proofs.Goes.{Goes, IsKey, IsWordValue, ScalarGoes}
-use Rattle.mof_codec.proofs.Runs.{Next, Whole, Runs, RunsTo, After, tally, split, test_or, bit_digit, bit_octal, first_next, Says, kind_says}
+use Rattle.mof_codec.specs.Walked.{tally}
+use Rattle.mof_codec.proofs.Runs.{Next, Whole, Runs, RunsTo, After, split, test_or, bit_digit, bit_octal, first_next, Says, kind_says}
 
 -- what is wanted holds of every mark, literal and keyword
 pub record Common (T : Lexeme → Type 0) : Type 0 where

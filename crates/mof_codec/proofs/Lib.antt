@@ -5,3 +5,5 @@ pub mod Forward
 pub mod Left
 pub mod TokensBack
 pub mod StepsBack
+pub mod Walking
+pub mod Fronts

@@ -35,6 +35,7 @@ use Rattle.mof_codec.specs.declared.machine.state.State.{State}
 use Rattle.mof_codec.specs.declared.machine.state.Event.{Event}
 use Rattle.mof_codec.specs.declared.machine.state.Event.TheVariants as events
 use Rattle.mof_codec.specs.Machine.{is_sign, kind_of, step, is_whole}
+use Rattle.mof_codec.specs.Walked.{tally}
 use Rattle.mof_codec.proofs.Goes.{Goes}
 
 abbrev pub Next : Option State → (Half → Place → Event → Type 0) → Type 0
@@ -43,10 +44,6 @@ Next (Some s) P = P s.half s.place s.begun
 
 abbrev pub Whole : Half → Place → Type 0
 Whole h p = (p ≡ Start) × (is_whole h ≡ true)
-
-abbrev pub tally : Event → List Event → List Event
-tally events.Quiet acc = acc
-tally e acc = e ∷ acc
 
 -- the machine takes these characters, and ends as is wanted
 abbrev pub RunsTo : (Half → Place → List Event → Type 0) → List ℕ → Half → Place → List Event → Type 0
