@@ -36,6 +36,7 @@ use Rattle.mof_codec.specs.declared.machine.state.Event.{Event}
 use Rattle.mof_codec.specs.declared.machine.state.Event.TheVariants as events
 use Rattle.std.specs.List.{AllByRecursion}
 use Rattle.mof_codec.specs.Machine.{letters, is_sign, is_no_char, go, begin, gapped, keyed, first_letter, number_begun, value_word, scalar_begun, numbered, step, is_whole, kind_of, opened, quoted, digit_on, key_on, key_read, head_of}
+use Rattle.mof_codec.specs.Beginnings.{scalar_place, name_place}
 use Rattle.mof_codec.proofs.Goes.{Goes, IsKey, IsWordValue, ScalarGoes}
 use Rattle.mof_codec.specs.Walked.{tally}
 use Rattle.mof_codec.proofs.Runs.{Next, Whole, Runs, RunsTo, After, split, test_or, bit_digit, bit_octal, first_next, Says, kind_says}
@@ -49,18 +50,6 @@ pub record Common (T : Lexeme → Type 0) : Type 0 where
   pub comma : T Comma
   pub literal : (text : List ℕ) → T (Literal text)
   pub keyword : (k : Keyword) (w : List ℕ) → IsKey k w → T (Word w)
-
--- where a single value, and an identifier that is no keyword, may begin
-abbrev pub scalar_place : Place → Bool
-scalar_place AfterEquals = true
-scalar_place InArray = true
-scalar_place AfterComma = true
-scalar_place p = false
-
-abbrev pub name_place : Place → Bool
-name_place AfterOf = true
-name_place Body = true
-name_place p = false
 
 module _ (T : Lexeme → Type 0) where
   -- the characters complete a text of the grammar from the place on

@@ -7,3 +7,4 @@ pub mod TokensBack
 pub mod StepsBack
 pub mod Walking
 pub mod Fronts
+pub mod Sane

@@ -40,7 +40,8 @@ use Rattle.mof_codec.specs.Machine as machine
 use Rattle.mof_codec.proofs.Goes.{Goes, IsKey, IsWordValue, ScalarGoes}
 use Rattle.mof_codec.specs.Walked.{tally}
 use Rattle.mof_codec.proofs.Runs.{Next, Whole, Runs, RunsTo, After, split, test_or, bit_digit, bit_octal, first_next, Says, kind_says}
-use Rattle.mof_codec.proofs.Left.{Common, scalar_place, name_place, From, AdmitsInteger, AdmitsName, Admits, Along, BitsLeft, Numbered, WordLeft, NumberLeft, TextLeft, DigitsLeft, Left, NextLeft}
+use Rattle.mof_codec.specs.Beginnings.{scalar_place, name_place}
+use Rattle.mof_codec.proofs.Left.{Common, From, AdmitsInteger, AdmitsName, Admits, Along, BitsLeft, Numbered, WordLeft, NumberLeft, TextLeft, DigitsLeft, Left, NextLeft}
 
 module _ (T : Lexeme → Type 0) (common : Common T) where
   module _ (p : Place) (c : ℕ) (cs : List ℕ) where

@@ -14,7 +14,7 @@ abbrev pub On : (Behind → Type 0) → Option Behind → Type 0
 On P None = ⊥
 On P (Some b) = P b
 
-none_stays : (cs : List ℕ) → walk_from None cs ≡ None
+pub none_stays : (cs : List ℕ) → walk_from None cs ≡ None
 none_stays [] = refl
 none_stays (c ∷ cs) = none_stays cs
 

@@ -1,3 +1,4 @@
 pub mod Machine
 pub mod Events
 pub mod Walked
+pub mod Beginnings
