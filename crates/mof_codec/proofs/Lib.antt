@@ -8,3 +8,4 @@ pub mod StepsBack
 pub mod Walking
 pub mod Fronts
 pub mod Sane
+pub mod Standing
