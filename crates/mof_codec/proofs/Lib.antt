@@ -9,3 +9,5 @@ pub mod Walking
 pub mod Fronts
 pub mod Sane
 pub mod Standing
+pub mod CountsFit
+pub mod TokensFit

@@ -2,3 +2,4 @@ pub mod Machine
 pub mod Events
 pub mod Walked
 pub mod Beginnings
+pub mod Counting

@@ -6,7 +6,7 @@ use Rattle.mof_values.specs.declared.instance.Instance.{Instance}
 use Rattle.mof_values.specs.declared.instance.Property.{Property}
 use Rattle.mof_values.specs.declared.value.Value.{Value}
 use Rattle.mof_values.specs.declared.value.Value.TheVariants.{One, Many}
-use Rattle.mof_syntax.specs.Characters.{slash, is_blank}
+use Rattle.mof_syntax.specs.Characters.{slash, right_brace, is_blank}
 use Rattle.mof_syntax.specs.Tokens.{Identifier}
 use Rattle.mof_syntax.specs.Grammar.{WideSpells}
 use Rattle.mof_syntax.specs.Limits.{instances_limit, properties_limit, elements_limit, identifier_limit}
@@ -46,13 +46,13 @@ pub record BeginsExcessProperty (text : List ℕ) (at : ℕ) : Type 0 where
   pub letter : is_first (slice_index text at) ≡ true
 
 -- the text before `at`, closed there behind one more element, has one more in its last array than it may have, and an
--- element begins there
+-- element begins there: neither a separator nor the brace that closes the array
 pub record BeginsExcessElement (text : List ℕ) (at : ℕ) : Type 0 where
   pub before : List Instance
   pub spelled : WideSpells (take at text ++ codes "$A};};") before
   pub full : last_elements (last_properties before) ≡ elements_limit + 1
   pub begins : BeginsScalar text at
-  pub no_separator : (is_blank (slice_index text at) || slice_index text at == slash) ≡ false
+  pub element : (is_blank (slice_index text at) || slice_index text at == slash || slice_index text at == right_brace) ≡ false
 
 -- an identifier with more characters than it may have begins at `at`
 pub record BeginsLongIdentifier (text : List ℕ) (at : ℕ) : Type 0 where
