@@ -271,7 +271,7 @@ module _ (E : List Event → Type 0) where
     ]
   ]
 
-letter_begins : (p : Place) (c : ℕ) → is_first c ≡ true → begin p c ≡ opened p kinds.Letter c
+pub letter_begins : (p : Place) (c : ℕ) → is_first c ≡ true → begin p c ≡ opened p kinds.Letter c
 unfolding begin
 letter_begins p c e = rw e refl
 

@@ -11,3 +11,4 @@ pub mod Sane
 pub mod Standing
 pub mod CountsFit
 pub mod TokensFit
+pub mod Begun
