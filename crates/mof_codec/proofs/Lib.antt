@@ -12,3 +12,4 @@ pub mod Standing
 pub mod CountsFit
 pub mod TokensFit
 pub mod Begun
+pub mod Excess

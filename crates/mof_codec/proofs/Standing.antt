@@ -46,12 +46,12 @@ takes_walk [] h p acc t = (_, refl)
 takes_walk (c ∷ cs) h p acc t = next_walk (step h p c) cs acc (takes_walk cs) t
 
 module _ (text : List ℕ) (at : ℕ) (b : Behind) (is : walked (take at text) ≡ Some b) where
-  may_takes : (cs : List ℕ) → MayStand text at cs → Takes cs b.half b.place
+  pub may_takes : (cs : List ℕ) → MayStand text at cs → Takes cs b.half b.place
   may_takes cs f =
       takes_front cs f.0 b.half b.place b.begun
           (only_so (Ends Any) (take at text) (cs ++ f.0) b is (subst (λ (x : List ℕ). Runs Any x halves.Gap Start []) (append_assoc (take at text) cs f.0) (wide_runs ((take at text ++ cs) ++ f.0) f.1)))
 
-  takes_may : (cs : List ℕ) → Takes cs b.half b.place → MayStand text at cs
+  pub takes_may : (cs : List ℕ) → Takes cs b.half b.place → MayStand text at cs
   takes_may cs t =
       let more = takes_walk cs b.half b.place b.begun t in
       is_front (take at text ++ cs) more.0 (walk-append (Some start) (take at text) cs ∙ ap (λ (x : Option Behind). walk_from x cs) is ∙ more.1)
