@@ -16,6 +16,7 @@ use Rattle.mof_codec.specs.declared.machine.counts.Counts.{Counts}
 use Rattle.mof_codec.specs.Walked.{tally}
 use Rattle.mof_codec.specs.Events.{items_events, value_events, properties_events, events_of}
 use Rattle.mof_codec.specs.Counting.{declarations_in, properties_in, elements_in, Tells, counted, is_excess, AreWithin, WereWithin}
+use Rattle.mof_codec.specs.Searching.{HasFewElements, HasFewParts}
 
 -- the counts of what instances begin
 
@@ -91,19 +92,12 @@ value_was : (v : Value) (acc : List Event) → WereWithin (value_events v acc) �
 value_was (One s) acc w = w
 value_was (Many ss) acc w = items_were ss acc w
 
-abbrev pub HasFewElements : Property → Type 0
-HasFewElements p = elements_of p.value ≤ elements_limit
-
 properties_were : (ps : List Property) (acc : List Event) → WereWithin (properties_events ps acc) → AllByRecursion HasFewElements ps × WereWithin acc
 properties_were [] acc w = (tt, w)
 properties_were (p ∷ ps) acc w =
     let rest = properties_were ps (value_events p.value (events.Property ∷ acc)) w in
     let few : elements_of p.value ≤ elements_limit = subst (λ (n : ℕ). n ≤ elements_limit) (value_elements p.value acc) (are_within _ rest.1).elements in
     ((few, rest.0), (value_was p.value (events.Property ∷ acc) rest.1).1)
-
-pub record HasFewParts (i : Instance) : Type 0 where
-  pub properties : length i.properties ≤ properties_limit
-  pub elements : AllByRecursion HasFewElements i.properties
 
 pub have_few_parts : (is : List Instance) (acc : List Event) → WereWithin (events_of is acc) → AllByRecursion HasFewParts is × WereWithin acc
 have_few_parts [] acc w = (tt, w)

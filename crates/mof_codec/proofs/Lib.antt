@@ -13,3 +13,4 @@ pub mod CountsFit
 pub mod TokensFit
 pub mod Begun
 pub mod Excess
+pub mod Stepping

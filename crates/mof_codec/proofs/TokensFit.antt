@@ -20,7 +20,7 @@ use Rattle.mof_codec.specs.declared.machine.state.Keyword.TheVariants as keyword
 use Rattle.mof_codec.specs.Machine.{letters}
 use Rattle.mof_codec.proofs.Goes.{IsKey}
 use Rattle.mof_codec.proofs.Left.{Common}
-use Rattle.mof_codec.proofs.CountsFit.{HasFewElements, HasFewParts}
+use Rattle.mof_codec.specs.Searching.{HasFewElements, HasFewParts}
 
 abbrev pub TokenFits : Lexeme → Type 0
 TokenFits (Word name) = IsShortName name

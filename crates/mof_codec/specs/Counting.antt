@@ -1,5 +1,6 @@
 -- How many declarations, properties and elements were begun.
-use Rattle.std.specs.Prelude.{◌≡◌, ◌≤◌, ◌+◌, ℕ, suc, Bool, false, ◌==◌, List, [], ◌∷◌, ⊤}
+use Rattle.std.specs.Prelude.{◌≡◌, ◌≤◌, ◌+◌, ℕ, suc, Bool, false, ◌==◌, List, [], ◌∷◌, ⊤, if◌then◌else◌}
+use Rattle.mof_values.specs.Ident.{is_next}
 use Rattle.mof_syntax.specs.Limits.{instances_limit, properties_limit, elements_limit}
 use Rattle.mof_codec.specs.declared.machine.state.Event.{Event}
 use Rattle.mof_codec.specs.declared.machine.state.Event.TheVariants.{Quiet, Declaration, Property, Element}
@@ -55,3 +56,8 @@ pub record AreWithin (events : List Event) : Type 0 where
 abbrev pub WereWithin : List Event → Type 0
 WereWithin [] = ⊤
 WereWithin (e ∷ es) = AreWithin (e ∷ es) × WereWithin es
+
+-- how many characters go on an identifier
+abbrev pub name_length : List ℕ → ℕ
+name_length [] = 0
+name_length (c ∷ cs) = if is_next c then suc (name_length cs) else 0

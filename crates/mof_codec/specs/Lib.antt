@@ -3,3 +3,5 @@ pub mod Events
 pub mod Walked
 pub mod Beginnings
 pub mod Counting
+pub mod Searching
+pub mod Winning

@@ -2,5 +2,6 @@
 #![tactic(auto)]
 
 mod machine;
+mod refusing;
 
 pub use mof_syntax::{Form, MofError, TextError, Token, TokenKind, Tokens, decode_text, tokens};

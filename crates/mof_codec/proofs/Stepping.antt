@@ -1,0 +1,128 @@
+-- A loop that steps over the characters of a text.
+use Rattle.std.proofs.Common.{◌≡◌, ℕ, zero, suc, ◌+◌, ◌-◌, ◌<◌, ◌≤◌, List, [], ◌∷◌, ◌++◌, Option, Some, None, length, take, drop, refl, sym, ◌∙◌, ap, subst, arith, append_assoc, append-nil}
+use Rattle.std.specs.Prelude.{slice_index, slice_index_or}
+use Rattle.std.proofs.lemmas.List.{take_all}
+use Rattle.mof_syntax.specs.Grammar.{Wide}
+use Rattle.mof_syntax.specs.Fronts.{IsFront, IsSyntaxFault}
+use Rattle.mof_codec.specs.declared.machine.state.State.{State}
+use Rattle.mof_codec.specs.declared.machine.state.Place.TheVariants.{Start}
+use Rattle.mof_codec.specs.declared.machine.state.Half.TheVariants as halves
+use Rattle.mof_codec.specs.declared.machine.state.Event.{Event}
+use Rattle.mof_codec.specs.declared.machine.state.Event.TheVariants as events
+use Rattle.mof_codec.specs.Machine.{step}
+use Rattle.mof_codec.specs.Walked.{tally, Behind, walked}
+use Rattle.mof_codec.proofs.Runs.{Whole}
+use Rattle.mof_codec.proofs.Walking.{walked-more, walked-stuck}
+use Rattle.mof_codec.proofs.Fronts.{fault_here, fault_end, whole_here}
+
+abbrev pub behind_of : State → List Event → Behind
+behind_of s begun = record { half = s.half; place = s.place; begun = begun }
+
+-- the machine came to this state over the characters before these
+pub record Stepped (chars left : List ℕ) (state : State) : Type 0 where
+  pub front : List ℕ
+  pub split : chars ≡ front ++ left
+  pub begun : List Event
+  pub behind : walked front ≡ Some (behind_of state begun)
+
+pub stepped_none : (chars : List ℕ) → Stepped chars chars (record { place = Start; half = halves.Gap; begun = events.Quiet })
+stepped_none chars = record { front = []; split = refl; begun = []; behind = refl }
+
+pub stepped_more : (chars : List ℕ) (c : ℕ) (rest : List ℕ) (state next : State) → Stepped chars (c ∷ rest) state → Some next ≡ step state.half state.place c → Stepped chars rest next
+stepped_more chars c rest state next s e = record {
+  front = s.front ++ c ∷ [];
+  split = s.split ∙ sym (append_assoc s.front (c ∷ []) rest);
+  begun = tally next.begun s.begun;
+  behind = walked-more s.front c (behind_of state s.begun) next s.behind (sym e);
+}
+
+-- in places of the text
+
+take_front : (front left : List ℕ) → take (length front) (front ++ left) ≡ front
+take_front [] left = refl
+take_front (c ∷ front) left = ap (λ (x : List ℕ). c ∷ x) (take_front front left)
+
+drop_front : (front left : List ℕ) → drop (length front) (front ++ left) ≡ left
+drop_front [] left = refl
+drop_front (c ∷ front) left = drop_front front left
+
+index_front : (front : List ℕ) (c : ℕ) (rest : List ℕ) → slice_index (front ++ c ∷ rest) (length front) ≡ c
+index_front [] c rest = refl
+index_front (d ∷ front) c rest = index_front front c rest
+
+length_front : (front left : List ℕ) → length (front ++ left) ≡ length front + length left
+length_front [] left = omega arith
+length_front (c ∷ front) left = omega (arith, length_front front left)
+
+module _ (chars left : List ℕ) (state : State) (s : Stepped chars left state) where
+  pub place_is : length chars - length left ≡ length s.front
+  place_is = omega (arith, ap (λ (x : List ℕ). length x) s.split, length_front s.front left)
+
+  pub place_within : length s.front + length left ≡ length chars
+  place_within = omega (arith, ap (λ (x : List ℕ). length x) s.split, length_front s.front left)
+
+  pub front_is : take (length s.front) chars ≡ s.front
+  front_is = ap (λ (x : List ℕ). take (length s.front) x) s.split ∙ take_front s.front left
+
+  pub left_is : drop (length s.front) chars ≡ left
+  left_is = ap (λ (x : List ℕ). drop (length s.front) x) s.split ∙ drop_front s.front left
+
+  pub walked_there : walked (take (length s.front) chars) ≡ Some (behind_of state s.begun)
+  walked_there = ap (λ (x : List ℕ). walked x) front_is ∙ s.behind
+
+pub char_is : (chars : List ℕ) (c : ℕ) (rest : List ℕ) (state : State) (s : Stepped chars (c ∷ rest) state) → slice_index chars (length s.front) ≡ c
+char_is chars c rest state s = ap (λ (x : List ℕ). slice_index x (length s.front)) s.split ∙ index_front s.front c rest
+
+-- the machine is stuck at the next character
+pub stuck_fault : (chars : List ℕ) (c : ℕ) (rest : List ℕ) (state : State) → Stepped chars (c ∷ rest) state → None ≡ step state.half state.place c → IsSyntaxFault chars (length chars - length (c ∷ rest))
+stuck_fault chars c rest state s e =
+    subst (λ (x : ℕ). IsSyntaxFault chars x) (sym (place_is chars (c ∷ rest) state s))
+        (fault_here chars (length s.front) (behind_of state s.begun) (omega (arith, place_within chars (c ∷ rest) state s)) (walked_there chars (c ∷ rest) state s)
+            (ap (λ (x : ℕ). step state.half state.place x) (char_is chars c rest state s) ∙ sym e))
+
+pub stuck_walk : (chars : List ℕ) (c : ℕ) (rest : List ℕ) (state : State) → Stepped chars (c ∷ rest) state → None ≡ step state.half state.place c → walked chars ≡ None
+stuck_walk chars c rest state s e = ap (λ (x : List ℕ). walked x) s.split ∙ walked-stuck s.front c (behind_of state s.begun) s.behind (sym e) rest
+
+-- all is read
+pub end_behind : (chars : List ℕ) (state : State) (s : Stepped chars [] state) → walked chars ≡ Some (behind_of state s.begun)
+end_behind chars state s = ap (λ (x : List ℕ). walked x) (s.split ∙ append-nil s.front) ∙ s.behind
+
+pub end_wide : (chars : List ℕ) (state : State) → Stepped chars [] state → Whole state.half state.place → Wide chars
+end_wide chars state s w = whole_here chars (behind_of state s.begun) (end_behind chars state s) w
+
+pub end_fault : (chars : List ℕ) (state : State) → Stepped chars [] state → (Whole state.half state.place → ⊥) → IsSyntaxFault chars (length chars)
+end_fault chars state s n = fault_end chars (behind_of state s.begun) (end_behind chars state s) n
+
+-- the same, as the patterns of slices say it
+
+rest_is : (c : ℕ) (rest : List ℕ) → take (length (c ∷ rest) - 1) (drop 1 (c ∷ rest)) ≡ rest
+rest_is c rest = take_all (length (c ∷ rest) - 1) rest (omega arith)
+
+nothing_left : {X : Type 0} → 1 ≤ length {A = ℕ} [] → X
+nothing_left le = absurd (omega (arith, le))
+
+module _ (chars left : List ℕ) (state : State) (c d : ℕ) where
+  pub stepped_on : (next : State) → Stepped chars left state → 1 ≤ length left → c ≡ slice_index_or left 0 d → Some next ≡ step state.half state.place c → Stepped chars (take (length left - 1) (drop 1 left)) next
+  stepped_on next s le is e = on left s le is
+    where
+      on : (left : List ℕ) → Stepped chars left state → 1 ≤ length left → c ≡ slice_index_or left 0 d → Stepped chars (take (length left - 1) (drop 1 left)) next
+      on [] s le is = nothing_left le
+      on (x ∷ rest) s le is = subst (λ (r : List ℕ). Stepped chars r next) (sym (rest_is x rest)) (stepped_more chars x rest state next s (e ∙ ap (λ (y : ℕ). step state.half state.place y) is))
+
+  pub stuck_at : Stepped chars left state → 1 ≤ length left → c ≡ slice_index_or left 0 d → None ≡ step state.half state.place c → IsSyntaxFault chars (length chars - length left)
+  stuck_at s le is e = on left s le is
+    where
+      on : (left : List ℕ) → Stepped chars left state → 1 ≤ length left → c ≡ slice_index_or left 0 d → IsSyntaxFault chars (length chars - length left)
+      on [] s le is = nothing_left le
+      on (x ∷ rest) s le is = stuck_fault chars x rest state s (e ∙ ap (λ (y : ℕ). step state.half state.place y) is)
+
+  pub stuck_behind : Stepped chars left state → 1 ≤ length left → c ≡ slice_index_or left 0 d → None ≡ step state.half state.place c → walked chars ≡ None
+  stuck_behind s le is e = on left s le is
+    where
+      on : (left : List ℕ) → Stepped chars left state → 1 ≤ length left → c ≡ slice_index_or left 0 d → walked chars ≡ None
+      on [] s le is = nothing_left le
+      on (x ∷ rest) s le is = stuck_walk chars x rest state s (e ∙ ap (λ (y : ℕ). step state.half state.place y) is)
+
+pub all_read : (chars left : List ℕ) (state : State) → Stepped chars left state → length left < 1 → Stepped chars [] state
+all_read chars [] state s lt = s
+all_read chars (x ∷ rest) state s lt = absurd (omega (arith, lt))
