@@ -14,3 +14,5 @@ pub mod TokensFit
 pub mod Begun
 pub mod Excess
 pub mod Stepping
+pub mod ExcessSearch
+pub mod ScalarSearch

@@ -45,6 +45,10 @@ takes_walk : (cs : List ℕ) (h : Half) (p : Place) (acc : List Event) → Takes
 takes_walk [] h p acc t = (_, refl)
 takes_walk (c ∷ cs) h p acc t = next_walk (step h p c) cs acc (takes_walk cs) t
 
+-- the machine comes through every front
+pub front_walked : (front : List ℕ) → IsFront front → (b : Behind) × (walked front ≡ Some b)
+front_walked front f = takes_walk front halves.Gap Start [] (takes_front front f.0 halves.Gap Start [] (wide_runs (front ++ f.0) f.1))
+
 module _ (text : List ℕ) (at : ℕ) (b : Behind) (is : walked (take at text) ≡ Some b) where
   pub may_takes : (cs : List ℕ) → MayStand text at cs → Takes cs b.half b.place
   may_takes cs f =

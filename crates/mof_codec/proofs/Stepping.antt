@@ -25,10 +25,10 @@ pub record Stepped (chars left : List ℕ) (state : State) : Type 0 where
   pub begun : List Event
   pub behind : walked front ≡ Some (behind_of state begun)
 
-pub stepped_none : (chars : List ℕ) → Stepped chars chars (record { place = Start; half = halves.Gap; begun = events.Quiet })
+unfoldable pub stepped_none : (chars : List ℕ) → Stepped chars chars (record { place = Start; half = halves.Gap; begun = events.Quiet })
 stepped_none chars = record { front = []; split = refl; begun = []; behind = refl }
 
-pub stepped_more : (chars : List ℕ) (c : ℕ) (rest : List ℕ) (state next : State) → Stepped chars (c ∷ rest) state → Some next ≡ step state.half state.place c → Stepped chars rest next
+unfoldable pub stepped_more : (chars : List ℕ) (c : ℕ) (rest : List ℕ) (state next : State) → Stepped chars (c ∷ rest) state → Some next ≡ step state.half state.place c → Stepped chars rest next
 stepped_more chars c rest state next s e = record {
   front = s.front ++ c ∷ [];
   split = s.split ∙ sym (append_assoc s.front (c ∷ []) rest);
@@ -95,10 +95,10 @@ end_fault chars state s n = fault_end chars (behind_of state s.begun) (end_behin
 
 -- the same, as the patterns of slices say it
 
-rest_is : (c : ℕ) (rest : List ℕ) → take (length (c ∷ rest) - 1) (drop 1 (c ∷ rest)) ≡ rest
+pub rest_is : (c : ℕ) (rest : List ℕ) → take (length (c ∷ rest) - 1) (drop 1 (c ∷ rest)) ≡ rest
 rest_is c rest = take_all (length (c ∷ rest) - 1) rest (omega arith)
 
-nothing_left : {X : Type 0} → 1 ≤ length {A = ℕ} [] → X
+pub nothing_left : {X : Type 0} → 1 ≤ length {A = ℕ} [] → X
 nothing_left le = absurd (omega (arith, le))
 
 module _ (chars left : List ℕ) (state : State) (c d : ℕ) where

@@ -1,5 +1,6 @@
 -- What is looked for in a text that is refused.
-use Rattle.std.specs.Prelude.{◌≡◌, ◌≤◌, ◌<◌, ℕ, ℤ, Bool, List, [], ◌∷◌, ◌++◌, Option, Some, None, length, take, drop, get_or, codes}
+use Rattle.std.specs.Prelude.{◌≡◌, ◌≤◌, ◌<◌, ℕ, ℤ, Bool, List, [], ◌∷◌, ◌++◌, Option, Some, None, length, take, drop, codes, true, false, ◌==◌, if◌then◌else◌}
+use Rattle.std.specs.List.{list_all}
 use Rattle.std.specs.List.{AllByRecursion}
 use Rattle.mof_values.specs.Fold.{SameName}
 use Rattle.mof_values.specs.declared.instance.Instance.{Instance}
@@ -7,7 +8,7 @@ use Rattle.mof_values.specs.declared.instance.Property.{Property}
 use Rattle.mof_values.specs.Ident.{is_next}
 use Rattle.mof_syntax.specs.declared.mof_error.Form.{Form}
 use Rattle.mof_syntax.specs.declared.mof_error.Form.TheVariants as forms
-use Rattle.mof_syntax.specs.Characters.{Stops}
+use Rattle.mof_syntax.specs.Characters.{Stops, digit_of}
 use Rattle.mof_syntax.specs.Tokens.{IsToken, Number, Identifier}
 use Rattle.mof_syntax.specs.Limits.{IsOutOfRange, identifier_limit, properties_limit, elements_limit}
 use Rattle.mof_syntax.specs.Fronts.{GoesUpTo, BeginsScalar}
@@ -17,6 +18,8 @@ use Rattle.mof_codec.specs.declared.machine.state.State.{State}
 use Rattle.mof_codec.specs.declared.machine.state.Event.{Event}
 use Rattle.mof_codec.specs.declared.refusing.scalar.Wanted.{Wanted}
 use Rattle.mof_codec.specs.declared.refusing.scalar.Wanted.TheVariants.{ExcessInteger, Real}
+use Rattle.mof_codec.specs.Machine.{is_sign}
+use Rattle.mof_codec.specs.Beginnings.{begins_scalar, begins_declaration}
 use Rattle.mof_codec.specs.Walked.{walked}
 
 -- the least place of which it holds
@@ -84,9 +87,24 @@ pub record BeginsWord (cs word : List ℕ) : Type 0 where
   pub same : SameName (take (length word) cs) word
   pub stops : Stops is_next (drop (length word) cs)
 
+-- the character comes first
+abbrev pub begins_with : List ℕ → ℕ → Bool
+begins_with [] c = false
+begins_with (x ∷ xs) c = x == c
+
 -- a form comes first that may stand in place of a declaration
 pub data BeginsForm (cs : List ℕ) : Form → Type 0 where
-  pragma : get_or cs 0 0 ≡ 35 → BeginsForm cs forms.Pragma
-  qualifiers : get_or cs 0 0 ≡ 91 → BeginsForm cs forms.Qualifiers
+  pragma : begins_with cs 35 ≡ true → BeginsForm cs forms.Pragma
+  qualifiers : begins_with cs 91 ≡ true → BeginsForm cs forms.Qualifiers
   class : BeginsWord cs (codes "class") → BeginsForm cs forms.Class
   qualifier : BeginsWord cs (codes "qualifier") → BeginsForm cs forms.Qualifier
+
+-- a form stands where the machine is in the state and these characters come
+pub data StandsForm (state : State) (cs : List ℕ) : Form → Type 0 where
+  character : begins_scalar state.half state.place ≡ true → begins_with cs 39 ≡ true → StandsForm state cs forms.Character
+  declared : (form : Form) → begins_declaration state.half state.place ≡ true → BeginsForm cs form → StandsForm state cs form
+
+-- an optional sign and decimal digits, and nothing else
+abbrev pub is_real : List ℕ → Bool
+is_real [] = true
+is_real (c ∷ cs) = if is_sign c then list_all (digit_of 10) cs else list_all (digit_of 10) (c ∷ cs)

@@ -1,13 +1,14 @@
 //! The form of DSP0004 that is left out and stands where a text goes wrong.
 ghost use Rattle.std.specs.Prelude.{◌≡◌, ◌≤◌, ◌↔◌, true, length, IfSome, IfNone};
 ghost use Rattle.mof_values.specs.Ident.{is_next};
-ghost use Rattle.mof_syntax.specs.Characters.{Stops};
 ghost use Rattle.mof_syntax.specs.declared.mof_error.Form.{Form};
+ghost use Rattle.mof_syntax.specs.Characters.{Stops};
 ghost use Rattle.mof_syntax.specs.Fronts.{IsSyntaxFault};
-ghost use Rattle.mof_codec.specs.Searching.{IsFirstForm, HasNoForm, BeginsWord, BeginsForm};
+ghost use Rattle.mof_codec.specs.Searching.{IsFirstForm, HasNoForm, BeginsWord, BeginsForm, StandsForm, begins_with};
 
 use crate::machine::beginnings::{begins_declaration, begins_scalar};
 use crate::machine::characters::may_follow;
+use crate::machine::state::State;
 use crate::refusing::fault::state_behind;
 use crate::refusing::scalar::{Wanted, first_scalar};
 use mof_syntax::Form;
@@ -20,20 +21,33 @@ pub(crate) fn form_at(chars: &[char], fault: usize) -> Option<(usize, Form)>
     ensures some { IfSome result (λ found. IsFirstForm chars.now fault found.0 found.1) }
     ensures none { IfNone result (HasNoForm chars.now fault) }
 {
-    let (front, left) = (&chars[..fault], &chars[fault..]);
-    let state = state_behind(front)?;
-    match left {
-        ['.', ..] => match first_scalar(front, Wanted::Real) {
+    let front = &chars[..fault];
+    let left = &chars[fault..];
+    if begins_with(left, '.') {
+        return match first_scalar(front, Wanted::Real) {
             Some(at) => Some((at, Form::Real)),
             None => None,
-        },
-        ['\'', ..] if begins_scalar(state) => Some((fault, Form::Character)),
-        _ if begins_declaration(state) => match declared(left) {
-            Some(form) => Some((fault, form)),
-            None => None,
-        },
-        _ => None,
+        };
     }
+    let state = state_behind(front)?;
+    match form_here(state, left) {
+        Some(form) => Some((fault, form)),
+        None => None,
+    }
+}
+
+// The form that stands where the machine is in the state and these characters come.
+fn form_here(state: State, left: &[char]) -> Option<Form>
+    ensures some { IfSome result (λ form. StandsForm state left.now form) }
+    ensures none { IfNone result ((form : Form) → StandsForm state left.now form → ⊥) }
+{
+    if begins_scalar(state) && begins_with(left, '\'') {
+        return Some(Form::Character);
+    }
+    if begins_declaration(state) {
+        return declared(left);
+    }
+    None
 }
 
 // The form that stands in place of a declaration.
@@ -41,12 +55,27 @@ fn declared(left: &[char]) -> Option<Form>
     ensures some { IfSome result (λ form. BeginsForm left.now form) }
     ensures none { IfNone result ((form : Form) → BeginsForm left.now form → ⊥) }
 {
-    match left {
-        ['#', ..] => Some(Form::Pragma),
-        ['[', ..] => Some(Form::Qualifiers),
-        _ if begins_word(left, "class") => Some(Form::Class),
-        _ if begins_word(left, "qualifier") => Some(Form::Qualifier),
-        _ => None,
+    if begins_with(left, '#') {
+        return Some(Form::Pragma);
+    }
+    if begins_with(left, '[') {
+        return Some(Form::Qualifiers);
+    }
+    if begins_word(left, "class") {
+        return Some(Form::Class);
+    }
+    if begins_word(left, "qualifier") {
+        return Some(Form::Qualifier);
+    }
+    None
+}
+
+fn begins_with(chars: &[char], c: char) -> bool
+    ensures { result ≡ begins_with chars.now c }
+{
+    match chars {
+        [first, ..] => *first == c,
+        [] => false,
     }
 }
 

@@ -1,9 +1,10 @@
 //! The first place at which a literal of a kind stands where a single value may begin.
 ghost use Rattle.std.specs.Prelude.{◌≡◌, ◌↔◌, ℕ, true, IfSome, IfNone};
 ghost use Rattle.mof_syntax.specs.Fronts.{IsFront};
-ghost use Rattle.mof_syntax.specs.Profile.{AreDigits, BeginsReal};
+ghost use Rattle.std.specs.List.{list_all};
+ghost use Rattle.mof_syntax.specs.Characters.{digit_of};
 ghost use Rattle.mof_codec.specs.Beginnings.{begins_scalar};
-ghost use Rattle.mof_codec.specs.Searching.{FirstOf, IsWanted, ScalarStands, BeginsExcessInteger};
+ghost use Rattle.mof_codec.specs.Searching.{FirstOf, IsWanted, ScalarStands, BeginsExcessInteger, is_real};
 
 use crate::machine::beginnings::begins_scalar;
 use crate::machine::state::{START, State};
@@ -60,7 +61,7 @@ fn is_wanted(wanted: Wanted, chars: &[char]) -> bool
 
 // An optional sign and decimal digits, and nothing else.
 fn is_real(chars: &[char]) -> bool
-    ensures { result ≡ true ↔ BeginsReal chars.now }
+    ensures { result ≡ is_real chars.now }
 {
     match chars {
         ['+' | '-', rest @ ..] => are_digits(rest),
@@ -69,16 +70,9 @@ fn is_real(chars: &[char]) -> bool
 }
 
 fn are_digits(chars: &[char]) -> bool
-    ensures { result ≡ true ↔ AreDigits chars.now }
+    ensures { result ≡ list_all (digit_of 10) chars.now }
 {
-    let mut left = chars;
-    while let [c, rest @ ..] = left {
-        if !c.is_digit(10) {
-            return false;
-        }
-        left = rest;
-    }
-    true
+    chars.iter().all(|c| c.is_digit(10))
 }
 
 fn is_excess_integer(chars: &[char]) -> bool
