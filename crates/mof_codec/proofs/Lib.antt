@@ -16,3 +16,5 @@ pub mod Excess
 pub mod Stepping
 pub mod ExcessSearch
 pub mod ScalarSearch
+pub mod FormSearch
+pub mod Covering
