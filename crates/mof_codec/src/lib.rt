@@ -1,4 +1,6 @@
 //! Configuration documents as text: reading and writing the instance syntax of DMTF DSP0004, within one profile of it.
 #![tactic(auto)]
 
+mod values;
+
 pub use mof_syntax::{Form, MofError, TextError, Token, TokenKind, Tokens, decode_text, tokens};
