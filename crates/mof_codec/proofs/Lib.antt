@@ -6,3 +6,9 @@ pub mod Escapes
 pub mod LiteralsRead
 pub mod DigitsRead
 pub mod IntegersRead
+pub mod Parts
+pub mod ConstantsRead
+pub mod ArraysRead
+pub mod PropertiesRead
+pub mod HeadsRead
+pub mod DeclarationsRead

@@ -1,6 +1,6 @@
 -- What an option of a slice holds.
-use Rattle.std.proofs.Common.{◌≡◌, ℕ, Bool, true, false, List, Option, Some, None, sym, subst, Bor}
-use Rattle.std.specs.Prelude.{IfSome, IfNone, IsTrue}
+use Rattle.std.proofs.Common.{◌≡◌, ℕ, Bool, true, false, List, Option, Some, None, Result, Ok, Err, sym, subst, Bor}
+use Rattle.std.specs.Prelude.{IfSome, IfNone, IfOk, IsTrue}
 use Rattle.std.specs.Option.{option_copied}
 
 pub if_some : (o : Option (Bor (List ℕ))) (f : Option (List ℕ)) (P : List ℕ → Type 0) → option_copied o ≡ f → ((rest : List ℕ) → f ≡ Some rest → P rest) → IfSome o (λ b. P b.now)
@@ -32,3 +32,7 @@ map_none (Some x) P Q f h = tt
 pub untrue : (b : Bool) → IsTrue b → b ≡ false → ⊥
 untrue true h e = absurd cc
 untrue false h e = absurd cc
+
+pub map_ok : {A F : Type 0} (r : Result A F) (P Q : A → Type 0) → ((x : A) → P x → Q x) → IfOk r P → IfOk r Q
+map_ok (Ok x) P Q f h = f x h
+map_ok (Err e) P Q f h = tt
