@@ -79,8 +79,7 @@ elements_next us done vs ws s ts x e o = record {
   only = λ all rest i.
       let y = x.only all rest i in
       let z = behind_comma vs ws y.0 rest e (elements_case vs y.0 rest y.2) in
-      let same = o.only z.0 z.2 (elements_first z.2 z.1 rest z.4) z.3 in
-      (
+      let same = o.only z.0 z.2 (elements_first z.2 z.1 rest z.4) z.3 in (
         z.1,
         y.1 ∙ ap (λ (ss : List Scalar). done ++ ss) (z.5 ∙ ap (λ (q : Scalar). q ∷ z.1) same.0) ∙ sym (append_assoc done (s ∷ []) z.1),
         subst (λ (ys : List Lexeme). Elements ys z.1 rest) same.1 z.4,
@@ -126,6 +125,7 @@ lacks_first cs no_brace no_constant us ts all n l i f = goes (array_case us all 
   where
     fits : (s : Scalar) (more : List Scalar) → all ≡ s ∷ more → ScalarFits s
     fits s more e = all_at ScalarFits [] s more (subst (AllByRecursion ScalarFits) e f.1)
+
     goes : ArrayCase us all ts → ⊥
     goes (at_closing e g) = no_brace us ts l e
     goes (at_element s more behind c e g) = no_constant us behind s (elements_first behind more ts e) l c (fits s more g)

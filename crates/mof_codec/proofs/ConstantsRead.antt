@@ -1,13 +1,12 @@
 -- Single values by their first token.
-use Rattle.std.proofs.Common.{◌≡◌, ◌⊎◌, inl, inr, ℕ, true, false, List, [], ◌∷◌, refl, sym, ap, subst, ◌∙◌, codes}
+use Rattle.std.proofs.Common.{◌≡◌, inl, inr, ℕ, true, false, List, ◌∷◌, refl, sym, ap, subst, ◌∙◌, codes}
 use Rattle.std.specs.Prelude.{ℤ}
-use Rattle.mof_values.specs.Fold.{SameName}
 use Rattle.mof_values.specs.declared.value.Scalar.{Scalar}
 use Rattle.mof_values.specs.declared.value.Scalar.TheVariants as scalars
-use Rattle.mof_syntax.specs.Tokens.{Lexeme, Word, AliasName, Literal, Number, Lexes}
-use Rattle.mof_syntax.specs.Grammar.{NoLiteral, StringValue, last, joined, ConstantValue, string_value, integer_value, true_value, false_value, null_value, alias_identifier}
+use Rattle.mof_syntax.specs.Tokens.{Lexeme, Word, AliasName, Literal, Number}
+use Rattle.mof_syntax.specs.Grammar.{StringValue, last, joined, ConstantValue, string_value, integer_value, true_value, false_value, null_value, alias_identifier}
 use Rattle.mof_syntax.specs.Limits.{IsInRange, IsShortName, ScalarFits}
-use Rattle.mof_syntax.proofs.UniqueRules.{ConstantBy, KeywordValue, constant_by, keyword_same}
+use Rattle.mof_syntax.proofs.UniqueRules.{KeywordValue, constant_by, keyword_same}
 use Rattle.mof_codec.specs.Reading.{Begins, BeginsNo, Only, Reads, Lacks}
 use Rattle.mof_codec.specs.Values.{IsKeyword, IsAlias, IsNumber, AnyText}
 use Rattle.mof_codec.proofs.TokenFronts.{begins_as}

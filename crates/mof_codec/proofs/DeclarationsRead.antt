@@ -6,8 +6,8 @@ use Rattle.mof_values.specs.declared.instance.Property.{Property}
 use Rattle.mof_syntax.specs.Separators.{Separators}
 use Rattle.mof_syntax.specs.Scanning.{separator_rest}
 use Rattle.mof_syntax.specs.Walk.{NoSeparator}
-use Rattle.mof_syntax.specs.Tokens.{Lexeme, Word, LeftBrace, Semicolon, Lexes, end, separator}
-use Rattle.mof_syntax.specs.Grammar.{NoLiteral, AliasClause, unnamed, named, ValueInitializers, done, value_initializer, InstanceDeclarations, nothing, instance_declaration}
+use Rattle.mof_syntax.specs.Tokens.{Lexeme, Semicolon, Lexes, end, separator}
+use Rattle.mof_syntax.specs.Grammar.{NoLiteral, unnamed, named, ValueInitializers, done, value_initializer, InstanceDeclarations, nothing, instance_declaration}
 use Rattle.mof_syntax.specs.Limits.{instances_limit, IsShortName, InstanceFits, Spells}
 use Rattle.mof_syntax.proofs.Absent.{no_separator}
 use Rattle.mof_codec.specs.Reading.{Begins, BeginsNo, Only, Reads, Lacks}
@@ -43,8 +43,7 @@ only_declaration us class vs alias ws ps xs ts h n v e = record {
     goes i rest d =
         let heads = h.only i.class d.0 (naming_first d.0 d.1 i.alias d.3) d.2 in
         let names = n.only i.alias d.1 (body_first d.1 i.properties (Semicolon ∷ rest) d.4) (subst (λ (ys : List Lexeme). IsNaming ys i.alias d.1) heads.1 d.3) in
-        let bodies = v.only i.properties (Semicolon ∷ rest) tt (subst (λ (ys : List Lexeme). ValueInitializers ys i.properties (Semicolon ∷ rest)) names.1 d.4) in
-        (
+        let bodies = v.only i.properties (Semicolon ∷ rest) tt (subst (λ (ys : List Lexeme). ValueInitializers ys i.properties (Semicolon ∷ rest)) names.1 d.4) in (
           ap (λ (c : List ℕ). declared c i.alias i.properties) heads.0 ∙ ap (λ (a : Option (List ℕ)). declared class a i.properties) names.0
               ∙ ap (λ (qs : List Property). declared class alias qs) bodies.0,
           same_behind Semicolon rest ts (bodies.1 ∙ e),
@@ -181,6 +180,7 @@ module _ (cs : List ℕ) (read : List Instance) (left : List ℕ) (so_far : Text
       on_to_rest : Begins (λ us ts. DeclarationsOn us (read ++ i ∷ []) ts) cs rest
       on_to_rest = begins_as (Joined (λ us ts. DeclarationsOn us read ts) (λ us ts. Only IsDeclaration us i ts)) (λ us ts. DeclarationsOn us (read ++ i ∷ []) ts) cs rest
           (λ us ts j. declarations_next us read j.0 i ts j.1 j.2) (begins_join (λ us ts. DeclarationsOn us read ts) (λ us ts. Only IsDeclaration us i ts) cs left rest so_far.begins r.begins)
+
       joined : Begins (λ us ts. DeclarationsOn us (read ++ i ∷ []) ts) cs behind
       joined = record {
         on = λ ts l. on_to_rest.on ts (skip_on rest behind ts s l);

@@ -1,5 +1,5 @@
 -- Digits, as far as they were read, and magnitudes up to the cap.
-use Rattle.std.proofs.Common.{◌≡◌, ◌<◌, ◌≤◌, ◌+◌, ◌*◌, ◌^◌, ◌⊎◌, inl, inr, ℕ, Bool, true, false, List, [], ◌∷◌, length, refl, sym, ap, subst, ◌∙◌, arith, mul-le-mul_left}
+use Rattle.std.proofs.Common.{◌≡◌, ◌<◌, ◌≤◌, ◌+◌, ◌*◌, ◌^◌, inl, inr, ℕ, true, false, List, [], ◌∷◌, length, refl, sym, subst, ◌∙◌, arith, mul-le-mul_left}
 use Rattle.std.proofs.lemmas.Bool.Decides.{nat_tests}
 use Rattle.std.specs.Char.{digit_value}
 use Rattle.std.specs.Str.Parse.{digits_value, digits_value_after}
@@ -32,8 +32,10 @@ capped_on base n value d total some (inr past) more = inr (past_on n past.0, pas
   where
     grows : (m : ℕ) → m ≤ m * base
     grows m = let h : m * 1 ≤ m * base = mul-le-mul_left m (omega arith) in omega arith
+
     past_on : (m : ℕ) → 2 ^ 64 ≤ m → 2 ^ 64 ≤ m * base + d
     past_on m h = omega (arith, grows m)
+
     past_total : IsCapped (value * base + d) total → 2 ^ 64 ≤ total
     past_total (inl is) = let h = past_on value past.1 in omega arith
     past_total (inr both) = both.1

@@ -1,11 +1,11 @@
 -- Escapes and the characters of literals.
-use Rattle.std.proofs.Common.{◌≡◌, ◌<◌, ◌≤◌, ◌+◌, ◌*◌, ◌⊎◌, inl, inr, ℕ, zero, suc, Bool, true, false, List, [], ◌∷◌, ◌++◌, length, Option, Some, None, refl, sym, ap, subst, ◌∙◌, arith}
+use Rattle.std.proofs.Common.{◌≡◌, ◌<◌, ◌≤◌, ◌+◌, ◌*◌, ℕ, zero, suc, true, false, List, ◌∷◌, length, Some, None, refl, sym, ap, subst, ◌∙◌, arith}
 use Rattle.std.specs.Prelude.{◌==◌}
 use Rattle.std.proofs.lemmas.Bool.Decides.{nat_tests}
 use Rattle.std.specs.Char.{digit_value, IsScalar}
 use Rattle.mof_syntax.specs.Characters.{quote, backslash, digit_of, is_x}
-use Rattle.mof_syntax.specs.Strings.{short_escape, is_surrogate, HexDigits, full, ended, digit, Escape, short, hexadecimal, Quoted, closed, plain, escaped}
-use Rattle.mof_syntax.specs.Scanning.{hex_tail, escape_rest, BeginsWithDigit}
+use Rattle.mof_syntax.specs.Strings.{short_escape, is_surrogate, HexDigits, full, ended, digit, Escape, short, hexadecimal, plain, escaped}
+use Rattle.mof_syntax.specs.Scanning.{hex_tail, BeginsWithDigit}
 use Rattle.mof_syntax.proofs.Scans.{hex-read, read-hex, escape-read}
 use Rattle.mof_syntax.proofs.Literals.{SameLiteral-start, goes_on_plain, goes_on_escaped}
 use Rattle.mof_syntax.proofs.Suffixes.{EndsWithin-length, escape_ends}
@@ -68,6 +68,7 @@ hex_escape_absent cs behind first value b is_value other v rest h =
   where
     head_same : (x y : ℕ) (xs ys : List ℕ) → x ∷ xs ≡ y ∷ ys → x ≡ y
     head_same x y xs ys e = cc
+
     tail_same : (x y : ℕ) (xs ys : List ℕ) → x ∷ xs ≡ y ∷ ys → xs ≡ ys
     tail_same x y xs ys e = cc
 

@@ -2,7 +2,7 @@
 use Rattle.std.proofs.Common.{◌≡◌, ℕ, List, ◌∷◌, Option, Some, None, refl, sym, ap, subst, ◌∙◌, codes}
 use Rattle.mof_values.specs.Fold.{SameName}
 use Rattle.mof_syntax.specs.Tokens.{Lexeme, Word, AliasName, LeftBrace, Lexes}
-use Rattle.mof_syntax.specs.Grammar.{NoLiteral, AliasClause, unnamed, named}
+use Rattle.mof_syntax.specs.Grammar.{unnamed, named}
 use Rattle.mof_syntax.specs.Limits.{IsShortName}
 use Rattle.mof_codec.specs.Reading.{Begins, BeginsNo, Only, Reads, Lacks}
 use Rattle.mof_codec.specs.Values.{IsMark, IsKeyword, IsWord, IsAlias, IsHead, IsNaming, NamingFits}
@@ -97,6 +97,7 @@ only_named us w vs name ws ts e same f g =
   where
     front : (v x : List ℕ) (rest : List Lexeme) → Word v ∷ AliasName x ∷ LeftBrace ∷ rest ≡ Word w ∷ AliasName name ∷ LeftBrace ∷ ts → (x ≡ name) × (rest ≡ ts)
     front v x rest h = (cc, cc)
+
     goes : us ≡ Word w ∷ AliasName name ∷ LeftBrace ∷ ts → (alias : Option (List ℕ)) (rest : List Lexeme) → NamingCase us alias rest → (alias ≡ Some name) × (rest ≡ ts)
     goes all alias rest (at_brace h k) = absurd (apart_naming w _ rest (sym all ∙ h))
     goes all alias rest (at_as v x h other k) = let z = front v x rest (sym h ∙ all) in (k ∙ ap (λ (y : List ℕ). Some y) z.0, z.1)

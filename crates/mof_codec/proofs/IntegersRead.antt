@@ -1,21 +1,20 @@
 -- Integers as tokens, and within their range.
-use Rattle.std.proofs.Common.{◌≡◌, ◌<◌, ◌≤◌, ◌+◌, ◌^◌, ◌⊎◌, inl, inr, ℕ, zero, suc, Bool, true, false, List, [], ◌∷◌, Option, Some, None, refl, sym, ap, subst, ◌∙◌, arith}
-use Rattle.std.specs.Prelude.{◌==◌, ◌||◌, ℤ, pos, neg_ℤ}
+use Rattle.std.proofs.Common.{◌≡◌, ◌≤◌, ◌^◌, inl, inr, ℕ, zero, suc, Bool, true, false, List, [], ◌∷◌, Some, None, refl, sym, ap, subst, ◌∙◌, arith}
+use Rattle.std.specs.Prelude.{◌==◌, ℤ, pos, neg_ℤ}
 use Rattle.std.proofs.lemmas.Bool.Decides.{nat_tests}
 use Rattle.std.proofs.lemmas.Int.{ints}
 use Rattle.mof_values.specs.Ident.{is_next}
 use Rattle.mof_syntax.specs.Characters.{plus_sign, minus_sign, digit_of, Stops}
 use Rattle.mof_syntax.specs.Separators.{Separators}
-use Rattle.mof_syntax.specs.Integers.{Magnitude, IntegerValue, unsigned, plus, minus}
+use Rattle.mof_syntax.specs.Integers.{Magnitude, unsigned, plus, minus}
 use Rattle.mof_syntax.specs.Limits.{IsInRange}
 use Rattle.mof_syntax.specs.Scanning.{separator_rest, magnitude_rest, magnitude_value}
-use Rattle.mof_syntax.specs.Tokens.{Lexeme, Number, IsToken, integer, Lexes}
-use Rattle.mof_syntax.specs.Grammar.{NoLiteral}
-use Rattle.mof_syntax.proofs.Scans.{test_or, none_some, read-magnitude, magnitude-read, some_same}
+use Rattle.mof_syntax.specs.Tokens.{Lexeme, Number, IsToken, integer}
+use Rattle.mof_syntax.proofs.Scans.{test_or, read-magnitude, magnitude-read}
 use Rattle.mof_syntax.proofs.FirstTokens.{magnitude_first}
 use Rattle.mof_syntax.proofs.Suffixes.{token_ends}
 use Rattle.mof_syntax.proofs.UniqueTokens.{nothing_within, magnitude_is}
-use Rattle.mof_codec.specs.Reading.{Begins, Only, Reads, Lacks}
+use Rattle.mof_codec.specs.Reading.{Only, Reads, Lacks}
 use Rattle.mof_codec.specs.Values.{IsNumber, IsCapped, signed, is_negative, behind_sign}
 use Rattle.mof_codec.proofs.TokenFronts.{begins_token, begins_as, first_of}
 
@@ -56,9 +55,11 @@ signed_number (c ∷ cs) n rest m s = elim (test_or (c == minus_sign)) [
     at_minus : c ≡ minus_sign → Magnitude (behind_sign (c ∷ cs)) n rest → IsToken (c ∷ cs) (Number (signed (is_negative (c ∷ cs)) n)) rest
     at_minus e = subst (λ (d : ℕ). Magnitude (behind_sign (d ∷ cs)) n rest → IsToken (d ∷ cs) (Number (signed (is_negative (d ∷ cs)) n)) rest) (sym e)
         (λ h. integer (minus_sign ∷ cs) (neg_ℤ (pos n)) rest (minus cs n rest h) s)
+
     at_plus : c ≡ plus_sign → Magnitude (behind_sign (c ∷ cs)) n rest → IsToken (c ∷ cs) (Number (signed (is_negative (c ∷ cs)) n)) rest
     at_plus e = subst (λ (d : ℕ). Magnitude (behind_sign (d ∷ cs)) n rest → IsToken (d ∷ cs) (Number (signed (is_negative (d ∷ cs)) n)) rest) (sym e)
         (λ h. integer (plus_sign ∷ cs) (pos n) rest (plus cs n rest h) s)
+
     at_digit : (c == minus_sign) ≡ false → (c == plus_sign) ≡ false → Magnitude (behind_sign (c ∷ cs)) n rest → IsToken (c ∷ cs) (Number (signed (is_negative (c ∷ cs)) n)) rest
     at_digit no_minus no_plus h =
         let there : behind_sign (c ∷ cs) ≡ c ∷ cs = rw (no_minus, no_plus) refl in
@@ -122,5 +123,5 @@ module _ (cs left : List ℕ) (s : Separators cs left) (digits : List ℕ) (behi
         let f = first_of cs left us (Number z) ts s stops l is in
         let m = number_signed left z f.0 f.1 in
         let value : z ≡ signed negative (magnitude_value digits) =
-            m.3 ∙ ap (λ (b : Bool). signed b m.0) (sym sign) ∙ ap (λ (k : ℕ). signed negative k) (sym (value_there m.0 f.0 m.1 m.2)) in
+        m.3 ∙ ap (λ (b : Bool). signed b m.0) (sym sign) ∙ ap (λ (k : ℕ). signed negative k) (sym (value_there m.0 f.0 m.1 m.2)) in
         outside negative _ capped cap out (subst IsInRange value fits)

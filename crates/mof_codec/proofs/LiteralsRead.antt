@@ -1,9 +1,9 @@
 -- String literals, as far as they were read.
-use Rattle.std.proofs.Common.{◌≡◌, ◌<◌, ◌≤◌, ◌+◌, ℕ, List, [], ◌∷◌, ◌++◌, length, Some, None, refl, sym, ap, subst, ◌∙◌, arith, append_assoc, append-nil}
+use Rattle.std.proofs.Common.{◌≡◌, ◌<◌, ◌≤◌, ℕ, List, [], ◌∷◌, ◌++◌, length, Some, None, refl, sym, ap, subst, ◌∙◌, arith, append_assoc, append-nil}
 use Rattle.mof_syntax.specs.Characters.{quote}
 use Rattle.mof_syntax.specs.Separators.{Separator, Separators}
 use Rattle.mof_syntax.specs.Strings.{Quoted, closed}
-use Rattle.mof_syntax.specs.Tokens.{Lexeme, Word, AliasName, Literal, Number, LeftBrace, RightBrace, EqualsSign, Semicolon, Comma, IsToken, literal, Lexes, end, separator, token}
+use Rattle.mof_syntax.specs.Tokens.{Lexeme, Literal, IsToken, literal, Lexes, end, separator, token}
 use Rattle.mof_syntax.specs.Grammar.{NoLiteral, StringValue, last, joined}
 use Rattle.mof_syntax.specs.Scanning.{separator_rest, StandsQuoted}
 use Rattle.mof_syntax.proofs.Scans.{separator-read}

@@ -1,10 +1,9 @@
 -- Marks, quotes and other tokens that one character begins.
-use Rattle.std.proofs.Common.{◌≡◌, ◌⊎◌, inl, inr, ℕ, Bool, true, false, cond, List, [], ◌∷◌, Option, Some, None, refl, sym, ap, subst, ◌∙◌, arith}
+use Rattle.std.proofs.Common.{◌≡◌, inl, inr, ℕ, true, false, List, [], ◌∷◌, Some, None, refl, sym, ap, subst, ◌∙◌, arith}
 use Rattle.std.specs.Prelude.{◌==◌}
 use Rattle.std.proofs.lemmas.Bool.Decides.{nat_tests}
-use Rattle.mof_syntax.specs.Characters.{left_brace, right_brace, equals_sign, semicolon, comma}
 use Rattle.mof_syntax.specs.Separators.{Separators}
-use Rattle.mof_syntax.specs.Tokens.{Lexeme, LeftBrace, RightBrace, EqualsSign, Semicolon, Comma, IsToken, left_brace_mark, right_brace_mark, equals_mark, semicolon_mark, comma_mark, Lexes}
+use Rattle.mof_syntax.specs.Tokens.{IsToken, left_brace_mark, right_brace_mark, equals_mark, semicolon_mark, comma_mark}
 use Rattle.mof_syntax.specs.Scanning.{separator_rest}
 use Rattle.mof_codec.specs.Reading.{Begins, BeginsNo}
 use Rattle.mof_codec.specs.Values.{behind_char, lexeme_of, code_of, IsMark}

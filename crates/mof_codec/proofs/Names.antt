@@ -1,18 +1,17 @@
 -- Identifiers as words and aliases.
 use Rattle.std.proofs.Common.{◌≡◌, ◌≤◌, ◌+◌, ◌-◌, ℕ, Bool, true, false, List, [], ◌∷◌, ◌++◌, length, take, Some, None, refl, sym, ap, subst, ◌∙◌, arith, length-append}
-use Rattle.std.specs.Prelude.{◌&&◌, nat_le, IsTrue}
+use Rattle.std.specs.Prelude.{nat_le}
 use Rattle.std.specs.List.{list_all}
 use Rattle.std.proofs.lemmas.List.{take_at}
 use Rattle.std.proofs.lemmas.Bool.Decides.{nat_tests}
 use Rattle.mof_values.specs.Fold.{SameName}
-use Rattle.mof_values.specs.Ident.{is_first, is_next, is_ident, IsIdent}
-use Rattle.mof_syntax.specs.Characters.{dollar, Run, stop, more}
+use Rattle.mof_values.specs.Ident.{is_next, is_ident, IsIdent}
+use Rattle.mof_syntax.specs.Characters.{Run, stop, more}
 use Rattle.mof_syntax.specs.Separators.{Separators}
 use Rattle.mof_syntax.specs.Scanning.{separator_rest, identifier_rest}
 use Rattle.mof_syntax.specs.Limits.{IsShortName}
-use Rattle.mof_syntax.specs.Tokens.{Lexeme, Word, AliasName, Identifier, identifier, IsToken, word, alias, Lexes}
-use Rattle.mof_syntax.specs.Grammar.{NoLiteral}
-use Rattle.mof_syntax.proofs.Scans.{identifier-read, read-identifier, some_same}
+use Rattle.mof_syntax.specs.Tokens.{Lexeme, Word, AliasName, Identifier, identifier, IsToken, word, alias}
+use Rattle.mof_syntax.proofs.Scans.{identifier-read, read-identifier}
 use Rattle.mof_codec.specs.Reading.{Begins, BeginsNo, Only, Reads, Lacks}
 use Rattle.mof_codec.specs.Values.{IsKeyword, IsWord, IsAlias, NoIdentifier, DollarIdentifier, NoDollarIdentifier}
 use Rattle.mof_codec.proofs.TokenFronts.{begins_token, begins_as, first_of}
@@ -57,8 +56,10 @@ short_ident cs name rest (identifier c us tail r e run s) short absent = absurd 
   where
     clash : false ≡ true → ⊥
     clash h = cc
+
     fits : nat_le (length (c ∷ tail)) 255 ≡ true
     fits = grind (arith, nat_tests)
+
     holds : is_ident (c ∷ tail) ≡ true
     holds = rw (e, run_all is_next us tail r run, fits) refl
 

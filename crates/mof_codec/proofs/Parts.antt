@@ -1,10 +1,9 @@
 -- Parts behind separators, and parts one behind the other.
-use Rattle.std.proofs.Common.{◌≡◌, ◌≤◌, ◌<◌, ◌+◌, ℕ, suc, List, [], ◌∷◌, ◌++◌, length, refl, sym, ap, subst, ◌∙◌, arith, append_assoc}
+use Rattle.std.proofs.Common.{◌<◌, ℕ, List, [], ◌∷◌, ◌++◌, length, arith}
 use Rattle.std.specs.List.{AllByRecursion}
 use Rattle.mof_syntax.specs.Separators.{Separators}
-use Rattle.mof_syntax.specs.Tokens.{Lexeme, Lexes}
-use Rattle.mof_syntax.specs.Grammar.{NoLiteral}
-use Rattle.mof_codec.specs.Reading.{Begins, BeginsNo, Only, Reads, Lacks}
+use Rattle.mof_syntax.specs.Tokens.{Lexeme}
+use Rattle.mof_codec.specs.Reading.{Begins, Only, Reads, Lacks}
 use Rattle.mof_codec.proofs.TokenFronts.{skip_on, skip_only}
 
 -- separators before a part change nothing

@@ -1,14 +1,13 @@
 -- Tokens at the front of characters, behind separators.
-use Rattle.std.proofs.Common.{◌≡◌, ℕ, List, [], ◌∷◌, Some, None, refl, sym, ap, subst, ◌∙◌}
+use Rattle.std.proofs.Common.{◌≡◌, ℕ, List, [], ◌∷◌, None, refl, sym, ap, subst}
 use Rattle.mof_syntax.specs.Separators.{Separator, Separators, none, another}
 use Rattle.mof_syntax.specs.Tokens.{Lexeme, IsToken, Lexes, end, separator, token}
-use Rattle.mof_syntax.specs.Grammar.{NoLiteral}
 use Rattle.mof_syntax.specs.Scanning.{separator_rest}
 use Rattle.mof_syntax.specs.Walk.{NoSeparator}
 use Rattle.mof_syntax.proofs.Absent.{no_separator}
 use Rattle.mof_syntax.proofs.Suffixes.{separator_ends, token_ends}
 use Rattle.mof_syntax.proofs.UniqueTokens.{separator_same, no_both, nothing_within, token_same}
-use Rattle.mof_codec.specs.Reading.{Begins, BeginsNo, Only, Reads, Lacks}
+use Rattle.mof_codec.specs.Reading.{Begins}
 
 -- separators
 

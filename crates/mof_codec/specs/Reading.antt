@@ -1,9 +1,9 @@
--- What stands at the front of characters, said without a list of all their tokens.
-use Rattle.std.specs.Prelude.{◌≡◌, List, ◌∷◌, ℕ}
+-- What stands at the front of characters, said without a list of all their tokens. A rule of the grammar holds of tokens, of
+-- what they stand for, and of the tokens behind.
+use Rattle.std.specs.Prelude.{◌≡◌, List, ℕ}
 use Rattle.mof_syntax.specs.Tokens.{Lexeme, Lexes}
 use Rattle.mof_syntax.specs.Grammar.{NoLiteral}
 
--- a rule of the syntax: tokens, what they stand for, and the tokens behind
 -- the characters divide into tokens exactly where the rest does, and then the two lists of tokens are so
 pub record Begins (Divides : List Lexeme → List Lexeme → Type 0) (cs rest : List ℕ) : Type 0 where
   pub on : (ts : List Lexeme) → Lexes rest ts → (us : List Lexeme) × Lexes cs us × Divides us ts

@@ -6,14 +6,13 @@ use Rattle.mof_values.specs.Fold.{SameName}
 use Rattle.mof_values.specs.declared.instance.Instance.{Instance}
 use Rattle.mof_values.specs.declared.instance.Property.{Property}
 use Rattle.mof_values.specs.declared.value.Scalar.{Scalar}
-use Rattle.mof_values.specs.declared.value.Value.{Value}
 use Rattle.mof_values.specs.declared.value.Value.TheVariants.{Many}
 use Rattle.mof_syntax.specs.Characters.{digit_of, quote, dollar, plus_sign, minus_sign, comma, semicolon, equals_sign, left_brace, right_brace}
 use Rattle.mof_syntax.specs.Separators.{Separators}
 use Rattle.mof_syntax.specs.Strings.{is_surrogate, HexDigits, Escape, Quoted}
 use Rattle.mof_syntax.specs.Tokens.{Identifier, Lexeme, Word, AliasName, Literal, Number, LeftBrace, RightBrace, EqualsSign, Semicolon, Comma, Lexes}
-use Rattle.mof_syntax.specs.Grammar.{NoLiteral, Initializer, ValueInitializers, AliasClause, InstanceDeclarations}
-use Rattle.mof_syntax.specs.Limits.{properties_limit, instances_limit, InstanceFits, IsShortName, PropertyFits, ValueFits}
+use Rattle.mof_syntax.specs.Grammar.{NoLiteral, Initializer, ValueInitializers, AliasClause}
+use Rattle.mof_syntax.specs.Limits.{properties_limit, IsShortName, PropertyFits, ValueFits}
 use Rattle.mof_codec.specs.declared.values.marks.Mark.{Mark}
 use Rattle.mof_codec.specs.declared.values.marks.Mark.TheVariants as marks
 

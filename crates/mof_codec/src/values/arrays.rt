@@ -13,7 +13,10 @@ use std::alloc::{AllocError, Global};
 const MOST_ELEMENTS: usize = 4096;
 
 /// A single value or an array within the limits, and what is behind.
-pub(crate) fn initializer(alloc: Global, chars: &[char]) -> Result<Option<(Value, &[char])>, AllocError>
+pub(crate) fn initializer(
+    alloc: Global,
+    chars: &[char],
+) -> Result<Option<(Value, &[char])>, AllocError>
     ensures some { IfOk result (λ found. IfSome found (λ x. Reads Initializer ValueFits chars.now x.0 x.1.now)) }
     ensures none { IfOk result (λ found. IfNone found (Lacks Initializer ValueFits chars.now)) }
 {

@@ -15,7 +15,10 @@ use std::alloc::{AllocError, Global};
 const MOST_INSTANCES: usize = 4097;
 
 /// The instances that the characters spell within the limits, or none where they spell none.
-pub(crate) fn instances_of(alloc: Global, chars: &[char]) -> Result<Option<Vec<Instance>>, AllocError>
+pub(crate) fn instances_of(
+    alloc: Global,
+    chars: &[char],
+) -> Result<Option<Vec<Instance>>, AllocError>
     ensures spelled { IfOk result (λ found. IfSome found (λ v. Spells chars.now v.items)) }
     ensures none { IfOk result (λ found. IfNone found ((is : List Instance) → Spells chars.now is → ⊥)) }
 {

@@ -14,7 +14,10 @@ use std::alloc::{AllocError, Global};
 const MOST_PROPERTIES: usize = 256;
 
 /// The properties up to the closing brace, within the limits, and what is behind it.
-pub(crate) fn properties(alloc: Global, chars: &[char]) -> Result<Option<(Vec<Property>, &[char])>, AllocError>
+pub(crate) fn properties(
+    alloc: Global,
+    chars: &[char],
+) -> Result<Option<(Vec<Property>, &[char])>, AllocError>
     ensures some { IfOk result (λ found. IfSome found (λ x. Reads ValueInitializers PropertiesFit chars.now x.0.items x.1.now)) }
     ensures none { IfOk result (λ found. IfNone found (Lacks ValueInitializers PropertiesFit chars.now)) }
 {

@@ -12,7 +12,10 @@ use mof_values::Scalar;
 use std::alloc::{AllocError, Global};
 
 /// A single value within the limits, and what is behind.
-pub(crate) fn constant(alloc: Global, chars: &[char]) -> Result<Option<(Scalar, &[char])>, AllocError>
+pub(crate) fn constant(
+    alloc: Global,
+    chars: &[char],
+) -> Result<Option<(Scalar, &[char])>, AllocError>
     ensures some { IfOk result (λ found. IfSome found (λ x. Reads ConstantValue ScalarFits chars.now x.0 x.1.now)) }
     ensures none { IfOk result (λ found. IfNone found (Lacks ConstantValue ScalarFits chars.now)) }
 {

@@ -43,7 +43,10 @@ fn behind_quote(chars: &[char]) -> Option<&[char]>
 }
 
 // Adds the text of a literal, of which the quote was read: what is behind it.
-fn push_quoted<'a>(text: &mut Vec<char>, chars: &'a [char]) -> Result<Option<&'a [char]>, AllocError>
+fn push_quoted<'a>(
+    text: &mut Vec<char>,
+    chars: &'a [char],
+) -> Result<Option<&'a [char]>, AllocError>
     ensures some { IfOk result (λ found. IfSome found (λ rest. AddsQuoted text.old.items chars.now text.new.items rest.now)) }
     ensures none { IfOk result (λ found. IfNone found (NoQuoted chars.now)) }
 {

@@ -18,7 +18,11 @@ pub(crate) fn keyword<'a>(chars: &'a [char], keyword: &str) -> Option<&'a [char]
     ensures none { IfNone result (BeginsNo (IsKeyword keyword.now) chars.now) }
 {
     let (found, rest) = identifier(separators_rest(chars))?;
-    if is_named(found, keyword) { Some(rest) } else { None }
+    if is_named(found, keyword) {
+        Some(rest)
+    } else {
+        None
+    }
 }
 
 /// A word of at most 255 characters, and what is behind.

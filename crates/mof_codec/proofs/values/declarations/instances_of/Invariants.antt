@@ -1,6 +1,5 @@
 use Rattle.std.proofs.Common.{◌-◌, length}
 use Rattle.mof_codec.proofs.DeclarationsRead.{TextSoFar}
-use Rattle.mof_codec.proofs.HeadsRead.{reads_head}
 use Rattle.mof_codec.proofs.values.declarations.instances_of.Given as goal
 
 abbrev pub invariant-declarations : goal.invariant-declarations

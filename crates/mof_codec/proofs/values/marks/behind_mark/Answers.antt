@@ -1,4 +1,4 @@
-use Rattle.std.proofs.Common.{◌≡◌, ◌∙◌, ap, Option, List, ℕ}
+use Rattle.std.proofs.Common.{◌∙◌, ap, ℕ}
 use Rattle.mof_codec.specs.Values.{behind_char}
 use Rattle.mof_codec.proofs.Options.{if_some, if_none}
 use Rattle.mof_codec.proofs.MarkFronts.{begins_mark, begins_no_mark}

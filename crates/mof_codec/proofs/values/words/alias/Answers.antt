@@ -1,4 +1,3 @@
-use Rattle.std.proofs.Common.{sym, ◌∙◌}
 use Rattle.mof_codec.proofs.Options.{of_some, of_none}
 use Rattle.mof_codec.proofs.Names.{begins_alias, reads_alias, lacks_alias, lacks_this_alias, short_ident}
 use Rattle.mof_codec.proofs.values.words.alias.Goals as goal

@@ -1,4 +1,3 @@
-use Rattle.std.proofs.Common.{sym, ◌∙◌}
 use Rattle.mof_codec.proofs.Options.{of_some, of_none}
 use Rattle.mof_codec.proofs.Names.{begins_word, reads_word, lacks_word, lacks_this_word, short_ident}
 use Rattle.mof_codec.proofs.values.words.word.Goals as goal
