@@ -18,3 +18,17 @@ pub mod ExcessSearch
 pub mod ScalarSearch
 pub mod FormSearch
 pub mod Covering
+pub mod Options
+pub mod TokenFronts
+pub mod MarkFronts
+pub mod Names
+pub mod Escapes
+pub mod LiteralsRead
+pub mod DigitsRead
+pub mod IntegersRead
+pub mod Parts
+pub mod ConstantsRead
+pub mod ArraysRead
+pub mod PropertiesRead
+pub mod HeadsRead
+pub mod DeclarationsRead

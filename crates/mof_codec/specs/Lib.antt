@@ -5,3 +5,5 @@ pub mod Beginnings
 pub mod Counting
 pub mod Searching
 pub mod Winning
+pub mod Values
+pub mod Reading

@@ -3,5 +3,6 @@
 
 mod machine;
 mod refusing;
+mod values;
 
 pub use mof_syntax::{Form, MofError, TextError, Token, TokenKind, Tokens, decode_text, tokens};

@@ -330,7 +330,7 @@ hex-read (suc count) value total cs [] (ended n v r s) = (refl, refl)
 hex-read (suc count) value total cs (c ∷ rest) (ended n v r s) = rw s (refl, refl)
 hex-read (suc count) value total cs rest (digit n v d t us r e h) = rw e (hex-read count (v * 16 + digit_value d) t us r h)
 
-read-hex : (count value : ℕ) (cs : List ℕ) → HexDigits count value cs (hex_tail count value cs).0 (hex_tail count value cs).1
+pub read-hex : (count value : ℕ) (cs : List ℕ) → HexDigits count value cs (hex_tail count value cs).0 (hex_tail count value cs).1
 read-hex zero value cs = full value cs
 read-hex (suc count) value [] = ended (suc count) value [] tt
 read-hex (suc count) value (c ∷ cs) = elim (test_or (digit_of 16 c)) [

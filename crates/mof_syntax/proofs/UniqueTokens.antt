@@ -10,7 +10,7 @@ use Rattle.mof_syntax.specs.Separators.{Separator, blank, line, block}
 use Rattle.mof_syntax.specs.Strings.{short_escape, Escape, short, hexadecimal, Quoted, closed, plain, escaped}
 use Rattle.mof_syntax.specs.Integers.{Magnitude, decimal_value, octal_value, hex_value, binary_value, IntegerValue, unsigned, plus, minus}
 use Rattle.mof_syntax.specs.Tokens.{Identifier, identifier, Lexeme, Word, AliasName, Literal, Number, LeftBrace, RightBrace, EqualsSign, Semicolon, Comma, IsToken, word, alias, literal, integer, left_brace_mark, right_brace_mark, equals_mark, semicolon_mark, comma_mark, Lexes, end, separator, token}
-use Rattle.mof_syntax.specs.Scanning.{binary_rest, hex_tail}
+use Rattle.mof_syntax.specs.Scanning.{binary_rest, run_of, zero_value, magnitude_value, escape_value}
 use Rattle.mof_syntax.specs.declared.lead.Lead.{Lead}
 use Rattle.mof_syntax.specs.declared.lead.Lead.TheVariants as leads
 use Rattle.mof_syntax.specs.Leads.{lead_of}
@@ -20,37 +20,22 @@ use Rattle.mof_syntax.proofs.Suffixes.{EndsWithin, separator_ends, token_ends}
 
 -- runs
 
-abbrev run_of : (ℕ → Bool) → List ℕ → List ℕ
-run_of p [] = []
-run_of p (c ∷ cs) = if p c then c ∷ run_of p cs else []
-
-run-of : (p : ℕ → Bool) (cs run rest : List ℕ) → Run p cs run rest → Stops p rest → run_of p cs ≡ run
+pub run-of : (p : ℕ → Bool) (cs run rest : List ℕ) → Run p cs run rest → Stops p rest → run_of p cs ≡ run
 run-of p cs run [] (stop r) s = refl
 run-of p cs run (c ∷ rest) (stop r) s = rw s refl
 run-of p cs run rest (more c us v r e on) s = rw e (ap (λ (xs : List ℕ). c ∷ xs) (run-of p us v r on s))
 
 -- identifiers
 
-name_of : List ℕ → List ℕ
+unfoldable pub name_of : List ℕ → List ℕ
 name_of [] = []
 name_of (c ∷ cs) = c ∷ run_of is_next cs
 
-identifier_name : (cs name rest : List ℕ) → Identifier cs name rest → name_of cs ≡ name
+pub identifier_name : (cs name rest : List ℕ) → Identifier cs name rest → name_of cs ≡ name
 unfolding name_of
 identifier_name cs name rest (identifier c us tail r e run s) = ap (λ (xs : List ℕ). c ∷ xs) (run-of is_next us tail r run s)
 
 -- integers
-
-abbrev zero_value : List ℕ → ℕ
-zero_value [] = 0
-zero_value (c ∷ cs) = if is_x c then digits_value 16 (run_of (digit_of 16) cs) else digits_value 8 (run_of (digit_of 8) (c ∷ cs))
-
-abbrev unmarked_value : List ℕ → ℕ
-unmarked_value [] = 0
-unmarked_value (c ∷ cs) = if c == digit_zero then zero_value cs else digits_value 10 (run_of (digit_of 10) (c ∷ cs))
-
-abbrev magnitude_value : List ℕ → ℕ
-magnitude_value cs = if is_some (binary_rest cs) then digits_value 2 (run_of (digit_of 2) cs) else unmarked_value cs
 
 when_true : (b : Bool) (x y z : ℕ) → b ≡ true → x ≡ z → cond b x y ≡ z
 when_true b x y z is e = rw is e
@@ -72,7 +57,7 @@ none_is o e = ap (λ (x : Option (List ℕ)). is_some x) e
 some_is : (o : Option (List ℕ)) (rest : List ℕ) → o ≡ Some rest → is_some o ≡ true
 some_is o rest e = ap (λ (x : Option (List ℕ)). is_some x) e
 
-magnitude_is : (cs : List ℕ) (n : ℕ) (rest : List ℕ) → Magnitude cs n rest → Stops is_next rest → magnitude_value cs ≡ n
+pub magnitude_is : (cs : List ℕ) (n : ℕ) (rest : List ℕ) → Magnitude cs n rest → Stops is_next rest → magnitude_value cs ≡ n
 magnitude_is cs n rest (decimal_value d us ds r nz is run) s =
     when_false (is_some (binary_rest (d ∷ us))) _ _ _ (none_is _ (no_binary 10 d us ds r (omega arith) run s))
     (when_false (d == digit_zero) _ _ _ nz (digits_are 10 (d ∷ us) (d ∷ ds) r (more d us ds r is run) (stops_digit 10 r (omega arith) s)))
@@ -89,15 +74,7 @@ magnitude_is cs n rest (binary_value d b us ds r run is) s =
 
 -- escapes and literals
 
-abbrev hex_escape_value : List ℕ → ℕ
-hex_escape_value [] = 0
-hex_escape_value (d ∷ cs) = (hex_tail 3 (digit_value d) cs).0
-
-abbrev escape_value : List ℕ → ℕ
-escape_value [] = 0
-escape_value (c ∷ cs) = if is_some (short_escape c) then unwrap_or (short_escape c) 0 else hex_escape_value cs
-
-escape_is : (cs : List ℕ) (value : ℕ) (rest : List ℕ) → Escape cs value rest → escape_value cs ≡ value
+pub escape_is : (cs : List ℕ) (value : ℕ) (rest : List ℕ) → Escape cs value rest → escape_value cs ≡ value
 escape_is cs value rest (short e v r is) = when_true (is_some (short_escape e)) _ _ _ (ap (λ (o : Option ℕ). is_some o) is) (ap (λ (o : Option ℕ). unwrap_or o 0) is)
 escape_is cs value rest (hexadecimal x d v us r isx isd h ok) = when_false (is_some (short_escape x)) _ _ _ (x_no_short x isx) (hex-read 3 (digit_value d) v us r h).0
 
@@ -135,7 +112,7 @@ escaped_same v us behind t x b q e on (view_escaped c vs u y value other w is f 
     let same = on w q (subst (λ (xs : List ℕ). Quoted xs w q) where_is h) in
     (ap (λ (n : ℕ). n ∷ t) what_is ∙ ap (λ (xs : List ℕ). value ∷ xs) same.0 ∙ sym text, same.1)
 
-quoted_same : (cs a r b q : List ℕ) → Quoted cs a r → Quoted cs b q → (a ≡ b) × (r ≡ q)
+pub quoted_same : (cs a r b q : List ℕ) → Quoted cs a r → Quoted cs b q → (a ≡ b) × (r ≡ q)
 quoted_same cs a r b q (closed x) second = closed_same x b q (quoted_view quote x b q second)
 quoted_same cs a r b q (plain d us t x no_quote no_escape first) second =
     plain_same d us t x b q no_quote no_escape (λ u y h. quoted_same us t x u y first h) (quoted_view d us b q second)
@@ -144,14 +121,14 @@ quoted_same cs a r b q (escaped v us behind t x e first) second =
 
 -- tokens
 
-abbrev mark_lexeme : ℕ → Lexeme
+abbrev pub mark_lexeme : ℕ → Lexeme
 mark_lexeme c = if c == left_brace then LeftBrace else if c == right_brace then RightBrace else if c == equals_sign then EqualsSign else if c == semicolon then Semicolon else Comma
 
-abbrev signed_value : ℕ → ℕ → ℤ
+abbrev pub signed_value : ℕ → ℕ → ℤ
 signed_value c n = if c == minus_sign then neg_ℤ (pos n) else pos n
 
 -- what a first character begins stands for, and what is behind
-abbrev NamedBy : Lead → ℕ → List ℕ → Lexeme → List ℕ → Type 0
+abbrev pub NamedBy : Lead → ℕ → List ℕ → Lexeme → List ℕ → Type 0
 NamedBy leads.Mark c cs t rest = (mark_lexeme c ≡ t) × (cs ≡ rest)
 NamedBy leads.Quote c cs t rest = (text : List ℕ) × Quoted cs text rest × (Literal text ≡ t)
 NamedBy leads.Dollar c cs t rest = (name : List ℕ) × Identifier cs name rest × (AliasName name ≡ t)
@@ -167,7 +144,7 @@ integer_named c cs z rest (unsigned us n r m) s = named_at c cs (Number (pos n))
 integer_named c cs z rest (plus us n r m) s = (n, m, s, refl)
 integer_named c cs z rest (minus us n r m) s = (n, m, s, refl)
 
-token_named : (c : ℕ) (cs : List ℕ) (t : Lexeme) (rest : List ℕ) → IsToken (c ∷ cs) t rest → NamedBy (lead_of c) c cs t rest
+pub token_named : (c : ℕ) (cs : List ℕ) (t : Lexeme) (rest : List ℕ) → IsToken (c ∷ cs) t rest → NamedBy (lead_of c) c cs t rest
 token_named c cs t rest (word us name r i) = named_at c cs (Word name) r leads.Other (word_lead c (identifier_first c cs name r i)) (name, i, refl)
 token_named c cs t rest (alias us name r i) = (name, i, refl)
 token_named c cs t rest (literal us text r q) = (text, q, refl)
@@ -178,10 +155,10 @@ token_named c cs t rest (equals_mark r) = (refl, refl)
 token_named c cs t rest (semicolon_mark r) = (refl, refl)
 token_named c cs t rest (comma_mark r) = (refl, refl)
 
-name_same : (cs a r b q : List ℕ) → Identifier cs a r → Identifier cs b q → (a ≡ b) × (r ≡ q)
+pub name_same : (cs a r b q : List ℕ) → Identifier cs a r → Identifier cs b q → (a ≡ b) × (r ≡ q)
 name_same cs a r b q i j = (sym (identifier_name cs a r i) ∙ identifier_name cs b q j, some_same r q (sym (identifier-read cs a r i) ∙ identifier-read cs b q j))
 
-number_same : (cs : List ℕ) (n m : ℕ) (r q : List ℕ) → Magnitude cs n r → Stops is_next r → Magnitude cs m q → Stops is_next q → (n ≡ m) × (r ≡ q)
+pub number_same : (cs : List ℕ) (n m : ℕ) (r q : List ℕ) → Magnitude cs n r → Stops is_next r → Magnitude cs m q → Stops is_next q → (n ≡ m) × (r ≡ q)
 number_same cs n m r q i s j t = (sym (magnitude_is cs n r i s) ∙ magnitude_is cs m q j t, some_same r q (sym (magnitude-read cs n r i s) ∙ magnitude-read cs m q j t))
 
 named_same : (lead : Lead) (c : ℕ) (cs : List ℕ) (t : Lexeme) (r : List ℕ) (u : Lexeme) (q : List ℕ) → NamedBy lead c cs t r → NamedBy lead c cs u q → (t ≡ u) × (r ≡ q)
@@ -192,7 +169,7 @@ named_same leads.Sign c cs t r u q a b = let s = number_same cs a.0 b.0 r q a.1 
 named_same leads.Digit c cs t r u q a b = let s = number_same (c ∷ cs) a.0 b.0 r q a.1 a.2 b.1 b.2 in (sym a.3 ∙ ap (λ (x : ℕ). Number (pos x)) s.0 ∙ b.3, s.1)
 named_same leads.Other c cs t r u q a b = let s = name_same (c ∷ cs) a.0 r b.0 q a.1 b.1 in (sym a.2 ∙ ap (λ (x : List ℕ). Word x) s.0 ∙ b.2, s.1)
 
-nothing_within : (rest : List ℕ) → EndsWithin [] rest → ⊥
+pub nothing_within : (rest : List ℕ) → EndsWithin [] rest → ⊥
 nothing_within rest e = cc
 
 pub token_same : (cs : List ℕ) (t : Lexeme) (r : List ℕ) (u : Lexeme) (q : List ℕ) → IsToken cs t r → IsToken cs u q → (t ≡ u) × (r ≡ q)
@@ -224,12 +201,12 @@ no_token_blank c cs t rest h i =
 no_token_slash : (cs : List ℕ) (t : Lexeme) (rest : List ℕ) → IsToken (47 ∷ cs) t rest → ⊥
 no_token_slash cs t rest i = let n = token_named 47 cs t rest i in clash (sym (identifier_first 47 cs n.0 rest n.1))
 
-no_both : (cs : List ℕ) (t : Lexeme) (r q : List ℕ) → Separator cs r → IsToken cs t q → ⊥
+pub no_both : (cs : List ℕ) (t : Lexeme) (r q : List ℕ) → Separator cs r → IsToken cs t q → ⊥
 no_both cs t r q (blank c x h) i = no_token_blank c x t q h i
 no_both cs t r q (line us x l) i = no_token_slash (47 ∷ us) t q i
 no_both cs t r q (block us x b) i = no_token_slash (42 ∷ us) t q i
 
-separator_same : (cs r q : List ℕ) → Separator cs r → Separator cs q → r ≡ q
+pub separator_same : (cs r q : List ℕ) → Separator cs r → Separator cs q → r ≡ q
 separator_same cs r q a b = some_same r q (sym (separator-read cs r a) ∙ separator-read cs q b)
 
 separator_then : (cs r : List ℕ) (ts us : List Lexeme) → Separator cs r → ((ws : List Lexeme) → Lexes r ws → ts ≡ ws) → Lexes cs us → ts ≡ us

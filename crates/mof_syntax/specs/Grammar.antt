@@ -17,6 +17,12 @@ pub data StringValue : List Lexeme → List ℕ → List Lexeme → Type 0 where
   last : (text : List ℕ) (rest : List Lexeme) → StringValue (Literal text ∷ rest) text rest
   joined : (text more : List ℕ) (ts rest : List Lexeme) → StringValue ts more rest → StringValue (Literal text ∷ ts) (text ++ more) rest
 
+-- no literal comes first, so the literals before are joined
+abbrev pub NoLiteral : List Lexeme → Type 0
+NoLiteral [] = Unit {0}
+NoLiteral (Literal text ∷ ts) = ⊥
+NoLiteral (t ∷ ts) = Unit {0}
+
 -- a single value. Which word is a keyword is decided by its place alone, and keywords compare by fold
 pub data ConstantValue : List Lexeme → Scalar → List Lexeme → Type 0 where
   string_value : (ts rest : List Lexeme) (text : List ℕ) → StringValue ts text rest → ConstantValue ts (scalars.Text text) rest

@@ -1,7 +1,8 @@
 -- What the steps of the scanner compute: the characters behind a construct, where it stands. That they stand behind what
 -- the definitions of separators and tokens say is proved of them in proofs/.
-use Rattle.std.specs.Prelude.{◌≡◌, ◌<◌, ℕ, zero, suc, ◌+◌, ◌*◌, Bool, true, not, ◌&&◌, ◌==◌, if◌then◌else◌, List, [], ◌∷◌, Option, Some, None, is_some}
+use Rattle.std.specs.Prelude.{◌≡◌, ◌<◌, ℕ, zero, suc, ◌+◌, ◌*◌, Bool, true, not, ◌&&◌, ◌==◌, if◌then◌else◌, List, [], ◌∷◌, Option, Some, None, is_some, unwrap_or}
 use Rattle.std.specs.Char.{digit_value}
+use Rattle.std.specs.Str.Parse.{digits_value}
 use Rattle.mof_values.specs.Ident.{is_first, is_next}
 use Rattle.mof_syntax.specs.declared.scan.Class.{Class}
 use Rattle.mof_syntax.specs.declared.scan.Class.TheVariants as classes
@@ -108,3 +109,31 @@ pub record IsOnly (Stands : List ℕ → List ℕ → Type 0) (cs rest : List �
 -- the characters behind a quote are those of a literal up to and with the other, and then the rest
 abbrev pub StandsQuoted : List ℕ → List ℕ → Type 0
 StandsQuoted cs rest = (text : List ℕ) × Quoted cs text rest
+
+-- what is read of them
+
+-- the characters of the class that come first
+abbrev pub run_of : (ℕ → Bool) → List ℕ → List ℕ
+run_of p [] = []
+run_of p (c ∷ cs) = if p c then c ∷ run_of p cs else []
+
+-- the value of an integer's digits and the marks of its base
+abbrev pub zero_value : List ℕ → ℕ
+zero_value [] = 0
+zero_value (c ∷ cs) = if is_x c then digits_value 16 (run_of (digit_of 16) cs) else digits_value 8 (run_of (digit_of 8) (c ∷ cs))
+
+abbrev pub unmarked_value : List ℕ → ℕ
+unmarked_value [] = 0
+unmarked_value (c ∷ cs) = if c == digit_zero then zero_value cs else digits_value 10 (run_of (digit_of 10) (c ∷ cs))
+
+abbrev pub magnitude_value : List ℕ → ℕ
+magnitude_value cs = if is_some (binary_rest cs) then digits_value 2 (run_of (digit_of 2) cs) else unmarked_value cs
+
+-- what an escape stands for, of which the backslash was read
+abbrev pub hex_escape_value : List ℕ → ℕ
+hex_escape_value [] = 0
+hex_escape_value (d ∷ cs) = (hex_tail 3 (digit_value d) cs).0
+
+abbrev pub escape_value : List ℕ → ℕ
+escape_value [] = 0
+escape_value (c ∷ cs) = if is_some (short_escape c) then unwrap_or (short_escape c) 0 else hex_escape_value cs

@@ -12,7 +12,7 @@ mod encoding;
 mod first;
 mod lead;
 mod mof_error;
-mod scan;
+pub mod scan;
 mod text_error;
 mod token;
 mod tokenize;
@@ -25,7 +25,7 @@ pub use mof_error::{Form, MofError};
 pub use text_error::TextError;
 pub use token::{Token, TokenKind};
 pub use tokenize::tokens;
-pub use walk::Tokens;
+pub use walk::{Tokens, separators_rest};
 
 #[cfg(test)]
 mod tests;

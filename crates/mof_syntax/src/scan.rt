@@ -7,7 +7,7 @@ ghost use Rattle.mof_syntax.specs.Scanning.{BeginsWithDigit, is_in, after, block
 
 /// A class of characters.
 #[derive(Clone, Copy, Debug, PartialEq, Eq)]
-pub(crate) enum Class {
+pub enum Class {
     Name,
     Binary,
     Octal,
@@ -32,7 +32,7 @@ impl Class {
 }
 
 /// Behind the characters of the class, as many as there are.
-pub(crate) fn after(chars: &[char], class: Class) -> &[char]
+pub fn after(chars: &[char], class: Class) -> &[char]
     ensures { result.now ≡ after (is_in class) chars.now }
 {
     let mut left = chars;
@@ -46,7 +46,7 @@ pub(crate) fn after(chars: &[char], class: Class) -> &[char]
 }
 
 /// Behind a separator.
-pub(crate) fn separator_rest(chars: &[char]) -> Option<&[char]>
+pub fn separator_rest(chars: &[char]) -> Option<&[char]>
     ensures { option_copied result ≡ separator_rest chars.now }
 {
     match chars {
@@ -82,7 +82,7 @@ fn block_rest(chars: &[char]) -> Option<&[char]>
 }
 
 /// Behind an identifier.
-pub(crate) fn identifier_rest(chars: &[char]) -> Option<&[char]>
+pub fn identifier_rest(chars: &[char]) -> Option<&[char]>
     ensures { option_copied result ≡ identifier_rest chars.now }
 {
     match chars {
@@ -98,7 +98,7 @@ fn may_begin(c: char) -> bool
 }
 
 /// Behind the digits of an integer and the marks of its base.
-pub(crate) fn magnitude_rest(chars: &[char]) -> Option<&[char]>
+pub fn magnitude_rest(chars: &[char]) -> Option<&[char]>
     ensures { option_copied result ≡ magnitude_rest chars.now }
 {
     match binary_rest(chars) {
@@ -107,7 +107,8 @@ pub(crate) fn magnitude_rest(chars: &[char]) -> Option<&[char]>
     }
 }
 
-fn binary_rest(chars: &[char]) -> Option<&[char]>
+/// Behind the digits of an integer of base 2 and its mark.
+pub fn binary_rest(chars: &[char]) -> Option<&[char]>
     ensures { option_copied result ≡ binary_rest chars.now }
 {
     let [c, rest @ ..] = chars else {
@@ -171,7 +172,7 @@ fn stopped(chars: &[char]) -> Option<&[char]>
 }
 
 /// Behind an escape, of which the backslash was read.
-pub(crate) fn escape_rest(chars: &[char]) -> Option<&[char]>
+pub fn escape_rest(chars: &[char]) -> Option<&[char]>
     ensures { option_copied result ≡ escape_rest chars.now }
 {
     match chars {
@@ -192,8 +193,8 @@ fn hex_escape_rest(chars: &[char]) -> Option<&[char]>
     }
 }
 
-// Up to three further digits: the value with them, and what is behind.
-fn hex_tail(chars: &[char], first: u32) -> (u32, &[char])
+/// Up to three further digits behind the value of a first: the value with them, and what is behind.
+pub fn hex_tail(chars: &[char], first: u32) -> (u32, &[char])
     requires { first < 16 }
     ensures value { result.0 ≡ (hex_tail 3 first chars.now).0 }
     ensures rest { result.1.now ≡ (hex_tail 3 first chars.now).1 }
@@ -212,8 +213,8 @@ fn hex_tail(chars: &[char], first: u32) -> (u32, &[char])
     }
 }
 
-// The value of the digit that comes first, and what is behind.
-fn hex_digit(chars: &[char]) -> Option<(u32, &[char])>
+/// The value of the digit that comes first, and what is behind.
+pub fn hex_digit(chars: &[char]) -> Option<(u32, &[char])>
     ensures some { IfSome result (λ found. BeginsWithDigit chars.now found.0 found.1.now) }
     ensures none { IfNone result (Stops (digit_of 16) chars.now) }
 {

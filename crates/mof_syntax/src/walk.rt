@@ -89,8 +89,8 @@ fn token_at(chars: &[char], from: usize) -> Option<(TokenKind, usize)>
     Some((kind, chars.len() - rest.len()))
 }
 
-// Behind all the separators that come first.
-fn separators_rest(chars: &[char]) -> &[char]
+/// Behind all the separators that come first.
+pub fn separators_rest(chars: &[char]) -> &[char]
     ensures stands { Separators chars.now result.now }
     ensures stops { separator_rest result.now ≡ None }
 {

@@ -1,0 +1,140 @@
+-- String literals, as far as they were read.
+use Rattle.std.proofs.Common.{◌≡◌, ◌<◌, ◌≤◌, ℕ, List, [], ◌∷◌, ◌++◌, length, Some, None, refl, sym, ap, subst, ◌∙◌, arith, append_assoc, append-nil}
+use Rattle.mof_syntax.specs.Characters.{quote}
+use Rattle.mof_syntax.specs.Separators.{Separator, Separators}
+use Rattle.mof_syntax.specs.Strings.{Quoted, closed}
+use Rattle.mof_syntax.specs.Tokens.{Lexeme, Literal, IsToken, literal, Lexes, end, separator, token}
+use Rattle.mof_syntax.specs.Grammar.{NoLiteral, StringValue, last, joined}
+use Rattle.mof_syntax.specs.Scanning.{separator_rest, StandsQuoted}
+use Rattle.mof_syntax.proofs.Scans.{separator-read}
+use Rattle.mof_syntax.proofs.FirstTokens.{token_stands}
+use Rattle.mof_syntax.proofs.Suffixes.{EndsWith-length, EndsWithin-length, separators_end, token_ends}
+use Rattle.mof_syntax.proofs.UniqueRules.{string_same, string_first}
+use Rattle.mof_codec.specs.Reading.{Begins, Only, Reads, Lacks}
+use Rattle.mof_codec.specs.Values.{behind_char, BeginsQuote, NoLiteralFirst, AddsQuoted, NoQuoted, GoesOnBy, OnlyQuoteFirst, AnyText}
+use Rattle.mof_codec.proofs.MarkFronts.{behind_char-split, behind_char-none}
+use Rattle.mof_codec.proofs.TokenFronts.{begins_token, begins_as, begins_at, Joined, begins_join, first_of, skip_only}
+
+-- the characters of a literal
+
+pub record QuotedSoFar (before all done left : List ℕ) : Type 0 where
+  pub text : List ℕ
+  pub added : done ≡ before ++ text
+  pub on : (more rest : List ℕ) → Quoted left more rest → Quoted all (text ++ more) rest
+  pub only : (whole rest : List ℕ) → Quoted all whole rest → (more : List ℕ) × Quoted left more rest
+
+pub quoted_start : (before all : List ℕ) → QuotedSoFar before all before all
+quoted_start before all = record { text = []; added = sym (append-nil before); on = λ more rest q. q; only = λ whole rest q. (whole, q) }
+
+pub quoted_next : (before all done left rest : List ℕ) (c : ℕ) → QuotedSoFar before all done left → GoesOnBy left c rest → QuotedSoFar before all (done ++ c ∷ []) rest
+quoted_next before all done left rest c s g = record {
+  text = s.text ++ c ∷ [];
+  added = ap (λ (xs : List ℕ). xs ++ c ∷ []) s.added ∙ append_assoc before s.text (c ∷ []);
+  on = λ more behind q. subst (λ (xs : List ℕ). Quoted all xs behind) (sym (append_assoc s.text (c ∷ []) more)) (s.on (c ∷ more) behind (g.on more behind q));
+  only = λ whole behind q. let x = s.only whole behind q in g.only x.0 behind x.1;
+}
+
+pub quoted_end : (before all done left rest : List ℕ) → QuotedSoFar before all done left → behind_char quote left ≡ Some rest → AddsQuoted before all done rest
+quoted_end before all done left rest s e =
+    let q : Quoted left [] rest = subst (λ (xs : List ℕ). Quoted xs [] rest) (sym (behind_char-split quote left rest e)) (closed rest) in
+    (s.text, subst (λ (xs : List ℕ). Quoted all xs rest) (append-nil s.text) (s.on [] rest q), s.added)
+
+pub quoted_stuck : (before all done left : List ℕ) → QuotedSoFar before all done left → behind_char quote left ≡ None → OnlyQuoteFirst left → NoQuoted all
+quoted_stuck before all done left s e absent text rest q = let x = s.only text rest q in behind_char-none quote left rest e (absent x.0 rest x.1)
+
+-- literals as tokens
+
+pub no_literal_first : (cs left : List ℕ) → Separators cs left → separator_rest left ≡ None → behind_char quote left ≡ None → NoLiteralFirst cs
+no_literal_first cs left s stops e [] l = tt
+no_literal_first cs left s stops e (Literal text ∷ ts) l =
+    let f = first_of cs left (Literal text ∷ ts) (Literal text) ts s stops l refl in
+    behind_char-none quote left (quoted_of left text f.0 f.1).0 e (quoted_of left text f.0 f.1).1
+  where
+    quoted_of : (xs text rest : List ℕ) → IsToken xs (Literal text) rest → (us : List ℕ) × (xs ≡ quote ∷ us)
+    quoted_of xs text rest (literal us t r q) = (us, refl)
+no_literal_first cs left s stops e (t ∷ ts) l = tt
+
+pub begins_literal : (cs behind text rest : List ℕ) → BeginsQuote cs behind → Quoted behind text rest → Begins (λ us ts. us ≡ Literal text ∷ ts) cs rest
+begins_literal cs behind text rest b q =
+    begins_token cs b.left (Literal text) rest b.separators (subst (λ (xs : List ℕ). IsToken xs (Literal text) rest) (sym b.split) (literal behind text rest q))
+
+-- an open quote is in no text
+
+open_quote : (cs behind : List ℕ) (us : List Lexeme) → cs ≡ quote ∷ behind → NoQuoted behind → Lexes cs us → ⊥
+open_quote cs behind us e absent end = absurd cc
+open_quote cs behind us e absent (separator ds r vs s l) = apart r (separator-read (quote ∷ behind) r (subst (λ (xs : List ℕ). Separator xs r) e s))
+  where
+    apart : (xs : List ℕ) → None ≡ Some xs → ⊥
+    apart xs h = cc
+open_quote cs behind us e absent (token ds t r vs i l) =
+    let q : StandsQuoted behind r = token_stands quote behind t r (subst (λ (xs : List ℕ). IsToken xs t r) e i) in
+    absent q.0 r q.1
+
+pub no_tokens : (cs behind : List ℕ) (us : List Lexeme) → BeginsQuote cs behind → NoQuoted behind → Lexes cs us → ⊥
+no_tokens cs behind us b absent l = open_quote b.left behind us b.split absent (skip_only cs b.left us b.separators l)
+
+-- literals, as far as they were read
+
+pub record StringsOn (us : List Lexeme) (done : List ℕ) (ts : List Lexeme) : Type 0 where
+  pub last : StringValue us done ts
+  pub on : (more : List ℕ) (rest : List Lexeme) → StringValue ts more rest → StringValue us (done ++ more) rest
+
+pub StringsSoFar : List ℕ → List ℕ → List ℕ → Type 0
+StringsSoFar cs done left = Begins (λ us ts. StringsOn us done ts) cs left
+
+strings_first : (us : List Lexeme) (text : List ℕ) (ts : List Lexeme) → us ≡ Literal text ∷ ts → StringsOn us text ts
+strings_first us text ts e = subst (λ (xs : List Lexeme). StringsOn xs text ts) (sym e) (record {
+  last = last text ts;
+  on = λ more rest s. joined text more ts rest s;
+})
+
+strings_more : (us : List Lexeme) (done : List ℕ) (vs : List Lexeme) (text : List ℕ) (ts : List Lexeme) → StringsOn us done vs → vs ≡ Literal text ∷ ts → StringsOn us (done ++ text) ts
+strings_more us done vs text ts s e = record {
+  last = s.on text ts (subst (λ (xs : List Lexeme). StringValue xs text ts) (sym e) (last text ts));
+  on = λ more rest v. subst (λ (xs : List ℕ). StringValue us xs rest) (sym (append_assoc done text more))
+      (s.on (text ++ more) rest (subst (λ (xs : List Lexeme). StringValue xs (text ++ more) rest) (sym e) (joined text more ts rest v)));
+}
+
+added_to_none : (before after text : List ℕ) → before ≡ [] → after ≡ before ++ text → after ≡ text
+added_to_none before after text e f = f ∙ ap (λ (xs : List ℕ). xs ++ text) e
+
+pub strings_start : (cs behind before after rest : List ℕ) → BeginsQuote cs behind → before ≡ [] → AddsQuoted before behind after rest → StringsSoFar cs after rest
+unfolding StringsSoFar
+strings_start cs behind before after rest b e a =
+    subst (λ (xs : List ℕ). Begins (λ us ts. StringsOn us xs ts) cs rest) (sym (added_to_none before after a.0 e a.2))
+    (begins_as (λ us ts. us ≡ Literal a.0 ∷ ts) (λ us ts. StringsOn us a.0 ts) cs rest (λ us ts h. strings_first us a.0 ts h) (begins_literal cs behind a.0 rest b a.1))
+
+pub strings_next : (cs done left behind after rest : List ℕ) → StringsSoFar cs done left → BeginsQuote left behind → AddsQuoted done behind after rest → StringsSoFar cs after rest
+unfolding StringsSoFar
+strings_next cs done left behind after rest s b a =
+    subst (λ (xs : List ℕ). Begins (λ us ts. StringsOn us xs ts) cs rest) (sym a.2)
+    (begins_as (Joined (λ us ts. StringsOn us done ts) (λ us ts. us ≡ Literal a.0 ∷ ts)) (λ us ts. StringsOn us (done ++ a.0) ts) cs rest
+    (λ us ts j. strings_more us done j.0 a.0 ts j.1 j.2)
+    (begins_join (λ us ts. StringsOn us done ts) (λ us ts. us ≡ Literal a.0 ∷ ts) cs left rest s (begins_literal left behind a.0 rest b a.1)))
+
+only_string : (us : List Lexeme) (text : List ℕ) (ts : List Lexeme) → NoLiteral ts → StringValue us text ts → Only StringValue us text ts
+only_string us text ts n s = record { holds = s; only = λ b vs m t. string_same us b vs text ts m n t s }
+
+pub reads_string : (cs done left : List ℕ) → StringsSoFar cs done left → NoLiteralFirst left → Reads StringValue AnyText cs done left
+unfolding StringsSoFar
+reads_string cs done left s absent = record {
+  fits = tt;
+  begins = begins_at (λ us ts. StringsOn us done ts) (λ us ts. Only StringValue us done ts) cs left (λ us ts l x. only_string us done ts (absent ts l) x.last) s;
+}
+
+pub lacks_string : (cs : List ℕ) → NoLiteralFirst cs → Lacks StringValue AnyText cs
+lacks_string cs absent us ts text n l s fits = string_first us text ts s (absent us l)
+
+pub lacks_open : (cs behind : List ℕ) → BeginsQuote cs behind → NoQuoted behind → Lacks StringValue AnyText cs
+lacks_open cs behind b absent us ts text n l s fits = no_tokens cs behind us b absent l
+
+pub lacks_open_behind : (cs done left behind : List ℕ) → StringsSoFar cs done left → BeginsQuote left behind → NoQuoted behind → Lacks StringValue AnyText cs
+unfolding StringsSoFar
+lacks_open_behind cs done left behind so_far b absent us ts text n l s fits = let x = so_far.only us l in no_tokens left behind x.0 b absent x.1
+
+pub string_shorter : (done left behind after rest : List ℕ) → BeginsQuote left behind → AddsQuoted done behind after rest → length rest < length left
+string_shorter done left behind after rest b a =
+    let there : IsToken b.left (Literal a.0) rest = subst (λ (xs : List ℕ). IsToken xs (Literal a.0) rest) (sym b.split) (literal behind a.0 rest a.1) in
+    let less : length rest < length b.left = EndsWithin-length b.left rest (token_ends b.left (Literal a.0) rest there) in
+    let most : length b.left ≤ length left = EndsWith-length left b.left (separators_end left b.left b.separators) in
+    omega arith

@@ -1,0 +1,9 @@
+use Rattle.std.proofs.Common.{◌-◌, length}
+use Rattle.mof_codec.proofs.ArraysRead.{ArraySoFar}
+use Rattle.mof_codec.proofs.values.arrays.array.Given as goal
+
+abbrev pub invariant-elements : goal.invariant-elements
+invariant-elements l = ArraySoFar l.chars l.elements.items l.left
+
+abbrev pub decreases-elements : goal.decreases-elements
+decreases-elements l = 4096 - length l.elements.items

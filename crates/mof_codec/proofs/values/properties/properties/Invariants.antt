@@ -1,0 +1,9 @@
+use Rattle.std.proofs.Common.{◌-◌, length}
+use Rattle.mof_codec.proofs.PropertiesRead.{BodySoFar}
+use Rattle.mof_codec.proofs.values.properties.properties.Given as goal
+
+abbrev pub invariant-properties : goal.invariant-properties
+invariant-properties l = BodySoFar l.chars l.properties.items l.left
+
+abbrev pub decreases-properties : goal.decreases-properties
+decreases-properties l = 256 - length l.properties.items

@@ -1,0 +1,17 @@
+//! The instances that characters spell within the limits.
+//!
+//! Each function reads what a rule of the grammar spells, from the front of the characters, and gives what is behind.
+//! None of them makes a list of tokens or calls itself.
+mod arrays;
+mod declarations;
+mod integers;
+mod marks;
+mod properties;
+mod scalars;
+mod strings;
+mod words;
+
+pub(crate) use declarations::instances_of;
+
+#[cfg(test)]
+mod tests;

@@ -1,0 +1,59 @@
+//! Properties of an instance.
+ghost use Rattle.std.specs.Prelude.{◌≡◌, IfOk, IfSome, IfNone};
+ghost use Rattle.mof_syntax.specs.Grammar.{ValueInitializers};
+ghost use Rattle.mof_syntax.specs.Limits.{PropertyFits};
+ghost use Rattle.mof_codec.specs.Reading.{Reads, Lacks};
+ghost use Rattle.mof_codec.specs.Values.{IsProperty, PropertiesFit};
+
+use crate::values::arrays::initializer;
+use crate::values::marks::{Mark, behind_mark};
+use crate::values::words::word;
+use mof_values::Property;
+use std::alloc::{AllocError, Global};
+
+const MOST_PROPERTIES: usize = 256;
+
+/// The properties up to the closing brace, within the limits, and what is behind it.
+pub(crate) fn properties(
+    alloc: Global,
+    chars: &[char],
+) -> Result<Option<(Vec<Property>, &[char])>, AllocError>
+    ensures some { IfOk result (λ found. IfSome found (λ x. Reads ValueInitializers PropertiesFit chars.now x.0.items x.1.now)) }
+    ensures none { IfOk result (λ found. IfNone found (Lacks ValueInitializers PropertiesFit chars.now)) }
+{
+    let mut properties = Vec::new(alloc);
+    let mut left = chars;
+    'properties: loop {
+        if let Some(behind) = behind_mark(left, Mark::RightBrace) {
+            return Ok(Some((properties, behind)));
+        }
+        if properties.len() == MOST_PROPERTIES {
+            return Ok(None);
+        }
+        let Some((property, rest)) = property(alloc, left)? else {
+            return Ok(None);
+        };
+        properties.push(property)?;
+        left = rest;
+    }
+}
+
+// A property within the limits, and what is behind its semicolon.
+fn property(alloc: Global, chars: &[char]) -> Result<Option<(Property, &[char])>, AllocError>
+    ensures some { IfOk result (λ found. IfSome found (λ x. Reads IsProperty PropertyFits chars.now x.0 x.1.now)) }
+    ensures none { IfOk result (λ found. IfNone found (Lacks IsProperty PropertyFits chars.now)) }
+{
+    let Some((name, named)) = word(alloc, chars)? else {
+        return Ok(None);
+    };
+    let Some(given) = behind_mark(named, Mark::EqualsSign) else {
+        return Ok(None);
+    };
+    let Some((value, end)) = initializer(alloc, given)? else {
+        return Ok(None);
+    };
+    let Some(rest) = behind_mark(end, Mark::Semicolon) else {
+        return Ok(None);
+    };
+    Ok(Some((Property { name, value }, rest)))
+}
