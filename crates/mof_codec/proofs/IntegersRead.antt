@@ -34,7 +34,7 @@ unsigned_number (c ∷ cs) n rest m s =
     let no_plus : (c == plus_sign) ≡ false = grind (arith, nat_tests) in
     (n, rw (no_minus, no_plus) m, s, rw no_minus refl)
 
-number_signed : (cs : List ℕ) (z : ℤ) (rest : List ℕ) → IsToken cs (Number z) rest → SignedMagnitude cs z rest
+pub number_signed : (cs : List ℕ) (z : ℤ) (rest : List ℕ) → IsToken cs (Number z) rest → SignedMagnitude cs z rest
 number_signed cs z rest (integer us x r (unsigned vs n q m) s) = unsigned_number vs n q m s
 number_signed cs z rest (integer us x r (plus vs n q m) s) = (n, m, s, refl)
 number_signed cs z rest (integer us x r (minus vs n q m) s) = (n, m, s, refl)
@@ -42,7 +42,7 @@ number_signed cs z rest (integer us x r (minus vs n q m) s) = (n, m, s, refl)
 equal : (x y : ℕ) → (x == y) ≡ true → x ≡ y
 equal x y h = grind (arith, nat_tests)
 
-signed_number : (cs : List ℕ) (n : ℕ) (rest : List ℕ) → Magnitude (behind_sign cs) n rest → Stops is_next rest → IsToken cs (Number (signed (is_negative cs) n)) rest
+pub signed_number : (cs : List ℕ) (n : ℕ) (rest : List ℕ) → Magnitude (behind_sign cs) n rest → Stops is_next rest → IsToken cs (Number (signed (is_negative cs) n)) rest
 signed_number [] n rest m s = absurd (no_magnitude n rest m s)
 signed_number (c ∷ cs) n rest m s = elim (test_or (c == minus_sign)) [
   | inl is_minus ↦ at_minus (equal c minus_sign is_minus) m
@@ -72,11 +72,11 @@ past_range true zero h r = omega arith
 past_range true (suc n) h r = omega (arith, ints, r.0)
 past_range false n h r = omega (arith, ints, r.1)
 
-same_within : (negative : Bool) (n capped : ℕ) → IsCapped n capped → IsInRange (signed negative capped) → capped ≡ n
+pub same_within : (negative : Bool) (n capped : ℕ) → IsCapped n capped → IsInRange (signed negative capped) → capped ≡ n
 same_within negative n capped (inl is) r = is
 same_within negative n capped (inr past) r = absurd (past_range negative capped past.1 r)
 
-outside : (negative : Bool) (n capped : ℕ) → IsCapped n capped → (IsInRange (signed negative capped) → ⊥) → IsInRange (signed negative n) → ⊥
+pub outside : (negative : Bool) (n capped : ℕ) → IsCapped n capped → (IsInRange (signed negative capped) → ⊥) → IsInRange (signed negative n) → ⊥
 outside negative n capped (inl is) out r = out (subst (λ (m : ℕ). IsInRange (signed negative m)) (sym is) r)
 outside negative n capped (inr past) out r = past_range negative n past.0 r
 

@@ -32,3 +32,6 @@ pub mod ArraysRead
 pub mod PropertiesRead
 pub mod HeadsRead
 pub mod DeclarationsRead
+pub mod IntegerFronts
+pub mod NumberSearch
+pub mod RefusalFound

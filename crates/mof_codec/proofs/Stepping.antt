@@ -38,11 +38,11 @@ stepped_more chars c rest state next s e = record {
 
 -- in places of the text
 
-take_front : (front left : List ℕ) → take (length front) (front ++ left) ≡ front
+pub take_front : (front left : List ℕ) → take (length front) (front ++ left) ≡ front
 take_front [] left = refl
 take_front (c ∷ front) left = ap (λ (x : List ℕ). c ∷ x) (take_front front left)
 
-drop_front : (front left : List ℕ) → drop (length front) (front ++ left) ≡ left
+pub drop_front : (front left : List ℕ) → drop (length front) (front ++ left) ≡ left
 drop_front [] left = refl
 drop_front (c ∷ front) left = drop_front front left
 
@@ -50,7 +50,7 @@ index_front : (front : List ℕ) (c : ℕ) (rest : List ℕ) → slice_index (fr
 index_front [] c rest = refl
 index_front (d ∷ front) c rest = index_front front c rest
 
-length_front : (front left : List ℕ) → length (front ++ left) ≡ length front + length left
+pub length_front : (front left : List ℕ) → length (front ++ left) ≡ length front + length left
 length_front [] left = omega arith
 length_front (c ∷ front) left = omega (arith, length_front front left)
 

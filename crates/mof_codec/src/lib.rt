@@ -2,7 +2,9 @@
 #![tactic(auto)]
 
 mod machine;
+mod reader;
 mod refusing;
 mod values;
 
+pub use reader::read;
 pub use mof_syntax::{Form, MofError, TextError, Token, TokenKind, Tokens, decode_text, tokens};

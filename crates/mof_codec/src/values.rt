@@ -12,6 +12,7 @@ mod strings;
 mod words;
 
 pub(crate) use declarations::instances_of;
+pub(crate) use integers::is_out_of_range;
 
 #[cfg(test)]
 mod tests;

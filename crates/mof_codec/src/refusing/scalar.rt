@@ -4,11 +4,12 @@ ghost use Rattle.mof_syntax.specs.Fronts.{IsFront};
 ghost use Rattle.std.specs.List.{list_all};
 ghost use Rattle.mof_syntax.specs.Characters.{digit_of};
 ghost use Rattle.mof_codec.specs.Beginnings.{begins_scalar};
-ghost use Rattle.mof_codec.specs.Searching.{FirstOf, IsWanted, ScalarStands, BeginsExcessInteger, is_real};
+ghost use Rattle.mof_codec.specs.Searching.{FirstOf, IsWanted, ScalarStands, is_real};
 
 use crate::machine::beginnings::begins_scalar;
 use crate::machine::state::{START, State};
 use crate::machine::step::step;
+use crate::values::is_out_of_range;
 
 /// A literal that is looked for.
 #[derive(Clone, Copy, Debug, PartialEq, Eq)]
@@ -54,7 +55,7 @@ fn is_wanted(wanted: Wanted, chars: &[char]) -> bool
     ensures { result ≡ true ↔ IsWanted wanted chars.now }
 {
     match wanted {
-        Wanted::ExcessInteger => is_excess_integer(chars),
+        Wanted::ExcessInteger => is_out_of_range(chars),
         Wanted::Real => is_real(chars),
     }
 }
@@ -73,10 +74,4 @@ fn are_digits(chars: &[char]) -> bool
     ensures { result ≡ list_all (digit_of 10) chars.now }
 {
     chars.iter().all(|c| c.is_digit(10))
-}
-
-fn is_excess_integer(chars: &[char]) -> bool
-    ensures { result ≡ true ↔ BeginsExcessInteger chars.now }
-{
-    false
 }

@@ -1,10 +1,11 @@
 //! Integers of each base, behind separators.
-ghost use Rattle.std.specs.Prelude.{◌≡◌, ◌≤◌, ◌^◌, IfSome, IfNone};
+ghost use Rattle.std.specs.Prelude.{◌≡◌, ◌≤◌, ◌^◌, ◌↔◌, true, IfSome, IfNone};
 ghost use Rattle.std.specs.Str.Parse.{digits_value};
 ghost use Rattle.mof_syntax.specs.Characters.{digit_of};
 ghost use Rattle.mof_syntax.specs.Limits.{IsInRange};
 ghost use Rattle.mof_syntax.specs.Scanning.{run_of, zero_value, unmarked_value, magnitude_value};
 ghost use Rattle.mof_codec.specs.Reading.{Reads, Lacks};
+ghost use Rattle.mof_codec.specs.Searching.{BeginsExcessInteger};
 ghost use Rattle.mof_codec.specs.Values.{IsNumber, IsCapped, signed, is_negative, behind_sign};
 
 use mof_syntax::scan::{binary_rest, magnitude_rest};
@@ -23,6 +24,20 @@ pub(crate) fn integer(chars: &[char]) -> Option<(i128, &[char])>
     let rest = magnitude_rest(digits)?;
     let value = in_range(is_negative(left), magnitude(digits))?;
     Some((value, rest))
+}
+
+/// Tells whether an integer out of that range comes first, as long as it goes on.
+pub(crate) fn is_out_of_range(chars: &[char]) -> bool
+    ensures { result ≡ true ↔ BeginsExcessInteger chars.now }
+{
+    let digits = behind_sign(chars);
+    match magnitude_rest(digits) {
+        Some(_) => match in_range(is_negative(chars), magnitude(digits)) {
+            Some(_) => false,
+            None => true,
+        },
+        None => false,
+    }
 }
 
 fn is_negative(chars: &[char]) -> bool

@@ -1,0 +1,45 @@
+//! Bytes to instances.
+ghost use Rattle.std.specs.Prelude.{◌≡◌, List, IfOk, IfErr};
+ghost use Rattle.mof_values.specs.declared.instance.Instance.{Instance};
+ghost use Rattle.mof_syntax.specs.Limits.{Spells};
+ghost use Rattle.mof_syntax.specs.Refusals.{Reads, Refuses, Wins};
+
+use crate::refusing::refusal::refusal_of;
+use crate::values::instances_of;
+use mof_syntax::{MofError, TextError, decode_text};
+use mof_values::Instance;
+use std::alloc::Global;
+
+/// The most bytes of a document.
+const LIMIT: usize = 2_097_152;
+
+/// The instances that the bytes spell (DSP0004, in this profile), or why they spell none.
+pub fn read(alloc: Global, bytes: &[u8]) -> Result<Vec<Instance>, MofError>
+    ensures ok { IfOk result (λ instances. Reads bytes.now instances.items) }
+    ensures refused { IfErr result (λ e. Refuses bytes.now e) }
+{
+    if bytes.len() > LIMIT {
+        return Err(MofError::TooLong);
+    }
+    let text = match decode_text(alloc, bytes) {
+        Ok(text) => text,
+        Err(TextError::TextFault { at }) => return Err(MofError::Text { at }),
+        Err(TextError::Memory) => return Err(MofError::Memory),
+    };
+    match instances_of(alloc, text.as_slice()) {
+        Ok(Some(instances)) => Ok(instances),
+        Ok(None) => Err(refusal(text.as_slice())),
+        Err(_) => Err(MofError::Memory),
+    }
+}
+
+// Why characters that spell no instances are refused.
+fn refusal(chars: &[char]) -> MofError
+    requires { (is : List Instance) → Spells chars.now is → ⊥ }
+    ensures { Wins chars.now result }
+{
+    match refusal_of(chars) {
+        Some(refusal) => refusal,
+        None => unreachable!(),
+    }
+}
