@@ -8,3 +8,6 @@ mod values;
 
 pub use reader::read;
 pub use mof_syntax::{Form, MofError, TextError, Token, TokenKind, Tokens, decode_text, tokens};
+
+#[cfg(test)]
+mod tests;
