@@ -139,7 +139,8 @@ abbrev pub ArrayFits : List Scalar → Type 0
 ArrayFits elements = ValueFits (Many elements)
 
 abbrev pub IsProperty : List Lexeme → Property → List Lexeme → Type 0
-IsProperty us p ts = (vs : List Lexeme) × (us ≡ Word p.name ∷ EqualsSign ∷ vs) × Initializer vs p.value (Semicolon ∷ ts)
+IsProperty us p ts =
+    (vs : List Lexeme) × (us ≡ Word p.name ∷ EqualsSign ∷ vs) × Initializer vs p.value (Semicolon ∷ ts)
 
 pub record PropertiesFit (properties : List Property) : Type 0 where
   pub count : length properties ≤ properties_limit
@@ -149,7 +150,9 @@ pub record PropertiesFit (properties : List Property) : Type 0 where
 
 -- `instance`, `of` and the class
 abbrev pub IsHead : List Lexeme → List ℕ → List Lexeme → Type 0
-IsHead us class ts = (i : List ℕ) × (o : List ℕ) × (us ≡ Word i ∷ Word o ∷ Word class ∷ ts) × SameName i (codes "instance") × SameName o (codes "of")
+IsHead us class ts =
+    (i : List ℕ) × (o : List ℕ) × (us ≡ Word i ∷ Word o ∷ Word class ∷ ts) × SameName i (codes "instance")
+    × SameName o (codes "of")
 
 -- an alias, or none, and the brace
 abbrev pub IsNaming : List Lexeme → Option (List ℕ) → List Lexeme → Type 0
@@ -159,4 +162,6 @@ abbrev pub NamingFits : Option (List ℕ) → Type 0
 NamingFits alias = IfSome alias IsShortName
 
 abbrev pub IsDeclaration : List Lexeme → Instance → List Lexeme → Type 0
-IsDeclaration us i ts = (vs ws : List Lexeme) × IsHead us i.class vs × IsNaming vs i.alias ws × ValueInitializers ws i.properties (Semicolon ∷ ts)
+IsDeclaration us i ts =
+    (vs ws : List Lexeme) × IsHead us i.class vs × IsNaming vs i.alias ws
+    × ValueInitializers ws i.properties (Semicolon ∷ ts)
