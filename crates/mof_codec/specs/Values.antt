@@ -10,7 +10,7 @@ use Rattle.mof_values.specs.declared.value.Value.TheVariants.{Many}
 use Rattle.mof_syntax.specs.Characters.{digit_of, quote, dollar, plus_sign, minus_sign, comma, semicolon, equals_sign, left_brace, right_brace}
 use Rattle.mof_syntax.specs.Separators.{Separators}
 use Rattle.mof_syntax.specs.Strings.{is_surrogate, HexDigits, Escape, Quoted}
-use Rattle.mof_syntax.specs.Tokens.{Identifier, Lexeme, Word, AliasName, Literal, Number, LeftBrace, RightBrace, EqualsSign, Semicolon, Comma, Lexes}
+use Rattle.mof_syntax.specs.Tokens.{Identifier, Lexeme, Word, AliasName, Number, LeftBrace, RightBrace, EqualsSign, Semicolon, Comma, Lexes}
 use Rattle.mof_syntax.specs.Grammar.{NoLiteral, Initializer, ValueInitializers, AliasClause}
 use Rattle.mof_syntax.specs.Limits.{properties_limit, IsShortName, PropertyFits, ValueFits}
 use Rattle.mof_codec.specs.declared.values.marks.Mark.{Mark}
@@ -52,9 +52,6 @@ IsAlias us name ts = us ≡ AliasName name ∷ ts
 
 abbrev pub IsNumber : List Lexeme → ℤ → List Lexeme → Type 0
 IsNumber us z ts = us ≡ Number z ∷ ts
-
-abbrev pub IsLiteral : List Lexeme → List ℕ → List Lexeme → Type 0
-IsLiteral us text ts = us ≡ Literal text ∷ ts
 
 abbrev pub NoIdentifier : List ℕ → Type 0
 NoIdentifier cs = (name rest : List ℕ) → Identifier cs name rest → ⊥
