@@ -12,7 +12,7 @@ use Rattle.mof_codec.specs.Reading.{Begins, BeginsNo, Only, Reads, Lacks}
 use Rattle.mof_codec.specs.Values.{IsMark, IsArray, ArrayFits}
 use Rattle.mof_codec.specs.declared.values.marks.Mark.TheVariants as marks
 use Rattle.mof_codec.proofs.TokenFronts.{begins_as, Joined, begins_join}
-use Rattle.mof_codec.proofs.Parts.{all_push, all_at, more_than}
+use Rattle.mof_codec.proofs.Parts.{same_behind, all_push, all_at, more_than}
 
 -- the array goes on with further elements
 pub record ElementsOn (us : List Lexeme) (done : List Scalar) (ts : List Lexeme) : Type 0 where
@@ -57,17 +57,14 @@ elements_case vs more rest (element ws behind r s ss c e) = is_element ws s ss b
 apart_marks : (ts us : List Lexeme) → Comma ∷ ts ≡ RightBrace ∷ us → ⊥
 apart_marks ts us e = cc
 
-same_behind : (t : Lexeme) (ts us : List Lexeme) → t ∷ ts ≡ t ∷ us → ts ≡ us
-same_behind t ts us e = cc
-
 behind_comma : (vs ws : List Lexeme) (more : List Scalar) (rest : List Lexeme) → vs ≡ Comma ∷ ws → ElementsCase vs more rest
     → (s : Scalar) × (others : List Scalar) × (behind : List Lexeme) × ConstantValue ws s behind × Elements behind others rest × (more ≡ s ∷ others)
 behind_comma vs ws more rest e (is_closing f g) = absurd (apart_marks ws rest (sym e ∙ f))
 behind_comma vs ws more rest e (is_element xs s others behind f c r g) =
-    (s, others, behind, subst (λ (ys : List Lexeme). ConstantValue ys s behind) (same_behind Comma xs ws (sym f ∙ e)) c, r, g)
+    (s, others, behind, subst (λ (ys : List Lexeme). ConstantValue ys s behind) (same_behind Comma Comma xs ws (sym f ∙ e)) c, r, g)
 
 behind_closing : (vs ts : List Lexeme) (more : List Scalar) (rest : List Lexeme) → vs ≡ RightBrace ∷ ts → ElementsCase vs more rest → (more ≡ []) × (rest ≡ ts)
-behind_closing vs ts more rest e (is_closing f g) = (g, same_behind RightBrace rest ts (sym f ∙ e))
+behind_closing vs ts more rest e (is_closing f g) = (g, same_behind RightBrace RightBrace rest ts (sym f ∙ e))
 behind_closing vs ts more rest e (is_element xs s others behind f c r g) = absurd (apart_marks xs ts (sym f ∙ e))
 
 elements_next : (us : List Lexeme) (done : List Scalar) (vs ws : List Lexeme) (s : Scalar) (ts : List Lexeme) → ElementsOn us done vs → vs ≡ Comma ∷ ws → Only ConstantValue ws s ts
@@ -111,7 +108,7 @@ only_empty us ts e = record {
 }
   where
     goes : (all : List Scalar) (rest : List Lexeme) → ArrayCase us all rest → (all ≡ []) × (rest ≡ ts)
-    goes all rest (at_closing f g) = (g, same_behind RightBrace rest ts (sym f ∙ e))
+    goes all rest (at_closing f g) = (g, same_behind RightBrace RightBrace rest ts (sym f ∙ e))
     goes all rest (at_element s more behind c f g) = absurd (no_closing_constant ts s behind (subst (λ (xs : List Lexeme). ConstantValue xs s behind) e c))
 
 pub reads_empty : (cs rest : List ℕ) → Begins (IsMark marks.RightBrace) cs rest → Reads IsArray ArrayFits cs [] rest

@@ -7,17 +7,15 @@ use Rattle.mof_syntax.specs.Separators.{Separators}
 use Rattle.mof_syntax.specs.Scanning.{separator_rest}
 use Rattle.mof_syntax.specs.Walk.{NoSeparator}
 use Rattle.mof_syntax.specs.Tokens.{Lexeme, Semicolon, Lexes, end, separator}
-use Rattle.mof_syntax.specs.Grammar.{NoLiteral, unnamed, named, ValueInitializers, done, value_initializer, InstanceDeclarations, nothing, instance_declaration}
+use Rattle.mof_syntax.specs.Grammar.{NoLiteral, unnamed, named, ValueInitializers, InstanceDeclarations, nothing, instance_declaration}
 use Rattle.mof_syntax.specs.Limits.{instances_limit, IsShortName, InstanceFits, Spells}
 use Rattle.mof_syntax.proofs.Absent.{no_separator}
 use Rattle.mof_codec.specs.Reading.{Begins, BeginsNo, Only, Reads, Lacks}
 use Rattle.mof_codec.specs.Values.{IsMark, IsHead, IsNaming, NamingFits, PropertiesFit, IsDeclaration}
 use Rattle.mof_codec.specs.declared.values.marks.Mark.TheVariants as marks
 use Rattle.mof_codec.proofs.TokenFronts.{skip_on, skip_only, begins_as, Joined, begins_join}
-use Rattle.mof_codec.proofs.Parts.{all_push, all_at, more_than}
-
-same_behind : (t : Lexeme) (ts us : List Lexeme) → t ∷ ts ≡ t ∷ us → ts ≡ us
-same_behind t ts us e = cc
+use Rattle.mof_codec.proofs.PropertiesRead.{body_first}
+use Rattle.mof_codec.proofs.Parts.{same_behind, all_push, all_at, more_than}
 
 abbrev declared : List ℕ → Option (List ℕ) → List Property → Instance
 declared class alias ps = record { class = class; alias = alias; properties = ps }
@@ -27,10 +25,6 @@ declared class alias ps = record { class = class; alias = alias; properties = ps
 naming_first : (ys zs : List Lexeme) (a : Option (List ℕ)) → IsNaming ys a zs → NoLiteral ys
 naming_first ys zs a (unnamed r) = tt
 naming_first ys zs a (named w name r same) = tt
-
-body_first : (ys : List Lexeme) (qs : List Property) (zs : List Lexeme) → ValueInitializers ys qs zs → NoLiteral ys
-body_first ys qs zs (done r) = tt
-body_first ys qs zs (value_initializer name xs behind r v ps i h) = tt
 
 only_declaration : (us : List Lexeme) (class : List ℕ) (vs : List Lexeme) (alias : Option (List ℕ)) (ws : List Lexeme) (ps : List Property) (xs ts : List Lexeme)
     → Only IsHead us class vs → Only IsNaming vs alias ws → Only ValueInitializers ws ps xs → xs ≡ Semicolon ∷ ts → Only IsDeclaration us (declared class alias ps) ts
@@ -46,7 +40,7 @@ only_declaration us class vs alias ws ps xs ts h n v e = record {
         let bodies = v.only i.properties (Semicolon ∷ rest) tt (subst (λ (ys : List Lexeme). ValueInitializers ys i.properties (Semicolon ∷ rest)) names.1 d.4) in (
           ap (λ (c : List ℕ). declared c i.alias i.properties) heads.0 ∙ ap (λ (a : Option (List ℕ)). declared class a i.properties) names.0
               ∙ ap (λ (qs : List Property). declared class alias qs) bodies.0,
-          same_behind Semicolon rest ts (bodies.1 ∙ e),
+          same_behind Semicolon Semicolon rest ts (bodies.1 ∙ e),
         )
 
 abbrev Named : List ℕ → Option (List ℕ) → List Lexeme → List Lexeme → Type 0

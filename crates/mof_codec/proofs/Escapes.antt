@@ -6,7 +6,7 @@ use Rattle.std.specs.Char.{digit_value, IsScalar}
 use Rattle.mof_syntax.specs.Characters.{quote, backslash, digit_of, is_x}
 use Rattle.mof_syntax.specs.Strings.{short_escape, is_surrogate, HexDigits, full, ended, digit, Escape, short, hexadecimal, plain, escaped}
 use Rattle.mof_syntax.specs.Scanning.{hex_tail, BeginsWithDigit}
-use Rattle.mof_syntax.proofs.Scans.{hex-read, read-hex, escape-read}
+use Rattle.mof_syntax.proofs.Scans.{clash, hex-read, read-hex, escape-read}
 use Rattle.mof_syntax.proofs.Literals.{SameLiteral-start, goes_on_plain, goes_on_escaped}
 use Rattle.mof_syntax.proofs.Suffixes.{EndsWithin-length, escape_ends}
 use Rattle.mof_codec.specs.Values.{HexEscape, NoHexEscape, NoEscape, GoesOnBy}
@@ -91,9 +91,6 @@ escape_case c others value rest (hexadecimal x d v us r isx isd h ok) = at_hex i
 
 none_some : (v : ℕ) → None ≡ Some v → ⊥
 none_some v e = cc
-
-clash : true ≡ false → ⊥
-clash e = cc
 
 absent_case : (c : ℕ) (others : List ℕ) (value : ℕ) (rest : List ℕ) → short_escape c ≡ None → (is_x c ≡ true → NoHexEscape others) → EscapeCase c others value rest → ⊥
 absent_case c others value rest e absent (at_short is) = none_some value (sym e ∙ is)

@@ -8,9 +8,7 @@ use Rattle.mof_codec.specs.Reading.{Begins, BeginsNo, Only, Reads, Lacks}
 use Rattle.mof_codec.specs.Values.{IsMark, IsKeyword, IsWord, IsAlias, IsHead, IsNaming, NamingFits}
 use Rattle.mof_codec.specs.declared.values.marks.Mark.TheVariants as marks
 use Rattle.mof_codec.proofs.TokenFronts.{begins_as, Joined, begins_join}
-
-same_behind : (t u : Lexeme) (ts us : List Lexeme) → t ∷ ts ≡ u ∷ us → ts ≡ us
-same_behind t u ts us e = cc
+use Rattle.mof_codec.proofs.Parts.{same_behind}
 
 -- instance of a class
 

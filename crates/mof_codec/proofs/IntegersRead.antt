@@ -16,6 +16,7 @@ use Rattle.mof_syntax.proofs.Suffixes.{token_ends}
 use Rattle.mof_syntax.proofs.UniqueTokens.{nothing_within, magnitude_is}
 use Rattle.mof_codec.specs.Reading.{Only, Reads, Lacks}
 use Rattle.mof_codec.specs.Values.{IsNumber, IsCapped, signed, is_negative, behind_sign}
+use Rattle.mof_codec.proofs.MarkFronts.{equal}
 use Rattle.mof_codec.proofs.TokenFronts.{begins_token, begins_as, first_of}
 
 -- a sign and a magnitude
@@ -38,9 +39,6 @@ pub number_signed : (cs : List ℕ) (z : ℤ) (rest : List ℕ) → IsToken cs (
 number_signed cs z rest (integer us x r (unsigned vs n q m) s) = unsigned_number vs n q m s
 number_signed cs z rest (integer us x r (plus vs n q m) s) = (n, m, s, refl)
 number_signed cs z rest (integer us x r (minus vs n q m) s) = (n, m, s, refl)
-
-equal : (x y : ℕ) → (x == y) ≡ true → x ≡ y
-equal x y h = grind (arith, nat_tests)
 
 pub signed_number : (cs : List ℕ) (n : ℕ) (rest : List ℕ) → Magnitude (behind_sign cs) n rest → Stops is_next rest → IsToken cs (Number (signed (is_negative cs) n)) rest
 signed_number [] n rest m s = absurd (no_magnitude n rest m s)

@@ -12,7 +12,7 @@ use Rattle.mof_codec.specs.declared.values.marks.Mark.TheVariants as marks
 use Rattle.mof_syntax.proofs.Scans.{chosen, some_same, none_some}
 use Rattle.mof_codec.proofs.TokenFronts.{begins_token, first_of}
 
-equal : (x y : ℕ) → (x == y) ≡ true → x ≡ y
+pub equal : (x y : ℕ) → (x == y) ≡ true → x ≡ y
 equal x y h = grind (arith, nat_tests)
 
 unequal : (x y : ℕ) → (x == y) ≡ false → x ≡ y → ⊥

@@ -1,5 +1,5 @@
 -- Parts behind separators, and parts one behind the other.
-use Rattle.std.proofs.Common.{◌<◌, ℕ, List, [], ◌∷◌, ◌++◌, length, arith}
+use Rattle.std.proofs.Common.{◌≡◌, ◌<◌, ℕ, List, [], ◌∷◌, ◌++◌, length, arith}
 use Rattle.std.specs.List.{AllByRecursion}
 use Rattle.mof_syntax.specs.Separators.{Separators}
 use Rattle.mof_syntax.specs.Tokens.{Lexeme}
@@ -21,6 +21,10 @@ reads_behind Rule Fits cs left a rest s r = record { fits = r.fits; begins = beg
 pub lacks_behind : {A : Type 0} (Rule : List Lexeme → A → List Lexeme → Type 0) (Fits : A → Type 0) (cs left : List ℕ)
     → Separators cs left → Lacks Rule Fits left → Lacks Rule Fits cs
 lacks_behind Rule Fits cs left s lacks us ts a n l r f = lacks us ts a n (skip_only cs left us s l) r f
+
+-- the tokens behind the first
+pub same_behind : (t u : Lexeme) (ts us : List Lexeme) → t ∷ ts ≡ u ∷ us → ts ≡ us
+same_behind t u ts us e = cc
 
 -- each part of a list
 

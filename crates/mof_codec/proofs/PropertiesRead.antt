@@ -10,10 +10,7 @@ use Rattle.mof_codec.specs.Reading.{Begins, BeginsNo, Only, Reads, Lacks}
 use Rattle.mof_codec.specs.Values.{IsMark, IsWord, IsProperty, PropertiesFit}
 use Rattle.mof_codec.specs.declared.values.marks.Mark.TheVariants as marks
 use Rattle.mof_codec.proofs.TokenFronts.{begins_as, Joined, begins_join}
-use Rattle.mof_codec.proofs.Parts.{all_push, all_at, more_than}
-
-same_behind : (t : Lexeme) (ts us : List Lexeme) → t ∷ ts ≡ t ∷ us → ts ≡ us
-same_behind t ts us e = cc
+use Rattle.mof_codec.proofs.Parts.{same_behind, all_push, all_at, more_than}
 
 -- one property
 
@@ -27,7 +24,7 @@ only_property us name vs ws value xs ts e f o g = record {
   only = λ p rest n i.
       let same = front p.name name i.0 ws (sym i.1 ∙ e ∙ ap (λ (ys : List Lexeme). Word name ∷ ys) f) in
       let one = o.only p.value (Semicolon ∷ rest) tt (subst (λ (ys : List Lexeme). Initializer ys p.value (Semicolon ∷ rest)) same.1 i.2) in
-      (ap (λ (x : List ℕ). named x p.value) same.0 ∙ ap (λ (v : Value). named name v) one.0, same_behind Semicolon rest ts (one.1 ∙ g));
+      (ap (λ (x : List ℕ). named x p.value) same.0 ∙ ap (λ (v : Value). named name v) one.0, same_behind Semicolon Semicolon rest ts (one.1 ∙ g));
 }
   where
     front : (x y : List ℕ) (ys zs : List Lexeme) → Word x ∷ EqualsSign ∷ ys ≡ Word y ∷ EqualsSign ∷ zs → (x ≡ y) × (ys ≡ zs)
@@ -61,7 +58,7 @@ module _ (cs : List ℕ) where
       behind_equals us ts p l i =
           let x = behind_name us ts p l i in
           let y = b.only (EqualsSign ∷ x.0) x.1 in
-          (y.0, y.1, subst (λ (ys : List Lexeme). Initializer ys p.value (Semicolon ∷ ts)) (same_behind EqualsSign x.0 y.0 y.2) x.2)
+          (y.0, y.1, subst (λ (ys : List Lexeme). Initializer ys p.value (Semicolon ∷ ts)) (same_behind EqualsSign EqualsSign x.0 y.0 y.2) x.2)
 
       pub lacks_value : Lacks Initializer ValueFits given → Lacks IsProperty PropertyFits cs
       lacks_value lacks us ts p n l i f = let x = behind_equals us ts p l i in lacks x.0 (Semicolon ∷ ts) p.value tt x.1 x.2 f.value
@@ -117,7 +114,7 @@ apart_closing : (name : List ℕ) (ts us : List Lexeme) → Word name ∷ ts ≡
 apart_closing name ts us e = cc
 
 -- the rest behind a property begins with a word or a brace
-body_first : (vs : List Lexeme) (more : List Property) (rest : List Lexeme) → ValueInitializers vs more rest → NoLiteral vs
+pub body_first : (vs : List Lexeme) (more : List Property) (rest : List Lexeme) → ValueInitializers vs more rest → NoLiteral vs
 body_first vs more rest (done r) = tt
 body_first vs more rest (value_initializer name ts behind r v ps i h) = tt
 
@@ -129,7 +126,7 @@ behind_property vs p ts more rest o (at_property q others behind i h f) =
     (others, f ∙ ap (λ (x : Property). x ∷ others) same.0, subst (λ (ys : List Lexeme). ValueInitializers ys others rest) same.1 h)
 
 behind_closing : (vs ts : List Lexeme) (more : List Property) (rest : List Lexeme) → vs ≡ RightBrace ∷ ts → BodyCase vs more rest → (more ≡ []) × (rest ≡ ts)
-behind_closing vs ts more rest e (at_closing f g) = (g, same_behind RightBrace rest ts (sym f ∙ e))
+behind_closing vs ts more rest e (at_closing f g) = (g, same_behind RightBrace RightBrace rest ts (sym f ∙ e))
 behind_closing vs ts more rest e (at_property p others behind i h f) = absurd (apart_closing p.name _ ts (sym i.1 ∙ e))
 
 properties_next : (us : List Lexeme) (ps : List Property) (vs : List Lexeme) (p : Property) (ts : List Lexeme) → PropertiesOn us ps vs → Only IsProperty vs p ts → PropertiesOn us (ps ++ p ∷ []) ts

@@ -1,5 +1,5 @@
--- What stands at the front of characters, said without a list of all their tokens. A rule of the grammar holds of tokens, of
--- what they stand for, and of the tokens behind.
+-- What stands at the front of characters, said without a list of all their tokens. A rule of the grammar holds of
+-- tokens, of what they stand for, and of the tokens behind.
 use Rattle.std.specs.Prelude.{◌≡◌, List, ℕ}
 use Rattle.mof_syntax.specs.Tokens.{Lexeme, Lexes}
 use Rattle.mof_syntax.specs.Grammar.{NoLiteral}
@@ -13,16 +13,19 @@ pub record Begins (Divides : List Lexeme → List Lexeme → Type 0) (cs rest : 
 abbrev pub BeginsNo : (List Lexeme → List Lexeme → Type 0) → List ℕ → Type 0
 BeginsNo Divides cs = (us ts : List Lexeme) → Lexes cs us → Divides us ts → ⊥
 
--- the rule holds of the tokens, and of no others in front of them; joined literals go on as long as there are literals
-pub record Only {A : Type 0} (Rule : List Lexeme → A → List Lexeme → Type 0) (us : List Lexeme) (a : A) (ts : List Lexeme) : Type 0 where
+-- the rule holds of the tokens, and at their front it spells nothing else; joined literals go on while there are literals
+pub record Only {A : Type 0} (Rule : List Lexeme → A → List Lexeme → Type 0)
+    (us : List Lexeme) (a : A) (ts : List Lexeme) : Type 0 where
   pub holds : Rule us a ts
   pub only : (b : A) (vs : List Lexeme) → NoLiteral vs → Rule us b vs → (b ≡ a) × (vs ≡ ts)
 
 -- the characters begin with what the rule spells within the limits, and then the rest
-pub record Reads {A : Type 0} (Rule : List Lexeme → A → List Lexeme → Type 0) (Fits : A → Type 0) (cs : List ℕ) (a : A) (rest : List ℕ) : Type 0 where
+pub record Reads {A : Type 0} (Rule : List Lexeme → A → List Lexeme → Type 0) (Fits : A → Type 0)
+    (cs : List ℕ) (a : A) (rest : List ℕ) : Type 0 where
   pub fits : Fits a
   pub begins : Begins (λ us ts. Only Rule us a ts) cs rest
 
 -- they begin with nothing that the rule spells within the limits
 abbrev pub Lacks : {A : Type 0} → (List Lexeme → A → List Lexeme → Type 0) → (A → Type 0) → List ℕ → Type 0
-Lacks {A} Rule Fits cs = (us ts : List Lexeme) (a : A) → NoLiteral ts → Lexes cs us → Rule us a ts → Fits a → ⊥
+Lacks {A} Rule Fits cs =
+    (us ts : List Lexeme) (a : A) → NoLiteral ts → Lexes cs us → Rule us a ts → Fits a → ⊥

@@ -10,7 +10,7 @@ use Rattle.mof_values.specs.declared.value.Value.TheVariants.{Many}
 use Rattle.mof_syntax.specs.Characters.{digit_of, quote, dollar, plus_sign, minus_sign, comma, semicolon, equals_sign, left_brace, right_brace}
 use Rattle.mof_syntax.specs.Separators.{Separators}
 use Rattle.mof_syntax.specs.Strings.{is_surrogate, HexDigits, Escape, Quoted}
-use Rattle.mof_syntax.specs.Tokens.{Identifier, Lexeme, Word, AliasName, Literal, Number, LeftBrace, RightBrace, EqualsSign, Semicolon, Comma, Lexes}
+use Rattle.mof_syntax.specs.Tokens.{Identifier, Lexeme, Word, AliasName, Number, LeftBrace, RightBrace, EqualsSign, Semicolon, Comma, Lexes}
 use Rattle.mof_syntax.specs.Grammar.{NoLiteral, Initializer, ValueInitializers, AliasClause}
 use Rattle.mof_syntax.specs.Limits.{properties_limit, IsShortName, PropertyFits, ValueFits}
 use Rattle.mof_codec.specs.declared.values.marks.Mark.{Mark}
@@ -52,9 +52,6 @@ IsAlias us name ts = us ≡ AliasName name ∷ ts
 
 abbrev pub IsNumber : List Lexeme → ℤ → List Lexeme → Type 0
 IsNumber us z ts = us ≡ Number z ∷ ts
-
-abbrev pub IsLiteral : List Lexeme → List ℕ → List Lexeme → Type 0
-IsLiteral us text ts = us ≡ Literal text ∷ ts
 
 abbrev pub NoIdentifier : List ℕ → Type 0
 NoIdentifier cs = (name rest : List ℕ) → Identifier cs name rest → ⊥
@@ -139,7 +136,8 @@ abbrev pub ArrayFits : List Scalar → Type 0
 ArrayFits elements = ValueFits (Many elements)
 
 abbrev pub IsProperty : List Lexeme → Property → List Lexeme → Type 0
-IsProperty us p ts = (vs : List Lexeme) × (us ≡ Word p.name ∷ EqualsSign ∷ vs) × Initializer vs p.value (Semicolon ∷ ts)
+IsProperty us p ts =
+    (vs : List Lexeme) × (us ≡ Word p.name ∷ EqualsSign ∷ vs) × Initializer vs p.value (Semicolon ∷ ts)
 
 pub record PropertiesFit (properties : List Property) : Type 0 where
   pub count : length properties ≤ properties_limit
@@ -149,7 +147,9 @@ pub record PropertiesFit (properties : List Property) : Type 0 where
 
 -- `instance`, `of` and the class
 abbrev pub IsHead : List Lexeme → List ℕ → List Lexeme → Type 0
-IsHead us class ts = (i : List ℕ) × (o : List ℕ) × (us ≡ Word i ∷ Word o ∷ Word class ∷ ts) × SameName i (codes "instance") × SameName o (codes "of")
+IsHead us class ts =
+    (i : List ℕ) × (o : List ℕ) × (us ≡ Word i ∷ Word o ∷ Word class ∷ ts) × SameName i (codes "instance")
+    × SameName o (codes "of")
 
 -- an alias, or none, and the brace
 abbrev pub IsNaming : List Lexeme → Option (List ℕ) → List Lexeme → Type 0
@@ -159,4 +159,6 @@ abbrev pub NamingFits : Option (List ℕ) → Type 0
 NamingFits alias = IfSome alias IsShortName
 
 abbrev pub IsDeclaration : List Lexeme → Instance → List Lexeme → Type 0
-IsDeclaration us i ts = (vs ws : List Lexeme) × IsHead us i.class vs × IsNaming vs i.alias ws × ValueInitializers ws i.properties (Semicolon ∷ ts)
+IsDeclaration us i ts =
+    (vs ws : List Lexeme) × IsHead us i.class vs × IsNaming vs i.alias ws
+    × ValueInitializers ws i.properties (Semicolon ∷ ts)

@@ -61,7 +61,7 @@ keyword_same w s u (inr (inr a)) (inl b) = absurd (omega (arith, apart_words w 1
 keyword_same w s u (inr (inr a)) (inr (inl b)) = absurd (omega (arith, apart_words w 110 102 _ _ a.0 b.0))
 keyword_same w s u (inr (inr a)) (inr (inr b)) = sym a.1 ∙ b.1
 
-pub constant_by_same : (ts : List Lexeme) (s : Scalar) (r : List Lexeme) (u : Scalar) (q : List Lexeme) → NoLiteral r → NoLiteral q → ConstantBy ts s r → ConstantBy ts u q → (s ≡ u) × (r ≡ q)
+constant_by_same : (ts : List Lexeme) (s : Scalar) (r : List Lexeme) (u : Scalar) (q : List Lexeme) → NoLiteral r → NoLiteral q → ConstantBy ts s r → ConstantBy ts u q → (s ≡ u) × (r ≡ q)
 constant_by_same (Literal t ∷ ts) s r u q n m a b =
     let same = string_same (Literal t ∷ ts) a.0 r b.0 q n m a.1 b.1 in (sym a.2 ∙ ap (λ (x : List ℕ). scalars.Text x) same.0 ∙ b.2, same.1)
 constant_by_same (Number z ∷ ts) s r u q n m a b = (sym a.0 ∙ b.0, sym a.1 ∙ b.1)
@@ -69,7 +69,7 @@ constant_by_same (Word w ∷ ts) s r u q n m a b = (keyword_same w s u a.0 b.0, 
 constant_by_same (AliasName name ∷ ts) s r u q n m a b = (sym a.0 ∙ b.0, sym a.1 ∙ b.1)
 constant_by_same ts s r u q n m a b = absurd a
 
-pub constant_same : (ts : List Lexeme) (s : Scalar) (r : List Lexeme) (u : Scalar) (q : List Lexeme) → NoLiteral r → NoLiteral q → ConstantValue ts s r → ConstantValue ts u q → (s ≡ u) × (r ≡ q)
+constant_same : (ts : List Lexeme) (s : Scalar) (r : List Lexeme) (u : Scalar) (q : List Lexeme) → NoLiteral r → NoLiteral q → ConstantValue ts s r → ConstantValue ts u q → (s ≡ u) × (r ≡ q)
 constant_same ts s r u q n m a b = constant_by_same ts s r u q n m (constant_by ts s r a) (constant_by ts u q b)
 
 pub no_brace_constant : (ts : List Lexeme) (s : Scalar) (rest : List Lexeme) → ConstantValue (LeftBrace ∷ ts) s rest → ⊥
@@ -84,14 +84,14 @@ pub elements_first : (ts : List Lexeme) (ss : List Scalar) (rest : List Lexeme) 
 elements_first ts ss rest (closing r) = tt
 elements_first ts ss rest (element us behind r s more c e) = tt
 
-pub elements_same : (ts : List Lexeme) (ss : List Scalar) (r : List Lexeme) (us : List Scalar) (q : List Lexeme) → Elements ts ss r → Elements ts us q → (ss ≡ us) × (r ≡ q)
+elements_same : (ts : List Lexeme) (ss : List Scalar) (r : List Lexeme) (us : List Scalar) (q : List Lexeme) → Elements ts ss r → Elements ts us q → (ss ≡ us) × (r ≡ q)
 elements_same ts ss r us q (closing x) (closing y) = (refl, refl)
 elements_same ts ss r us q (element vs behind x s more c e) (element ws other y u others d f) =
     let first = constant_same vs s behind u other (elements_first behind more x e) (elements_first other others y f) c d in
     let rest = elements_same behind more x others y e (subst (λ (xs : List Lexeme). Elements xs others y) (sym first.1) f) in
     (ap (λ (z : Scalar). z ∷ more) first.0 ∙ ap (λ (zs : List Scalar). u ∷ zs) rest.0, rest.1)
 
-pub initializer_same : (ts : List Lexeme) (v : Value) (r : List Lexeme) (u : Value) (q : List Lexeme) → NoLiteral r → NoLiteral q → Initializer ts v r → Initializer ts u q → (v ≡ u) × (r ≡ q)
+initializer_same : (ts : List Lexeme) (v : Value) (r : List Lexeme) (u : Value) (q : List Lexeme) → NoLiteral r → NoLiteral q → Initializer ts v r → Initializer ts u q → (v ≡ u) × (r ≡ q)
 initializer_same ts v r u q n m (constant xs x s c) (constant ys y t d) = let same = constant_same xs s x t y n m c d in (ap (λ (z : Scalar). One z) same.0, same.1)
 initializer_same ts v r u q n m (constant xs x s c) (empty_array y) = absurd (no_brace_constant _ s x c)
 initializer_same ts v r u q n m (constant xs x s c) (array ys behind y t more d e) = absurd (no_brace_constant _ s x c)
@@ -107,10 +107,10 @@ initializer_same ts v r u q n m (array xs behind x s more c e) (array ys other y
 
 -- declarations
 
-pub tail_same : (t u : Lexeme) (ts us : List Lexeme) → (t ∷ ts) ≡ (u ∷ us) → ts ≡ us
+tail_same : (t u : Lexeme) (ts us : List Lexeme) → (t ∷ ts) ≡ (u ∷ us) → ts ≡ us
 tail_same t u ts us e = cc
 
-pub properties_same : (ts : List Lexeme) (ps : List Property) (r : List Lexeme) (qs : List Property) (q : List Lexeme) → ValueInitializers ts ps r → ValueInitializers ts qs q → (ps ≡ qs) × (r ≡ q)
+properties_same : (ts : List Lexeme) (ps : List Property) (r : List Lexeme) (qs : List Property) (q : List Lexeme) → ValueInitializers ts ps r → ValueInitializers ts qs q → (ps ≡ qs) × (r ≡ q)
 properties_same ts ps r qs q (done x) (done y) = (refl, refl)
 properties_same ts ps r qs q (value_initializer name xs behind x v more c e) (value_initializer name' ys other y u others d f) =
     let first = initializer_same xs v (Semicolon ∷ behind) u (Semicolon ∷ other) tt tt c d in
@@ -118,7 +118,7 @@ properties_same ts ps r qs q (value_initializer name xs behind x v more c e) (va
     let rest = properties_same behind more x others y e (subst (λ (zs : List Lexeme). ValueInitializers zs others y) (sym there) f) in
     (ap (λ (z : Value). record { name = name; value = z } ∷ more) first.0 ∙ ap (λ (zs : List Property). record { name = name; value = u } ∷ zs) rest.0, rest.1)
 
-pub alias_same : (ts : List Lexeme) (a : Option (List ℕ)) (r : List Lexeme) (b : Option (List ℕ)) (q : List Lexeme) → AliasClause ts a (LeftBrace ∷ r) → AliasClause ts b (LeftBrace ∷ q) → (a ≡ b) × (r ≡ q)
+alias_same : (ts : List Lexeme) (a : Option (List ℕ)) (r : List Lexeme) (b : Option (List ℕ)) (q : List Lexeme) → AliasClause ts a (LeftBrace ∷ r) → AliasClause ts b (LeftBrace ∷ q) → (a ≡ b) × (r ≡ q)
 alias_same ts a r b q (unnamed x) (unnamed y) = (refl, refl)
 alias_same ts a r b q (named w name x h) (named v other y g) = (refl, refl)
 

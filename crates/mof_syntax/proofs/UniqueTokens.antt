@@ -10,7 +10,7 @@ use Rattle.mof_syntax.specs.Separators.{Separator, blank, line, block}
 use Rattle.mof_syntax.specs.Strings.{short_escape, Escape, short, hexadecimal, Quoted, closed, plain, escaped}
 use Rattle.mof_syntax.specs.Integers.{Magnitude, decimal_value, octal_value, hex_value, binary_value, IntegerValue, unsigned, plus, minus}
 use Rattle.mof_syntax.specs.Tokens.{Identifier, identifier, Lexeme, Word, AliasName, Literal, Number, LeftBrace, RightBrace, EqualsSign, Semicolon, Comma, IsToken, word, alias, literal, integer, left_brace_mark, right_brace_mark, equals_mark, semicolon_mark, comma_mark, Lexes, end, separator, token}
-use Rattle.mof_syntax.specs.Scanning.{binary_rest, run_of, zero_value, magnitude_value, escape_value}
+use Rattle.mof_syntax.specs.Scanning.{binary_rest, hex_tail, run_of, zero_value, magnitude_value}
 use Rattle.mof_syntax.specs.declared.lead.Lead.{Lead}
 use Rattle.mof_syntax.specs.declared.lead.Lead.TheVariants as leads
 use Rattle.mof_syntax.specs.Leads.{lead_of}
@@ -20,18 +20,18 @@ use Rattle.mof_syntax.proofs.Suffixes.{EndsWithin, separator_ends, token_ends}
 
 -- runs
 
-pub run-of : (p : ℕ → Bool) (cs run rest : List ℕ) → Run p cs run rest → Stops p rest → run_of p cs ≡ run
+run-of : (p : ℕ → Bool) (cs run rest : List ℕ) → Run p cs run rest → Stops p rest → run_of p cs ≡ run
 run-of p cs run [] (stop r) s = refl
 run-of p cs run (c ∷ rest) (stop r) s = rw s refl
 run-of p cs run rest (more c us v r e on) s = rw e (ap (λ (xs : List ℕ). c ∷ xs) (run-of p us v r on s))
 
 -- identifiers
 
-unfoldable pub name_of : List ℕ → List ℕ
+name_of : List ℕ → List ℕ
 name_of [] = []
 name_of (c ∷ cs) = c ∷ run_of is_next cs
 
-pub identifier_name : (cs name rest : List ℕ) → Identifier cs name rest → name_of cs ≡ name
+identifier_name : (cs name rest : List ℕ) → Identifier cs name rest → name_of cs ≡ name
 unfolding name_of
 identifier_name cs name rest (identifier c us tail r e run s) = ap (λ (xs : List ℕ). c ∷ xs) (run-of is_next us tail r run s)
 
@@ -74,7 +74,15 @@ magnitude_is cs n rest (binary_value d b us ds r run is) s =
 
 -- escapes and literals
 
-pub escape_is : (cs : List ℕ) (value : ℕ) (rest : List ℕ) → Escape cs value rest → escape_value cs ≡ value
+abbrev hex_escape_value : List ℕ → ℕ
+hex_escape_value [] = 0
+hex_escape_value (d ∷ cs) = (hex_tail 3 (digit_value d) cs).0
+
+abbrev escape_value : List ℕ → ℕ
+escape_value [] = 0
+escape_value (c ∷ cs) = if is_some (short_escape c) then unwrap_or (short_escape c) 0 else hex_escape_value cs
+
+escape_is : (cs : List ℕ) (value : ℕ) (rest : List ℕ) → Escape cs value rest → escape_value cs ≡ value
 escape_is cs value rest (short e v r is) = when_true (is_some (short_escape e)) _ _ _ (ap (λ (o : Option ℕ). is_some o) is) (ap (λ (o : Option ℕ). unwrap_or o 0) is)
 escape_is cs value rest (hexadecimal x d v us r isx isd h ok) = when_false (is_some (short_escape x)) _ _ _ (x_no_short x isx) (hex-read 3 (digit_value d) v us r h).0
 
@@ -112,7 +120,7 @@ escaped_same v us behind t x b q e on (view_escaped c vs u y value other w is f 
     let same = on w q (subst (λ (xs : List ℕ). Quoted xs w q) where_is h) in
     (ap (λ (n : ℕ). n ∷ t) what_is ∙ ap (λ (xs : List ℕ). value ∷ xs) same.0 ∙ sym text, same.1)
 
-pub quoted_same : (cs a r b q : List ℕ) → Quoted cs a r → Quoted cs b q → (a ≡ b) × (r ≡ q)
+quoted_same : (cs a r b q : List ℕ) → Quoted cs a r → Quoted cs b q → (a ≡ b) × (r ≡ q)
 quoted_same cs a r b q (closed x) second = closed_same x b q (quoted_view quote x b q second)
 quoted_same cs a r b q (plain d us t x no_quote no_escape first) second =
     plain_same d us t x b q no_quote no_escape (λ u y h. quoted_same us t x u y first h) (quoted_view d us b q second)
@@ -121,14 +129,14 @@ quoted_same cs a r b q (escaped v us behind t x e first) second =
 
 -- tokens
 
-abbrev pub mark_lexeme : ℕ → Lexeme
+abbrev mark_lexeme : ℕ → Lexeme
 mark_lexeme c = if c == left_brace then LeftBrace else if c == right_brace then RightBrace else if c == equals_sign then EqualsSign else if c == semicolon then Semicolon else Comma
 
-abbrev pub signed_value : ℕ → ℕ → ℤ
+abbrev signed_value : ℕ → ℕ → ℤ
 signed_value c n = if c == minus_sign then neg_ℤ (pos n) else pos n
 
 -- what a first character begins stands for, and what is behind
-abbrev pub NamedBy : Lead → ℕ → List ℕ → Lexeme → List ℕ → Type 0
+abbrev NamedBy : Lead → ℕ → List ℕ → Lexeme → List ℕ → Type 0
 NamedBy leads.Mark c cs t rest = (mark_lexeme c ≡ t) × (cs ≡ rest)
 NamedBy leads.Quote c cs t rest = (text : List ℕ) × Quoted cs text rest × (Literal text ≡ t)
 NamedBy leads.Dollar c cs t rest = (name : List ℕ) × Identifier cs name rest × (AliasName name ≡ t)
@@ -144,7 +152,7 @@ integer_named c cs z rest (unsigned us n r m) s = named_at c cs (Number (pos n))
 integer_named c cs z rest (plus us n r m) s = (n, m, s, refl)
 integer_named c cs z rest (minus us n r m) s = (n, m, s, refl)
 
-pub token_named : (c : ℕ) (cs : List ℕ) (t : Lexeme) (rest : List ℕ) → IsToken (c ∷ cs) t rest → NamedBy (lead_of c) c cs t rest
+token_named : (c : ℕ) (cs : List ℕ) (t : Lexeme) (rest : List ℕ) → IsToken (c ∷ cs) t rest → NamedBy (lead_of c) c cs t rest
 token_named c cs t rest (word us name r i) = named_at c cs (Word name) r leads.Other (word_lead c (identifier_first c cs name r i)) (name, i, refl)
 token_named c cs t rest (alias us name r i) = (name, i, refl)
 token_named c cs t rest (literal us text r q) = (text, q, refl)
@@ -155,10 +163,10 @@ token_named c cs t rest (equals_mark r) = (refl, refl)
 token_named c cs t rest (semicolon_mark r) = (refl, refl)
 token_named c cs t rest (comma_mark r) = (refl, refl)
 
-pub name_same : (cs a r b q : List ℕ) → Identifier cs a r → Identifier cs b q → (a ≡ b) × (r ≡ q)
+name_same : (cs a r b q : List ℕ) → Identifier cs a r → Identifier cs b q → (a ≡ b) × (r ≡ q)
 name_same cs a r b q i j = (sym (identifier_name cs a r i) ∙ identifier_name cs b q j, some_same r q (sym (identifier-read cs a r i) ∙ identifier-read cs b q j))
 
-pub number_same : (cs : List ℕ) (n m : ℕ) (r q : List ℕ) → Magnitude cs n r → Stops is_next r → Magnitude cs m q → Stops is_next q → (n ≡ m) × (r ≡ q)
+number_same : (cs : List ℕ) (n m : ℕ) (r q : List ℕ) → Magnitude cs n r → Stops is_next r → Magnitude cs m q → Stops is_next q → (n ≡ m) × (r ≡ q)
 number_same cs n m r q i s j t = (sym (magnitude_is cs n r i s) ∙ magnitude_is cs m q j t, some_same r q (sym (magnitude-read cs n r i s) ∙ magnitude-read cs m q j t))
 
 named_same : (lead : Lead) (c : ℕ) (cs : List ℕ) (t : Lexeme) (r : List ℕ) (u : Lexeme) (q : List ℕ) → NamedBy lead c cs t r → NamedBy lead c cs u q → (t ≡ u) × (r ≡ q)

@@ -1,6 +1,6 @@
 -- What the steps of the scanner compute: the characters behind a construct, where it stands. That they stand behind what
 -- the definitions of separators and tokens say is proved of them in proofs/.
-use Rattle.std.specs.Prelude.{◌≡◌, ◌<◌, ℕ, zero, suc, ◌+◌, ◌*◌, Bool, true, not, ◌&&◌, ◌==◌, if◌then◌else◌, List, [], ◌∷◌, Option, Some, None, is_some, unwrap_or}
+use Rattle.std.specs.Prelude.{◌≡◌, ◌<◌, ℕ, zero, suc, ◌+◌, ◌*◌, Bool, true, not, ◌&&◌, ◌==◌, if◌then◌else◌, List, [], ◌∷◌, Option, Some, None, is_some}
 use Rattle.std.specs.Char.{digit_value}
 use Rattle.std.specs.Str.Parse.{digits_value}
 use Rattle.mof_values.specs.Ident.{is_first, is_next}
@@ -128,12 +128,3 @@ unmarked_value (c ∷ cs) = if c == digit_zero then zero_value cs else digits_va
 
 abbrev pub magnitude_value : List ℕ → ℕ
 magnitude_value cs = if is_some (binary_rest cs) then digits_value 2 (run_of (digit_of 2) cs) else unmarked_value cs
-
--- what an escape stands for, of which the backslash was read
-abbrev pub hex_escape_value : List ℕ → ℕ
-hex_escape_value [] = 0
-hex_escape_value (d ∷ cs) = (hex_tail 3 (digit_value d) cs).0
-
-abbrev pub escape_value : List ℕ → ℕ
-escape_value [] = 0
-escape_value (c ∷ cs) = if is_some (short_escape c) then unwrap_or (short_escape c) 0 else hex_escape_value cs

@@ -7,7 +7,7 @@ ghost use Rattle.mof_syntax.specs.Scanning.{BeginsWithDigit, is_in, after, block
 
 /// A class of characters.
 #[derive(Clone, Copy, Debug, PartialEq, Eq)]
-pub enum Class {
+pub(crate) enum Class {
     Name,
     Binary,
     Octal,
@@ -32,7 +32,7 @@ impl Class {
 }
 
 /// Behind the characters of the class, as many as there are.
-pub fn after(chars: &[char], class: Class) -> &[char]
+pub(crate) fn after(chars: &[char], class: Class) -> &[char]
     ensures { result.now ≡ after (is_in class) chars.now }
 {
     let mut left = chars;
@@ -46,7 +46,7 @@ pub fn after(chars: &[char], class: Class) -> &[char]
 }
 
 /// Behind a separator.
-pub fn separator_rest(chars: &[char]) -> Option<&[char]>
+pub(crate) fn separator_rest(chars: &[char]) -> Option<&[char]>
     ensures { option_copied result ≡ separator_rest chars.now }
 {
     match chars {
@@ -172,7 +172,7 @@ fn stopped(chars: &[char]) -> Option<&[char]>
 }
 
 /// Behind an escape, of which the backslash was read.
-pub fn escape_rest(chars: &[char]) -> Option<&[char]>
+pub(crate) fn escape_rest(chars: &[char]) -> Option<&[char]>
     ensures { option_copied result ≡ escape_rest chars.now }
 {
     match chars {
