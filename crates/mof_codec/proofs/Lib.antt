@@ -36,3 +36,5 @@ pub mod IntegerFronts
 pub mod NumberSearch
 pub mod RefusalFound
 pub mod Writing
+pub mod CanonicalTokens
+pub mod CanonicalRules
