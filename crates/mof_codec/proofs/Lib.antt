@@ -38,3 +38,4 @@ pub mod RefusalFound
 pub mod Writing
 pub mod CanonicalTokens
 pub mod CanonicalRules
+pub mod CanonicalBytes
