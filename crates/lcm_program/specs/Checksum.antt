@@ -1,5 +1,5 @@
 -- The word `checksum`.
-use Rattle.std.specs.Prelude.{◌≡◌, ℕ, ◌<◌, ◌≤◌, List, ◌++◌, length, codes, Result, Ok, Err}
+use Rattle.std.specs.Prelude.{◌≡◌, ℕ, ◌<◌, ◌≤◌, List, ◌++◌, length, codes, Ok, Err}
 use Rattle.sha2.specs.Sha256.{sha256}
 use Rattle.shared_key.specs.Checksum.{checksum_of}
 use Rattle.lcm_program.specs.declared.status.InputError.TheVariants.{TooLong}

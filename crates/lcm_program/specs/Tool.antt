@@ -7,7 +7,8 @@ use Rattle.lcm_program.specs.declared.refusal.Refusal.{Refusal}
 use Rattle.lcm_program.specs.declared.refusal.Refusal.TheVariants as refusals
 use Rattle.lcm_program.specs.declared.status.InputError.{InputError}
 use Rattle.lcm_program.specs.declared.status.Status.{Status}
-use Rattle.lcm_program.specs.declared.status.Status.TheVariants.{Done, NotCompliant, Usage, InputRefused, ReadFault, WriteFault, Memory}
+use Rattle.lcm_program.specs.declared.status.Status.TheVariants.{Done, NotCompliant, Usage, InputRefused, ReadFault}
+use Rattle.lcm_program.specs.declared.status.Status.TheVariants.{WriteFault, Memory}
 use Rattle.lcm_program.specs.Printed.{IsCutShort}
 
 -- what a tool answers of an input: the text that it prints, or the error for which it refuses
@@ -26,23 +27,27 @@ IsRefusalOf answers (refusals.Usage word) input before now = ⊥
 IsRefusalOf answers (refusals.Input error) input before now = Answered answers input (Err error)
 IsRefusalOf answers refusals.ReadFault input before now = Rose before now
 
--- how a tool ends: its text is the output, or a front of its text where the output failed, or it refused, or memory was refused
-abbrev pub TellsAnswer : {K : Type 0} → (List ℕ → Answer → Type 0) → (K → Option (List ℕ)) → (K → ℕ) → Option (List ℕ) → ℕ → ℕ → Status → K → K → Type 0
-TellsAnswer answers held faults input before now Done old new = (text : List ℕ) × Answered answers input (Ok text) × Appends (held old) (held new) text
+-- how a tool ends: the text is printed, or a part from its front where the output failed; or the input is refused for
+-- its error, or a read failed; or memory was refused
+abbrev pub TellsAnswer : {K : Type 0} → (List ℕ → Answer → Type 0) → (K → Option (List ℕ)) → (K → ℕ) → Option (List ℕ)
+    → ℕ → ℕ → Status → K → K → Type 0
+TellsAnswer answers held faults input before now Done old new =
+    (text : List ℕ) × Answered answers input (Ok text) × Appends (held old) (held new) text
 TellsAnswer answers held faults input before now (NotCompliant count) old new = ⊥
 TellsAnswer answers held faults input before now (Usage word) old new = ⊥
 TellsAnswer answers held faults input before now (InputRefused error) old new = Answered answers input (Err error)
 TellsAnswer answers held faults input before now ReadFault old new = Rose before now
-TellsAnswer answers held faults input before now WriteFault old new = (text : List ℕ) × Answered answers input (Ok text) × IsCutShort held faults old new text
+TellsAnswer answers held faults input before now WriteFault old new =
+    (text : List ℕ) × Answered answers input (Ok text) × IsCutShort held faults old new text
 TellsAnswer answers held faults input before now Memory old new = ⊤
 
--- a tool was run: the kinds of resources with their host are as they were, and the status and the output tell the answer
-pub record RanTool {K H : Type 0} (answers : List ℕ → Answer → Type 0) (held : K → Option (List ℕ)) (output_faults : K → ℕ)
-    (input : Option (List ℕ)) (reads_before reads_now : ℕ) (before after : Kinds H) (status : Status) (old new : K) : Type 0 where
-  pub kinds : after ≡ before
-  pub tells : TellsAnswer answers held output_faults input reads_before reads_now status old new
+-- a tool was run: the kinds with their host are as they were, and the status and the output tell the answer
+pub record RanTool {K H : Type 0} (answers : List ℕ → Answer → Type 0) (held : K → Option (List ℕ)) (faults : K → ℕ)
+    (input : Option (List ℕ)) (before now : ℕ) (kinds kinds_after : Kinds H) (status : Status) (old new : K) : Type 0 where
+  pub unchanged : kinds_after ≡ kinds
+  pub tells : TellsAnswer answers held faults input before now status old new
 
--- memory was refused for the line of a refusal alone
+-- there was a refusal, for whose line alone memory is taken
 pub record OnlyForRefusal (answers : List ℕ → Answer → Type 0) (input : Option (List ℕ)) (before now : ℕ) : Type 0 where
   pub refusal : Refusal
   pub cause : IsRefusalOf answers refusal input before now

@@ -15,7 +15,8 @@ const LIMIT: usize = 67_108_864;
 /// The digest of the input, which is read to its end piece by piece and not kept.
 pub fn read_digest<S: Source>(input: &mut S) -> Result<[u8; 32], Refusal>
     ensures ok { IfOk result (λ digest. Answered AnswersChecksum (S.left input.old) (Ok (checksum_line digest))) }
-    ensures err { IfErr result (λ refusal. IsRefusalOf AnswersChecksum refusal (S.left input.old) (S.faults input.old) (S.faults input.new)) }
+    ensures err { IfErr result (λ refusal.
+        IsRefusalOf AnswersChecksum refusal (S.left input.old) (S.faults input.old) (S.faults input.new)) }
 {
     let mut hash = Sha256::new();
     let mut total = 0;
@@ -36,7 +37,7 @@ pub fn read_digest<S: Source>(input: &mut S) -> Result<[u8; 32], Refusal>
 }
 
 /// The checksum of the digest, and a line end.
-pub fn line_of(digest: &[u8; 32]) -> [u8; 65]
+pub fn checksum_line(digest: &[u8; 32]) -> [u8; 65]
     ensures { result ≡ checksum_line digest.now }
 {
     let mut line = [b'\n'; 65];

@@ -20,7 +20,7 @@ mod streams;
 mod test;
 mod words;
 
-pub use checksum::{line_of, read_digest};
+pub use checksum::{checksum_line, read_digest};
 use command_line::CommandLine;
 use dsc_outside::Absent;
 use dsc_outside::real::{FolderHost, InSource, OutSink};

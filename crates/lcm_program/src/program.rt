@@ -9,10 +9,10 @@ ghost use Rattle.lcm_program.specs.Refusal.{status_of, refusal_line};
 ghost use Rattle.lcm_program.specs.Unread.{IsRefused};
 ghost use Rattle.lcm_program.specs.Printed.{Printed};
 ghost use Rattle.lcm_program.specs.Program.{IsRun, RanToEnd, Stopped, IsUsageOrMemory, AnswersEach};
-ghost use Rattle.lcm_program.specs.Tool.{RanTool, TellsAnswer, OnlyForRefusal, IsRefusalOf};
+ghost use Rattle.lcm_program.specs.Tool.{RanTool, TellsAnswer, OnlyForRefusal};
 ghost use Rattle.lcm_program.specs.Checksum.{AnswersChecksum};
 
-use crate::checksum::{line_of, read_digest};
+use crate::checksum::{checksum_line, read_digest};
 use crate::input::{Unread, read_input};
 use crate::kinds::Kinds;
 use crate::refusal::Refusal;
@@ -56,9 +56,12 @@ pub fn node<S: Source, K: Sink, D: Disk, H: Host, L: Link, C: Clock>(
     // The word `test`: a run is told whole.
     ensures tested { IsForm Command.Test (map string_bytes words.now) → IsRun result → RanToEnd K.held K.faults H.told H.faults (S.left input.old) kinds.old kinds.new result output.old output.new }
 
-    // The word `checksum`: it leaves all as it was and prints the checksum of the input, and takes memory for refusals alone.
-    ensures checksum { IsForm Command.Checksum (map string_bytes words.now) → RanTool AnswersChecksum K.held K.faults (S.left input.old) (S.faults input.old) (S.faults input.new) kinds.old kinds.new result output.old output.new }
-    ensures checksum_memory { IsForm Command.Checksum (map string_bytes words.now) → result ≡ Status.Memory → OnlyForRefusal AnswersChecksum (S.left input.old) (S.faults input.old) (S.faults input.new) }
+    // The word `checksum`: it changes nothing, prints the checksum of the input, and takes memory for a refusal alone.
+    ensures checksum { IsForm Command.Checksum (map string_bytes words.now)
+        → RanTool AnswersChecksum K.held K.faults (S.left input.old) (S.faults input.old) (S.faults input.new)
+        kinds.old kinds.new result output.old output.new }
+    ensures checksum_memory { IsForm Command.Checksum (map string_bytes words.now) → result ≡ Status.Memory
+        → OnlyForRefusal AnswersChecksum (S.left input.old) (S.faults input.old) (S.faults input.new) }
 
     // Where memory was refused nothing is told, and what was done is the front of a run.
     ensures memory { result ≡ Status.Memory → Stopped H.told H.faults (S.left input.old) kinds.old kinds.new × (output.new ≡ output.old) }
@@ -105,15 +108,19 @@ fn test<S: Source, K: Sink, H: Host>(
 
 // The word `checksum`.
 fn checksum<S: Source, K: Sink>(alloc: Global, input: &mut S, output: &mut K) -> Status
-    ensures refused { (refusal : Refusal) → result ≡ status_of refusal → Printed K.held K.faults output.old output.new (refusal_line refusal) }
-    ensures tells { TellsAnswer AnswersChecksum K.held K.faults (S.left input.old) (S.faults input.old) (S.faults input.new) result output.old output.new }
-    ensures memory { result ≡ Status.Memory → OnlyForRefusal AnswersChecksum (S.left input.old) (S.faults input.old) (S.faults input.new) × (output.new ≡ output.old) }
+    ensures refused { (refusal : Refusal) → result ≡ status_of refusal
+        → Printed K.held K.faults output.old output.new (refusal_line refusal) }
+    ensures tells { TellsAnswer AnswersChecksum K.held K.faults (S.left input.old)
+        (S.faults input.old) (S.faults input.new) result output.old output.new }
+    ensures memory { result ≡ Status.Memory
+        → OnlyForRefusal AnswersChecksum (S.left input.old) (S.faults input.old) (S.faults input.new) }
+    ensures silent { result ≡ Status.Memory → output.new ≡ output.old }
 {
     let digest = match read_digest(input) {
         Ok(digest) => digest,
         Err(refusal) => return refuse(alloc, output, refusal),
     };
-    match write_all(output, &line_of(&digest)) {
+    match write_all(output, &checksum_line(&digest)) {
         Ok(()) => Status::Done,
         Err(Failed) => Status::WriteFault,
     }
