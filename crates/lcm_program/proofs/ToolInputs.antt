@@ -15,7 +15,8 @@ pub longer : (left now : Option (List ℕ)) (taken : List ℕ) → Consumes left
 longer None now taken p above = record { all = taken; input_is = tt; is_answer = (refl, above) }
 longer (Some all) None taken p above = absurd p
 longer (Some all) (Some rest) taken p above =
-    record { all = all; input_is = refl; is_answer = (refl, omega (arith, above, ap length p, length-append taken rest)) }
+    let longer_too : checksum_limit < length all = omega (arith, above, ap length p, length-append taken rest) in
+    record { all = all; input_is = refl; is_answer = (refl, longer_too) }
 
 -- each input has one answer
 pub has_answer : (all : List ℕ) → (answer : Answer) × AnswersChecksum all answer

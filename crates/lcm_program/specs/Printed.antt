@@ -5,7 +5,8 @@ use Rattle.dsc_terms.specs.Counts.{Rose}
 use Rattle.lcm_program.specs.Streams.{AppendsPart}
 
 -- the output failed, and holds a part from the front of the text
-pub record IsCutShort {K : Type 0} (held : K → Option (List ℕ)) (faults : K → ℕ) (old new : K) (text : List ℕ) : Type 0 where
+pub record IsCutShort {K : Type 0} (held : K → Option (List ℕ)) (faults : K → ℕ) (old new : K) (text : List ℕ)
+    : Type 0 where
   pub rose : Rose (faults old) (faults new)
   pub part : AppendsPart (held old) (held new) text
 

@@ -43,7 +43,8 @@ TellsAnswer answers held faults input before now Memory old new = ⊤
 
 -- a tool was run: the kinds with their host are as they were, and the status and the output tell the answer
 pub record RanTool {K H : Type 0} (answers : List ℕ → Answer → Type 0) (held : K → Option (List ℕ)) (faults : K → ℕ)
-    (input : Option (List ℕ)) (before now : ℕ) (kinds kinds_after : Kinds H) (status : Status) (old new : K) : Type 0 where
+    (input : Option (List ℕ)) (before now : ℕ) (kinds kinds_after : Kinds H) (status : Status) (old new : K)
+    : Type 0 where
   pub unchanged : kinds_after ≡ kinds
   pub tells : TellsAnswer answers held faults input before now status old new
 

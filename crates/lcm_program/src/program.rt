@@ -54,7 +54,8 @@ pub fn node<S: Source, K: Sink, D: Disk, H: Host, L: Link, C: Clock>(
     ensures each { IsForm Command.Test (map string_bytes words.now) → IfSome (S.left input.old) (AnswersEach result (S.faults input.old) (S.faults input.new)) }
 
     // The word `test`: a run is told whole.
-    ensures tested { IsForm Command.Test (map string_bytes words.now) → IsRun result → RanToEnd K.held K.faults H.told H.faults (S.left input.old) kinds.old kinds.new result output.old output.new }
+    ensures tested { IsForm Command.Test (map string_bytes words.now) → IsRun result
+        → RanToEnd K.held K.faults H.told H.faults (S.left input.old) kinds.old kinds.new result output.old output.new }
 
     // The word `checksum`: it changes nothing, prints the checksum of the input, and takes memory for a refusal alone.
     ensures checksum { IsForm Command.Checksum (map string_bytes words.now)

@@ -5,7 +5,8 @@ use Rattle.lcm_program.proofs.checksum.read_digest.Given as goal
 
 abbrev pub invariant-loop-hash : goal.invariant-loop-hash
 invariant-loop-hash g l = record {
-  so_far : (taken : List ℕ) × Holds256 l.hash taken × Consumes (g.S.Ends.left l.fn.input) (g.S.Ends.left l.input) taken × (length taken ≡ l.total);
+  so_far : (taken : List ℕ) × Holds256 l.hash taken
+      × Consumes (g.S.Ends.left l.fn.input) (g.S.Ends.left l.input) taken × (length taken ≡ l.total);
   fits : l.total ≤ 67108864;
   later : g.S.Ends.faults l.fn.input ≤ g.S.Ends.faults l.input;
 }
