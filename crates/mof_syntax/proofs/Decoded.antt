@@ -1,5 +1,5 @@
 -- Bytes are characters in one way, and go wrong at one place.
-use Rattle.std.proofs.Common.{◌≡◌, ◌<◌, ◌≤◌, ◌+◌, ◌-◌, ◌*◌, ◌/◌, ◌%◌, ℕ, Bool, true, false, ◌&&◌, cond, nat_lt, ◌⊎◌, inl, inr, List, [], ◌∷◌, ◌++◌, length, take, drop, refl, sym, ap, subst, ◌∙◌, append_assoc, length-append, length-drop, arith}
+use Rattle.std.proofs.Common.{◌≡◌, ◌≢◌, ◌<◌, ◌≤◌, ◌+◌, ◌-◌, ◌*◌, ◌/◌, ◌%◌, ℕ, Bool, true, false, ◌&&◌, cond, nat_lt, ◌⊎◌, inl, inr, Result, Ok, Err, IfErr, List, [], ◌∷◌, ◌++◌, length, take, drop, refl, sym, ap, subst, ◌∙◌, append_assoc, length-append, length-drop, arith}
 use Rattle.std.proofs.lemmas.Bool.Decides.{nat_tests}
 use Rattle.std.proofs.lemmas.List.{append_cancel_left, append-nil, take-append-drop}
 use Rattle.std.proofs.lemmas.Str.{encode_same, length-encode, len_utf8_bounds}
@@ -14,7 +14,9 @@ use Rattle.mof_syntax.specs.declared.encoding.Encoding.TheVariants.{Utf8, Utf8Ma
 use Rattle.mof_syntax.specs.declared.encoding.ByteOrder.{ByteOrder}
 use Rattle.mof_syntax.specs.declared.encoding.ByteOrder.TheVariants.{LittleEndian, BigEndian}
 use Rattle.mof_syntax.specs.Encodings.{unit_bytes, char_bytes, body_bytes, mark_of, encoding_of, encoded, Chars, IsTextFault}
-use Rattle.mof_syntax.specs.Decoding.{StartsNoChar}
+use Rattle.mof_syntax.specs.declared.text_error.TextError.{TextError}
+use Rattle.mof_syntax.specs.declared.text_error.TextError.TheVariants.{TextFault, Memory}
+use Rattle.mof_syntax.specs.Decoding.{StartsNoChar, RefusesBytes}
 use Rattle.mof_syntax.proofs.Bodies.{some_units, and_left, and_right}
 
 -- units of UTF-16
@@ -150,3 +152,10 @@ one_fault bytes m n f g =
     let rests = (runs_same encoding f.before g.before (drop m bytes) (drop n bytes) f.scalars g.scalars f.no_char g.no_char bodies).1 in
     let lengths : length bytes - m ≡ length bytes - n = sym (length-drop m bytes) ∙ ap length rests ∙ length-drop n bytes in
     omega (arith, f.within, g.within)
+
+-- bytes that are refused, not for want of memory, are no characters
+pub only_refused : (bytes : List ℕ) (r : Result (List ℕ) TextError) → IfErr r (λ e. RefusesBytes bytes e)
+    → IfErr r (λ e. e ≢ Memory → (chars : List ℕ) → Chars bytes chars → ⊥)
+only_refused bytes (Ok chars) h = tt
+only_refused bytes (Err (TextFault at)) h = λ other chars c. no_fault bytes chars at c h
+only_refused bytes (Err Memory) h = λ other chars c. other refl
