@@ -35,3 +35,4 @@ pub mod DeclarationsRead
 pub mod IntegerFronts
 pub mod NumberSearch
 pub mod RefusalFound
+pub mod OnlyRefused
