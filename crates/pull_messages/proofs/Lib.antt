@@ -1,0 +1,6 @@
+pub mod Fronts
+pub mod Ids
+pub mod Options
+pub mod Outlines
+pub mod ReadBack
+pub mod Reading

@@ -1,0 +1,7 @@
+use Rattle.serde_json.specs.View.{view}
+use Rattle.pull_messages.specs.Tables.{query_of}
+use Rattle.pull_messages.proofs.Reading.{reads_by}
+use Rattle.pull_messages.proofs.query.read_query.Goals as goal
+
+pub returns-clause-answers : goal.returns-clause-answers
+returns-clause-answers c = reads_by query_of c.args.body.now (view c.in_ok-value_of.field-0) c.query_in.result c.in_ok-value_of.ensures.ok c.query_in.ensures

@@ -1,0 +1,9 @@
+pub mod Bodies
+pub mod Limits
+pub mod Members
+pub mod Names
+pub mod Recoding
+pub mod Results
+pub mod Sizes
+pub mod Tables
+pub mod Writing
