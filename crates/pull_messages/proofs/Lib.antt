@@ -4,3 +4,4 @@ pub mod Options
 pub mod Outlines
 pub mod ReadBack
 pub mod Reading
+pub mod SizedMessages
