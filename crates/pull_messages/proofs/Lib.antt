@@ -1,5 +1,7 @@
+pub mod Escaped
 pub mod Fronts
 pub mod Ids
+pub mod Languages
 pub mod Options
 pub mod Outlines
 pub mod ReadBack

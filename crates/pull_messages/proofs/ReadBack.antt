@@ -116,9 +116,9 @@ registration_back x sized version node address names =
 texts_back : (name : Field) (texts : List (List ℕ)) → map recoded texts ≡ texts → each (a_text limit.Free name) (items_of (map text_data texts)) ≡ Ok texts
 texts_back name texts same = each_back (a_text limit.Free name) text_data recoded (text_back name) texts ∙ ap Ok same
 
-pub report_back : (x : ReportMessage) → x.job < 2 ^ 128 → IsRecodedReport x → report_of (report_data x) ≡ Ok x
+pub report_back : (x : ReportMessage) → IsRecodedReport x → report_of (report_data x) ≡ Ok x
 unfolding report_of within
-report_back x fits same =
-    rw (id_back x.job fits, texts_back field.Errors x.errors same.errors, texts_back field.StatusData x.status_data same.status_data)
+report_back x same =
+    rw (id_back x.job same.job, texts_back field.Errors x.errors same.errors, texts_back field.StatusData x.status_data same.status_data)
     (λ i. Ok (record { job = x.job; operation = same.operation i; refresh = same.refresh i; status = same.status i; format = same.format i;
       version = same.version i; start = same.start i; end = same.end i; reboot = same.reboot i; errors = x.errors; status_data = x.status_data }))

@@ -1,9 +1,13 @@
 pub mod Bodies
+pub mod Escapes
 pub mod Limits
 pub mod Members
 pub mod Names
 pub mod Recoding
 pub mod Results
 pub mod Sizes
+pub mod Spelling
+pub mod Stops
 pub mod Tables
+pub mod Targets
 pub mod Writing

@@ -1,5 +1,5 @@
 -- How messages are put together, and what they are once their texts were written in UTF-8 and read again; for private clauses.
-use Rattle.std.specs.Prelude.{◌≡◌, ℕ, List, map, codes}
+use Rattle.std.specs.Prelude.{◌≡◌, ◌<◌, ◌^◌, ℕ, List, map, codes}
 use Rattle.std.specs.Str.{chars, encode_utf8_all}
 use Rattle.serde_json.specs.Data.{Members, string, put}
 use Rattle.pull_messages.specs.declared.query.Client.{Client}
@@ -16,8 +16,9 @@ recoded_client x = record { checksum = recoded x.checksum; name = recoded x.name
 abbrev pub recoded_detail : Detail → Detail
 recoded_detail x = record { name = recoded x.name; status = recoded x.status }
 
--- the texts of a report come back
+-- the texts of a report come back, and its job has 128 bits
 pub record IsRecodedReport (x : ReportMessage) : Type 0 where
+  pub job : x.job < 2 ^ 128
   pub operation : recoded x.operation ≡ x.operation
   pub refresh : recoded x.refresh ≡ x.refresh
   pub status : recoded x.status ≡ x.status

@@ -9,13 +9,20 @@
 mod action;
 mod body;
 mod error;
+mod escapes;
 mod field;
+mod forms;
 mod limit;
 mod lists;
 mod members;
+mod parts;
 mod query;
 mod registration;
 mod report;
+mod target_error;
+mod target_kinds;
+mod target_text;
+mod targets;
 mod values;
 
 pub use action::{ActionAnswer, Detail, read_action, write_action};
@@ -24,6 +31,10 @@ pub use field::Field;
 pub use query::{ActionQuery, Client, read_query, write_query};
 pub use registration::{Registration, read_registration, write_registration};
 pub use report::{ReportMessage, read_report, write_report};
+pub use target_error::TargetError;
+pub use target_text::write_target;
+pub use target_kinds::Target;
+pub use targets::target;
 
 #[cfg(test)]
 mod tests;

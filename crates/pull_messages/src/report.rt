@@ -1,5 +1,5 @@
 //! Reports of agents.
-ghost use Rattle.std.specs.Prelude.{◌≡◌, IfOk, OnOk, map};
+ghost use Rattle.std.specs.Prelude.{◌≡◌, ◌<◌, ◌^◌, IfOk, OnOk, map};
 ghost use Rattle.serde_json.specs.View.{view, members_view};
 ghost use Rattle.serde_json.specs.Data.{put as with_member};
 ghost use Rattle.pull_messages.specs.Bodies.{ReadsBy, Says};
@@ -69,7 +69,6 @@ pub fn write_report(alloc: Global, x: &ReportMessage) -> Result<Vec<u8>, Memory>
     ensures text { IfOk result (λ body. body.items ≡ report_text x.now) }
     ensures reads_back { IfOk result (λ body. Says report_of body.items (Ok x.now)) }
 {
-    let _job = x.job;
     Ok(report_value(alloc, x)?.to_vec(alloc)?)
 }
 
@@ -85,6 +84,7 @@ fn report_value(alloc: Global, x: &ReportMessage) -> Result<Value, AllocError>
 
 fn put_first(members: &mut Map<String, Value>, alloc: Global, x: &ReportMessage) -> Result<(), AllocError>
     ensures value { OnOk result (members_view members.new.entries ≡ with_first x.now (members_view members.old.entries)) }
+    ensures job { OnOk result (x.now.job < 2 ^ 128) }
     ensures version { OnOk result (recoded x.now.version ≡ x.now.version) }
     ensures end { OnOk result (recoded x.now.«end» ≡ x.now.«end») }
     ensures operation { OnOk result (recoded x.now.operation ≡ x.now.operation) }

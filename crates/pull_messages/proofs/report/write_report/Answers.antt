@@ -1,4 +1,4 @@
-use Rattle.std.proofs.Common.{◌≡◌, ◌<◌, ◌^◌, arith}
+use Rattle.std.proofs.Common.{◌≡◌}
 use Rattle.serde_json.specs.View.{view}
 use Rattle.pull_messages.specs.Writing.{report_data, report_text}
 use Rattle.pull_messages.proofs.Outlines.{report_no_float, report_flat}
@@ -15,4 +15,4 @@ pub returns-clause-reads_back : goal.returns-clause-reads_back
 returns-clause-reads_back c =
     let is : view c.in_ok-report_value.field-0 ≡ report_data c.args.x.now = c.in_ok-report_value.ensures.value in
     let json = rw is at (c.in_ok-to_vec.ensures.reads_back (rw is (report_flat c.args.x.now))) in
-    (report_data c.args.x.now, (c.in_ok-to_vec.ensures.utf8, json), report_back c.args.x.now (omega arith) c.in_ok-report_value.ensures.recoded)
+    (report_data c.args.x.now, (c.in_ok-to_vec.ensures.utf8, json), report_back c.args.x.now c.in_ok-report_value.ensures.recoded)
