@@ -11,9 +11,10 @@ fronts (x ∷ a) r [] s e = inl (x ∷ a, refl, sym e)
 fronts (x ∷ a) r (y ∷ b) s e =
     let head : x ≡ y = cc in
     let tail : a ++ r ≡ b ++ s = cc in
+    let back : y ≡ x = cc in
     elim (fronts a r b s tail) [
       | inl longer ↦ inl (longer.0, (λ i. head i ∷ longer.1 i), longer.2)
-      | inr shorter ↦ inr (shorter.0, (λ i. head (1 - i) ∷ shorter.1 i), shorter.2)
+      | inr shorter ↦ inr (shorter.0, (λ i. back i ∷ shorter.1 i), shorter.2)
     ]
 
 pub same_front : (a r b s : List ℕ) → a ++ r ≡ b ++ s → length a ≡ length b → (a ≡ b) × (r ≡ s)

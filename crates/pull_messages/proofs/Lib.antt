@@ -1,3 +1,4 @@
+pub mod Agents
 pub mod Escaped
 pub mod Fronts
 pub mod Ids
@@ -5,5 +6,7 @@ pub mod Languages
 pub mod Options
 pub mod Outlines
 pub mod ReadBack
+pub mod Quotes
 pub mod Reading
 pub mod SizedMessages
+pub mod Words

@@ -1,4 +1,5 @@
 pub mod Bodies
+pub mod Cells
 pub mod Escapes
 pub mod Limits
 pub mod Members

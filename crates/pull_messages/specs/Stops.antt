@@ -1,10 +1,10 @@
 -- How readers of parts answer; for private clauses. A language is a set of texts.
-use Rattle.std.specs.Prelude.{◌≡◌, ◌≤◌, ℕ, List, ◌++◌, length, true, Some, Result, Ok, Err, ⊤}
+use Rattle.std.specs.Prelude.{◌≡◌, ◌⊎◌, ◌≤◌, ℕ, List, [], ◌∷◌, ◌++◌, encode_utf8, length, true, Some, Result, Ok, Err, ⊤}
 use Rattle.std.specs.Str.{all_scalars}
 use Rattle.mof_values.specs.Fold.{SameName}
 use Rattle.pull_messages.specs.declared.parts.Stop.{Stop}
 use Rattle.pull_messages.specs.declared.parts.Stop.TheVariants.{Left, Memory}
-use Rattle.pull_messages.specs.Targets.{agent_of, IsQuoted}
+use Rattle.pull_messages.specs.Targets.{agent_of, doubled, IsQuoted}
 
 -- some text of the language begins with the front
 abbrev pub Begins : (List ℕ → Type 0) → List ℕ → Type 0
@@ -35,6 +35,14 @@ IsAgent text = (id : ℕ) × (agent_of text ≡ Some id)
 
 abbrev pub IsAnyQuoted : ℕ → List ℕ → Type 0
 IsAnyQuoted end text = (value : List ℕ) × IsQuoted value end text
+
+-- what may stand behind a quoted text
+abbrev pub IsEnd : ℕ → Type 0
+IsEnd end = (end ≡ 41) ⊎ (end ≡ 44)
+
+-- a character of a value stands there, and it has so many bytes at most
+abbrev pub IsValueChar : List ℕ → ℕ → ℕ → List ℕ → Type 0
+IsValueChar chars room c rest = (chars ≡ doubled (c ∷ []) ++ rest) × (length (encode_utf8 c) ≤ room)
 
 -- a text of one, and behind it one of the other
 abbrev pub Then : (List ℕ → Type 0) → (List ℕ → Type 0) → List ℕ → Type 0
