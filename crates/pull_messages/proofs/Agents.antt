@@ -6,7 +6,7 @@ use Rattle.std.specs.Str.{all_scalars, IsAscii}
 use Rattle.std.proofs.lemmas.Bool.Decides.{nat_tests}
 use Rattle.std.proofs.lemmas.Bool.{eqb-true, ltb-true, ltb-false}
 use Rattle.std.proofs.lemmas.List.{get_or-append-add, get_or-drop, get_or-replicate, take-append-drop}
-use Rattle.std.proofs.Math.ListN.{get_or-append}
+use Rattle.std.proofs.Math.ListN.{get_or-append, get_or-eq_default}
 use Rattle.std.proofs.Math.Seq.{get_or-append_seam}
 use Rattle.uuid.specs.Text.{by_index, is_hyphen_place, is_hex_digit, hyphen_place, digit_place, digits_of, has_hyphens, byte_of_digits, parsed_simple, parsed_hyphenated}
 use Rattle.uuid.proofs.TextLemmas.{by_index_length, by_index_at, simple_some, hyphens_pass}
@@ -14,7 +14,7 @@ use Rattle.pull_messages.specs.Cells.{is_cell, AreCells, AreAllCells}
 use Rattle.pull_messages.specs.Stops.{Begins, StopsAt, IsAgent}
 use Rattle.pull_messages.specs.Targets.{agent_of}
 use Rattle.pull_messages.proofs.Languages.{fronts, same_front, PrefixFree}
-use Rattle.pull_messages.proofs.Words.{both, scalars_end}
+use Rattle.pull_messages.proofs.Scalars.{both, scalars_end}
 
 hex_cell : (text : List ℕ) (k : ℕ) → AreAllCells text → k < 32 → is_hex_digit (get_or text (hyphen_place k) 0) ≡ true
 hex_cell text k cells within =
@@ -23,9 +23,8 @@ hex_cell text k cells within =
     rw no_hyphen at (cells.0 (hyphen_place k) (omega (arith, cells.1, small)))
 
 -- the cells of an identifier are one
-pub cells_agent : (text : List ℕ) → AreAllCells text → IsAgent text
-unfolding agent_of
-cells_agent text cells =
+pub cells_parsed : (text : List ℕ) → AreAllCells text → (bytes : List ℕ) × (parsed_hyphenated text ≡ Some bytes)
+cells_parsed text cells =
     let h8 : (get_or text 8 0 == 45) ≡ true = cells.0 8 (omega (arith, cells.1)) in
     let h13 : (get_or text 13 0 == 45) ≡ true = cells.0 13 (omega (arith, cells.1)) in
     let h18 : (get_or text 18 0 == 45) ≡ true = cells.0 18 (omega (arith, cells.1)) in
@@ -36,7 +35,14 @@ cells_agent text cells =
       λ k within. rw (by_index_at 32 (λ i. get_or text (hyphen_place i) 0) k 0 within) (hex_cell text k cells within) in
     let out = by_index 16 (byte_of_digits hex) in
     let simple = simple_some hex out (by_index_length 32 _) (by_index_length 16 (byte_of_digits hex)) digit (λ i d within. by_index_at 16 (byte_of_digits hex) i d within) in
-    (from_be_bytes w128 out, ap (option_map (from_be_bytes w128)) (sym (hyphens_pass text cells.1 hyphens) ∙ sym simple))
+    (out, sym (hyphens_pass text cells.1 hyphens) ∙ sym simple)
+
+pub parsed_agent : (text bytes : List ℕ) → parsed_hyphenated text ≡ Some bytes → agent_of text ≡ Some (from_be_bytes w128 bytes)
+unfolding agent_of
+parsed_agent text bytes is = ap (option_map (from_be_bytes w128)) is
+
+pub cells_agent : (text : List ℕ) → AreAllCells text → IsAgent text
+cells_agent text cells = let found = cells_parsed text cells in (from_be_bytes w128 found.0, parsed_agent text found.0 found.1)
 
 some_of_map : {A B : Type 0} (f : A → B) (o : Option A) (y : B) → option_map f o ≡ Some y → (x : A) × (o ≡ Some x)
 some_of_map f None y is = cc is
@@ -115,16 +121,22 @@ agent_free a r b s in_a in_b e = (same_front a r b s e (agent_length a in_a.0 in
 zeros : List ℕ
 zeros = codes "00000000-0000-0000-0000-000000000000"
 
+bit : Bool → ℕ
+bit true = 1
+bit false = 0
+
+one_true : (b : Bool) → bit b ≡ 1 → b ≡ true
+unfolding bit
+one_true true is = refl
+one_true false is = absurd (omega (arith, is))
+
 zero_cells : (k : ℕ) → k < 36 → is_cell k (get_or zeros k 0) ≡ true
-unfolding zeros by_index
+unfolding zeros by_index bit
 zero_cells k within =
-    let all : by_index 36 (λ j. if is_cell j (get_or zeros j 0) then 1 else 0) ≡ replicate 36 1 = refl in
+    let ones : List ℕ = replicate 36 1 in
+    let all : by_index 36 (λ j. bit (is_cell j (get_or zeros j 0))) ≡ ones = refl in
     one_true (is_cell k (get_or zeros k 0))
-      (sym (by_index_at 36 (λ j. if is_cell j (get_or zeros j 0) then 1 else 0) k 0 within) ∙ ap (λ (l : List ℕ). get_or l k 0) all ∙ get_or-replicate 36 k 1 0 within)
-    where
-      one_true : (b : Bool) → (if b then 1 else 0) ≡ 1 → b ≡ true
-      one_true true is = refl
-      one_true false is = absurd (omega (arith, is))
+      (sym (by_index_at 36 (λ j. bit (is_cell j (get_or zeros j 0))) k 0 within) ∙ ap (λ (l : List ℕ). get_or l k 0) all ∙ get_or-replicate 36 k 1 0 within)
 
 filled : (front : List ℕ) → AreCells front → length front < 36 → AreAllCells (front ++ drop (length front) zeros)
 unfolding zeros
@@ -199,4 +211,4 @@ cells_ascii text cells k = at k (nat_lt k (length text)) refl
       small k c is = grind (arith, nat_tests)
       at : (k : ℕ) (b : Bool) → nat_lt k (length text) ≡ b → get_or text k 0 < 128
       at k true is = small k (get_or text k 0) (cells k (ltb-true k (length text) is))
-      at k false is = let none : get_or text k 0 ≡ 0 = get_or-past text k 0 (ltb-false k (length text) is) in omega (arith, none)
+      at k false is = let none : get_or text k 0 ≡ 0 = get_or-eq_default text 0 (ltb-false k (length text) is) in omega (arith, none)

@@ -8,5 +8,6 @@ pub mod Outlines
 pub mod ReadBack
 pub mod Quotes
 pub mod Reading
+pub mod Scalars
 pub mod SizedMessages
 pub mod Words

@@ -7,6 +7,7 @@ use Rattle.std.specs.Char.{to_ascii_lowercase}
 use Rattle.std.specs.Str.{all_scalars}
 use Rattle.mof_values.specs.Fold.{fold_case}
 use Rattle.pull_messages.specs.Stops.{Begins, StopsAt, IsWord}
+use Rattle.pull_messages.proofs.Scalars.{both}
 use Rattle.pull_messages.proofs.Languages.{fronts, same_front, PrefixFree}
 
 pub bytes_scalars : (bytes : List ℕ) → ((i : ℕ) → get_or bytes i 0 < 256) → all_scalars bytes ≡ true
@@ -61,19 +62,3 @@ pub name_more : (name said codes : List ℕ) → name ≡ said ++ codes → 1 �
     → name ≡ said ++ get_or codes 0 0 ∷ take (length codes - 1) (drop 1 codes)
 name_more name said [] is some = absurd (omega arith)
 name_more name said (x ∷ codes) is some = is ∙ ap (λ (l : List ℕ). said ++ x ∷ l) (sym (take_all (length (x ∷ codes) - 1) codes (omega arith)))
-
-pub both : (a b : Bool) → a && b ≡ true → (a ≡ true) × (b ≡ true)
-both true b is = (refl, is)
-both false b is = cc is
-
-pub scalars_end : (a b : List ℕ) → all_scalars (a ++ b) ≡ true → all_scalars b ≡ true
-scalars_end [] b is = is
-scalars_end (x ∷ a) b is = scalars_end a b (both (scalar x) (all_scalars (a ++ b)) is).1
-
-pub scalars_front : (a b : List ℕ) → all_scalars (a ++ b) ≡ true → all_scalars a ≡ true
-scalars_front [] b is = refl
-scalars_front (x ∷ a) b is = let parts = both (scalar x) (all_scalars (a ++ b)) is in rw (parts.0, scalars_front a b parts.1) refl
-
-pub scalars_join : (a b : List ℕ) → all_scalars a ≡ true → all_scalars b ≡ true → all_scalars (a ++ b) ≡ true
-scalars_join [] b first second = second
-scalars_join (x ∷ a) b first second = let parts = both (scalar x) (all_scalars a) first in rw (parts.0, scalars_join a b parts.1 second) refl

@@ -1,5 +1,7 @@
 //! The parts of targets. Each reader takes its part from the front of some characters.
-ghost use Rattle.std.specs.Prelude.{◌≡◌, ◌∷◌, ◌++◌, ℕ, List, IfOk, IfSome, IfNone, length, get_or, true};
+ghost use Rattle.std.specs.Prelude.{◌≡◌, ◌∷◌, ◌++◌, ℕ, List, ◌↔◌, IfOk, IfSome, IsSome, IfNone, Some, string_bytes, encode_utf8_all, true};
+ghost use Rattle.std.specs.Int.{w128, from_be_bytes};
+ghost use Rattle.uuid.specs.Text.{parsed_hyphenated};
 ghost use Rattle.std.specs.Char.{to_ascii_lowercase};
 ghost use Rattle.pull_messages.specs.Targets.{agent_of, IsQuoted};
 ghost use Rattle.pull_messages.specs.Stops.{StopsAt, IfLeft, IsWord, IsAgent, IsAnyQuoted, IsEnd, IsValueChar, Takes};
@@ -79,8 +81,25 @@ fn hyphenated(alloc: Global, chars: &[char]) -> Result<u128, AllocError>
     requires { AreAllCells chars.now }
     ensures { IfOk result (λ id. agent_of chars.now ≡ Some id) }
 {
-    let text: String = chars.iter().copied().collect(alloc)?;
-    Ok(text.parse::<Hyphenated>().unwrap().into_uuid().as_u128())
+    let text = spelled(alloc, chars)?;
+    Ok(hyphenated_id(&text).unwrap())
+}
+
+fn spelled(alloc: Global, chars: &[char]) -> Result<String, AllocError>
+    ensures { IfOk result (λ s. string_bytes s ≡ encode_utf8_all chars.now) }
+{
+    chars.iter().copied().collect(alloc)
+}
+
+fn hyphenated_id(text: &str) -> Option<u128>
+    ensures some { IfSome result (λ id. (bytes : List ℕ) × (parsed_hyphenated text.now ≡ Some bytes)
+        × (id ≡ from_be_bytes w128 bytes)) }
+    ensures found { IsSome result ↔ ((bytes : List ℕ) × (parsed_hyphenated text.now ≡ Some bytes)) }
+{
+    match text.parse::<Hyphenated>() {
+        Ok(id) => Some(id.into_uuid().as_u128()),
+        Err(_) => None,
+    }
 }
 
 fn agent_cells(chars: &[char]) -> Result<&[char], Stop>

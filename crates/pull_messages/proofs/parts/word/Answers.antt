@@ -1,7 +1,8 @@
 use Rattle.std.proofs.Common.{ℕ, List, [], ◌∷◌, ◌++◌, ◌-◌, length, take, drop, get_or, refl, sym, ap, subst, ◌≡◌, true, arith}
 use Rattle.std.specs.Str.{all_scalars}
 use Rattle.pull_messages.proofs.Escaped.{more_front}
-use Rattle.pull_messages.proofs.Words.{bytes_scalars, word_stops, word_more, name_more, scalars_end}
+use Rattle.pull_messages.proofs.Words.{bytes_scalars, word_stops, word_more, name_more}
+use Rattle.pull_messages.proofs.Scalars.{scalars_end}
 use Rattle.pull_messages.proofs.parts.word.Goals as goal
 
 pub loop-codes-init : goal.loop-codes-init
