@@ -212,3 +212,7 @@ cells_ascii text cells k = at k (nat_lt k (length text)) refl
       at : (k : ℕ) (b : Bool) → nat_lt k (length text) ≡ b → get_or text k 0 < 128
       at k true is = small k (get_or text k 0) (cells k (ltb-true k (length text) is))
       at k false is = let none : get_or text k 0 ≡ 0 = get_or-eq_default text 0 (ltb-false k (length text) is) in omega (arith, none)
+
+pub agent_some : (text : List ℕ) × (all_scalars text ≡ true) × IsAgent text
+unfolding zeros
+agent_some = (zeros, refl, cells_agent zeros ((λ k within. zero_cells k within), refl))

@@ -1,5 +1,6 @@
 pub mod Agents
 pub mod Escaped
+pub mod FormLaws
 pub mod Fronts
 pub mod Ids
 pub mod Languages

@@ -303,3 +303,6 @@ no_chars (c ∷ t) none = absurd (omega (arith, none))
 pub some_chars : (t : List ℕ) → (length t == 0) ≡ false → 1 ≤ length t
 some_chars [] some = absurd (true≢false some)
 some_chars (c ∷ t) some = omega arith
+
+pub quoted_some : (end : ℕ) → IsEnd end → (text : List ℕ) × (all_scalars text ≡ true) × IsAnyQuoted end text
+quoted_some end is = (39 ∷ 97 ∷ closing end, rw (closing_scalars end is) refl, (97 ∷ [], (letter_value, refl)))
