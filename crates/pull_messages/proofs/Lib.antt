@@ -11,4 +11,5 @@ pub mod Quotes
 pub mod Reading
 pub mod Scalars
 pub mod SizedMessages
+pub mod TargetLaws
 pub mod Words

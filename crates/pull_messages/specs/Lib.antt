@@ -1,5 +1,7 @@
+pub mod BadTargets
 pub mod Bodies
 pub mod Cells
+pub mod Decoding
 pub mod Escapes
 pub mod Limits
 pub mod Members

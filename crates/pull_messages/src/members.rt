@@ -70,7 +70,8 @@ fn text_within(alloc: Global, text: &str, field: Field, limit: Limit) -> Result<
     }
 }
 
-fn characters(alloc: Global, text: &str) -> Result<Vec<char>, AllocError>
+/// The characters of a text.
+pub fn characters(alloc: Global, text: &str) -> Result<Vec<char>, AllocError>
     ensures { IfOk result (λ v. v.items ≡ chars text.now) }
 {
     text.chars().collect(alloc)
