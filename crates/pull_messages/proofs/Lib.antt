@@ -7,6 +7,7 @@ pub mod Languages
 pub mod Options
 pub mod Outlines
 pub mod ReadBack
+pub mod PathTexts
 pub mod Quotes
 pub mod Reading
 pub mod Scalars

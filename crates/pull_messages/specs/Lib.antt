@@ -12,5 +12,6 @@ pub mod Sizes
 pub mod Spelling
 pub mod Stops
 pub mod Tables
+pub mod TargetText
 pub mod Targets
 pub mod Writing
