@@ -54,7 +54,7 @@ fn targets_are_read_in_their_five_forms(rt: HostRuntime) -> Result<(), Fail> {
         ("Nodes(AgentId='#')/SendReport", "SendReport 1"),
         ("Nodes(AgentId='#')/Configurations(ConfigurationName='Web')/ConfigurationContent", "Content 1 Web"),
         ("modules(ModuleName='xWeb',ModuleVersion='1.0')/ModuleContent", "Module xWeb 1.0"),
-        ("Nodes(AgentId='aBcDeF01-0000-0000-0000-00000000000F')", "Node 228367255721259569362527394270995120143"),
+        ("Nodes(AgentId='aBcDeF01-0000-0000-0000-00000000000F')", "Node 228367255710343689193895420042030350351"),
         ("%4eodes%28AgentId%3D%27#%27%29", "Node 1"),
         ("Nodes(AgentId='%30%30000000-0000-0000-0000-000000000001')", "Node 1"),
         ("Nodes(AgentId='#')/Configurations(ConfigurationName='a''b')/ConfigurationContent", "Content 1 a'b"),
@@ -130,7 +130,7 @@ fn a_bad_target_names_the_longest_front_of_a_target(rt: HostRuntime) -> Result<(
         ("Nodes(AgentId='#')/Configurations(ConfigurationName='a')/ConfigurationContents", "133"),
         ("Modules(ModuleName='m')", "43"),
         ("Modules(ModuleName='m',ModuleVersion='v')/ModuleContent/", "76"),
-        ("Modules(ModuleName='m',ModuleVersion='')", "59"),
+        ("Modules(ModuleName='m',ModuleVersion='')", "60"),
     ] {
         assert_eq!(rt; shown(&rt, path(&rt, text)?.as_bytes())?.as_str(), expected, "{text}");
     }
