@@ -9,7 +9,7 @@ use Rattle.std.proofs.lemmas.List.Elements.{All-head, All-tail, All-cons, All-ni
 use Rattle.std.proofs.lemmas.List.Concat.{flat_map-append}
 use Rattle.httparse.specs.Grammar.{LineEnd, crlf, lf, print_end, print_blank, Field, print_field, IsField, print_section, AllPass, is_token_byte, is_value_byte}
 use Rattle.httparse.proofs.GrammarLemmas.{cons-append}
-use Rattle.http_frames.specs.Lines.{is_break, skip_breaks, skip_lines, begins_line, begins_line_there}
+use Rattle.http_frames.specs.Lines.{is_break, skip_breaks, skip_lines, begins_line, begins_line_there, begins_extra_line}
 
 -- the bytes have no line feed
 abbrev pub NoFeed : List ℕ → Type 0
@@ -89,7 +89,7 @@ unfolding skip_lines
 skip_end n crlf rest = refl
 skip_end n lf rest = refl
 
-token_feed : is_token_byte 10 ≡ false
+pub token_feed : is_token_byte 10 ≡ false
 unfolding is_token_byte
 token_feed = refl
 
@@ -200,7 +200,7 @@ extra_refuses line fs last rest more y start all few is extra =
 
 -- ---- no header line too many
 
-token_inside : (b : ℕ) → is_token_byte b ≡ true → is_break b ≡ false
+pub token_inside : (b : ℕ) → is_token_byte b ≡ true → is_break b ≡ false
 token_inside b passes = elim (eqb_tells b 13) [
     inl w ↦ absurd (false≢true (sym (ap is_token_byte w.1 ∙ token_return) ∙ passes))
   | inr w ↦ elim (eqb_tells b 10) [
@@ -331,3 +331,10 @@ blank_cases blank text buf more breaks begins is = elim (longer_front buf more b
         ap skip_breaks w.2 ∙ skip_all blank (w.0 ∷ w.1) breaks
         ∙ skip_no_more w.0 w.1 (ap is_break same ∙ begins.3))
   ]
+
+-- among the empty lines none has begun
+pub not_extra : (buf : List ℕ) → skip_breaks buf ≡ [] → begins_extra_line buf ≡ true → ⊥
+unfolding begins_extra_line skip_lines
+not_extra buf none extra =
+    let no : begins_extra_line buf ≡ false = ap (λ (l : List ℕ). begins_line_there (skip_lines 65 l)) none in
+    false≢true (sym no ∙ extra)
