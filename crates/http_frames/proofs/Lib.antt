@@ -1,3 +1,4 @@
 pub mod Digits
 pub mod LineCounts
 pub mod RequestLines
+pub mod AnswerLines
