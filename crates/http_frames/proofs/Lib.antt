@@ -2,3 +2,4 @@ pub mod Digits
 pub mod LineCounts
 pub mod RequestLines
 pub mod AnswerLines
+pub mod HeadReads

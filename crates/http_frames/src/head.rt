@@ -151,10 +151,8 @@ fn copy_headers(alloc: Global, front: &[u8], spans: &[HeaderSpan]) -> Result<Vec
     ensures { IfOk result (λ headers. headers.items ≡ map (header_at front.now) spans.now) }
 {
     let mut headers = Vec::new(alloc);
-    let mut left = spans;
-    while let [span, rest @ ..] = left {
+    for span in spans {
         headers.push(copy_header(alloc, front, span)?)?;
-        left = rest;
     }
     Ok(headers)
 }
