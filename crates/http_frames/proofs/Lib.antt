@@ -3,3 +3,4 @@ pub mod LineCounts
 pub mod RequestLines
 pub mod AnswerLines
 pub mod HeadReads
+pub mod Walking

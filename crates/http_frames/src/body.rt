@@ -1,6 +1,6 @@
 //! Bodies of messages (RFC 9112, section 6).
-ghost use Rattle.std.specs.Prelude.{◌≡◌, ◌<◌, ◌≤◌, ◌^◌, ℕ, length, drop};
-ghost use Rattle.http_frames.specs.Walks.{AreSmall, walk_over, content_over, start};
+ghost use Rattle.std.specs.Prelude.{◌<◌, ◌^◌, ℕ, IsTrue};
+ghost use Rattle.http_frames.specs.Walks.{AreSmall, can_fit, start};
 ghost use Rattle.http_frames.specs.Bodies.{HasWalked, IsProgress, body_reading};
 
 use crate::FrameError;
@@ -32,6 +32,7 @@ pub(crate) fn read_body(
 ) -> Result<Progress, FrameError>
     requires small { AreSmall limits.now }
     requires front { front < 2 ^ 62 }
+    requires starts { IsTrue (can_fit limits.now start) }
     requires walked { HasWalked limits.now front body.now walk }
     ensures { IsProgress limits.now front framing body.now result }
 {
@@ -62,14 +63,16 @@ fn read_chunked(
 ) -> Result<Progress, FrameError>
     requires small { AreSmall limits.now }
     requires front { front < 2 ^ 62 }
+    requires starts { IsTrue (can_fit limits.now start) }
     requires walked { HasWalked limits.now front body.now walk }
     ensures { IsProgress limits.now front Framing.Chunked body.now result }
 {
-    let reached = walk_over(limits, front, walk, body.split_at(walk.length as usize).1)?;
-    if is_done(reached.phase) {
-        Ok(Progress::Whole(content(alloc, limits, front, body)?))
-    } else {
-        Ok(Progress::More(reached))
+    match walk_over(limits, front, walk, body.split_at(walk.length as usize).1) {
+        Ok(reached) if is_done(reached.phase) => {
+            Ok(Progress::Whole(content(alloc, limits, front, body)?))
+        }
+        Ok(reached) => Ok(Progress::More(reached)),
+        Err(error) => Err(error),
     }
 }
 
