@@ -8,7 +8,8 @@ use Rattle.http_frames.specs.declared.chunks.Phase.{Phase}
 use Rattle.http_frames.specs.declared.chunks.Walk.{Walk}
 use Rattle.http_frames.specs.declared.frame_error.FrameError.{FrameError}
 use Rattle.http_frames.specs.Phases.{is_done}
-use Rattle.http_frames.specs.Phases.{next_phase}
+use Rattle.http_frames.specs.Phases.{next_phase, begun_content, least_rest}
+use Rattle.http_frames.specs.declared.limits.TheConstants.{REQUEST_LIMITS, ANSWER_LIMITS}
 use Rattle.http_frames.specs.declared.frame_error.FrameError.TheVariants.{BodyTooLong}
 use Rattle.http_frames.specs.declared.framing.Framing.TheVariants.{Chunked}
 use Rattle.http_frames.specs.Walks.{step, step_to, within, stepped, can_fit, and_then_walk, walk_over, content_over, start}
@@ -168,3 +169,22 @@ pub resumed_at : (limits : Limits) (front : ℕ) (body : List ℕ) (walk : Walk)
     → result ≡ answer → walk_over limits front start body ≡ answer
 resumed_at limits front body walk rest result answer walked back value is =
     sym (resumed limits front body walk walked) ∙ ap (walk_over limits front walk) (sym back) ∙ sym value ∙ is
+
+-- at the front of a body nothing was walked over
+pub walked_start : (limits : Limits) (front : ℕ) (body : List ℕ) (walk : Walk) → walk ≡ start → IsTrue (can_fit limits start)
+    → HasWalked limits front body walk
+unfolding start
+walked_start limits front body walk same fits = subst (HasWalked limits front body) (sym same) (record {
+  length = omega arith;
+  over = walk_none limits front start;
+  fits = fits;
+  line = omega arith;
+})
+
+pub request_starts : IsTrue (can_fit REQUEST_LIMITS start)
+unfolding can_fit start begun_content least_rest
+request_starts = refl
+
+pub answer_starts : IsTrue (can_fit ANSWER_LIMITS start)
+unfolding can_fit start begun_content least_rest
+answer_starts = refl

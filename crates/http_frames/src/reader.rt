@@ -1,7 +1,7 @@
 //! Requests out of pieces.
-ghost use Rattle.std.specs.Prelude.{◌≡◌, ◌++◌, [], IsTrue, IfOk, IfSome, IfNone, IfErr, length};
+ghost use Rattle.std.specs.Prelude.{◌≡◌, ◌≢◌, ◌⊎◌, ◌++◌, [], true, IfOk, IfSome, IfNone, IfErr, length};
 ghost use Rattle.http_frames.specs.Heads.{IsRequestHeadOf};
-ghost use Rattle.http_frames.specs.Reading.{IsStarted, IsStageOf, IsAdvance, Advances, Fed, fed};
+ghost use Rattle.http_frames.specs.Reading.{IsStarted, IsStageOf, IsAdvance, IsStart, IsReadRequest, AwaitsMore, Refuses, is_open_stage};
 
 use crate::body::{Progress, read_body};
 use crate::chunks::Walk;
@@ -61,7 +61,7 @@ impl RequestReader {
     /// A reader of no bytes; takes no memory.
     pub fn new(alloc: Global) -> RequestReader
         ensures bytes { result.bytes ≡ [] }
-        ensures open { IsTrue result.is_open }
+        ensures is_open { result.is_open ≡ true }
     {
         RequestReader { bytes: Vec::new(alloc), stage: Stage::Head }
     }
@@ -70,7 +70,13 @@ impl RequestReader {
     ///
     /// An error is that of the shortest prefix of the bytes that has one. After `Memory` the reader is as before.
     pub fn feed(&mut self, piece: &[u8]) -> Result<Option<Request>, FrameError>
-        requires { IsTrue self.old.is_open }
+        requires { self.old.is_open ≡ true }
+        ensures fed { result ≡ Err FrameError.Memory ⊎ (self.new.bytes ≡ self.old.bytes ++ piece.now) }
+        ensures memory { result ≡ Err FrameError.Memory → self.new ≡ self.old }
+        ensures whole { IfOk result (λ read. IfSome read (IsReadRequest self.new.bytes)) }
+        ensures more { IfOk result (λ read. IfNone read (AwaitsMore self.new.bytes)) }
+        ensures goes_on { IfOk result (λ read. IfNone read (self.new.is_open ≡ true)) }
+        ensures refused { IfErr result (λ e. e ≢ FrameError.Memory → Refuses self.new.bytes e) }
     {
         let before = self.bytes.len();
         self.bytes.extend_from_slice(piece)?;
@@ -101,41 +107,56 @@ impl RequestReader {
 
 // One step on, over all bytes that were fed.
 fn step_on(alloc: Global, stage: Stage, bytes: &[u8]) -> Advance
+    requires stage { IsStageOf bytes.now stage }
+    requires is_open { is_open_stage stage ≡ true }
+    ensures { IsAdvance bytes.now stage result }
 {
     match stage {
         Stage::Head => begin(alloc, bytes),
         Stage::Body(started) => started.go_on(alloc, bytes),
-        Stage::Closed => Advance::More(Stage::Closed),
+        Stage::Closed => unreachable!(),
     }
 }
 
-fn begin(alloc: Global, bytes: &[u8]) -> Advance {
+fn begin(alloc: Global, bytes: &[u8]) -> Advance
+    ensures { IsAdvance bytes.now Stage.Head result }
+{
     match start(alloc, bytes) {
-        Ok(Some(started)) => from_head(started.go_on(alloc, bytes)),
+        Ok(Some(started)) => match started.go_on(alloc, bytes) {
+            Advance::OutOfMemory(_) => Advance::OutOfMemory(Stage::Head),
+            reached => reached,
+        },
         Ok(None) => Advance::More(Stage::Head),
         Err(FrameError::Memory) => Advance::OutOfMemory(Stage::Head),
         Err(error) => Advance::Refused(error),
     }
 }
 
-// A first step goes back to where no head was read.
-fn from_head(advance: Advance) -> Advance {
-    match advance {
-        Advance::OutOfMemory(_) => Advance::OutOfMemory(Stage::Head),
-        other => other,
+// Reads a head, and what it says of the body.
+fn start(alloc: Global, bytes: &[u8]) -> Result<Option<Started>, FrameError>
+    ensures { IsStart bytes.now result }
+{
+    match request_head(alloc, bytes) {
+        Ok(Some(head)) => start_body(head, bytes),
+        Ok(None) => Ok(None),
+        Err(error) => Err(error),
     }
 }
 
-fn start(alloc: Global, bytes: &[u8]) -> Result<Option<Started>, FrameError> {
-    let Some(head) = request_head(alloc, bytes)? else {
-        return Ok(None);
-    };
-    let framing = request_framing(head.method.as_slice(), head.headers.as_slice())?;
-    Ok(Some(Started { head, framing, walk: Walk::new() }))
+fn start_body(head: RequestHead, bytes: &[u8]) -> Result<Option<Started>, FrameError>
+    requires { IsRequestHeadOf bytes.now head }
+    ensures { IsStart bytes.now result }
+{
+    match request_framing(head.method.as_slice(), head.headers.as_slice()) {
+        Ok(framing) => Ok(Some(Started { head, framing, walk: Walk::new() })),
+        Err(error) => Err(error),
+    }
 }
 
 impl Started {
     fn go_on(self, alloc: Global, bytes: &[u8]) -> Advance
+        requires { IsStarted bytes.now self }
+        ensures { IsAdvance bytes.now (Stage.Body self) result }
     {
         let Started { head, framing, walk } = self;
         let (_, body) = bytes.split_at(head.length);
@@ -148,7 +169,12 @@ impl Started {
     }
 }
 
-fn request(head: RequestHead, content: Vec<u8>) -> Request {
+fn request(head: RequestHead, content: Vec<u8>) -> Request
+    ensures method { result.method ≡ head.method }
+    ensures target { result.target ≡ head.target }
+    ensures headers { result.headers ≡ head.headers }
+    ensures body { result.body ≡ content.items }
+{
     Request {
         method: head.method,
         target: head.target,
