@@ -4,3 +4,4 @@ pub mod RequestLines
 pub mod AnswerLines
 pub mod HeadReads
 pub mod Walking
+pub mod Interim

@@ -6,3 +6,4 @@ pub mod Heads
 pub mod Writing
 pub mod Bodies
 pub mod Reading
+pub mod Answering

@@ -1,5 +1,5 @@
 -- Messages as they are written (RFC 9112, sections 3 and 4). Lines end with CR LF.
-use Rattle.std.specs.Prelude.{ℕ, ◌-◌, Bool, List, [], ◌∷◌, ◌++◌, length, take, drop, codes, if◌then◌else◌, ◌==◌, bytes_eq, unwrap_or, encode_utf8_all}
+use Rattle.std.specs.Prelude.{ℕ, ◌-◌, Bool, ◌&&◌, nat_le, nat_lt, List, [], ◌∷◌, ◌++◌, length, take, drop, codes, if◌then◌else◌, ◌==◌, bytes_eq, unwrap_or, encode_utf8_all}
 use Rattle.std.specs.List.{flat_map}
 use Rattle.std.specs.Fmt.{decimal}
 use Rattle.http.specs.StatusCode.{reason_phrase}
@@ -25,9 +25,9 @@ length_line n = header_line (codes "Content-Length") (decimal n)
 abbrev pub request_line : List ℕ → List ℕ → List ℕ
 request_line method target = method ++ (codes " " ++ (target ++ (codes " HTTP/1.1" ++ crlf)))
 
--- the phrase that the code has, or none
-abbrev pub phrase_of : ℕ → List ℕ
-phrase_of code = unwrap_or (reason_phrase code) []
+-- the phrase that the code has, if it is one of 100 to 999, or none
+unfoldable pub phrase_of : ℕ → List ℕ
+phrase_of code = if nat_le 100 code && nat_lt code 1000 then unwrap_or (reason_phrase code) [] else []
 
 -- "HTTP/1.1" SP code SP phrase CR LF
 abbrev pub status_line : ℕ → List ℕ

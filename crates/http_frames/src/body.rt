@@ -31,7 +31,7 @@ pub(crate) fn read_body(
     body: &[u8],
 ) -> Result<Progress, FrameError>
     requires small { AreSmall limits.now }
-    requires front { front < 2 ^ 62 }
+    requires front { front < 2 ^ 63 }
     requires starts { IsTrue (can_fit limits.now start) }
     requires walked { HasWalked limits.now front body.now walk }
     ensures { IsProgress limits.now front framing body.now result }
@@ -62,7 +62,7 @@ fn read_chunked(
     body: &[u8],
 ) -> Result<Progress, FrameError>
     requires small { AreSmall limits.now }
-    requires front { front < 2 ^ 62 }
+    requires front { front < 2 ^ 63 }
     requires starts { IsTrue (can_fit limits.now start) }
     requires walked { HasWalked limits.now front body.now walk }
     ensures { IsProgress limits.now front Framing.Chunked body.now result }

@@ -82,7 +82,7 @@ impl Walk {
     pub fn step(self, limits: &Limits, front: u64, byte: u8) -> Result<Walk, FrameError>
         requires small { AreSmall limits.now }
         requires fits { IsTrue (can_fit limits.now self) }
-        requires front { front < 2 ^ 62 }
+        requires front { front < 2 ^ 63 }
         requires line { self.line ≤ self.length }
         ensures value { result ≡ step limits.now front self byte }
         ensures fits { IfOk result (λ walk. IsTrue (can_fit limits.now walk)) }
@@ -143,7 +143,7 @@ pub(crate) fn walk_over(
 ) -> Result<Walk, FrameError>
     requires small { AreSmall limits.now }
     requires fits { IsTrue (can_fit limits.now walk) }
-    requires front { front < 2 ^ 62 }
+    requires front { front < 2 ^ 63 }
     requires line { walk.line ≤ walk.length }
     ensures value { result ≡ walk_over limits.now front walk bytes.now }
     ensures fits { IfOk result (λ walk. IsTrue (can_fit limits.now walk)) }
@@ -171,7 +171,7 @@ pub(crate) fn content(
 ) -> Result<Vec<u8>, AllocError>
     requires small { AreSmall limits.now }
     requires fits { IsTrue (can_fit limits.now start) }
-    requires front { front < 2 ^ 62 }
+    requires front { front < 2 ^ 63 }
     ensures { IfOk result (λ content. content.items ≡ content_over limits.now front start body.now) }
 {
     let mut content = Vec::new(alloc);

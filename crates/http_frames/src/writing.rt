@@ -2,7 +2,7 @@
 ghost use Rattle.std.specs.Prelude.{◌≡◌, ◌∷◌, ◌++◌, [], length, IfOk, OnOk, codes, map, unwrap_or, encode_utf8_all, string_bytes};
 ghost use Rattle.std.specs.List.{flat_map};
 ghost use Rattle.std.specs.Fmt.{decimal};
-ghost use Rattle.http.specs.StatusCode.{reason_phrase};
+ghost use Rattle.http.specs.StatusCode.{IsStatusCode, reason_phrase};
 ghost use Rattle.http_frames.specs.Writing.{crlf, header_line, header_text, length_line, request_length, answer_length, host_value, without_default_port, request_line, status_line, phrase_of, request_text, answer_text};
 
 use crate::framing::needs_length;
@@ -119,8 +119,15 @@ fn push_body(out: &mut Vec<u8>, body: &[u8]) -> Result<(), Memory>
 }
 
 // The phrase for a code, or none.
+#[tactic(auto, unfolding(crate::specs::Writing::phrase_of))]
 fn phrase(code: u16) -> &'static str
     ensures { result.now ≡ phrase_of code }
+{
+    if code < 100 || code >= 1000 { "" } else { known_phrase(code) }
+}
+
+fn known_phrase(code: u16) -> &'static str
+    ensures { IsStatusCode code → result.now ≡ unwrap_or (reason_phrase code) [] }
 {
     match StatusCode::from_u16(code) {
         Ok(status) => status.canonical_reason().unwrap_or(""),
