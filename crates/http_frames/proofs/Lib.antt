@@ -5,3 +5,4 @@ pub mod AnswerLines
 pub mod HeadReads
 pub mod Walking
 pub mod Interim
+pub mod Accepts

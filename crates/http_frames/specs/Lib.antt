@@ -7,3 +7,4 @@ pub mod Writing
 pub mod Bodies
 pub mod Reading
 pub mod Answering
+pub mod Chunks
