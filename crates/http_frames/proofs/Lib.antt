@@ -6,3 +6,4 @@ pub mod HeadReads
 pub mod Walking
 pub mod Interim
 pub mod Accepts
+pub mod Complete
