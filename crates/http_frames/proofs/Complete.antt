@@ -139,11 +139,11 @@ data_accepted (suc n) b (c ∷ part) rest more len h =
 abbrev pub ReadsBehind : Phase → ℕ → Type 0
 ReadsBehind p size = (is_data p ≡ false) × ((b : ℕ) → is_ascii_hexdigit b ≡ false → next_phase p b ≡ behind_size size b)
 
-pad_reads : (size : ℕ) → ReadsBehind (Pad size) size
+pub pad_reads : (size : ℕ) → ReadsBehind (Pad size) size
 unfolding next_phase
 pad_reads size = (refl, λ b h. refl)
 
-size_reads : (digits size : ℕ) → ReadsBehind (Size digits size) size
+pub size_reads : (digits size : ℕ) → ReadsBehind (Size digits size) size
 unfolding next_phase
 size_reads digits size = (refl, λ b h.
     ap (λ (t : Bool). if t then (if nat_lt digits 16 then Some (Size (digits + 1) (size * 16 + digit_value b)) else None) else behind_size size b) h)
@@ -166,10 +166,10 @@ step_extension size b h = elim (eqb_tells b 13) [
     ]
   ]
 
-end_of_line : (size : ℕ) (rest content : List ℕ) → Accepts (behind_line size) rest content → Accepts (SizeReturn size) (10 ∷ rest) content
+pub end_of_line : (size : ℕ) (rest content : List ℕ) → Accepts (behind_line size) rest content → Accepts (SizeReturn size) (10 ∷ rest) content
 end_of_line size rest content h = accept (SizeReturn size) (behind_line size) 10 rest content (step_line_end size) refl h
 
-extension_accepted : (size : ℕ) (text rest content : List ℕ) → AllPass is_extension_byte text → Accepts (behind_line size) rest content
+pub extension_accepted : (size : ℕ) (text rest content : List ℕ) → AllPass is_extension_byte text → Accepts (behind_line size) rest content
     → Accepts (Extension size) (text ++ (13 ∷ 10 ∷ rest)) content
 extension_accepted size [] rest content all h =
     accept (Extension size) (SizeReturn size) 13 (10 ∷ rest) content (step_extension_end size) refl (end_of_line size rest content h)
@@ -178,7 +178,7 @@ extension_accepted size (b ∷ text) rest content all h =
     accept (Extension size) (Extension size) b (text ++ (13 ∷ 10 ∷ rest)) content (step_extension size b (All-head P b text all)) refl
     (extension_accepted size text rest content (All-tail P b text all) h)
 
-text_behind : (p : Phase) (size : ℕ) (text : Option (List ℕ)) (rest content : List ℕ) → ReadsBehind p size → IsExtension text
+pub text_behind : (p : Phase) (size : ℕ) (text : Option (List ℕ)) (rest content : List ℕ) → ReadsBehind p size → IsExtension text
     → Accepts (behind_line size) rest content → Accepts p (print_extension text ++ (13 ∷ 10 ∷ rest)) content
 text_behind p size None rest content reads valid h =
     accept p (SizeReturn size) 13 (10 ∷ rest) content (reads.1 13 refl) reads.0 (end_of_line size rest content h)
@@ -215,7 +215,7 @@ step_digit digits size b hex few =
     let less : nat_lt digits 16 ≡ true = grind (arith, few) in
     ap₂ (λ (s t : Bool). if s then (if t then Some (Size (digits + 1) (size * 16 + digit_value b)) else None) else behind_size size b) hex less
 
-step_first : (b : ℕ) → is_ascii_hexdigit b ≡ true → next_phase Line b ≡ Some (Size 1 (digit_value b))
+pub step_first : (b : ℕ) → is_ascii_hexdigit b ≡ true → next_phase Line b ≡ Some (Size 1 (digit_value b))
 unfolding next_phase
 step_first b hex = ap (λ (t : Bool). if t then Some (Size 1 (digit_value b)) else None) hex
 

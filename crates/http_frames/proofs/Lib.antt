@@ -7,3 +7,5 @@ pub mod Walking
 pub mod Interim
 pub mod Accepts
 pub mod Complete
+pub mod Bounds
+pub mod WalkBodies

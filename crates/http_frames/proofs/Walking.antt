@@ -30,11 +30,11 @@ unfolding walk_over
 walk_byte limits front walk b bytes open' =
     ap (λ (t : Bool). if t then Ok walk else and_then_walk (step limits front walk b) (λ next. walk_over limits front next bytes)) open'
 
-walk_none : (limits : Limits) (front : ℕ) (walk : Walk) → walk_over limits front walk [] ≡ Ok walk
+pub walk_none : (limits : Limits) (front : ℕ) (walk : Walk) → walk_over limits front walk [] ≡ Ok walk
 unfolding walk_over
 walk_none limits front walk = refl
 
-done_or_not : (b : Bool) → (b ≡ true) ⊎ (b ≡ false)
+pub done_or_not : (b : Bool) → (b ≡ true) ⊎ (b ≡ false)
 done_or_not true = inl refl
 done_or_not false = inr refl
 
