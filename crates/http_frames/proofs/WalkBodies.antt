@@ -341,10 +341,21 @@ from_start bytes content h = sound bytes Line content (subst (λ (p : Phase). Ac
 to_start : (bytes content : List ℕ) → Chunked bytes content → Accepts start.phase bytes content
 to_start bytes content h = subst (λ (p : Phase). Accepts p bytes content) (sym start_phase) (complete bytes content h)
 
+both_fit : (a b c d : ℕ) → (nat_le a b && nat_le c d) ≡ true → (a ≤ b) × (c ≤ d)
+both_fit a b c d h = grind arith
+
+one_not : (a b c d : ℕ) → (nat_le a b && nat_le c d) ≡ false → (b < a) ⊎ (d < c)
+one_not a b c d h = grind arith
+
+no_fit : (limits : Limits) (walk : Walk) → can_fit limits walk ≡ false
+    → (limits.content < walk.content + begun_content walk.phase) ⊎ (limits.chunked < walk.length + least_rest walk.phase)
+unfolding can_fit
+no_fit limits walk h = one_not _ _ _ _ h
+
 fit_parts : (limits : Limits) (walk : Walk) → can_fit limits walk ≡ true
     → (walk.content + begun_content walk.phase ≤ limits.content) × (walk.length + least_rest walk.phase ≤ limits.chunked)
 unfolding can_fit
-fit_parts limits walk h = ?
+fit_parts limits walk h = both_fit _ _ _ _ h
 
 pub body_whole : (limits : Limits) (front : ℕ) (bytes : List ℕ) (reached : Walk) → can_fit limits start ≡ true
     → walk_over limits front start bytes ≡ Ok reached → is_done reached.phase ≡ true
@@ -369,3 +380,103 @@ can_be limits front bytes reached over not_done =
       content_fits = omega (arith, length-append x r.content, over.content_is, parts.0, r.content_is, start_counts.1);
       length_fits = omega (arith, length-append bytes r.more, over.length_is, parts.1, r.length_is, start_counts.0);
     })
+
+-- ---- bodies that are not whole
+
+lacks_at : (limits : Limits) (front : ℕ) (whole rest content : List ℕ) (reached : Walk) (r : Result Walk FrameError)
+    → can_fit limits start ≡ true → walk_over limits front start whole ≡ r
+    → and_then_walk r (λ next. walk_over limits front next rest) ≡ Ok reached → is_done reached.phase ≡ false
+    → Accepts start.phase whole content → ⊥
+lacks_at limits front whole rest content reached (Err e) fits over on not_done h = cc
+lacks_at limits front whole rest content reached (Ok w) fits over on not_done h = elim (done_or_not (is_done w.phase)) [
+    inl d ↦
+      let same = ok_walk w reached (sym (walk_done limits front w rest d) ∙ on) in
+      false≢true (sym not_done ∙ ap (λ (x : Walk). is_done x.phase) (sym same) ∙ d)
+  | inr d ↦
+      let there = reached_open limits front start whole w start_sane fits over d in
+      let back = there.back [] content (subst (λ (l : List ℕ). Accepts start.phase l content) (sym (append-nil whole)) h) in
+      false≢true (sym d ∙ back.1.0)
+  ]
+
+pub body_open : (limits : Limits) (front : ℕ) (bytes : List ℕ) (reached : Walk) → can_fit limits start ≡ true
+    → walk_over limits front start bytes ≡ Ok reached → is_done reached.phase ≡ false → CanBeBody limits bytes × LacksBody bytes
+body_open limits front bytes reached fits is not_done = (
+  can_be limits front bytes reached (reached_open limits front start bytes reached start_sane fits is not_done) not_done,
+  λ whole rest content split h.
+    lacks_at limits front whole rest content reached (walk_over limits front start whole) fits refl
+    (sym (walk_over-append limits front start whole rest) ∙ ap (walk_over limits front start) (sym split) ∙ is) not_done
+    (to_start whole content h),
+)
+
+-- ---- bodies that are refused
+
+some_phase : (a b : Phase) → (let l : Option Phase = Some a in l ≡ Some b) → a ≡ b
+some_phase a b e = cc
+
+wrong_at : (limits : Limits) (front : ℕ) (bytes : List ℕ) (e : FrameError) (s : Stopped limits front start bytes e)
+    → next_phase s.reached.phase s.b ≡ None → StopsWrong limits bytes
+wrong_at limits front bytes e s none = record {
+  before = s.before;
+  wrong = s.b;
+  rest = s.rest;
+  split = s.split;
+  could_be = can_be limits front s.before s.reached s.over s.not_done;
+  never = λ more content h.
+    let back = s.over.back (s.b ∷ more) content (to_start (s.before ++ s.b ∷ more) content h) in
+    subst (λ (o : Option Phase). OnSome o (λ next. Keeps (is_data s.reached.phase) s.b (Accepts next more) back.0)) none back.1;
+}
+
+-- some rest completes the body, whatever its length
+reach_any : (phase : Phase) → IsSane phase → (more : List ℕ) × (content : List ℕ) × Accepts phase more content
+reach_any phase sane = elim (done_or_not (is_done phase)) [
+    inl w ↦ ([], [], (w, refl))
+  | inr w ↦ (let r = reach phase sane w in (r.more, r.content, r.accepts))
+  ]
+
+long_at : (limits : Limits) (front : ℕ) (bytes : List ℕ) (e : FrameError) (s : Stopped limits front start bytes e) (next : Phase)
+    → next_phase s.reached.phase s.b ≡ Some next → can_fit limits (stepped s.reached next) ≡ false → StopsLong limits bytes
+long_at limits front bytes e s next there long =
+    let x = content_over limits front start s.before in
+    let any = reach_any next (subst IsSane (stepped_phase s.reached next) (next_sane s.reached s.b next there s.over.sane)) in
+    let whole = s.over.accepts (s.b ∷ any.0) (kept s.reached.phase s.b any.1)
+        (accept_kept s.reached.phase next s.b any.0 any.1 there any.2) in
+    record {
+      before = s.before;
+      last = s.b;
+      rest = s.rest;
+      split = s.split;
+      could_be = can_be limits front s.before s.reached s.over s.not_done;
+      begins = (any.0, x ++ kept s.reached.phase s.b any.1, from_start _ _ whole);
+      never = λ more content within.
+        let back = s.over.back (s.b ∷ more) content (to_start (s.before ++ s.b ∷ more) content within.chunked) in
+        let first = accept_back s.reached.phase next s.b more back.0 there back.1 in
+        let least = accepts_least more next first.0 first.2 in
+        let counted : length back.0 ≡ length first.0 + content_byte s.reached.phase =
+            ap length first.1 ∙ kept_length (is_data s.reached.phase) s.b first.0 in
+        let lengths = length-append s.before (s.b ∷ more) in
+        let begun : begun_content (stepped s.reached next).phase ≡ begun_content next = ap begun_content (stepped_phase s.reached next) in
+        let left : least_rest (stepped s.reached next).phase ≡ least_rest next = ap least_rest (stepped_phase s.reached next) in
+        elim (no_fit limits (stepped s.reached next) long) [
+          inl w ↦ omega (arith, w, begun, least.1, counted, back.2, within.content_fits, s.over.content_is, start_counts.1, stepped_content s.reached next)
+        | inr w ↦ omega (arith, w, left, least.0, lengths, within.length_fits, s.over.length_is, start_counts.0, stepped_length s.reached next)
+        ];
+    }
+
+-- a refusal is one of the two
+pub data BodyRefusal (limits : Limits) (bytes : List ℕ) : FrameError → Type 0 where
+  is_wrong_at : (at : ℕ) → StopsWrong limits bytes → BodyRefusal limits bytes (Chunk at)
+  is_too_long : StopsLong limits bytes → BodyRefusal limits bytes BodyTooLong
+
+pub body_refused : (limits : Limits) (front : ℕ) (bytes : List ℕ) (e : FrameError) → can_fit limits start ≡ true
+    → walk_over limits front start bytes ≡ Err e → BodyRefusal limits bytes e
+body_refused limits front bytes e fits is =
+    let s = walk_stopped limits front start bytes e start_sane fits is in
+    elim (step_is limits front s.reached s.b) [
+      is_wrong none failed ↦
+        subst (BodyRefusal limits bytes) (err_walk (Chunk (front + s.reached.line)) e (sym failed ∙ s.step_fails))
+        (is_wrong_at (front + s.reached.line) (wrong_at limits front bytes e s none))
+    | goes_on next there fit went ↦ absurd (let x = sym went ∙ s.step_fails in cc)
+    | is_long next there long failed ↦
+        subst (BodyRefusal limits bytes) (err_walk BodyTooLong e (sym failed ∙ s.step_fails))
+        (is_too_long (long_at limits front bytes e s next there long))
+    ]
