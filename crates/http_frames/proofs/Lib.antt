@@ -9,3 +9,4 @@ pub mod Accepts
 pub mod Complete
 pub mod Bounds
 pub mod WalkBodies
+pub mod FrameLaws

@@ -8,3 +8,4 @@ pub mod Bodies
 pub mod Reading
 pub mod Answering
 pub mod Chunks
+pub mod Frames

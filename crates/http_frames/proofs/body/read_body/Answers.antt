@@ -1,4 +1,4 @@
-use Rattle.http_frames.proofs.WalkBodies.{reached_open}
+use Rattle.http_frames.proofs.FrameLaws.{request_framed}
 use Rattle.http_frames.proofs.body.read_body.Goals as goal
 
 pub returns-in-ToEnd : goal.returns-in-ToEnd
