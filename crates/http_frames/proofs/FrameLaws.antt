@@ -1,6 +1,6 @@
 -- What a reader answers is so of the messages and their bytes.
 use Rattle.std.proofs.Common.{◌≡◌, ℕ, ◌+◌, ◌-◌, ◌<◌, ◌≤◌, List, [], ◌∷◌, ◌++◌, length, take, drop, map, refl, sym, ap, ap₂, ◌∙◌, subst, arith, append_assoc, append-nil, length-append, Bool, true, false, inl, inr}
-use Rattle.std.specs.Prelude.{◌⊎◌, Option, Some, None, Result, Ok, Err, if◌then◌else◌, nat_le}
+use Rattle.std.specs.Prelude.{◌≢◌, ◌⊎◌, Option, Some, None, Result, Ok, Err, IfOk, IfErr, IfSome, IfNone, if◌then◌else◌, nat_le}
 use Rattle.std.proofs.lemmas.List.{take-append-drop, length-take-le, length-drop}
 use Rattle.httparse.specs.Grammar.{RequestHead, print_request, ResponseHead, print_response, status_code}
 use Rattle.http_frames.specs.declared.limits.Limits.{Limits}
@@ -250,3 +250,29 @@ not_answered bytes e answers = elim answers [
     ])
   ]
 
+-- ---- by the result of a call
+
+pub whole_if : (bytes : List ℕ) (r : Result (Option Request) FrameError) → IfOk r (λ o. IfSome o (IsReadRequest bytes))
+    → IfOk r (λ o. IfSome o (BeginsWithRequest bytes))
+whole_if bytes (Ok (Some request)) h = request_framed bytes request h
+whole_if bytes (Ok None) h = tt
+whole_if bytes (Err e) h = tt
+
+pub more_if : (bytes : List ℕ) (r : Result (Option Request) FrameError) → IfOk r (λ o. IfNone o (AwaitsMore bytes))
+    → IfOk r (λ o. IfNone o (AwaitsRest bytes))
+more_if bytes (Ok (Some request)) h = tt
+more_if bytes (Ok None) h = more_awaited bytes h
+more_if bytes (Err e) h = tt
+
+pub refused_if : (bytes : List ℕ) (r : Result (Option Request) FrameError) → IfErr r (λ e. e ≢ Memory → Refuses bytes e)
+    → IfErr r (λ e. e ≢ Memory → RefusesRequest bytes e)
+refused_if bytes (Ok o) h = tt
+refused_if bytes (Err e) h = λ other. request_refused bytes e (h other)
+
+pub answer_if : (bytes : List ℕ) (r : Result Reply FrameError) → Answers bytes r → IfOk r (IsAnswerFrame bytes)
+answer_if bytes (Ok reply) h = answer_framed bytes reply h
+answer_if bytes (Err e) h = tt
+
+pub no_answer_if : (bytes : List ℕ) (r : Result Reply FrameError) → Answers bytes r → IfErr r (NoAnswer bytes)
+no_answer_if bytes (Ok reply) h = tt
+no_answer_if bytes (Err e) h = not_answered bytes e h

@@ -1,6 +1,6 @@
 //! Answers out of all bytes that were answered.
-ghost use Rattle.std.specs.Prelude.{◌≡◌, ◌≤◌, false, length};
-ghost use Rattle.http_frames.specs.Heads.{IsAnswerHeadOf};
+ghost use Rattle.std.specs.Prelude.{◌≡◌, ◌≤◌, false, length, IfOk, IfErr};
+ghost use Rattle.http_frames.specs.Frames.{IsAnswerFrame, NoAnswer};
 ghost use Rattle.http_frames.specs.Framing.{answer_framing};
 ghost use Rattle.http_frames.specs.Answering.{is_interim, Passes, IsLastHead, Answers};
 
@@ -19,6 +19,14 @@ use std::alloc::Global;
 /// An error is that of the shortest prefix of the bytes that has one, and `Torn` where none has. Places count from the
 /// front of the bytes.
 pub fn read_answer(alloc: Global, bytes: &[u8]) -> Result<Reply, FrameError>
+    ensures whole { IfOk result (IsAnswerFrame bytes.now) }
+    ensures refused { IfErr result (NoAnswer bytes.now) }
+{
+    pass_heads(alloc, bytes)
+}
+
+// The same, by what was read of the heads and of the body.
+fn pass_heads(alloc: Global, bytes: &[u8]) -> Result<Reply, FrameError>
     ensures { Answers bytes.now result }
 {
     let mut rest = bytes;

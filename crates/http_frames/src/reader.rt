@@ -1,6 +1,7 @@
 //! Requests out of pieces.
 ghost use Rattle.std.specs.Prelude.{◌≡◌, ◌≢◌, ◌⊎◌, ◌++◌, [], true, IfOk, IfSome, IfNone, IfErr, length};
 ghost use Rattle.http_frames.specs.Heads.{IsRequestHeadOf};
+ghost use Rattle.http_frames.specs.Frames.{BeginsWithRequest, AwaitsRest, RefusesRequest};
 ghost use Rattle.http_frames.specs.Reading.{IsStarted, IsStageOf, IsAdvance, IsStart, IsReadRequest, AwaitsMore, Refuses, is_open_stage};
 
 use crate::body::{Progress, read_body};
@@ -73,6 +74,26 @@ impl RequestReader {
         requires { self.old.is_open ≡ true }
         ensures fed { result ≡ Err FrameError.Memory ⊎ (self.new.bytes ≡ self.old.bytes ++ piece.now) }
         ensures memory { result ≡ Err FrameError.Memory → self.new ≡ self.old }
+        ensures whole { IfOk result (λ read. IfSome read (BeginsWithRequest self.new.bytes)) }
+        ensures more { IfOk result (λ read. IfNone read (AwaitsRest self.new.bytes)) }
+        ensures goes_on { IfOk result (λ read. IfNone read (self.new.is_open ≡ true)) }
+        ensures refused { IfErr result (λ e. e ≢ FrameError.Memory → RefusesRequest self.new.bytes e) }
+    {
+        self.take_in(piece)
+    }
+
+    /// `Torn` after the bytes that were fed.
+    pub fn torn(&self) -> FrameError
+        ensures { result ≡ FrameError.Torn (length self.now.bytes) }
+    {
+        FrameError::Torn { at: self.bytes.len() as u64 }
+    }
+
+    // The same, by what was read of the head and of the body.
+    fn take_in(&mut self, piece: &[u8]) -> Result<Option<Request>, FrameError>
+        requires { self.old.is_open ≡ true }
+        ensures fed { result ≡ Err FrameError.Memory ⊎ (self.new.bytes ≡ self.old.bytes ++ piece.now) }
+        ensures memory { result ≡ Err FrameError.Memory → self.new ≡ self.old }
         ensures whole { IfOk result (λ read. IfSome read (IsReadRequest self.new.bytes)) }
         ensures more { IfOk result (λ read. IfNone read (AwaitsMore self.new.bytes)) }
         ensures goes_on { IfOk result (λ read. IfNone read (self.new.is_open ≡ true)) }
@@ -95,13 +116,6 @@ impl RequestReader {
                 Err(FrameError::Memory)
             }
         }
-    }
-
-    /// `Torn` after the bytes that were fed.
-    pub fn torn(&self) -> FrameError
-        ensures { result ≡ FrameError.Torn (length self.now.bytes) }
-    {
-        FrameError::Torn { at: self.bytes.len() as u64 }
     }
 }
 

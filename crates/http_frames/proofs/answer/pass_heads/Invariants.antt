@@ -1,6 +1,6 @@
 use Rattle.std.proofs.Common.{◌≤◌, length}
 use Rattle.http_frames.specs.Answering.{Passes}
-use Rattle.http_frames.proofs.answer.read_answer.Given as goal
+use Rattle.http_frames.proofs.answer.pass_heads.Given as goal
 
 abbrev pub invariant-heads : goal.invariant-heads
 invariant-heads l = record {
