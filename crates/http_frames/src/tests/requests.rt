@@ -293,16 +293,15 @@ fn a_head_has_16384_bytes_at_most(rt: HostRuntime) -> Result<(), Fail> {
     let alloc = rt.alloc();
     let front = b"GET / HTTP/1.1\r\nA: ";
     let begun = filled(alloc, front, 16_383, b"")?;
-    assert!(rt; waits(&fed_by_byte(alloc, &begun)));
+    assert!(rt; waits(&fed_at(alloc, &begun, 16_000)));
     let long = filled(alloc, front, 16_384, b"")?;
     assert!(rt; fails(&fed_by_byte(alloc, &long), FrameError::HeadTooLong));
-    assert!(rt; fails(&fed_at(alloc, &long, 16_000), FrameError::HeadTooLong));
     let whole = filled(alloc, front, 16_380, b"\r\n\r\n")?;
-    assert!(rt; gives(&fed_by_byte(alloc, &whole), b""));
+    assert!(rt; gives(&fed_at(alloc, &whole, 16_383), b""));
     let past = filled(alloc, front, 16_381, b"\r\n\r\n")?;
-    assert!(rt; fails(&fed_by_byte(alloc, &past), FrameError::HeadTooLong));
+    assert!(rt; fails(&fed_at(alloc, &past, 16_383), FrameError::HeadTooLong));
     let wrong = filled(alloc, front, 16_383, b"\x00")?;
-    assert!(rt; fails(&fed_by_byte(alloc, &wrong), FrameError::Head));
+    assert!(rt; fails(&fed_at(alloc, &wrong, 16_383), FrameError::Head));
     Ok(())
 }
 
