@@ -10,3 +10,4 @@ pub mod Complete
 pub mod Bounds
 pub mod WalkBodies
 pub mod FrameLaws
+pub mod SentLines

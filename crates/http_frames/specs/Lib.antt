@@ -9,3 +9,4 @@ pub mod Reading
 pub mod Answering
 pub mod Chunks
 pub mod Frames
+pub mod Sending

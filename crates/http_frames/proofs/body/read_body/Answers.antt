@@ -1,3 +1,4 @@
+use Rattle.http_frames.proofs.SentLines.{fields_back}
 use Rattle.http_frames.proofs.body.read_body.Goals as goal
 
 pub returns-in-ToEnd : goal.returns-in-ToEnd
