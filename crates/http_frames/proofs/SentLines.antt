@@ -1,6 +1,6 @@
 -- A request that is written is a head and a body that read back.
 use Rattle.std.proofs.Common.{◌≡◌, ℕ, ◌+◌, ◌<◌, ◌≤◌, ◌^◌, List, [], ◌∷◌, ◌++◌, length, reverse, map, refl, sym, ap, ap₂, zero-add, ◌∙◌, subst, arith, append_assoc, append-nil, length-append, IsTrue, Bool, true, false, not, ◌&&◌, ◌||◌, codes, lit<, inl, inr}
-use Rattle.std.specs.Prelude.{Option, Some, None, Result, Ok, Err, All, if◌then◌else◌, nat_le, cond, count_by, slice_index}
+use Rattle.std.specs.Prelude.{Option, Some, None, Result, Ok, Err, All, IfOk, if◌then◌else◌, nat_le, cond, count_by, slice_index}
 use Rattle.std.specs.List.{list_all, list_any, find, flat_map, fold}
 use Rattle.std.specs.Fmt.{decimal}
 use Rattle.std.specs.Char.{is_ascii_digit, digit_value}
@@ -9,12 +9,16 @@ use Rattle.std.proofs.lemmas.Str.Parse.{IsNumeralModel}
 use Rattle.std.proofs.lemmas.Fmt.{digits_value-decimal, digits_decimal, decimal_nonempty, length-decimal-le}
 use Rattle.std.proofs.lemmas.Bool.{false≢true}
 use Rattle.std.proofs.lemmas.List.{get_or_default}
-use Rattle.std.proofs.lemmas.List.Sums.{list_all-from_AllPass}
-use Rattle.std.proofs.lemmas.List.Elements.{All-head, All-tail, All-cons, All-nil, All-append}
+use Rattle.std.proofs.lemmas.List.Sums.{list_all-from_AllPass, AllPass-from_list_all}
+use Rattle.std.proofs.lemmas.List.Elements.{All-head, All-tail, All-cons, All-nil, All-append, All-weaker}
+use Rattle.std.proofs.lemmas.List.Concat.{flat_map-append}
+use Rattle.std.proofs.lemmas.List.{length-map}
+use Rattle.std.proofs.Common.{Vec, Global}
+use Rattle.mof_values.specs.declared.memory.Memory.{Memory as MemoryUnit}
 use Rattle.std.proofs.lemmas.List.Folds.{list_any-append, find-append, list_all-append}
-use Rattle.httparse.specs.Grammar.{Field, IsField, field_value, crlf, RequestHead, IsRequestHead, print_request, print_field, print_section, IsToken, is_token_byte, is_value_byte, AllPass}
+use Rattle.httparse.specs.Grammar.{Field, IsField, field_value, crlf, RequestHead, IsRequestHead, print_request, print_field, print_section, IsToken, is_token_byte, is_value_byte, is_ows, skip_ows, AllPass}
 use Rattle.httparse.proofs.GrammarLemmas.{cons-append, print_request-append}
-use Rattle.httparse.proofs.TrimLemmas.{trim_ows_space}
+use Rattle.httparse.proofs.TrimLemmas.{trim_ows_space, AllPass-reverse}
 use Rattle.http_frames.specs.declared.message.Header.{Header}
 use Rattle.http_frames.specs.declared.message.Request.{Request}
 use Rattle.http_frames.specs.declared.framing.Framing.{Framing}
@@ -197,3 +201,124 @@ framed method host headers t n needs few none cl te ce =
         ∙ ap (λ (b : Bool). if b then Ok (Sized n) else Err BodyTooLong) fits
     last false needs none =
         ap (λ (b : Bool). if b then Err NoLength else Ok (Sized 0)) needs ∙ ap (λ (m : ℕ). Ok (Sized m)) (sym (none refl))
+
+-- ---- plain lines
+
+token_by : (bytes : List ℕ) → 0 < length bytes → list_all is_token_byte bytes ≡ true → IsToken bytes
+token_by bytes some all = (some, AllPass-from_list_all is_token_byte bytes all)
+
+host_token : IsToken (codes "Host")
+unfolding is_token_byte
+host_token = token_by (codes "Host") (omega arith) refl
+
+connection_token : IsToken (codes "Connection")
+unfolding is_token_byte
+connection_token = token_by (codes "Connection") (omega arith) refl
+
+length_token : IsToken (codes "Content-Length")
+unfolding is_token_byte
+length_token = token_by (codes "Content-Length") (omega arith) refl
+
+close_plain : IsPlainValue (codes "close")
+close_plain = record { bytes = AllPass-from_list_all is_value_byte (codes "close") refl; front = refl; back = refl }
+
+digit_value_byte : (c : ℕ) → is_ascii_digit c ≡ true → is_value_byte c ≡ true
+digit_value_byte c h = grind (arith, h)
+
+digit_no_blank : (c : ℕ) → is_ascii_digit c ≡ true → is_ows c ≡ false
+digit_no_blank c h = grind (arith, h)
+
+digits_unskipped : (v : List ℕ) → AllPass is_ascii_digit v → skip_ows v ≡ v
+digits_unskipped [] all = refl
+digits_unskipped (c ∷ v) all =
+    ap (λ (t : Bool). if t then skip_ows v else c ∷ v) (digit_no_blank c (All-head (λ x. is_ascii_digit x ≡ true) c v all))
+
+digits_plain : (v : List ℕ) → AllPass is_ascii_digit v → IsPlainValue v
+digits_plain v all = record {
+  bytes = All-weaker (λ x. is_ascii_digit x ≡ true) (λ x. is_value_byte x ≡ true) digit_value_byte v all;
+  front = digits_unskipped v all;
+  back = digits_unskipped (reverse v) (AllPass-reverse is_ascii_digit v all);
+}
+
+added_plain : (t : Bool) (n : ℕ) → n ≤ 131072 → All IsPlainHeader (added_length t n)
+added_plain true n few =
+    let word : n < 2 ^ 64 = omega (arith, few) in
+    All-cons IsPlainHeader _ [] (record { name = length_token;
+      value = digits_plain (decimal n) (AllPass-from_list_all is_ascii_digit (decimal n) (digits_pass (decimal n) (digits_decimal own n word))) })
+    (All-nil IsPlainHeader)
+added_plain false n few = All-nil IsPlainHeader
+
+sent_plain : (host : List ℕ) (headers : List Header) (t : Bool) (n : ℕ) → IsPlainValue host → All IsPlainHeader headers → n ≤ 131072
+    → All IsPlainHeader (lines_of host headers (added_length t n))
+sent_plain host headers t n plain all few =
+    let first : Header = record { name = codes "Host"; value = host } in
+    let second : Header = record { name = codes "Connection"; value = codes "close" } in
+    All-cons IsPlainHeader first (second ∷ (headers ++ added_length t n)) (record { name = host_token; value = plain })
+    (All-cons IsPlainHeader second (headers ++ added_length t n) (record { name = connection_token; value = close_plain })
+      (All-append IsPlainHeader headers (added_length t n) all (added_plain t n few)))
+
+-- ---- the text
+
+added_text : (t : Bool) (n : ℕ) → flat_map header_text (added_length t n) ≡ (if t then length_line n else [])
+added_text true n = append-nil (length_line n)
+added_text false n = refl
+
+join : (m t v h c f l b : List ℕ) → (m ++ (32 ∷ (t ++ v))) ++ h ++ c ++ f ++ l ++ (13 ∷ 10 ∷ b)
+    ≡ m ++ (32 ∷ (t ++ (v ++ (((h ++ (c ++ (f ++ l))) ++ 13 ∷ 10 ∷ []) ++ b))))
+join m t v h c f l b = simp (append_assoc, cons-append)
+
+abbrev pub sent_head : Request → List ℕ → RequestHead
+sent_head request host = record {
+  blank = []; method = request.method; target = request.target; minor = 1; line_end = crlf;
+  fields = map field_of (sent_headers request host); last = crlf }
+
+sent_fields : (request : Request) (host : List ℕ) → flat_map print_field (map field_of (sent_headers request host))
+    ≡ header_line (codes "Host") (host_value host) ++ (header_line (codes "Connection") (codes "close")
+    ++ (flat_map header_text request.headers ++ request_length request))
+sent_fields request host =
+    fields_print (sent_headers request host)
+    ∙ ap (λ (l : List ℕ). header_line (codes "Host") (host_value host) ++ (header_line (codes "Connection") (codes "close") ++ l))
+      (flat_map-append header_text request.headers (length_headers request)
+      ∙ ap (λ (l : List ℕ). flat_map header_text request.headers ++ l) (added_text (needs_length request.method) (length request.body)))
+
+sent_text : (request : Request) (host : List ℕ) → request_text request host ≡ print_request (sent_head request host) ++ request.body
+unfolding request_text
+sent_text request host =
+    join request.method request.target (codes " HTTP/1.1" ++ (13 ∷ 10 ∷ [])) (header_line (codes "Host") (host_value host))
+      (header_line (codes "Connection") (codes "close")) (flat_map header_text request.headers) (request_length request) request.body
+    ∙ ap (λ (l : List ℕ). request.method ++ (32 ∷ (request.target ++ ((codes " HTTP/1.1" ++ (13 ∷ 10 ∷ [])) ++ ((l ++ 13 ∷ 10 ∷ []) ++ request.body)))))
+      (sym (sent_fields request host))
+    ∙ sym (print_request-append (sent_head request host) request.body)
+
+pub sent_reads : (request : Request) (host : List ℕ) → IsSendable request host → IsRequestFrame (request_text request host) (sent request host)
+sent_reads request host can =
+    let n = length request.body in
+    let head = sent_head request host in
+    let plain = sent_plain (host_value host) request.headers (needs_length request.method) n can.host_plain can.headers_plain can.body in
+    let back = fields_back (sent_headers request host) plain in
+    let text = sent_text request host in
+    record {
+      head = head;
+      body = request.body;
+      front = record {
+        begins = record {
+          reads = (record { method = can.method; target = can.target; target_text = can.target_text; minor = omega arith;
+            fields = fields_valid (sent_headers request host) plain }, text);
+          lines = omega (arith, length-map (sent_headers request host) field_of, can.lines);
+        };
+        short = omega (arith, can.short, ap length text, length-append (print_request head) request.body);
+      };
+      method = refl;
+      target = refl;
+      headers = sym back;
+      framing = Sized n;
+      says = ap (request_framing request.method) back
+          ∙ framed request.method (host_value host) request.headers (needs_length request.method) n refl can.body
+            (λ no. ap length (can.bodied no)) can.no_length can.no_transfer can.no_content;
+      content = (refl, refl);
+    }
+
+pub sent_if : (request : Request) (host : List ℕ) (r : Result (Vec ℕ Global) MemoryUnit) → IfOk r (λ bytes. bytes.items ≡ request_text request host)
+    → IfOk r (λ bytes. IsSendable request host → IsRequestFrame bytes.items (sent request host))
+sent_if request host (Ok bytes) is = λ can. subst (λ (l : List ℕ). IsRequestFrame l (sent request host)) (sym is) (sent_reads request host can)
+sent_if request host (Err e) is = tt

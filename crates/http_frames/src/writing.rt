@@ -3,6 +3,8 @@ ghost use Rattle.std.specs.Prelude.{◌≡◌, ◌∷◌, ◌++◌, [], length, 
 ghost use Rattle.std.specs.List.{flat_map};
 ghost use Rattle.std.specs.Fmt.{decimal};
 ghost use Rattle.http.specs.StatusCode.{IsStatusCode, reason_phrase};
+ghost use Rattle.http_frames.specs.Frames.{IsRequestFrame};
+ghost use Rattle.http_frames.specs.Sending.{sent, IsSendable};
 ghost use Rattle.http_frames.specs.Writing.{crlf, header_line, header_text, length_line, request_length, answer_length, host_value, without_default_port, request_line, status_line, phrase_of, request_text, answer_text};
 
 use crate::framing::needs_length;
@@ -12,9 +14,16 @@ use mof_values::{Memory, Text};
 use std::alloc::Global;
 
 /// The text of a request to a host, which is a name, or a name, `:` and a port. A port 80 is left out.
-#[tactic(auto, unfolding(crate::specs::Writing::request_text))]
 pub fn write_request(alloc: Global, request: &Request, host: &Text) -> Result<Vec<u8>, Memory>
     ensures text { IfOk result (λ bytes. bytes.items ≡ request_text request.now host.now) }
+    ensures reads_back { IfOk result (λ bytes. IsSendable request.now host.now → IsRequestFrame bytes.items (sent request.now host.now)) }
+{
+    request_bytes(alloc, request, host)
+}
+
+#[tactic(auto, unfolding(crate::specs::Writing::request_text))]
+fn request_bytes(alloc: Global, request: &Request, host: &Text) -> Result<Vec<u8>, Memory>
+    ensures { IfOk result (λ bytes. bytes.items ≡ request_text request.now host.now) }
 {
     let name = host.to_utf8()?;
     let mut out = Vec::new(alloc);

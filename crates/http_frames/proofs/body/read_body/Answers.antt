@@ -1,4 +1,3 @@
-use Rattle.http_frames.proofs.SentLines.{fields_back}
 use Rattle.http_frames.proofs.body.read_body.Goals as goal
 
 pub returns-in-ToEnd : goal.returns-in-ToEnd
