@@ -86,7 +86,7 @@ line_of_size b bytes content hex m =
     let behind = m.5 in
     let few : suc (length ds) ≤ 16 = elim m.3 [ inl w ↦ absurd (omega (arith, w)) | inr w ↦ omega (arith, w) ] in
     let value : digits_value 16 (b ∷ ds) ≡ digits_value_after 16 (digit_value b) ds =
-        ap (λ (n : ℕ). digits_value_after 16 n ds) (zero-add (digit_value b)) in
+    ap (λ (n : ℕ). digits_value_after 16 n ds) (zero-add (digit_value b)) in
     let line : ChunkLine = record { digits = b ∷ ds; pad = behind.0; extension = behind.1 } in
     let valid : IsChunkLine line = record {
       digits = (omega arith, few, All-cons (λ x. is_ascii_hexdigit x ≡ true) b ds hex m.2);
@@ -94,14 +94,14 @@ line_of_size b bytes content hex m =
       extension = behind.4;
     } in
     let text : b ∷ bytes ≡ print_chunk_line line ++ behind.2 =
-        ap (λ (l : List ℕ). b ∷ l) (m.4 ∙ ap (λ (l : List ℕ). ds ++ l) behind.5)
-        ∙ regroup (b ∷ ds) behind.0 (print_extension behind.1) behind.2 in
+    ap (λ (l : List ℕ). b ∷ l) (m.4 ∙ ap (λ (l : List ℕ). ds ++ l) behind.5)
+    ∙ regroup (b ∷ ds) behind.0 (print_extension behind.1) behind.2 in
     elim behind.6 [
-      inl w ↦ subst (Chunked (b ∷ bytes)) (sym w.2) (last_chunk (b ∷ bytes) line behind.2 valid (value ∙ w.0) text w.1)
-    | inr w ↦
-        let part = w.1 in
-        chunk (b ∷ bytes) content line part.0 part.1 part.2 valid (value ∙ sym part.3) (subst (λ (n : ℕ). 0 < n) (sym part.3) w.0)
-        (text ∙ ap (λ (l : List ℕ). print_chunk_line line ++ l) part.4) part.5 part.6
+      | inl w ↦ subst (Chunked (b ∷ bytes)) (sym w.2) (last_chunk (b ∷ bytes) line behind.2 valid (value ∙ w.0) text w.1)
+      | inr w ↦
+          let part = w.1 in
+          chunk (b ∷ bytes) content line part.0 part.1 part.2 valid (value ∙ sym part.3) (subst (λ (n : ℕ). 0 < n) (sym part.3) w.0)
+          (text ∙ ap (λ (l : List ℕ). print_chunk_line line ++ l) part.4) part.5 part.6
     ]
   where
     regroup : (a p e r : List ℕ) → a ++ (p ++ (e ++ (13 ∷ 10 ∷ r))) ≡ (a ++ p ++ e ++ 13 ∷ 10 ∷ []) ++ r
@@ -110,22 +110,28 @@ line_of_size b bytes content hex m =
 behind_means : (size b : ℕ) (bytes content : List ℕ) → OnSome (behind_size size b) (λ next. Means next bytes content)
     → BehindSize size (b ∷ bytes) content
 behind_means size b bytes content h = elim (if_cases (is_ows b) _ _ (λ next. Means next bytes content) h) [
-    inl w ↦
+  | inl w ↦
       let m = w.1 in
       (b ∷ m.0, m.1, m.2, All-cons (λ x. is_ows x ≡ true) b m.0 w.0 m.3, m.4, ap (λ (l : List ℕ). b ∷ l) m.5, m.6)
   | inr w ↦ elim (if_cases (b == 59) _ _ (λ next. Means next bytes content) w.1) [
-      inl v ↦
-        let m = v.1 in
-        ([], Some m.0, m.1, All-nil (λ x. is_ows x ≡ true), m.2,
-          ap₂ (λ (x : ℕ) (l : List ℕ). x ∷ l) (same_byte b 59 v.0) m.3, m.4)
+    | inl v ↦
+        let m = v.1 in (
+          [],
+          Some m.0,
+          m.1,
+          All-nil (λ x. is_ows x ≡ true),
+          m.2,
+          ap₂ (λ (x : ℕ) (l : List ℕ). x ∷ l) (same_byte b 59 v.0) m.3,
+          m.4,
+        )
     | inr v ↦ elim (if_cases (b == 13) _ _ (λ next. Means next bytes content) v.1) [
-        inl u ↦
+      | inl u ↦
           let m = u.1 in
           ([], None, m.0, All-nil (λ x. is_ows x ≡ true), tt, ap₂ (λ (x : ℕ) (l : List ℕ). x ∷ l) (same_byte b 13 u.0) m.1, m.2)
       | inr u ↦ absurd u.1
-      ]
     ]
   ]
+]
 
 on_some_map : (o : Option Phase) (P Q : Phase → Type 0) → ((phase : Phase) → P phase → Q phase) → OnSome o P → OnSome o Q
 on_some_map None P Q f h = h
@@ -141,9 +147,9 @@ positive n h = elim (eqb_tells n 0) [ inl w ↦ absurd (false≢true (sym h ∙ 
 
 after_line : (size : ℕ) (bytes content : List ℕ) → Means (behind_line size) bytes content → AfterLine size bytes content
 after_line size bytes content m = elim (if_means (size == 0) TrailerStart (Data size) bytes content m) [
-    inl w ↦ inl (same_byte size 0 w.0, w.1.0, w.1.1)
+  | inl w ↦ inl (same_byte size 0 w.0, w.1.0, w.1.1)
   | inr w ↦ inr (positive size w.0, w.1)
-  ]
+]
 
 no_data_left : (bytes content : List ℕ) → Accepts (Data 0) bytes content → ⊥
 unfolding next_phase
@@ -153,13 +159,13 @@ no_data_left (b ∷ bytes) content h = no_data_left bytes h.0 h.2
 data_means : (n b : ℕ) (bytes rest : List ℕ) → Means (if suc n == 1 then DataEnd else Data (suc n - 1)) bytes rest
     → DataThen (suc n) (b ∷ bytes) (b ∷ rest)
 data_means n b bytes rest m = elim (if_means (suc n == 1) DataEnd (Data (suc n - 1)) bytes rest m) [
-    inl w ↦
+  | inl w ↦
       let one : suc n ≡ 1 = same_byte (suc n) 1 w.0 in
       (b ∷ [], w.1.0, rest, sym one, ap (λ (l : List ℕ). b ∷ l) w.1.1, refl, w.1.2)
   | inr w ↦
       let d = w.1 in
       (b ∷ d.0, d.1, d.2, omega (arith, d.3), ap (λ (l : List ℕ). b ∷ l) d.4, ap (λ (l : List ℕ). b ∷ l) d.5, d.6)
-  ]
+]
 
 trailer_byte : (b : ℕ) → (b == 10) ≡ false → is_trailer_byte b ≡ true
 trailer_byte b h = ap not h
@@ -168,26 +174,33 @@ trailer_means : (b : ℕ) (bytes content : List ℕ) → Means (next_in_trailer 
 trailer_means b bytes content m =
     let P : ℕ → Type 0 = λ x. is_trailer_byte x ≡ true in
     elim (if_means (b == 10) Done _ bytes content m) [
-      inl w ↦ (ended (b ∷ bytes) lf (ap₂ (λ (x : ℕ) (l : List ℕ). x ∷ l) (same_byte b 10 w.0) w.1.0), w.1.1)
-    | inr w ↦ elim (if_means (b == 13) TrailerReturn TrailerText bytes content w.1) [
-        inl v ↦ elim v.1 [
-          inl u ↦ (ended (b ∷ bytes) crlf (ap₂ (λ (x : ℕ) (l : List ℕ). x ∷ l) (same_byte b 13 v.0) u.0), u.1)
-        | inr u ↦
-            let tail = u.4 in
-            (lined (b ∷ bytes) (b ∷ u.0 ∷ tail.0) tail.1
-              (record {
-                bytes = All-cons P b (u.0 ∷ tail.0) (trailer_byte b w.0) (All-cons P u.0 tail.0 (trailer_byte u.0 u.3) tail.2);
-                some = λ e. cc; more = λ e. cc })
-              (ap (λ (l : List ℕ). b ∷ l) (u.2 ∙ ap (λ (l : List ℕ). u.0 ∷ l) tail.3)) tail.4, tail.5)
+      | inl w ↦ (ended (b ∷ bytes) lf (ap₂ (λ (x : ℕ) (l : List ℕ). x ∷ l) (same_byte b 10 w.0) w.1.0), w.1.1)
+      | inr w ↦ elim (if_means (b == 13) TrailerReturn TrailerText bytes content w.1) [
+        | inl v ↦ elim v.1 [
+          | inl u ↦ (ended (b ∷ bytes) crlf (ap₂ (λ (x : ℕ) (l : List ℕ). x ∷ l) (same_byte b 13 v.0) u.0), u.1)
+          | inr u ↦
+              let tail = u.4 in (
+                lined (b ∷ bytes) (b ∷ u.0 ∷ tail.0) tail.1
+                    (record {
+                      bytes = All-cons P b (u.0 ∷ tail.0) (trailer_byte b w.0) (All-cons P u.0 tail.0 (trailer_byte u.0 u.3) tail.2);
+                      some = λ e. cc;
+                      more = λ e. cc;
+                    })
+                    (ap (λ (l : List ℕ). b ∷ l) (u.2 ∙ ap (λ (l : List ℕ). u.0 ∷ l) tail.3)) tail.4,
+                tail.5,
+              )
         ]
-      | inr v ↦
-          let tail = v.1 in
-          (lined (b ∷ bytes) (b ∷ tail.0) tail.1
-            (record {
-              bytes = All-cons P b tail.0 (trailer_byte b w.0) tail.2;
-              some = λ e. cc;
-              more = λ e. (let same : b ≡ 13 = cc in false≢true (sym v.0 ∙ ap (λ (x : ℕ). x == 13) same)) })
-            (ap (λ (l : List ℕ). b ∷ l) tail.3) tail.4, tail.5)
+        | inr v ↦
+            let tail = v.1 in (
+              lined (b ∷ bytes) (b ∷ tail.0) tail.1
+                  (record {
+                    bytes = All-cons P b tail.0 (trailer_byte b w.0) tail.2;
+                    some = λ e. cc;
+                    more = λ e. (let same : b ≡ 13 = cc in false≢true (sym v.0 ∙ ap (λ (x : ℕ). x == 13) same));
+                  })
+                  (ap (λ (l : List ℕ). b ∷ l) tail.3) tail.4,
+              tail.5,
+            )
       ]
     ]
 
@@ -208,65 +221,74 @@ sound [] TrailerReturn content h = absurd (false≢true h.0)
 sound [] TrailerText content h = absurd (false≢true h.0)
 sound (b ∷ bytes) Done content h = absurd h
 sound (b ∷ bytes) Line content h = elim (if_cases (is_ascii_hexdigit b) _ _ (λ next. Accepts next bytes content) h) [
-    inl w ↦ line_of_size b bytes content w.0 (sound bytes (Size 1 (digit_value b)) content w.1)
+  | inl w ↦ line_of_size b bytes content w.0 (sound bytes (Size 1 (digit_value b)) content w.1)
   | inr w ↦ absurd w.1
-  ]
+]
 sound (b ∷ bytes) (Size digits size) content h = elim (if_cases (is_ascii_hexdigit b) _ _ (λ next. Accepts next bytes content) h) [
-    inl w ↦ elim (if_cases (nat_lt digits 16) _ _ (λ next. Accepts next bytes content) w.1) [
-      inl v ↦
+  | inl w ↦ elim (if_cases (nat_lt digits 16) _ _ (λ next. Accepts next bytes content) w.1) [
+    | inl v ↦
         let m = sound bytes (Size (digits + 1) (size * 16 + digit_value b)) content v.1 in
         let few : digits < 16 = grind (arith, v.0) in
         let fits : digits + suc (length m.0) ≤ 16 = elim m.3 [ inl u ↦ absurd (omega (arith, u, few)) | inr u ↦ omega (arith, u) ] in
         (b ∷ m.0, m.1, All-cons (λ x. is_ascii_hexdigit x ≡ true) b m.0 w.0 m.2, inr fits, ap (λ (l : List ℕ). b ∷ l) m.4, m.5)
     | inr v ↦ absurd v.1
-    ]
-  | inr w ↦
-      let fits : (16 < digits) ⊎ (digits + 0 ≤ 16) = elim (cases_lt 16 digits) [ inl u ↦ inl u | inr u ↦ inr (omega (arith, u)) ] in
-      ([], b ∷ bytes, All-nil (λ x. is_ascii_hexdigit x ≡ true), fits, refl,
-        behind_means size b bytes content (on_some_map (behind_size size b) _ _ (λ next. sound bytes next content) w.1))
   ]
+  | inr w ↦
+      let fits : (16 < digits) ⊎ (digits + 0 ≤ 16) = elim (cases_lt 16 digits) [ inl u ↦ inl u | inr u ↦ inr (omega (arith, u)) ] in (
+        [],
+        b ∷ bytes,
+        All-nil (λ x. is_ascii_hexdigit x ≡ true),
+        fits,
+        refl,
+        behind_means size b bytes content (on_some_map (behind_size size b) _ _ (λ next. sound bytes next content) w.1),
+      )
+]
 sound (b ∷ bytes) (Pad size) content h =
     behind_means size b bytes content (on_some_map (behind_size size b) _ _ (λ next. sound bytes next content) h)
 sound (b ∷ bytes) (Extension size) content h = elim (if_cases (b == 13) _ _ (λ next. Accepts next bytes content) h) [
-    inl w ↦
+  | inl w ↦
       let m = sound bytes (SizeReturn size) content w.1 in
       ([], m.0, All-nil (λ x. is_extension_byte x ≡ true), ap₂ (λ (x : ℕ) (l : List ℕ). x ∷ l) (same_byte b 13 w.0) m.1, m.2)
   | inr w ↦ elim (if_cases (b == 10) _ _ (λ next. Accepts next bytes content) w.1) [
-      inl v ↦ absurd v.1
+    | inl v ↦ absurd v.1
     | inr v ↦
-        let m = sound bytes (Extension size) content v.1 in
-        (b ∷ m.0, m.1, All-cons (λ x. is_extension_byte x ≡ true) b m.0 (ap₂ (λ (s t : Bool). not (s || t)) w.0 v.0) m.2,
-          ap (λ (l : List ℕ). b ∷ l) m.3, m.4)
-    ]
+        let m = sound bytes (Extension size) content v.1 in (
+          b ∷ m.0,
+          m.1,
+          All-cons (λ x. is_extension_byte x ≡ true) b m.0 (ap₂ (λ (s t : Bool). not (s || t)) w.0 v.0) m.2,
+          ap (λ (l : List ℕ). b ∷ l) m.3,
+          m.4,
+        )
   ]
+]
 sound (b ∷ bytes) (SizeReturn size) content h = elim (if_cases (b == 10) _ _ (λ next. Accepts next bytes content) h) [
-    inl w ↦ (bytes, ap (λ (x : ℕ). x ∷ bytes) (same_byte b 10 w.0), after_line size bytes content (sound bytes (behind_line size) content w.1))
+  | inl w ↦ (bytes, ap (λ (x : ℕ). x ∷ bytes) (same_byte b 10 w.0), after_line size bytes content (sound bytes (behind_line size) content w.1))
   | inr w ↦ absurd w.1
-  ]
+]
 sound (b ∷ bytes) (Data zero) content h = absurd (no_data_left bytes h.0 h.2)
 sound (b ∷ bytes) (Data (suc n)) content h =
     let m = data_means n b bytes h.0 (sound bytes (if suc n == 1 then DataEnd else Data (suc n - 1)) h.0 h.2) in
     (m.0, m.1, m.2, m.3, m.4, h.1 ∙ m.5, m.6)
 sound (b ∷ bytes) DataEnd content h = elim (if_cases (b == 13) _ _ (λ next. Accepts next bytes content) h) [
-    inl w ↦
+  | inl w ↦
       let m = sound bytes DataReturn content w.1 in
       (m.0, ap₂ (λ (x : ℕ) (l : List ℕ). x ∷ l) (same_byte b 13 w.0) m.1, m.2)
   | inr w ↦ absurd w.1
-  ]
+]
 sound (b ∷ bytes) DataReturn content h = elim (if_cases (b == 10) _ _ (λ next. Accepts next bytes content) h) [
-    inl w ↦ (bytes, ap (λ (x : ℕ). x ∷ bytes) (same_byte b 10 w.0), sound bytes Line content w.1)
+  | inl w ↦ (bytes, ap (λ (x : ℕ). x ∷ bytes) (same_byte b 10 w.0), sound bytes Line content w.1)
   | inr w ↦ absurd w.1
-  ]
+]
 sound (b ∷ bytes) TrailerStart content h = trailer_means b bytes content (sound bytes (next_in_trailer b) content h)
 sound (b ∷ bytes) TrailerReturn content h =
     elim (if_means (b == 10) Done TrailerText bytes content (sound bytes (if b == 10 then Done else TrailerText) content h)) [
-      inl w ↦ inl (ap₂ (λ (x : ℕ) (l : List ℕ). x ∷ l) (same_byte b 10 w.0) w.1.0, w.1.1)
-    | inr w ↦ inr (b, bytes, refl, w.0, w.1)
+      | inl w ↦ inl (ap₂ (λ (x : ℕ) (l : List ℕ). x ∷ l) (same_byte b 10 w.0) w.1.0, w.1.1)
+      | inr w ↦ inr (b, bytes, refl, w.0, w.1)
     ]
 sound (b ∷ bytes) TrailerText content h =
     elim (if_means (b == 10) TrailerStart TrailerText bytes content (sound bytes (if b == 10 then TrailerStart else TrailerText) content h)) [
-      inl w ↦ ([], bytes, All-nil (λ x. is_trailer_byte x ≡ true), ap (λ (x : ℕ). x ∷ bytes) (same_byte b 10 w.0), w.1.0, w.1.1)
-    | inr w ↦
-        let m = w.1 in
-        (b ∷ m.0, m.1, All-cons (λ x. is_trailer_byte x ≡ true) b m.0 (trailer_byte b w.0) m.2, ap (λ (l : List ℕ). b ∷ l) m.3, m.4, m.5)
+      | inl w ↦ ([], bytes, All-nil (λ x. is_trailer_byte x ≡ true), ap (λ (x : ℕ). x ∷ bytes) (same_byte b 10 w.0), w.1.0, w.1.1)
+      | inr w ↦
+          let m = w.1 in
+          (b ∷ m.0, m.1, All-cons (λ x. is_trailer_byte x ≡ true) b m.0 (trailer_byte b w.0) m.2, ap (λ (l : List ℕ). b ∷ l) m.3, m.4, m.5)
     ]

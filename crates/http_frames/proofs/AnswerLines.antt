@@ -20,7 +20,7 @@ pub answer_parts : (h : ResponseHead) (rest : List ℕ) → print_response h ++ 
 answer_parts h rest =
     print_response-append h rest
     ∙ regroup (print_blank h.blank) (print_version h.minor) h.digits (print_reason h.reason) (print_end h.line_end)
-      (flat_map print_field h.fields) (print_end h.last) rest
+    (flat_map print_field h.fields) (print_end h.last) rest
   where
     regroup : (a b c d e f g r : List ℕ)
         → a ++ (b ++ 32 ∷ (c ++ (d ++ (e ++ ((f ++ g) ++ r)))))
@@ -51,13 +51,13 @@ unfolding begins_extra_line
 extra_is_no_answer buf none extra = λ more h rest x.
     let valid = x.reads.0 in
     let parts : buf ++ more ≡ print_blank h.blank ++ section_of (status_line h) h.fields h.last rest =
-        x.reads.1 ∙ answer_parts h rest in
+    x.reads.1 ∙ answer_parts h rest in
     elim (blank_cases (print_blank h.blank) _ buf more (blank_breaks h.blank) (answer_inside h _) parts) [
-      inl w ↦ not_extra buf w.2 extra
-    | inr w ↦
-        let z = extra_refuses (status_line h) h.fields h.last rest more w.0 (status_starts h valid) valid.fields x.lines w.2
-            (sym (ap (λ (l : List ℕ). begins_line_there (skip_lines 65 l)) w.3) ∙ extra) in
-        none h z.0 (valid, w.1 ∙ ap (λ (l : List ℕ). print_blank h.blank ++ l) z.1 ∙ sym (answer_parts h z.0))
+      | inl w ↦ not_extra buf w.2 extra
+      | inr w ↦
+          let z = extra_refuses (status_line h) h.fields h.last rest more w.0 (status_starts h valid) valid.fields x.lines w.2
+          (sym (ap (λ (l : List ℕ). begins_line_there (skip_lines 65 l)) w.3) ∙ extra) in
+          none h z.0 (valid, w.1 ∙ ap (λ (l : List ℕ). print_blank h.blank ++ l) z.1 ∙ sym (answer_parts h z.0))
     ]
 
 -- some head of at most 64 lines continues the text
@@ -68,30 +68,48 @@ fits buf more h x none =
     let valid = x.0 in
     let parts : buf ++ more ≡ print_blank h.blank ++ section_of (status_line h) h.fields h.last [] = x.1 ∙ answer_parts h [] in
     elim (blank_cases (print_blank h.blank) _ buf more (blank_breaks h.blank) (answer_inside h _) parts) [
-      inl w ↦
-        let k : ResponseHead = record h { fields = [] } in
-        (w.0 ++ section_of (status_line h) [] h.last [], k, record {
-          reads = (
-            record { minor = valid.minor; digits = valid.digits; reason = valid.reason;
-              fields = All-nil IsField },
-            sym (append_assoc buf w.0 _) ∙ ap (λ (l : List ℕ). l ++ section_of (status_line h) [] h.last []) (sym w.1)
-            ∙ sym (answer_parts k []));
-          lines = omega arith })
-    | inr w ↦
-        let found = no_extra_fits (status_line h) h.fields h.last more w.0 (status_starts h valid) valid.fields w.2
-            (sym (ap (λ (l : List ℕ). begins_line_there (skip_lines 65 l)) w.3) ∙ none) in
-        let k : ResponseHead = record h { fields = found.0 } in
-        (found.1, k, record {
-          reads = (
-            record { minor = valid.minor; digits = valid.digits; reason = valid.reason;
-              fields = found.2 },
-            ap (λ (l : List ℕ). l ++ found.1) w.1 ∙ append_assoc (print_blank h.blank) w.0 found.1
-            ∙ ap (λ (l : List ℕ). print_blank h.blank ++ l) found.4 ∙ sym (answer_parts k []));
-          lines = found.3 })
+      | inl w ↦
+          let k : ResponseHead = record h { fields = [] } in (
+            w.0 ++ section_of (status_line h) [] h.last [],
+            k,
+            record {
+              reads = (
+                record {
+                  minor = valid.minor;
+                  digits = valid.digits;
+                  reason = valid.reason;
+                  fields = All-nil IsField;
+                },
+                sym (append_assoc buf w.0 _) ∙ ap (λ (l : List ℕ). l ++ section_of (status_line h) [] h.last []) (sym w.1)
+                    ∙ sym (answer_parts k []),
+              );
+              lines = omega arith;
+            },
+          )
+      | inr w ↦
+          let found = no_extra_fits (status_line h) h.fields h.last more w.0 (status_starts h valid) valid.fields w.2
+          (sym (ap (λ (l : List ℕ). begins_line_there (skip_lines 65 l)) w.3) ∙ none) in
+          let k : ResponseHead = record h { fields = found.0 } in (
+            found.1,
+            k,
+            record {
+              reads = (
+                record {
+                  minor = valid.minor;
+                  digits = valid.digits;
+                  reason = valid.reason;
+                  fields = found.2;
+                },
+                ap (λ (l : List ℕ). l ++ found.1) w.1 ∙ append_assoc (print_blank h.blank) w.0 found.1
+                    ∙ ap (λ (l : List ℕ). print_blank h.blank ++ l) found.4 ∙ sym (answer_parts k []),
+              );
+              lines = found.3;
+            },
+          )
     ]
 
 pub open_answer : (buf : List ℕ) → HasNoResponse buf → MayBecomeResponse buf → begins_extra_line buf ≡ false → IsOpenAnswer buf
 open_answer buf none may not_extra = record {
   lacks = λ h rest x. none h rest x.reads;
-  can_be = fits buf may.0 may.1 may.2 not_extra
+  can_be = fits buf may.0 may.1 may.2 not_extra;
 }

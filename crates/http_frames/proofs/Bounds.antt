@@ -28,18 +28,18 @@ pub record Least (phase next : Phase) : Type 0 where
 
 behind_more : (v w : ℕ) → v ≤ w → least_behind v ≤ least_behind w
 behind_more v w h = elim (eqb_tells v 0) [
-    inl a ↦ elim (eqb_tells w 0) [
-      inl c ↦ subst (λ (t : Bool). (if t then 1 else v + 6) ≤ least_behind w) (sym a.0)
+  | inl a ↦ elim (eqb_tells w 0) [
+    | inl c ↦ subst (λ (t : Bool). (if t then 1 else v + 6) ≤ least_behind w) (sym a.0)
         (subst (λ (t : Bool). 1 ≤ (if t then 1 else w + 6)) (sym c.0) (omega arith))
     | inr c ↦ subst (λ (t : Bool). (if t then 1 else v + 6) ≤ least_behind w) (sym a.0)
         (subst (λ (t : Bool). 1 ≤ (if t then 1 else w + 6)) (sym c.0) (omega arith))
-    ]
+  ]
   | inr a ↦ elim (eqb_tells w 0) [
-      inl c ↦ absurd (a.1 (omega (arith, c.1, h)))
+    | inl c ↦ absurd (a.1 (omega (arith, c.1, h)))
     | inr c ↦ subst (λ (t : Bool). (if t then 1 else v + 6) ≤ least_behind w) (sym a.0)
         (subst (λ (t : Bool). v + 6 ≤ (if t then 1 else w + 6)) (sym c.0) (omega (arith, h)))
-    ]
   ]
+]
 
 line_least_at : (size : ℕ) (t : Bool) → (size == 0) ≡ t → Least (SizeReturn size) (if t then TrailerStart else Data size)
 unfolding least_rest begun_content
@@ -63,7 +63,7 @@ unfolding least_rest begun_content
 behind_least phase size b rest begun =
     all_if (is_ows b) (Some (Pad size)) _ (Least phase) (record { rest = omega (arith, rest); content = omega (arith, begun) })
     (all_if (b == 59) (Some (Extension size)) _ (Least phase) (record { rest = omega (arith, rest); content = omega (arith, begun) })
-      (all_if (b == 13) (Some (SizeReturn size)) None (Least phase) (record { rest = omega (arith, rest); content = omega (arith, begun) }) tt))
+    (all_if (b == 13) (Some (SizeReturn size)) None (Least phase) (record { rest = omega (arith, rest); content = omega (arith, begun) }) tt))
 
 data_least_at : (left : ℕ) (t : Bool) → (left == 1) ≡ t → Least (Data left) (if t then DataEnd else Data (left - 1))
 unfolding least_rest begun_content
@@ -77,10 +77,10 @@ unfolding least_rest begun_content
 trailer_least phase b rest begun =
     let P : Phase → Type 0 = Least phase in
     elim (b == 10) as (λ t. P (if t then Done else (if b == 13 then TrailerReturn else TrailerText))) [
-      true ↦ record { rest = omega (arith, rest); content = omega (arith, begun) }
-    | false ↦ elim (b == 13) as (λ t. P (if t then TrailerReturn else TrailerText)) [
-        true ↦ record { rest = omega (arith, rest); content = omega (arith, begun) }
-      | false ↦ record { rest = omega (arith, rest); content = omega (arith, begun) }
+      | true ↦ record { rest = omega (arith, rest); content = omega (arith, begun) }
+      | false ↦ elim (b == 13) as (λ t. P (if t then TrailerReturn else TrailerText)) [
+        | true ↦ record { rest = omega (arith, rest); content = omega (arith, begun) }
+        | false ↦ record { rest = omega (arith, rest); content = omega (arith, begun) }
       ]
     ]
 
@@ -92,7 +92,7 @@ step_least Line b =
 step_least (Size digits size) b =
     all_if (is_ascii_hexdigit b) _ (behind_size size b) (Least (Size digits size))
     (all_if (nat_lt digits 16) (Some (Size (digits + 1) (size * 16 + digit_value b))) None (Least (Size digits size))
-      (record { rest = (let more = behind_more size (size * 16 + digit_value b) (omega arith) in omega (arith, more)); content = omega arith }) tt)
+    (record { rest = (let more = behind_more size (size * 16 + digit_value b) (omega arith) in omega (arith, more)); content = omega arith }) tt)
     (behind_least (Size digits size) size b refl refl)
 step_least (Pad size) b = behind_least (Pad size) size b refl refl
 step_least (Extension size) b =
@@ -105,10 +105,14 @@ step_least DataReturn b = all_if (b == 10) (Some Line) None (Least DataReturn) (
 step_least TrailerStart b = trailer_least TrailerStart b refl refl
 step_least TrailerReturn b =
     elim (b == 10) as (λ t. Least TrailerReturn (if t then Done else TrailerText)) [
-      true ↦ record { rest = omega arith; content = omega arith } | false ↦ record { rest = omega arith; content = omega arith } ]
+      | true ↦ record { rest = omega arith; content = omega arith }
+      | false ↦ record { rest = omega arith; content = omega arith }
+    ]
 step_least TrailerText b =
     elim (b == 10) as (λ t. Least TrailerText (if t then TrailerStart else TrailerText)) [
-      true ↦ record { rest = omega arith; content = omega arith } | false ↦ record { rest = omega arith; content = omega arith } ]
+      | true ↦ record { rest = omega arith; content = omega arith }
+      | false ↦ record { rest = omega arith; content = omega arith }
+    ]
 step_least Done b = tt
 
 keeps_least : (phase next : Phase) (b : ℕ) (bytes content : List ℕ) (t : Bool) → is_data phase ≡ t → Least phase next
@@ -198,7 +202,9 @@ step_sane (Data left) b h = data_sane left (left == 1) refl h
 step_sane DataEnd b h = all_if (b == 13) (Some DataReturn) None IsSane tt tt
 step_sane DataReturn b h = all_if (b == 10) (Some Line) None IsSane tt tt
 step_sane TrailerStart b h = elim (b == 10) as (λ t. IsSane (if t then Done else (if b == 13 then TrailerReturn else TrailerText))) [
-    true ↦ tt | false ↦ elim (b == 13) as (λ t. IsSane (if t then TrailerReturn else TrailerText)) [ true ↦ tt | false ↦ tt ] ]
+  | true ↦ tt
+  | false ↦ elim (b == 13) as (λ t. IsSane (if t then TrailerReturn else TrailerText)) [ true ↦ tt | false ↦ tt ]
+]
 step_sane TrailerReturn b h = elim (b == 10) as (λ t. IsSane (if t then Done else TrailerText)) [ true ↦ tt | false ↦ tt ]
 step_sane TrailerText b h = elim (b == 10) as (λ t. IsSane (if t then TrailerStart else TrailerText)) [ true ↦ tt | false ↦ tt ]
 step_sane Done b h = tt
@@ -232,7 +238,12 @@ shortest_accepted = (refl, refl)
 
 behind_reach : (size : ℕ) → ReachesBehind size
 behind_reach zero = record {
-  more = 10 ∷ []; content = []; accepts = trailer_feed; length_is = refl; content_is = refl }
+  more = 10 ∷ [];
+  content = [];
+  accepts = trailer_feed;
+  length_is = refl;
+  content_is = refl;
+}
 behind_reach (suc n) =
     let some : (suc n == 0) ≡ false = elim (eqb_tells (suc n) 0) [ inl w ↦ absurd (omega (arith, w.1)) | inr w ↦ w.0 ] in
     let part : List ℕ = replicate n 0 in
@@ -254,22 +265,40 @@ unfolding least_rest begun_content next_phase
 reach Line sane h = record { more = shortest; content = []; accepts = shortest_accepted; length_is = refl; content_is = refl }
 reach (Size digits size) sane h =
     let r = behind_reach size in
-    record { more = 13 ∷ 10 ∷ r.more; content = r.content;
+    record {
+      more = 13 ∷ 10 ∷ r.more;
+      content = r.content;
       accepts = text_behind (Size digits size) size None r.more r.content (size_reads digits size) tt r.accepts;
-      length_is = omega (arith, r.length_is); content_is = r.content_is }
+      length_is = omega (arith, r.length_is);
+      content_is = r.content_is;
+    }
 reach (Pad size) sane h =
     let r = behind_reach size in
-    record { more = 13 ∷ 10 ∷ r.more; content = r.content;
+    record {
+      more = 13 ∷ 10 ∷ r.more;
+      content = r.content;
       accepts = text_behind (Pad size) size None r.more r.content (pad_reads size) tt r.accepts;
-      length_is = omega (arith, r.length_is); content_is = r.content_is }
+      length_is = omega (arith, r.length_is);
+      content_is = r.content_is;
+    }
 reach (Extension size) sane h =
     let r = behind_reach size in
-    record { more = 13 ∷ 10 ∷ r.more; content = r.content; accepts = r.accepts;
-      length_is = omega (arith, r.length_is); content_is = r.content_is }
+    record {
+      more = 13 ∷ 10 ∷ r.more;
+      content = r.content;
+      accepts = r.accepts;
+      length_is = omega (arith, r.length_is);
+      content_is = r.content_is;
+    }
 reach (SizeReturn size) sane h =
     let r = behind_reach size in
-    record { more = 10 ∷ r.more; content = r.content; accepts = end_of_line size r.more r.content r.accepts;
-      length_is = omega (arith, r.length_is); content_is = r.content_is }
+    record {
+      more = 10 ∷ r.more;
+      content = r.content;
+      accepts = end_of_line size r.more r.content r.accepts;
+      length_is = omega (arith, r.length_is);
+      content_is = r.content_is;
+    }
 reach (Data zero) sane h = absurd (omega arith)
 reach (Data (suc n)) sane h =
     let part : List ℕ = replicate n 0 in

@@ -83,11 +83,11 @@ line_accepted [] rest valid h = absurd (valid.some refl)
 line_accepted (b ∷ line) rest valid h =
     let P : ℕ → Type 0 = λ x. is_trailer_byte x ≡ true in
     elim (eqb_tells b 13) [
-      inl w ↦ accept TrailerStart TrailerReturn b (line ++ 10 ∷ rest) [] (ap (next_phase TrailerStart) w.1 ∙ step_trailer_return) refl
-        (return_accepted b line rest w.1 valid h)
-    | inr w ↦ accept TrailerStart TrailerText b (line ++ 10 ∷ rest) []
-        (step_trailer b (not_feed b (All-head P b line valid.bytes)) w.0) refl
-        (text_accepted line rest (All-tail P b line valid.bytes) h)
+      | inl w ↦ accept TrailerStart TrailerReturn b (line ++ 10 ∷ rest) [] (ap (next_phase TrailerStart) w.1 ∙ step_trailer_return) refl
+          (return_accepted b line rest w.1 valid h)
+      | inr w ↦ accept TrailerStart TrailerText b (line ++ 10 ∷ rest) []
+          (step_trailer b (not_feed b (All-head P b line valid.bytes)) w.0) refl
+          (text_accepted line rest (All-tail P b line valid.bytes) h)
     ]
 
 end_accepted : (last : LineEnd) → Accepts TrailerStart (print_end last) []
@@ -127,7 +127,7 @@ data_accepted n b [] rest more len h =
     let one : suc n ≡ 1 = omega (arith, len) in
     subst (λ (m : ℕ). Accepts (Data m) (b ∷ 13 ∷ 10 ∷ rest) (b ∷ more)) (sym one)
     (accept_data 1 b DataEnd (13 ∷ 10 ∷ rest) more (step_data_last b)
-      (accept DataEnd DataReturn 13 (10 ∷ rest) more step_end refl (accept DataReturn Line 10 rest more step_end_return refl h)))
+    (accept DataEnd DataReturn 13 (10 ∷ rest) more step_end refl (accept DataReturn Line 10 rest more step_end_return refl h)))
 data_accepted zero b (c ∷ part) rest more len h = absurd (omega (arith, len))
 data_accepted (suc n) b (c ∷ part) rest more len h =
     accept_data (suc (suc n)) b (Data (suc n)) ((c ∷ part) ++ (13 ∷ 10 ∷ rest)) ((c ∷ part) ++ more) (step_data n b)
@@ -145,8 +145,11 @@ pad_reads size = (refl, λ b h. refl)
 
 pub size_reads : (digits size : ℕ) → ReadsBehind (Size digits size) size
 unfolding next_phase
-size_reads digits size = (refl, λ b h.
-    ap (λ (t : Bool). if t then (if nat_lt digits 16 then Some (Size (digits + 1) (size * 16 + digit_value b)) else None) else behind_size size b) h)
+size_reads digits size = (
+  refl,
+  λ b h.
+      ap (λ (t : Bool). if t then (if nat_lt digits 16 then Some (Size (digits + 1) (size * 16 + digit_value b)) else None) else behind_size size b) h,
+)
 
 step_line_end : (size : ℕ) → next_phase (SizeReturn size) 10 ≡ Some (behind_line size)
 unfolding next_phase
@@ -159,12 +162,12 @@ step_extension_end size = refl
 step_extension : (size b : ℕ) → is_extension_byte b ≡ true → next_phase (Extension size) b ≡ Some (Extension size)
 unfolding next_phase
 step_extension size b h = elim (eqb_tells b 13) [
-    inl w ↦ absurd (false≢true (sym (ap (λ (x : ℕ). is_extension_byte x) w.1) ∙ h))
+  | inl w ↦ absurd (false≢true (sym (ap (λ (x : ℕ). is_extension_byte x) w.1) ∙ h))
   | inr w ↦ elim (eqb_tells b 10) [
-      inl v ↦ absurd (false≢true (sym (ap (λ (x : ℕ). is_extension_byte x) v.1) ∙ h))
+    | inl v ↦ absurd (false≢true (sym (ap (λ (x : ℕ). is_extension_byte x) v.1) ∙ h))
     | inr v ↦ ap₂ (λ (s t : Bool). if s then Some (SizeReturn size) else (if t then None else Some (Extension size))) w.0 v.0
-    ]
   ]
+]
 
 pub end_of_line : (size : ℕ) (rest content : List ℕ) → Accepts (behind_line size) rest content → Accepts (SizeReturn size) (10 ∷ rest) content
 end_of_line size rest content h = accept (SizeReturn size) (behind_line size) 10 rest content (step_line_end size) refl h
@@ -187,12 +190,12 @@ text_behind p size (Some text) rest content reads valid h =
 
 ows_no_digit : (b : ℕ) → is_ows b ≡ true → is_ascii_hexdigit b ≡ false
 ows_no_digit b h = elim (eqb_tells b 32) [
-    inl w ↦ ap is_ascii_hexdigit w.1
+  | inl w ↦ ap is_ascii_hexdigit w.1
   | inr w ↦ elim (eqb_tells b 9) [
-      inl v ↦ ap is_ascii_hexdigit v.1
+    | inl v ↦ ap is_ascii_hexdigit v.1
     | inr v ↦ absurd (false≢true (sym (ap₂ (λ (s t : Bool). s || t) w.0 v.0) ∙ h))
-    ]
   ]
+]
 
 step_pad : (size b : ℕ) → is_ows b ≡ true → behind_size size b ≡ Some (Pad size)
 step_pad size b h =
@@ -238,10 +241,10 @@ line_accepted_at [] pad text rest content some few hex blanks valid h = absurd (
 line_accepted_at (b ∷ ds) pad text rest content some few hex blanks valid h =
     let P : ℕ → Type 0 = λ x. is_ascii_hexdigit x ≡ true in
     let value : digits_value 16 (b ∷ ds) ≡ digits_value_after 16 (digit_value b) ds =
-        ap (λ (n : ℕ). digits_value_after 16 n ds) (zero-add (digit_value b)) in
+    ap (λ (n : ℕ). digits_value_after 16 n ds) (zero-add (digit_value b)) in
     accept Line (Size 1 (digit_value b)) b _ content (step_first b (All-head P b ds hex)) refl
     (digits_accepted ds 1 (digit_value b) pad text rest content (All-tail P b ds hex) (omega (arith, few)) blanks valid
-      (subst (λ (n : ℕ). Accepts (behind_line n) rest content) value h))
+    (subst (λ (n : ℕ). Accepts (behind_line n) rest content) value h))
 
 pub chunk_line_accepted : (line : ChunkLine) (rest content : List ℕ) → IsChunkLine line → Accepts (behind_line (chunk_size line)) rest content
     → Accepts Line (print_chunk_line line ++ rest) content
@@ -263,8 +266,8 @@ after_some size [] rest more len some h = absurd (omega arith)
 after_some size (b ∷ part) rest more len some h =
     subst (λ (n : ℕ). Accepts (behind_line n) ((b ∷ part) ++ (13 ∷ 10 ∷ rest)) ((b ∷ part) ++ more)) (sym len)
     (subst (λ (p : Phase). Accepts p ((b ∷ part) ++ (13 ∷ 10 ∷ rest)) ((b ∷ part) ++ more))
-      (sym (ap (λ (t : Bool). if t then TrailerStart else Data (suc (length part))) (not_same (suc (length part)) 0 (λ e. omega (arith, e)))))
-      (data_accepted (length part) b part rest more refl h))
+    (sym (ap (λ (t : Bool). if t then TrailerStart else Data (suc (length part))) (not_same (suc (length part)) 0 (λ e. omega (arith, e)))))
+    (data_accepted (length part) b part rest more refl h))
 
 -- every body is accepted
 pub complete : (bytes content : List ℕ) → Chunked bytes content → Accepts Line bytes content
@@ -274,5 +277,5 @@ complete _ _ (last_chunk bytes line rest valid none is trailer) =
 complete _ _ (chunk bytes content line part rest more valid size some is joined behind) =
     subst (λ (l : List ℕ). Accepts Line l content) (sym is)
     (subst (λ (l : List ℕ). Accepts Line (print_chunk_line line ++ (part ++ (13 ∷ 10 ∷ rest))) l) (sym joined)
-      (chunk_line_accepted line (part ++ (13 ∷ 10 ∷ rest)) (part ++ more) valid
-        (after_some (chunk_size line) part rest more size some (complete rest more behind))))
+    (chunk_line_accepted line (part ++ (13 ∷ 10 ∷ rest)) (part ++ more) valid
+    (after_some (chunk_size line) part rest more size some (complete rest more behind))))

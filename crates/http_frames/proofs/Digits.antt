@@ -44,13 +44,13 @@ pub find_passes : {X : Type 0} (p q : X → Bool) (xs : List X) (x : X) → find
 find_passes p q [] x found all = cc
 find_passes {X} p q (y ∷ ys) x found all =
     let go : cond (p y) (Some y) (find p ys) ≡ Some x
-        → IsTrue ((not (p y) || q y) && list_all (λ z. not (p z) || q z) ys) → IsTrue (q x) =
-        elim (p y) as (λ t. cond t (Some y) (find p ys) ≡ Some x
-            → IsTrue ((not t || q y) && list_all (λ z. not (p z) || q z) ys) → IsTrue (q x)) [
-          true ↦ λ e h. (let same : y ≡ x = cc in
-            subst (λ (z : X). IsTrue (q z)) same (both (q y) (list_all (λ z. not (p z) || q z) ys) h).0)
-        | false ↦ λ e h. find_passes p q ys x e (both true (list_all (λ z. not (p z) || q z) ys) h).1
-        ] in
+    → IsTrue ((not (p y) || q y) && list_all (λ z. not (p z) || q z) ys) → IsTrue (q x) =
+    elim (p y) as (λ t. cond t (Some y) (find p ys) ≡ Some x
+    → IsTrue ((not t || q y) && list_all (λ z. not (p z) || q z) ys) → IsTrue (q x)) [
+      | true ↦ λ e h. (let same : y ≡ x = cc in
+          subst (λ (z : X). IsTrue (q z)) same (both (q y) (list_all (λ z. not (p z) || q z) ys) h).0)
+      | false ↦ λ e h. find_passes p q ys x e (both true (list_all (λ z. not (p z) || q z) ys) h).1
+    ] in
     go found all
 
 -- in sound lengths each Content-Length is a length

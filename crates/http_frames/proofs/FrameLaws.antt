@@ -99,57 +99,61 @@ request_framed bytes request r =
     let at = r.whole.head in
     let body = read_means bytes s (Ok (Some request.body)) r.whole in
     let split : bytes ≡ (print_request at.head ++ body.body) ++ body.rest =
-        at.begins.reads.1 ∙ ap (λ (l : List ℕ). print_request at.head ++ l) body.split
-        ∙ sym (append_assoc (print_request at.head) body.body body.rest) in
-    (print_request at.head ++ body.body, body.rest, split, record {
-      head = at.head;
-      body = body.body;
-      front = record {
-        begins = record { reads = (at.begins.reads.0, refl); lines = at.begins.lines };
-        short = (request_front bytes s at).short;
-      };
-      method = r.method ∙ at.method;
-      target = r.target ∙ at.target;
-      headers = r.headers ∙ at.headers;
-      framing = r.whole.framing;
-      says = request_says bytes s at ∙ r.whole.says;
-      content = body.is_body;
-    })
+    at.begins.reads.1 ∙ ap (λ (l : List ℕ). print_request at.head ++ l) body.split
+    ∙ sym (append_assoc (print_request at.head) body.body body.rest) in (
+      print_request at.head ++ body.body,
+      body.rest,
+      split,
+      record {
+        head = at.head;
+        body = body.body;
+        front = record {
+          begins = record { reads = (at.begins.reads.0, refl); lines = at.begins.lines };
+          short = (request_front bytes s at).short;
+        };
+        method = r.method ∙ at.method;
+        target = r.target ∙ at.target;
+        headers = r.headers ∙ at.headers;
+        framing = r.whole.framing;
+        says = request_says bytes s at ∙ r.whole.says;
+        content = body.is_body;
+      },
+    )
 
 pub more_awaited : (bytes : List ℕ) → AwaitsMore bytes → AwaitsRest bytes
 more_awaited bytes awaits = elim awaits [
-    inl w ↦ inl w
+  | inl w ↦ inl w
   | inr w ↦ inr (record {
-      head = w.1.head.head;
-      body = drop w.0.length bytes;
-      front = request_front bytes w.0 w.1.head;
-      framing = w.1.framing;
-      says = request_says bytes w.0 w.1.head ∙ w.1.says;
-      awaits = read_means bytes w.0 (Ok None) w.1;
-    })
-  ]
+    head = w.1.head.head;
+    body = drop w.0.length bytes;
+    front = request_front bytes w.0 w.1.head;
+    framing = w.1.framing;
+    says = request_says bytes w.0 w.1.head ∙ w.1.says;
+    awaits = read_means bytes w.0 (Ok None) w.1;
+  })
+]
 
 pub request_refused : (bytes : List ℕ) (e : FrameError) → Refuses bytes e → RefusesRequest bytes e
 request_refused bytes e refuses = elim refuses [
-    inl w ↦ inl w
+  | inl w ↦ inl w
   | inr w ↦ elim w [
-      inl v ↦ inr (inl (record {
-        head = v.head.head;
-        rest = drop v.start.length bytes;
-        front = request_front bytes v.start v.head;
-        says = request_says bytes v.start v.head ∙ v.says;
-      }))
+    | inl v ↦ inr (inl (record {
+      head = v.head.head;
+      rest = drop v.start.length bytes;
+      front = request_front bytes v.start v.head;
+      says = request_says bytes v.start v.head ∙ v.says;
+    }))
     | inr v ↦ inr (inr (record {
-        head = v.1.head.head;
-        body = drop v.0.length bytes;
-        front = request_front bytes v.0 v.1.head;
-        framing = v.1.framing;
-        says = request_says bytes v.0 v.1.head ∙ v.1.says;
-        refuses = subst (λ (n : ℕ). RefusesBody REQUEST_LIMITS n v.1.framing (drop v.0.length bytes) e) v.1.head.length_is
-            (read_means bytes v.0 (Err e) v.1);
-      }))
-    ]
+      head = v.1.head.head;
+      body = drop v.0.length bytes;
+      front = request_front bytes v.0 v.1.head;
+      framing = v.1.framing;
+      says = request_says bytes v.0 v.1.head ∙ v.1.says;
+      refuses = subst (λ (n : ℕ). RefusesBody REQUEST_LIMITS n v.1.framing (drop v.0.length bytes) e) v.1.head.length_is
+          (read_means bytes v.0 (Err e) v.1);
+    }))
   ]
+]
 
 -- ---- answers
 
@@ -196,16 +200,16 @@ answer_framed bytes reply r =
 
 torn_inside : (bytes : List ℕ) → EndsInside bytes → IsTorn bytes
 torn_inside bytes ends = elim ends [
-    inl w ↦ inl (w.0, passed bytes w.0 w.1, w.2)
+  | inl w ↦ inl (w.0, passed bytes w.0 w.1, w.2)
   | inr w ↦ inr (record {
-      head = w.1.head.head.head;
-      body = drop w.0.length w.1.rest;
-      front = last_front bytes w.1.rest w.0 w.1.head;
-      framing = w.1.framing;
-      says = answer_says w.1.rest w.0 w.1.head.head ∙ w.1.says;
-      awaits = front_of bytes w.0 (Ok None) w.1;
-    })
-  ]
+    head = w.1.head.head.head;
+    body = drop w.0.length w.1.rest;
+    front = last_front bytes w.1.rest w.0 w.1.head;
+    framing = w.1.framing;
+    says = answer_says w.1.rest w.0 w.1.head.head ∙ w.1.says;
+    awaits = front_of bytes w.0 (Ok None) w.1;
+  })
+]
 
 interim_length : (bytes rest : List ℕ) → Interim bytes rest → length rest ≤ length bytes
 interim_length _ _ (no_interim bytes) = omega arith
@@ -218,14 +222,14 @@ last_length bytes head rest l =
 
 reply_refused : (bytes : List ℕ) (e : FrameError) → RefusesAnswer bytes e → RefusesReply bytes e
 reply_refused bytes e refuses = elim refuses [
-    inl w ↦ inl (w.0, passed bytes w.0 w.1, w.2)
+  | inl w ↦ inl (w.0, passed bytes w.0 w.1, w.2)
   | inr w ↦ elim w [
-      inl v ↦ inr (inl (record {
-        head = v.head.head.head;
-        rest = drop v.start.length v.rest;
-        front = last_front bytes v.rest v.start v.head;
-        says = answer_says v.rest v.start v.head.head ∙ v.says;
-      }))
+    | inl v ↦ inr (inl (record {
+      head = v.head.head.head;
+      rest = drop v.start.length v.rest;
+      front = last_front bytes v.rest v.start v.head;
+      says = answer_says v.rest v.start v.head.head ∙ v.says;
+    }))
     | inr v ↦
         let front = last_front bytes v.1.rest v.0 v.1.head in
         inr (inr (record {
@@ -238,17 +242,17 @@ reply_refused bytes e refuses = elim refuses [
           counts = omega (arith, last_length bytes v.1.head.head.head (drop v.0.length v.1.rest) front);
           refuses = front_of bytes v.0 (Err e) v.1;
         }))
-    ]
   ]
+]
 
 pub not_answered : (bytes : List ℕ) (e : FrameError) → Answers bytes (Err e) → NoAnswer bytes e
 not_answered bytes e answers = elim answers [
-    inl w ↦ inl w
+  | inl w ↦ inl w
   | inr w ↦ inr (elim w [
-      inl v ↦ inl (v.0, torn_inside bytes v.1)
+    | inl v ↦ inl (v.0, torn_inside bytes v.1)
     | inr v ↦ inr (reply_refused bytes e v)
-    ])
-  ]
+  ])
+]
 
 -- ---- by the result of a call
 

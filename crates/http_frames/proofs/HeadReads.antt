@@ -39,7 +39,7 @@ front_reads n len bytes printed within is =
     ∙ ap (λ (l : List ℕ). l ++ drop n bytes) is
     ∙ append_assoc printed (drop len (take n bytes)) (drop n bytes)
     ∙ ap (λ (l : List ℕ). printed ++ l)
-      (sym (drop-append-le len (take n bytes) (drop n bytes) within) ∙ ap (drop len) (take-append-drop n bytes))
+    (sym (drop-append-le len (take n bytes) (drop n bytes) within) ∙ ap (drop len) (take-append-drop n bytes))
 
 pub request_read : (bytes : List ℕ) (spans : List HeaderSpan) (found : RequestSpans) (start : RequestStart)
     → length spans ≡ 64 → IsRequestWithin (take 16384 bytes) spans found → IsRequestOf (take 16384 bytes) spans found
@@ -50,8 +50,8 @@ request_read bytes spans found start room within whole copy =
     let short : found.len ≤ 16384 = omega (arith, within.section.len_fits, length-take 16384 bytes) in
     let same : drop found.len bytes ≡ drop start.length bytes = ap (λ (n : ℕ). drop n bytes) (sym copy.length_is) in
     let is : bytes ≡ print_request head ++ drop start.length bytes =
-        front_reads 16384 found.len bytes (print_request head) within.section.len_fits at.reads.1
-        ∙ ap (λ (l : List ℕ). print_request head ++ l) same in
+    front_reads 16384 found.len bytes (print_request head) within.section.len_fits at.reads.1
+    ∙ ap (λ (l : List ℕ). print_request head ++ l) same in
     record {
       head = head;
       begins = record {
@@ -74,8 +74,8 @@ answer_read bytes spans found start room within whole copy =
     let short : found.len ≤ 16384 = omega (arith, within.section.len_fits, length-take 16384 bytes) in
     let same : drop found.len bytes ≡ drop start.length bytes = ap (λ (n : ℕ). drop n bytes) (sym copy.length_is) in
     let is : bytes ≡ print_response head ++ drop start.length bytes =
-        front_reads 16384 found.len bytes (print_response head) within.section.len_fits at.reads.1
-        ∙ ap (λ (l : List ℕ). print_response head ++ l) same in
+    front_reads 16384 found.len bytes (print_response head) within.section.len_fits at.reads.1
+    ∙ ap (λ (l : List ℕ). print_response head ++ l) same in
     record {
       head = head;
       begins = record {
@@ -105,11 +105,11 @@ pub request_read_at : (bytes front : List ℕ) (spans : List HeaderSpan) (found 
     → IsCopyOfRequest front spans found start → IsRequestHeadOf bytes start
 request_read_at bytes front spans found start e =
     subst (λ (f : List ℕ). length spans ≡ 64 → IsRequestWithin f spans found → IsRequestOf f spans found
-        → IsCopyOfRequest f spans found start → IsRequestHeadOf bytes start) (sym e) (request_read bytes spans found start)
+    → IsCopyOfRequest f spans found start → IsRequestHeadOf bytes start) (sym e) (request_read bytes spans found start)
 
 pub answer_read_at : (bytes front : List ℕ) (spans : List HeaderSpan) (found : ResponseSpans) (start : AnswerStart)
     → front ≡ take 16384 bytes → length spans ≡ 64 → IsResponseWithin front spans found → IsResponseOf front spans found
     → IsCopyOfAnswer front spans found start → IsAnswerHeadOf bytes start
 answer_read_at bytes front spans found start e =
     subst (λ (f : List ℕ). length spans ≡ 64 → IsResponseWithin f spans found → IsResponseOf f spans found
-        → IsCopyOfAnswer f spans found start → IsAnswerHeadOf bytes start) (sym e) (answer_read bytes spans found start)
+    → IsCopyOfAnswer f spans found start → IsAnswerHeadOf bytes start) (sym e) (answer_read bytes spans found start)

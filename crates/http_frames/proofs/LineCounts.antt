@@ -18,9 +18,9 @@ NoFeed (b ∷ bytes) = ((b == 10) ≡ false) × NoFeed bytes
 
 no_feed_byte : (test : ℕ → Bool) (b : ℕ) → test 10 ≡ false → test b ≡ true → (b == 10) ≡ false
 no_feed_byte test b ten passes = elim (eqb_tells b 10) [
-    inl w ↦ absurd (false≢true (sym (subst (λ (x : ℕ). test x ≡ false) (sym w.1) ten) ∙ passes))
+  | inl w ↦ absurd (false≢true (sym (subst (λ (x : ℕ). test x ≡ false) (sym w.1) ten) ∙ passes))
   | inr w ↦ w.0
-  ]
+]
 
 pub no_feed : (test : ℕ → Bool) → test 10 ≡ false → (bytes : List ℕ) → AllPass test bytes → NoFeed bytes
 no_feed test ten [] all = tt
@@ -36,10 +36,10 @@ skip-append zero xs ys rest h = cc
 skip-append (suc n) [] ys rest h = cc
 skip-append (suc n) (b ∷ xs) ys rest h =
     let go : (if b == 10 then skip_lines n xs else skip_lines (suc n) xs) ≡ Some rest
-        → (if b == 10 then skip_lines n (xs ++ ys) else skip_lines (suc n) (xs ++ ys)) ≡ Some (rest ++ ys) =
-        elim (b == 10) as (λ t. (if t then skip_lines n xs else skip_lines (suc n) xs) ≡ Some rest
-            → (if t then skip_lines n (xs ++ ys) else skip_lines (suc n) (xs ++ ys)) ≡ Some (rest ++ ys))
-        [ true ↦ skip-append n xs ys rest | false ↦ skip-append (suc n) xs ys rest ] in
+    → (if b == 10 then skip_lines n (xs ++ ys) else skip_lines (suc n) (xs ++ ys)) ≡ Some (rest ++ ys) =
+    elim (b == 10) as (λ t. (if t then skip_lines n xs else skip_lines (suc n) xs) ≡ Some rest
+    → (if t then skip_lines n (xs ++ ys) else skip_lines (suc n) (xs ++ ys)) ≡ Some (rest ++ ys))
+    [ true ↦ skip-append n xs ys rest | false ↦ skip-append (suc n) xs ys rest ] in
     go h
 
 pub skip_split : (n : ℕ) (xs rest : List ℕ) → skip_lines n xs ≡ Some rest → (front : List ℕ) × (xs ≡ front ++ rest)
@@ -48,10 +48,10 @@ skip_split zero xs rest h = ([], cc)
 skip_split (suc n) [] rest h = absurd (cc)
 skip_split (suc n) (b ∷ xs) rest h =
     let go : (if b == 10 then skip_lines n xs else skip_lines (suc n) xs) ≡ Some rest
-        → (front : List ℕ) × (xs ≡ front ++ rest) =
-        elim (b == 10) as (λ t. (if t then skip_lines n xs else skip_lines (suc n) xs) ≡ Some rest
-            → (front : List ℕ) × (xs ≡ front ++ rest))
-        [ true ↦ skip_split n xs rest | false ↦ skip_split (suc n) xs rest ] in
+    → (front : List ℕ) × (xs ≡ front ++ rest) =
+    elim (b == 10) as (λ t. (if t then skip_lines n xs else skip_lines (suc n) xs) ≡ Some rest
+    → (front : List ℕ) × (xs ≡ front ++ rest))
+    [ true ↦ skip_split n xs rest | false ↦ skip_split (suc n) xs rest ] in
     (b ∷ (go h).0, ap (λ (l : List ℕ). b ∷ l) (go h).1)
 
 -- what has so many lines has fewer
@@ -63,10 +63,10 @@ skip_fewer zero (suc m) xs rest few h = absurd (omega arith)
 skip_fewer (suc n) (suc m) [] rest few h = absurd (cc)
 skip_fewer (suc n) (suc m) (b ∷ xs) rest few h =
     let go : (if b == 10 then skip_lines n xs else skip_lines (suc n) xs) ≡ Some rest
-        → (front : List ℕ) × ((if b == 10 then skip_lines m xs else skip_lines (suc m) xs) ≡ Some front) =
-        elim (b == 10) as (λ t. (if t then skip_lines n xs else skip_lines (suc n) xs) ≡ Some rest
-            → (front : List ℕ) × ((if t then skip_lines m xs else skip_lines (suc m) xs) ≡ Some front))
-        [ true ↦ skip_fewer n m xs rest (omega arith) | false ↦ skip_fewer (suc n) (suc m) xs rest few ] in
+    → (front : List ℕ) × ((if b == 10 then skip_lines m xs else skip_lines (suc m) xs) ≡ Some front) =
+    elim (b == 10) as (λ t. (if t then skip_lines n xs else skip_lines (suc n) xs) ≡ Some rest
+    → (front : List ℕ) × ((if t then skip_lines m xs else skip_lines (suc m) xs) ≡ Some front))
+    [ true ↦ skip_fewer n m xs rest (omega arith) | false ↦ skip_fewer (suc n) (suc m) xs rest few ] in
     go h
 
 skip_none : (rest : List ℕ) → skip_lines 0 rest ≡ Some rest
@@ -127,8 +127,8 @@ longer_front (x ∷ a) b (y ∷ c) d e =
     let head : x ≡ y = cc in
     let tail : a ++ b ≡ c ++ d = cc in
     elim (longer_front a b c d tail) [
-      inl w ↦ inl (w.0, cc, w.2)
-    | inr w ↦ inr (w.0, w.1, cc, w.3)
+      | inl w ↦ inl (w.0, cc, w.2)
+      | inr w ↦ inr (w.0, w.1, cc, w.3)
     ]
 
 -- ---- a header line too many
@@ -166,9 +166,9 @@ extra_full : (line : List ℕ) (fs : List Field) (last : LineEnd) (rest more y r
 unfolding skip_lines
 extra_full line fs last rest more y r start all full is there begins =
     let whole : skip_lines 65 (section_of line fs last rest) ≡ Some (print_end last ++ rest) =
-        (let count : 65 ≡ suc (length fs + 0) = omega (arith, full) in
-        ap (λ (k : ℕ). skip_lines k (section_of line fs last rest)) count)
-        ∙ skip_section line fs 0 (print_end last ++ rest) start all in
+    (let count : 65 ≡ suc (length fs + 0) = omega (arith, full) in
+    ap (λ (k : ℕ). skip_lines k (section_of line fs last rest)) count)
+    ∙ skip_section line fs 0 (print_end last ++ rest) start all in
     let both : Some (r ++ more) ≡ Some (print_end last ++ rest) = sym there ∙ ap (skip_lines 65) is ∙ whole in
     let same : r ++ more ≡ print_end last ++ rest = cc in
     false≢true (sym (end_breaks last rest) ∙ sym (ap begins_line same) ∙ begins_longer r more begins)
@@ -180,11 +180,13 @@ extra_fewer line fs last rest more y r start all few is there =
     let z = skip_fewer 65 (suc (length fs + 1)) y r (omega (arith, few)) there in
     let long = skip-append (suc (length fs + 1)) y more z.0 z.1 in
     let whole : skip_lines (suc (length fs + 1)) (section_of line fs last rest) ≡ Some rest =
-        skip_section line fs 1 (print_end last ++ rest) start all ∙ skip_end 0 last rest ∙ skip_none rest in
+    skip_section line fs 1 (print_end last ++ rest) start all ∙ skip_end 0 last rest ∙ skip_none rest in
     let both : Some (z.0 ++ more) ≡ Some rest = sym long ∙ ap (skip_lines (suc (length fs + 1))) is ∙ whole in
-    let same : rest ≡ z.0 ++ more = cc in
-    (z.0, append_cancel_right y (section_of line fs last z.0) more
-        (is ∙ ap (section_of line fs last) same ∙ section_of-append line fs last z.0 more))
+    let same : rest ≡ z.0 ++ more = cc in (
+      z.0,
+      append_cancel_right y (section_of line fs last z.0) more
+          (is ∙ ap (section_of line fs last) same ∙ section_of-append line fs last z.0 more),
+    )
 
 -- where one has begun, a head of fewer lines can only be whole already
 pub extra_refuses : (line : List ℕ) (fs : List Field) (last : LineEnd) (rest more y : List ℕ) → IsStart line → All IsField fs
@@ -193,21 +195,21 @@ pub extra_refuses : (line : List ℕ) (fs : List Field) (last : LineEnd) (rest m
 extra_refuses line fs last rest more y start all few is extra =
     let r = some_rest (skip_lines 65 y) extra in
     elim (cases_lt (length fs) 64) [
-      inl w ↦ extra_fewer line fs last rest more y r.0 start all w is r.1
-    | inr w ↦ absurd (extra_full line fs last rest more y r.0 start all (omega (arith, few, w)) is
-        (skip-append 65 y more r.0 r.1) r.2)
+      | inl w ↦ extra_fewer line fs last rest more y r.0 start all w is r.1
+      | inr w ↦ absurd (extra_full line fs last rest more y r.0 start all (omega (arith, few, w)) is
+          (skip-append 65 y more r.0 r.1) r.2)
     ]
 
 -- ---- no header line too many
 
 pub token_inside : (b : ℕ) → is_token_byte b ≡ true → is_break b ≡ false
 token_inside b passes = elim (eqb_tells b 13) [
-    inl w ↦ absurd (false≢true (sym (ap is_token_byte w.1 ∙ token_return) ∙ passes))
+  | inl w ↦ absurd (false≢true (sym (ap is_token_byte w.1 ∙ token_return) ∙ passes))
   | inr w ↦ elim (eqb_tells b 10) [
-      inl v ↦ absurd (false≢true (sym (ap is_token_byte v.1 ∙ token_feed) ∙ passes))
+    | inl v ↦ absurd (false≢true (sym (ap is_token_byte v.1 ∙ token_feed) ∙ passes))
     | inr v ↦ ap₂ (λ (s t : Bool). s || t) w.0 v.0
-    ]
   ]
+]
 
 field_begins : (f : Field) (rest m more : List ℕ) (x : ℕ) → IsField f → (x ∷ m) ++ more ≡ print_field f ++ rest
     → is_break x ≡ false
@@ -218,7 +220,7 @@ field_begins f rest m more x valid is = go f.name valid.name.0 valid.name.1 refl
     go (b ∷ name) some all e =
         let P : ℕ → Type 0 = λ v. is_token_byte v ≡ true in
         let first : x ∷ (m ++ more) ≡ b ∷ (name ++ 58 ∷ f.raw ++ print_end f.end ++ rest) =
-            is ∙ ap (λ (l : List ℕ). (l ++ 58 ∷ f.raw ++ print_end f.end) ++ rest) e in
+        is ∙ ap (λ (l : List ℕ). (l ++ 58 ∷ f.raw ++ print_end f.end) ++ rest) e in
         let same : x ≡ b = cc in
         subst (λ (v : ℕ). is_break v ≡ false) (sym same) (token_inside b (All-head P b name all))
 
@@ -247,23 +249,25 @@ no_extra_long line gs f hs last more y start all full is none =
     let front = line ++ flat_map print_field gs in
     let behind = flat_map print_field hs ++ (print_end last ++ []) in
     let parts : y ++ more ≡ front ++ (print_field f ++ behind) = is
-        ∙ ap (λ (l : List ℕ). line ++ (l ++ (print_end last ++ []))) (flat_map-append print_field gs (f ∷ hs))
-        ∙ regroup line (flat_map print_field gs) (print_field f) (flat_map print_field hs) (print_end last ++ []) in
+    ∙ ap (λ (l : List ℕ). line ++ (l ++ (print_end last ++ []))) (flat_map-append print_field gs (f ∷ hs))
+    ∙ regroup line (flat_map print_field gs) (print_field f) (flat_map print_field hs) (print_end last ++ []) in
     elim (longer_front y more front (print_field f ++ behind) parts) [
-      inl w ↦ (w.0 ++ (print_end last ++ []),
+      | inl w ↦ (
+        w.0 ++ (print_end last ++ []),
         sym (append_assoc y w.0 (print_end last ++ []))
-        ∙ ap (λ (l : List ℕ). l ++ (print_end last ++ [])) (sym w.1)
-        ∙ append_assoc line (flat_map print_field gs) (print_end last ++ []))
-    | inr w ↦
-        let inside : is_break w.0 ≡ false =
-            field_begins f behind w.1 more w.0 (all_middle gs f hs all) (sym w.3) in
-        let count : 65 ≡ suc (length gs + 0) = omega (arith, full) in
-        let skipped : skip_lines 65 y ≡ Some (w.0 ∷ w.1) =
-            ap (skip_lines 65) (w.2 ∙ append_assoc line (flat_map print_field gs) (w.0 ∷ w.1))
-            ∙ ap (λ (k : ℕ). skip_lines k (line ++ (flat_map print_field gs ++ w.0 ∷ w.1))) count
-            ∙ skip_section line gs 0 (w.0 ∷ w.1) start (all_front gs (f ∷ hs) all)
-            ∙ skip_none (w.0 ∷ w.1) in
-        absurd (false≢true (sym none ∙ ap begins_line_there skipped ∙ ap not inside))
+            ∙ ap (λ (l : List ℕ). l ++ (print_end last ++ [])) (sym w.1)
+            ∙ append_assoc line (flat_map print_field gs) (print_end last ++ []),
+      )
+      | inr w ↦
+          let inside : is_break w.0 ≡ false =
+          field_begins f behind w.1 more w.0 (all_middle gs f hs all) (sym w.3) in
+          let count : 65 ≡ suc (length gs + 0) = omega (arith, full) in
+          let skipped : skip_lines 65 y ≡ Some (w.0 ∷ w.1) =
+          ap (skip_lines 65) (w.2 ∙ append_assoc line (flat_map print_field gs) (w.0 ∷ w.1))
+          ∙ ap (λ (k : ℕ). skip_lines k (line ++ (flat_map print_field gs ++ w.0 ∷ w.1))) count
+          ∙ skip_section line gs 0 (w.0 ∷ w.1) start (all_front gs (f ∷ hs) all)
+          ∙ skip_none (w.0 ∷ w.1) in
+          absurd (false≢true (sym none ∙ ap begins_line_there skipped ∙ ap not inside))
     ]
   where
     regroup : (a b c d e : List ℕ) → a ++ ((b ++ (c ++ d)) ++ e) ≡ (a ++ b) ++ (c ++ (d ++ e))
@@ -274,14 +278,14 @@ pub no_extra_fits : (line : List ℕ) (fs : List Field) (last : LineEnd) (more y
     → y ++ more ≡ section_of line fs last [] → begins_line_there (skip_lines 65 y) ≡ false
     → (gs : List Field) × (next : List ℕ) × All IsField gs × (length gs ≤ 64) × (y ++ next ≡ section_of line gs last [])
 no_extra_fits line fs last more y start all is none = elim (cases_lt 64 (length fs)) [
-    inl w ↦
+  | inl w ↦
       let parts = split_at 64 fs w in
       let valid = subst (All IsField) parts.3 all in
       let long = no_extra_long line parts.0 parts.1 parts.2 last more y start valid parts.4
-          (is ∙ ap (λ (l : List Field). section_of line l last []) parts.3) none in
+      (is ∙ ap (λ (l : List Field). section_of line l last []) parts.3) none in
       (parts.0, long.0, all_front parts.0 (parts.1 ∷ parts.2) valid, omega (arith, parts.4), long.1)
   | inr w ↦ (fs, more, all, w, is)
-  ]
+]
 
 -- ---- empty lines in front
 
@@ -321,16 +325,23 @@ pub blank_cases : (blank text buf more : List ℕ) → Breaks blank → BeginsIn
     → ((m : List ℕ) × (blank ≡ buf ++ m) × (skip_breaks buf ≡ []))
     ⊎ ((y : List ℕ) × (buf ≡ blank ++ y) × (y ++ more ≡ text) × (skip_breaks buf ≡ y))
 blank_cases blank text buf more breaks begins is = elim (longer_front buf more blank text is) [
-    inl w ↦ inl (w.0, w.1,
-      ap skip_breaks (sym (append-nil buf))
-      ∙ skip_all buf [] (breaks_front buf w.0 (subst Breaks w.1 breaks)) ∙ skip_nothing)
+  | inl w ↦ inl (
+    w.0,
+    w.1,
+    ap skip_breaks (sym (append-nil buf))
+        ∙ skip_all buf [] (breaks_front buf w.0 (subst Breaks w.1 breaks)) ∙ skip_nothing,
+  )
   | inr w ↦
       let first : w.0 ∷ (w.1 ++ more) ≡ begins.0 ∷ begins.1 = sym w.3 ∙ begins.2 in
       let same : w.0 ≡ begins.0 = cc in
-      inr (w.0 ∷ w.1, w.2, sym w.3,
+      inr (
+        w.0 ∷ w.1,
+        w.2,
+        sym w.3,
         ap skip_breaks w.2 ∙ skip_all blank (w.0 ∷ w.1) breaks
-        ∙ skip_no_more w.0 w.1 (ap is_break same ∙ begins.3))
-  ]
+            ∙ skip_no_more w.0 w.1 (ap is_break same ∙ begins.3),
+      )
+]
 
 -- among the empty lines none has begun
 pub not_extra : (buf : List ℕ) → skip_breaks buf ≡ [] → begins_extra_line buf ≡ true → ⊥

@@ -20,7 +20,7 @@ pub request_parts : (h : RequestHead) (rest : List ℕ) → print_request h ++ r
 request_parts h rest =
     print_request-append h rest
     ∙ regroup (print_blank h.blank) h.method h.target (print_version h.minor) (print_end h.line_end)
-      (flat_map print_field h.fields) (print_end h.last) rest
+    (flat_map print_field h.fields) (print_end h.last) rest
   where
     regroup : (a b c d e f g r : List ℕ)
         → a ++ (b ++ 32 ∷ (c ++ 32 ∷ (d ++ (e ++ ((f ++ g) ++ r)))))
@@ -63,13 +63,13 @@ unfolding begins_extra_line
 extra_is_no_request buf none extra = λ more h rest x.
     let valid = x.reads.0 in
     let parts : buf ++ more ≡ print_blank h.blank ++ section_of (request_line h) h.fields h.last rest =
-        x.reads.1 ∙ request_parts h rest in
+    x.reads.1 ∙ request_parts h rest in
     elim (blank_cases (print_blank h.blank) _ buf more (blank_breaks h.blank) (request_inside h _ valid) parts) [
-      inl w ↦ not_extra buf w.2 extra
-    | inr w ↦
-        let z = extra_refuses (request_line h) h.fields h.last rest more w.0 (request_starts h valid) valid.fields x.lines w.2
-            (sym (ap (λ (l : List ℕ). begins_line_there (skip_lines 65 l)) w.3) ∙ extra) in
-        none h z.0 (valid, w.1 ∙ ap (λ (l : List ℕ). print_blank h.blank ++ l) z.1 ∙ sym (request_parts h z.0))
+      | inl w ↦ not_extra buf w.2 extra
+      | inr w ↦
+          let z = extra_refuses (request_line h) h.fields h.last rest more w.0 (request_starts h valid) valid.fields x.lines w.2
+          (sym (ap (λ (l : List ℕ). begins_line_there (skip_lines 65 l)) w.3) ∙ extra) in
+          none h z.0 (valid, w.1 ∙ ap (λ (l : List ℕ). print_blank h.blank ++ l) z.1 ∙ sym (request_parts h z.0))
     ]
 
 -- some head of at most 64 lines continues the text
@@ -80,33 +80,53 @@ fits buf more h x none =
     let valid = x.0 in
     let parts : buf ++ more ≡ print_blank h.blank ++ section_of (request_line h) h.fields h.last [] = x.1 ∙ request_parts h [] in
     elim (blank_cases (print_blank h.blank) _ buf more (blank_breaks h.blank) (request_inside h _ valid) parts) [
-      inl w ↦
-        let k : RequestHead = record h { fields = [] } in
-        (w.0 ++ section_of (request_line h) [] h.last [], k, record {
-          reads = (
-            record { method = valid.method; target = valid.target; target_text = valid.target_text; minor = valid.minor;
-              fields = All-nil IsField },
-            sym (append_assoc buf w.0 _) ∙ ap (λ (l : List ℕ). l ++ section_of (request_line h) [] h.last []) (sym w.1)
-            ∙ sym (request_parts k []));
-          lines = omega arith })
-    | inr w ↦
-        let found = no_extra_fits (request_line h) h.fields h.last more w.0 (request_starts h valid) valid.fields w.2
-            (sym (ap (λ (l : List ℕ). begins_line_there (skip_lines 65 l)) w.3) ∙ none) in
-        let k : RequestHead = record h { fields = found.0 } in
-        (found.1, k, record {
-          reads = (
-            record { method = valid.method; target = valid.target; target_text = valid.target_text; minor = valid.minor;
-              fields = found.2 },
-            ap (λ (l : List ℕ). l ++ found.1) w.1 ∙ append_assoc (print_blank h.blank) w.0 found.1
-            ∙ ap (λ (l : List ℕ). print_blank h.blank ++ l) found.4 ∙ sym (request_parts k []));
-          lines = found.3 })
+      | inl w ↦
+          let k : RequestHead = record h { fields = [] } in (
+            w.0 ++ section_of (request_line h) [] h.last [],
+            k,
+            record {
+              reads = (
+                record {
+                  method = valid.method;
+                  target = valid.target;
+                  target_text = valid.target_text;
+                  minor = valid.minor;
+                  fields = All-nil IsField;
+                },
+                sym (append_assoc buf w.0 _) ∙ ap (λ (l : List ℕ). l ++ section_of (request_line h) [] h.last []) (sym w.1)
+                    ∙ sym (request_parts k []),
+              );
+              lines = omega arith;
+            },
+          )
+      | inr w ↦
+          let found = no_extra_fits (request_line h) h.fields h.last more w.0 (request_starts h valid) valid.fields w.2
+          (sym (ap (λ (l : List ℕ). begins_line_there (skip_lines 65 l)) w.3) ∙ none) in
+          let k : RequestHead = record h { fields = found.0 } in (
+            found.1,
+            k,
+            record {
+              reads = (
+                record {
+                  method = valid.method;
+                  target = valid.target;
+                  target_text = valid.target_text;
+                  minor = valid.minor;
+                  fields = found.2;
+                },
+                ap (λ (l : List ℕ). l ++ found.1) w.1 ∙ append_assoc (print_blank h.blank) w.0 found.1
+                    ∙ ap (λ (l : List ℕ). print_blank h.blank ++ l) found.4 ∙ sym (request_parts k []),
+              );
+              lines = found.3;
+            },
+          )
     ]
 
 pub open_request : (buf : List ℕ) → HasNoRequest buf → MayBecomeRequest buf → begins_extra_line buf ≡ false → IsOpenRequest buf
 open_request buf none may not_extra = record {
   lacks = λ h rest x. none h rest x.reads;
   can_be = elim may [
-      inl w ↦ inl (fits buf w.0 w.1 w.2 not_extra)
+    | inl w ↦ inl (fits buf w.0 w.1 w.2 not_extra)
     | inr w ↦ inr w
-    ]
+  ];
 }

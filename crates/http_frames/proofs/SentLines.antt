@@ -183,17 +183,17 @@ framed method host headers t n needs few none cl te ce =
     let lines = lines_of host headers (added_length t n) in
     let without = if needs_length method then Err NoLength else Ok (Sized 0) in
     let transfer : has_named (codes "transfer-encoding") lines ≡ has_named (codes "transfer-encoding") (added_length t n) =
-        any_front (is_named (codes "transfer-encoding")) headers (added_length t n) te in
+    any_front (is_named (codes "transfer-encoding")) headers (added_length t n) te in
     let found : find (is_named (codes "content-length")) lines ≡ find (is_named (codes "content-length")) (added_length t n) =
-        find_front (is_named (codes "content-length")) headers (added_length t n) cl in
+    find_front (is_named (codes "content-length")) headers (added_length t n) cl in
     ap₂ (λ (c l : Bool). by_tests c l (has_named (codes "transfer-encoding") lines) without (find (is_named (codes "content-length")) lines))
-      (codings_sent host headers (added_length t n) te ce t n refl) (lengths_sent host headers (added_length t n) cl te t n few refl)
+    (codings_sent host headers (added_length t n) te ce t n refl) (lengths_sent host headers (added_length t n) cl te t n few refl)
     ∙ ap₂ (λ (h : Bool) (o : Option Header). by_tests true true h without o) transfer found
     ∙ last t needs none
   where
     last : (t : Bool) → needs_length method ≡ t → (t ≡ false → n ≡ 0)
         → by_tests true true (has_named (codes "transfer-encoding") (added_length t n)) (if needs_length method then Err NoLength else Ok (Sized 0))
-          (find (is_named (codes "content-length")) (added_length t n)) ≡ Ok (Sized n)
+        (find (is_named (codes "content-length")) (added_length t n)) ≡ Ok (Sized n)
     last true needs none =
         let word : n < 2 ^ 64 = omega (arith, few) in
         let fits : nat_le n 131072 ≡ true = grind (arith, few) in
@@ -243,8 +243,10 @@ digits_plain v all = record {
 added_plain : (t : Bool) (n : ℕ) → n ≤ 131072 → All IsPlainHeader (added_length t n)
 added_plain true n few =
     let word : n < 2 ^ 64 = omega (arith, few) in
-    All-cons IsPlainHeader _ [] (record { name = length_token;
-      value = digits_plain (decimal n) (AllPass-from_list_all is_ascii_digit (decimal n) (digits_pass (decimal n) (digits_decimal own n word))) })
+    All-cons IsPlainHeader _ [] (record {
+      name = length_token;
+      value = digits_plain (decimal n) (AllPass-from_list_all is_ascii_digit (decimal n) (digits_pass (decimal n) (digits_decimal own n word)));
+    })
     (All-nil IsPlainHeader)
 added_plain false n few = All-nil IsPlainHeader
 
@@ -255,7 +257,7 @@ sent_plain host headers t n plain all few =
     let second : Header = record { name = codes "Connection"; value = codes "close" } in
     All-cons IsPlainHeader first (second ∷ (headers ++ added_length t n)) (record { name = host_token; value = plain })
     (All-cons IsPlainHeader second (headers ++ added_length t n) (record { name = connection_token; value = close_plain })
-      (All-append IsPlainHeader headers (added_length t n) all (added_plain t n few)))
+    (All-append IsPlainHeader headers (added_length t n) all (added_plain t n few)))
 
 -- ---- the text
 
@@ -269,8 +271,14 @@ join m t v h c f l b = simp (append_assoc, cons-append)
 
 abbrev pub sent_head : Request → List ℕ → RequestHead
 sent_head request host = record {
-  blank = []; method = request.method; target = request.target; minor = 1; line_end = crlf;
-  fields = map field_of (sent_headers request host); last = crlf }
+  blank = [];
+  method = request.method;
+  target = request.target;
+  minor = 1;
+  line_end = crlf;
+  fields = map field_of (sent_headers request host);
+  last = crlf;
+}
 
 sent_fields : (request : Request) (host : List ℕ) → flat_map print_field (map field_of (sent_headers request host))
     ≡ header_line (codes "Host") (host_value host) ++ (header_line (codes "Connection") (codes "close")
@@ -278,16 +286,16 @@ sent_fields : (request : Request) (host : List ℕ) → flat_map print_field (ma
 sent_fields request host =
     fields_print (sent_headers request host)
     ∙ ap (λ (l : List ℕ). header_line (codes "Host") (host_value host) ++ (header_line (codes "Connection") (codes "close") ++ l))
-      (flat_map-append header_text request.headers (length_headers request)
-      ∙ ap (λ (l : List ℕ). flat_map header_text request.headers ++ l) (added_text (needs_length request.method) (length request.body)))
+    (flat_map-append header_text request.headers (length_headers request)
+    ∙ ap (λ (l : List ℕ). flat_map header_text request.headers ++ l) (added_text (needs_length request.method) (length request.body)))
 
 sent_text : (request : Request) (host : List ℕ) → request_text request host ≡ print_request (sent_head request host) ++ request.body
 unfolding request_text
 sent_text request host =
     join request.method request.target (codes " HTTP/1.1" ++ (13 ∷ 10 ∷ [])) (header_line (codes "Host") (host_value host))
-      (header_line (codes "Connection") (codes "close")) (flat_map header_text request.headers) (request_length request) request.body
+    (header_line (codes "Connection") (codes "close")) (flat_map header_text request.headers) (request_length request) request.body
     ∙ ap (λ (l : List ℕ). request.method ++ (32 ∷ (request.target ++ ((codes " HTTP/1.1" ++ (13 ∷ 10 ∷ [])) ++ ((l ++ 13 ∷ 10 ∷ []) ++ request.body)))))
-      (sym (sent_fields request host))
+    (sym (sent_fields request host))
     ∙ sym (print_request-append (sent_head request host) request.body)
 
 pub sent_reads : (request : Request) (host : List ℕ) → IsSendable request host → IsRequestFrame (request_text request host) (sent request host)
@@ -302,8 +310,16 @@ sent_reads request host can =
       body = request.body;
       front = record {
         begins = record {
-          reads = (record { method = can.method; target = can.target; target_text = can.target_text; minor = omega arith;
-            fields = fields_valid (sent_headers request host) plain }, text);
+          reads = (
+            record {
+              method = can.method;
+              target = can.target;
+              target_text = can.target_text;
+              minor = omega arith;
+              fields = fields_valid (sent_headers request host) plain;
+            },
+            text,
+          );
           lines = omega (arith, length-map (sent_headers request host) field_of, can.lines);
         };
         short = omega (arith, can.short, ap length text, length-append (print_request head) request.body);
@@ -314,7 +330,7 @@ sent_reads request host can =
       framing = Sized n;
       says = ap (request_framing request.method) back
           ∙ framed request.method (host_value host) request.headers (needs_length request.method) n refl can.body
-            (λ no. ap length (can.bodied no)) can.no_length can.no_transfer can.no_content;
+          (λ no. ap length (can.bodied no)) can.no_length can.no_transfer can.no_content;
       content = (refl, refl);
     }
 

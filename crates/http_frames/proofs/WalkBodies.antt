@@ -22,16 +22,16 @@ use Rattle.http_frames.proofs.Bounds.{AllSome, accepts_least, IsSane, step_sane,
 pub data StepIs (limits : Limits) (front : ℕ) (walk : Walk) (b : ℕ) : Type 0 where
   is_wrong : next_phase walk.phase b ≡ None → step limits front walk b ≡ Err (Chunk (front + walk.line)) → StepIs limits front walk b
   goes_on : (next : Phase) → next_phase walk.phase b ≡ Some next → can_fit limits (stepped walk next) ≡ true
-    → step limits front walk b ≡ Ok (stepped walk next) → StepIs limits front walk b
+      → step limits front walk b ≡ Ok (stepped walk next) → StepIs limits front walk b
   is_long : (next : Phase) → next_phase walk.phase b ≡ Some next → can_fit limits (stepped walk next) ≡ false
-    → step limits front walk b ≡ Err BodyTooLong → StepIs limits front walk b
+      → step limits front walk b ≡ Err BodyTooLong → StepIs limits front walk b
 
 step_is_at : (limits : Limits) (front : ℕ) (walk : Walk) (b : ℕ) (o : Option Phase) → next_phase walk.phase b ≡ o → StepIs limits front walk b
 step_is_at limits front walk b None e = is_wrong e (ap (step_to limits front walk) e)
 step_is_at limits front walk b (Some next) e = elim (done_or_not (can_fit limits (stepped walk next))) [
-    inl w ↦ goes_on next e w (ap (step_to limits front walk) e ∙ ap (λ (t : Bool). if t then Ok (stepped walk next) else Err BodyTooLong) w)
+  | inl w ↦ goes_on next e w (ap (step_to limits front walk) e ∙ ap (λ (t : Bool). if t then Ok (stepped walk next) else Err BodyTooLong) w)
   | inr w ↦ is_long next e w (ap (step_to limits front walk) e ∙ ap (λ (t : Bool). if t then Ok (stepped walk next) else Err BodyTooLong) w)
-  ]
+]
 
 pub step_is : (limits : Limits) (front : ℕ) (walk : Walk) (b : ℕ) → StepIs limits front walk b
 step_is limits front walk b = step_is_at limits front walk b (next_phase walk.phase b) refl
@@ -97,7 +97,7 @@ content_none limits front walk = refl
 pub record Reached (limits : Limits) (front : ℕ) (walk : Walk) (bytes : List ℕ) (reached : Walk) : Type 0 where
   pub accepts : (more c : List ℕ) → Accepts reached.phase more c → Accepts walk.phase (bytes ++ more) (content_over limits front walk bytes ++ c)
   pub back : (more c : List ℕ) → Accepts walk.phase (bytes ++ more) c
-    → (rest : List ℕ) × Accepts reached.phase more rest × (length c ≡ length (content_over limits front walk bytes) + length rest)
+      → (rest : List ℕ) × Accepts reached.phase more rest × (length c ≡ length (content_over limits front walk bytes) + length rest)
   pub length_is : reached.length ≡ walk.length + length bytes
   pub content_is : reached.content ≡ walk.content + length (content_over limits front walk bytes)
   pub sane : IsSane reached.phase
@@ -121,7 +121,7 @@ reached_on limits front walk b next bytes reached e stepped_is far =
     let x = content_over limits front (stepped walk next) bytes in
     let over = content_byte_over limits front walk b bytes (stepped walk next) stepped_is in
     let counted : length (content_over limits front walk (b ∷ bytes)) ≡ length x + content_byte walk.phase =
-        ap length over ∙ kept_length (is_data walk.phase) b x in
+    ap length over ∙ kept_length (is_data walk.phase) b x in
     record {
       accepts = λ more c h.
           let there = subst (λ (p : Phase). Accepts p (bytes ++ more) (x ++ c)) (stepped_phase walk next) (far.accepts more c h) in
@@ -153,20 +153,20 @@ reached_open limits front walk [] reached sane fits is open' =
     let same = ok_walk walk reached (sym (walk_none limits front walk) ∙ is) in
     subst (Reached limits front walk []) same (reached_here limits front walk sane fits)
 reached_open limits front walk (b ∷ bytes) reached sane fits is open' = elim (done_or_not (is_done walk.phase)) [
-    inl w ↦
+  | inl w ↦
       let same = ok_walk walk reached (sym (walk_done limits front walk (b ∷ bytes) w) ∙ is) in
       absurd (false≢true (sym open' ∙ ap (λ (x : Walk). is_done x.phase) (sym same) ∙ w))
   | inr w ↦
       let on = sym (walk_byte limits front walk b bytes w) ∙ is in
       elim (step_is limits front walk b) [
-        is_wrong none e ↦ absurd (let x = sym (ap (λ (r : Result Walk FrameError). and_then_walk r (λ n. walk_over limits front n bytes)) e) ∙ on in cc)
-      | goes_on next there fit e ↦
-          reached_on limits front walk b next bytes reached there e
-          (reached_open limits front (stepped walk next) bytes reached (next_sane walk b next there sane) fit
+        | is_wrong none e ↦ absurd (let x = sym (ap (λ (r : Result Walk FrameError). and_then_walk r (λ n. walk_over limits front n bytes)) e) ∙ on in cc)
+        | goes_on next there fit e ↦
+            reached_on limits front walk b next bytes reached there e
+            (reached_open limits front (stepped walk next) bytes reached (next_sane walk b next there sane) fit
             (sym (ap (λ (r : Result Walk FrameError). and_then_walk r (λ n. walk_over limits front n bytes)) e) ∙ on) open')
-      | is_long next there fit e ↦ absurd (let x = sym (ap (λ (r : Result Walk FrameError). and_then_walk r (λ n. walk_over limits front n bytes)) e) ∙ on in cc)
+        | is_long next there fit e ↦ absurd (let x = sym (ap (λ (r : Result Walk FrameError). and_then_walk r (λ n. walk_over limits front n bytes)) e) ∙ on in cc)
       ]
-  ]
+]
 
 -- ---- a walk that came to the end
 
@@ -226,7 +226,7 @@ whole_on limits front walk b next bytes reached e stepped_is far =
     let x = content_over limits front (stepped walk next) bytes in
     let over = content_byte_over limits front walk b bytes (stepped walk next) stepped_is in
     let counted : length (content_over limits front walk (b ∷ bytes)) ≡ length x + content_byte walk.phase =
-        ap length over ∙ kept_length (is_data walk.phase) b x in
+    ap length over ∙ kept_length (is_data walk.phase) b x in
     record {
       body = b ∷ far.body;
       rest = far.rest;
@@ -245,20 +245,20 @@ reached_whole limits front walk [] reached fits is done =
     subst (Whole limits front walk []) same
     (whole_here limits front walk [] fits (ap (λ (x : Walk). is_done x.phase) same ∙ done))
 reached_whole limits front walk (b ∷ bytes) reached fits is done = elim (done_or_not (is_done walk.phase)) [
-    inl w ↦
+  | inl w ↦
       let same = ok_walk walk reached (sym (walk_done limits front walk (b ∷ bytes) w) ∙ is) in
       subst (Whole limits front walk (b ∷ bytes)) same (whole_here limits front walk (b ∷ bytes) fits w)
   | inr w ↦
       let on = sym (walk_byte limits front walk b bytes w) ∙ is in
       elim (step_is limits front walk b) [
-        is_wrong none e ↦ absurd (let x = sym (ap (λ (r : Result Walk FrameError). and_then_walk r (λ n. walk_over limits front n bytes)) e) ∙ on in cc)
-      | goes_on next there fit e ↦
-          whole_on limits front walk b next bytes reached there e
-          (reached_whole limits front (stepped walk next) bytes reached fit
+        | is_wrong none e ↦ absurd (let x = sym (ap (λ (r : Result Walk FrameError). and_then_walk r (λ n. walk_over limits front n bytes)) e) ∙ on in cc)
+        | goes_on next there fit e ↦
+            whole_on limits front walk b next bytes reached there e
+            (reached_whole limits front (stepped walk next) bytes reached fit
             (sym (ap (λ (r : Result Walk FrameError). and_then_walk r (λ n. walk_over limits front n bytes)) e) ∙ on) done)
-      | is_long next there fit e ↦ absurd (let x = sym (ap (λ (r : Result Walk FrameError). and_then_walk r (λ n. walk_over limits front n bytes)) e) ∙ on in cc)
+        | is_long next there fit e ↦ absurd (let x = sym (ap (λ (r : Result Walk FrameError). and_then_walk r (λ n. walk_over limits front n bytes)) e) ∙ on in cc)
       ]
-  ]
+]
 
 -- ---- a walk that was refused
 
@@ -294,7 +294,7 @@ stopped_here : (limits : Limits) (front : ℕ) (walk : Walk) (b : ℕ) (bytes : 
     → walk_over limits front walk (b ∷ bytes) ≡ Err e → Stopped limits front walk (b ∷ bytes) e
 stopped_here limits front walk b bytes e f sane fits not_done failed is =
     let same = err_walk f e (sym (ap (λ (r : Result Walk FrameError). and_then_walk r (λ n. walk_over limits front n bytes)) failed)
-        ∙ sym (walk_byte limits front walk b bytes not_done) ∙ is) in
+    ∙ sym (walk_byte limits front walk b bytes not_done) ∙ is) in
     record {
       before = [];
       b = b;
@@ -310,17 +310,17 @@ pub walk_stopped : (limits : Limits) (front : ℕ) (walk : Walk) (bytes : List �
     → can_fit limits walk ≡ true → walk_over limits front walk bytes ≡ Err e → Stopped limits front walk bytes e
 walk_stopped limits front walk [] e sane fits is = absurd (let x = sym (walk_none limits front walk) ∙ is in cc)
 walk_stopped limits front walk (b ∷ bytes) e sane fits is = elim (done_or_not (is_done walk.phase)) [
-    inl w ↦ absurd (let x = sym (walk_done limits front walk (b ∷ bytes) w) ∙ is in cc)
+  | inl w ↦ absurd (let x = sym (walk_done limits front walk (b ∷ bytes) w) ∙ is in cc)
   | inr w ↦ elim (step_is limits front walk b) [
-      is_wrong none failed ↦ stopped_here limits front walk b bytes e (Chunk (front + walk.line)) sane fits w failed is
+    | is_wrong none failed ↦ stopped_here limits front walk b bytes e (Chunk (front + walk.line)) sane fits w failed is
     | goes_on next there fit stepped_is ↦
         stopped_on limits front walk b next bytes e there stepped_is
         (walk_stopped limits front (stepped walk next) bytes e (next_sane walk b next there sane) fit
-          (sym (ap (λ (r : Result Walk FrameError). and_then_walk r (λ n. walk_over limits front n bytes)) stepped_is)
-          ∙ sym (walk_byte limits front walk b bytes w) ∙ is))
+        (sym (ap (λ (r : Result Walk FrameError). and_then_walk r (λ n. walk_over limits front n bytes)) stepped_is)
+        ∙ sym (walk_byte limits front walk b bytes w) ∙ is))
     | is_long next there fit failed ↦ stopped_here limits front walk b bytes e BodyTooLong sane fits w failed is
-    ]
   ]
+]
 
 -- ---- from the front of a body
 
@@ -362,24 +362,31 @@ pub body_whole : (limits : Limits) (front : ℕ) (bytes : List ℕ) (reached : W
     → (body : List ℕ) × (rest : List ℕ) × (bytes ≡ body ++ rest) × IsBodyWithin limits body (content_over limits front start bytes)
 body_whole limits front bytes reached fits is done =
     let w = reached_whole limits front start bytes reached fits is done in
-    let parts = fit_parts limits reached w.fits in
-    (w.body, w.rest, w.split, record {
-      chunked = from_start w.body _ w.accepts;
-      content_fits = omega (arith, w.content_is, parts.0, start_counts.1);
-      length_fits = omega (arith, w.length_is, parts.1, start_counts.0);
-    })
+    let parts = fit_parts limits reached w.fits in (
+      w.body,
+      w.rest,
+      w.split,
+      record {
+        chunked = from_start w.body _ w.accepts;
+        content_fits = omega (arith, w.content_is, parts.0, start_counts.1);
+        length_fits = omega (arith, w.length_is, parts.1, start_counts.0);
+      },
+    )
 
 can_be : (limits : Limits) (front : ℕ) (bytes : List ℕ) (reached : Walk) → Reached limits front start bytes reached
     → is_done reached.phase ≡ false → CanBeBody limits bytes
 can_be limits front bytes reached over not_done =
     let r = reach reached.phase over.sane not_done in
     let parts = fit_parts limits reached over.fits in
-    let x = content_over limits front start bytes in
-    (r.more, x ++ r.content, record {
-      chunked = from_start (bytes ++ r.more) (x ++ r.content) (over.accepts r.more r.content r.accepts);
-      content_fits = omega (arith, length-append x r.content, over.content_is, parts.0, r.content_is, start_counts.1);
-      length_fits = omega (arith, length-append bytes r.more, over.length_is, parts.1, r.length_is, start_counts.0);
-    })
+    let x = content_over limits front start bytes in (
+      r.more,
+      x ++ r.content,
+      record {
+        chunked = from_start (bytes ++ r.more) (x ++ r.content) (over.accepts r.more r.content r.accepts);
+        content_fits = omega (arith, length-append x r.content, over.content_is, parts.0, r.content_is, start_counts.1);
+        length_fits = omega (arith, length-append bytes r.more, over.length_is, parts.1, r.length_is, start_counts.0);
+      },
+    )
 
 -- ---- bodies that are not whole
 
@@ -389,23 +396,23 @@ lacks_at : (limits : Limits) (front : ℕ) (whole rest content : List ℕ) (reac
     → Accepts start.phase whole content → ⊥
 lacks_at limits front whole rest content reached (Err e) fits over on not_done h = cc
 lacks_at limits front whole rest content reached (Ok w) fits over on not_done h = elim (done_or_not (is_done w.phase)) [
-    inl d ↦
+  | inl d ↦
       let same = ok_walk w reached (sym (walk_done limits front w rest d) ∙ on) in
       false≢true (sym not_done ∙ ap (λ (x : Walk). is_done x.phase) (sym same) ∙ d)
   | inr d ↦
       let there = reached_open limits front start whole w start_sane fits over d in
       let back = there.back [] content (subst (λ (l : List ℕ). Accepts start.phase l content) (sym (append-nil whole)) h) in
       false≢true (sym d ∙ back.1.0)
-  ]
+]
 
 pub body_open : (limits : Limits) (front : ℕ) (bytes : List ℕ) (reached : Walk) → can_fit limits start ≡ true
     → walk_over limits front start bytes ≡ Ok reached → is_done reached.phase ≡ false → CanBeBody limits bytes × LacksBody bytes
 body_open limits front bytes reached fits is not_done = (
   can_be limits front bytes reached (reached_open limits front start bytes reached start_sane fits is not_done) not_done,
   λ whole rest content split h.
-    lacks_at limits front whole rest content reached (walk_over limits front start whole) fits refl
-    (sym (walk_over-append limits front start whole rest) ∙ ap (walk_over limits front start) (sym split) ∙ is) not_done
-    (to_start whole content h),
+      lacks_at limits front whole rest content reached (walk_over limits front start whole) fits refl
+      (sym (walk_over-append limits front start whole rest) ∙ ap (walk_over limits front start) (sym split) ∙ is) not_done
+      (to_start whole content h),
 )
 
 -- ---- bodies that are refused
@@ -422,16 +429,16 @@ wrong_at limits front bytes e s none = record {
   split = s.split;
   could_be = can_be limits front s.before s.reached s.over s.not_done;
   never = λ more content h.
-    let back = s.over.back (s.b ∷ more) content (to_start (s.before ++ s.b ∷ more) content h) in
-    subst (λ (o : Option Phase). OnSome o (λ next. Keeps (is_data s.reached.phase) s.b (Accepts next more) back.0)) none back.1;
+      let back = s.over.back (s.b ∷ more) content (to_start (s.before ++ s.b ∷ more) content h) in
+      subst (λ (o : Option Phase). OnSome o (λ next. Keeps (is_data s.reached.phase) s.b (Accepts next more) back.0)) none back.1;
 }
 
 -- some rest completes the body, whatever its length
 reach_any : (phase : Phase) → IsSane phase → (more : List ℕ) × (content : List ℕ) × Accepts phase more content
 reach_any phase sane = elim (done_or_not (is_done phase)) [
-    inl w ↦ ([], [], (w, refl))
+  | inl w ↦ ([], [], (w, refl))
   | inr w ↦ (let r = reach phase sane w in (r.more, r.content, r.accepts))
-  ]
+]
 
 long_at : (limits : Limits) (front : ℕ) (bytes : List ℕ) (e : FrameError) (s : Stopped limits front start bytes e) (next : Phase)
     → next_phase s.reached.phase s.b ≡ Some next → can_fit limits (stepped s.reached next) ≡ false → StopsLong limits bytes
@@ -439,7 +446,7 @@ long_at limits front bytes e s next there long =
     let x = content_over limits front start s.before in
     let any = reach_any next (subst IsSane (stepped_phase s.reached next) (next_sane s.reached s.b next there s.over.sane)) in
     let whole = s.over.accepts (s.b ∷ any.0) (kept s.reached.phase s.b any.1)
-        (accept_kept s.reached.phase next s.b any.0 any.1 there any.2) in
+    (accept_kept s.reached.phase next s.b any.0 any.1 there any.2) in
     record {
       before = s.before;
       last = s.b;
@@ -448,18 +455,18 @@ long_at limits front bytes e s next there long =
       could_be = can_be limits front s.before s.reached s.over s.not_done;
       begins = (any.0, x ++ kept s.reached.phase s.b any.1, from_start _ _ whole);
       never = λ more content within.
-        let back = s.over.back (s.b ∷ more) content (to_start (s.before ++ s.b ∷ more) content within.chunked) in
-        let first = accept_back s.reached.phase next s.b more back.0 there back.1 in
-        let least = accepts_least more next first.0 first.2 in
-        let counted : length back.0 ≡ length first.0 + content_byte s.reached.phase =
-            ap length first.1 ∙ kept_length (is_data s.reached.phase) s.b first.0 in
-        let lengths = length-append s.before (s.b ∷ more) in
-        let begun : begun_content (stepped s.reached next).phase ≡ begun_content next = ap begun_content (stepped_phase s.reached next) in
-        let left : least_rest (stepped s.reached next).phase ≡ least_rest next = ap least_rest (stepped_phase s.reached next) in
-        elim (no_fit limits (stepped s.reached next) long) [
-          inl w ↦ omega (arith, w, begun, least.1, counted, back.2, within.content_fits, s.over.content_is, start_counts.1, stepped_content s.reached next)
-        | inr w ↦ omega (arith, w, left, least.0, lengths, within.length_fits, s.over.length_is, start_counts.0, stepped_length s.reached next)
-        ];
+          let back = s.over.back (s.b ∷ more) content (to_start (s.before ++ s.b ∷ more) content within.chunked) in
+          let first = accept_back s.reached.phase next s.b more back.0 there back.1 in
+          let least = accepts_least more next first.0 first.2 in
+          let counted : length back.0 ≡ length first.0 + content_byte s.reached.phase =
+          ap length first.1 ∙ kept_length (is_data s.reached.phase) s.b first.0 in
+          let lengths = length-append s.before (s.b ∷ more) in
+          let begun : begun_content (stepped s.reached next).phase ≡ begun_content next = ap begun_content (stepped_phase s.reached next) in
+          let left : least_rest (stepped s.reached next).phase ≡ least_rest next = ap least_rest (stepped_phase s.reached next) in
+          elim (no_fit limits (stepped s.reached next) long) [
+            | inl w ↦ omega (arith, w, begun, least.1, counted, back.2, within.content_fits, s.over.content_is, start_counts.1, stepped_content s.reached next)
+            | inr w ↦ omega (arith, w, left, least.0, lengths, within.length_fits, s.over.length_is, start_counts.0, stepped_length s.reached next)
+          ];
     }
 
 -- a refusal is one of the two
@@ -472,11 +479,11 @@ pub body_refused : (limits : Limits) (front : ℕ) (bytes : List ℕ) (e : Frame
 body_refused limits front bytes e fits is =
     let s = walk_stopped limits front start bytes e start_sane fits is in
     elim (step_is limits front s.reached s.b) [
-      is_wrong none failed ↦
-        subst (BodyRefusal limits bytes) (err_walk (Chunk (front + s.reached.line)) e (sym failed ∙ s.step_fails))
-        (is_wrong_at (front + s.reached.line) (wrong_at limits front bytes e s none))
-    | goes_on next there fit went ↦ absurd (let x = sym went ∙ s.step_fails in cc)
-    | is_long next there long failed ↦
-        subst (BodyRefusal limits bytes) (err_walk BodyTooLong e (sym failed ∙ s.step_fails))
-        (is_too_long (long_at limits front bytes e s next there long))
+      | is_wrong none failed ↦
+          subst (BodyRefusal limits bytes) (err_walk (Chunk (front + s.reached.line)) e (sym failed ∙ s.step_fails))
+          (is_wrong_at (front + s.reached.line) (wrong_at limits front bytes e s none))
+      | goes_on next there fit went ↦ absurd (let x = sym went ∙ s.step_fails in cc)
+      | is_long next there long failed ↦
+          subst (BodyRefusal limits bytes) (err_walk BodyTooLong e (sym failed ∙ s.step_fails))
+          (is_too_long (long_at limits front bytes e s next there long))
     ]

@@ -54,16 +54,16 @@ pub walk_over-append : (limits : Limits) (front : ℕ) (walk : Walk) (xs ys : Li
 walk_over-append limits front walk [] ys =
     sym (ap (λ (r : Result Walk FrameError). and_then_walk r (λ next. walk_over limits front next ys)) (walk_none limits front walk))
 walk_over-append limits front walk (b ∷ xs) ys = elim (done_or_not (is_done walk.phase)) [
-    inl w ↦
+  | inl w ↦
       walk_done limits front walk (b ∷ (xs ++ ys)) w ∙ sym (walk_done limits front walk ys w)
       ∙ sym (ap (λ (r : Result Walk FrameError). and_then_walk r (λ next. walk_over limits front next ys)) (walk_done limits front walk (b ∷ xs) w))
   | inr w ↦
       walk_byte limits front walk b (xs ++ ys) w
       ∙ and_then_same (step limits front walk b) (λ next. walk_over limits front next (xs ++ ys)) _
-        (λ next. walk_over-append limits front next xs ys)
+      (λ next. walk_over-append limits front next xs ys)
       ∙ sym (and_then_assoc (step limits front walk b) (λ next. walk_over limits front next xs) (λ next. walk_over limits front next ys))
       ∙ sym (ap (λ (r : Result Walk FrameError). and_then_walk r (λ next. walk_over limits front next ys)) (walk_byte limits front walk b xs w))
-  ]
+]
 
 -- ---- how far a walk comes
 
@@ -109,14 +109,14 @@ walk_length limits front walk [] reached is =
     let same : walk ≡ reached = cc in
     comes_from (walk.length + 0) 0 walk reached same (omega arith) (λ _. omega arith)
 walk_length limits front walk (b ∷ bytes) reached is = elim (done_or_not (is_done walk.phase)) [
-    inl w ↦
+  | inl w ↦
       let e : Ok walk ≡ Ok reached = sym (walk_done limits front walk (b ∷ bytes) w) ∙ is in
       let same : walk ≡ reached = cc in
       comes_from (walk.length + suc (length bytes)) 0 walk reached same (omega arith)
       (λ not_done. absurd (false≢true (sym not_done ∙ w)))
   | inr w ↦ after_step limits front walk b bytes reached (step limits front walk b) refl
       (sym (walk_byte limits front walk b bytes w) ∙ is) (λ next rest. walk_length limits front next bytes reached rest)
-  ]
+]
 
 -- ---- a walk that goes on
 

@@ -18,7 +18,7 @@ is_interim code = nat_le 100 code && nat_lt code 200
 pub data Passes : List ℕ → List ℕ → Type 0 where
   no_more : (bytes : List ℕ) → Passes bytes bytes
   one_more : (bytes rest : List ℕ) (start : AnswerStart) → IsAnswerHeadOf bytes start → is_interim start.code ≡ true
-    → Passes (drop start.length bytes) rest → Passes bytes rest
+      → Passes (drop start.length bytes) rest → Passes bytes rest
 
 -- the last head, which is not interim, begins the rest
 pub record IsLastHead (bytes rest : List ℕ) (start : AnswerStart) : Type 0 where

@@ -24,10 +24,10 @@ pub data Trailer : List ℕ → Type 0 where
 -- the bytes are a body in chunks, and this is its content
 pub data Chunked : List ℕ → List ℕ → Type 0 where
   last_chunk : (bytes : List ℕ) (line : ChunkLine) (rest : List ℕ) → IsChunkLine line → chunk_size line ≡ 0
-    → bytes ≡ print_chunk_line line ++ rest → Trailer rest → Chunked bytes []
+      → bytes ≡ print_chunk_line line ++ rest → Trailer rest → Chunked bytes []
   chunk : (bytes content : List ℕ) (line : ChunkLine) (part rest more : List ℕ) → IsChunkLine line
-    → chunk_size line ≡ length part → 0 < length part → bytes ≡ print_chunk_line line ++ (part ++ (crlf_bytes ++ rest))
-    → content ≡ part ++ more → Chunked rest more → Chunked bytes content
+      → chunk_size line ≡ length part → 0 < length part → bytes ≡ print_chunk_line line ++ (part ++ (crlf_bytes ++ rest))
+      → content ≡ part ++ more → Chunked rest more → Chunked bytes content
 
 -- such a body within the limits
 pub record IsBodyWithin (limits : Limits) (bytes content : List ℕ) : Type 0 where

@@ -131,7 +131,7 @@ pub record AnswerFront (bytes : List ℕ) (head : ResponseHead) (rest : List ℕ
 pub data Interim : List ℕ → List ℕ → Type 0 where
   no_interim : (bytes : List ℕ) → Interim bytes bytes
   interim : (bytes middle rest : List ℕ) (head : ResponseHead) → AnswerFront bytes head middle → is_interim (status_code head) ≡ true
-    → Interim middle rest → Interim bytes rest
+      → Interim middle rest → Interim bytes rest
 
 -- behind interim heads the head that is not interim, and then the rest
 pub record LastFront (bytes : List ℕ) (head : ResponseHead) (rest : List ℕ) : Type 0 where

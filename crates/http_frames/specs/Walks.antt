@@ -43,10 +43,10 @@ content_byte phase = if is_data phase then 1 else 0
 -- one byte on, to that phase
 unfoldable pub stepped : Walk → Phase → Walk
 stepped walk phase = record {
-    phase = phase;
-    line = line_start phase (walk.length + 1) walk.line;
-    length = walk.length + 1;
-    content = walk.content + content_byte walk.phase;
+  phase = phase;
+  line = line_start phase (walk.length + 1) walk.line;
+  length = walk.length + 1;
+  content = walk.content + content_byte walk.phase;
 }
 
 -- a walk goes on where it can fit

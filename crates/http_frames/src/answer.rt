@@ -104,5 +104,7 @@ fn reply(head: AnswerHead, content: Vec<u8>) -> Reply
 fn torn(bytes: &[u8]) -> FrameError
     ensures { result ≡ FrameError.Torn (length bytes.now) }
 {
-    FrameError::Torn { at: bytes.len() as u64 }
+    FrameError::Torn {
+        at: bytes.len() as u64,
+    }
 }

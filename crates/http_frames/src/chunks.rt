@@ -90,7 +90,9 @@ impl Walk {
     {
         match next_phase(self.phase, byte) {
             Some(phase) => self.to(phase).within(limits),
-            None => Err(FrameError::Chunk { at: front + self.line }),
+            None => Err(FrameError::Chunk {
+                at: front + self.line,
+            }),
         }
     }
 
@@ -210,13 +212,37 @@ fn next_phase(phase: Phase, byte: u8) -> Option<Phase>
         Phase::Size(digits, size) => next_in_size(digits, size, byte),
         Phase::Pad(size) => behind_size(size, byte),
         Phase::Extension(size) => next_in_extension(size, byte),
-        Phase::SizeReturn(size) => if byte == b'\n' { Some(behind_line(size)) } else { None },
-        Phase::Data(left) => Some(if left == 1 { Phase::DataEnd } else { Phase::Data(left.saturating_sub(1)) }),
-        Phase::DataEnd => if byte == b'\r' { Some(Phase::DataReturn) } else { None },
-        Phase::DataReturn => if byte == b'\n' { Some(Phase::Line) } else { None },
+        Phase::SizeReturn(size) => if byte == b'\n' {
+            Some(behind_line(size))
+        } else {
+            None
+        },
+        Phase::Data(left) => Some(if left == 1 {
+            Phase::DataEnd
+        } else {
+            Phase::Data(left.saturating_sub(1))
+        }),
+        Phase::DataEnd => if byte == b'\r' {
+            Some(Phase::DataReturn)
+        } else {
+            None
+        },
+        Phase::DataReturn => if byte == b'\n' {
+            Some(Phase::Line)
+        } else {
+            None
+        },
         Phase::Trailer => Some(next_in_trailer(byte)),
-        Phase::TrailerReturn => Some(if byte == b'\n' { Phase::Done } else { Phase::TrailerText }),
-        Phase::TrailerText => Some(if byte == b'\n' { Phase::Trailer } else { Phase::TrailerText }),
+        Phase::TrailerReturn => Some(if byte == b'\n' {
+            Phase::Done
+        } else {
+            Phase::TrailerText
+        }),
+        Phase::TrailerText => Some(if byte == b'\n' {
+            Phase::Trailer
+        } else {
+            Phase::TrailerText
+        }),
         Phase::Done => None,
     }
 }
@@ -226,7 +252,11 @@ fn first_digit(byte: u8) -> Option<Phase>
     ensures value { result ≡ next_phase Phase.Line byte }
     ensures small { IfSome result (λ next. begun_content next < 2 ^ 40) }
 {
-    if byte.is_ascii_hexdigit() { Some(Phase::Size(1, hex_value(byte))) } else { None }
+    if byte.is_ascii_hexdigit() {
+        Some(Phase::Size(1, hex_value(byte)))
+    } else {
+        None
+    }
 }
 
 #[tactic(auto, unfolding(crate::specs::Phases::next_phase, crate::specs::Phases::begun_content, crate::specs::Phases::least_rest))]
@@ -276,7 +306,11 @@ fn behind_line(size: u64) -> Phase
     ensures value { result ≡ behind_line size }
     ensures same { begun_content result ≡ size }
 {
-    if size == 0 { Phase::Trailer } else { Phase::Data(size) }
+    if size == 0 {
+        Phase::Trailer
+    } else {
+        Phase::Data(size)
+    }
 }
 
 #[tactic(auto, unfolding(crate::specs::Phases::next_phase, crate::specs::Phases::begun_content, crate::specs::Phases::least_rest))]
@@ -323,7 +357,10 @@ fn begun_content(phase: Phase) -> u64
     ensures { result ≡ begun_content phase }
 {
     match phase {
-        Phase::Size(_, size) | Phase::Pad(size) | Phase::Extension(size) | Phase::SizeReturn(size) => size,
+        Phase::Size(_, size)
+        | Phase::Pad(size)
+        | Phase::Extension(size)
+        | Phase::SizeReturn(size) => size,
         Phase::Data(left) => left,
         _ => 0,
     }

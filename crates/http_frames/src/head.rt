@@ -7,7 +7,9 @@ ghost use Rattle.http_frames.specs.Heads.{header_at, IsRequestHeadOf, IsAnswerHe
 use crate::limits::{HEAD_BYTES, HEADER_LINES};
 use crate::{FrameError, Header};
 use httparse::Status;
-use httparse::spans::{EMPTY_HEADER_SPAN, HeaderSpan, RequestSpans, ResponseSpans, parse_request, parse_response};
+use httparse::spans::{
+    EMPTY_HEADER_SPAN, HeaderSpan, RequestSpans, ResponseSpans, parse_request, parse_response,
+};
 use mof_values::{Bytes, Items};
 use std::alloc::{AllocError, Global};
 
@@ -70,7 +72,11 @@ pub(crate) fn answer_head(alloc: Global, bytes: &[u8]) -> Result<Option<AnswerHe
 fn front_of(bytes: &[u8]) -> &[u8]
     ensures { result.now ≡ take HEAD_BYTES bytes.now }
 {
-    if bytes.len() < HEAD_BYTES { bytes } else { bytes.split_at(HEAD_BYTES).0 }
+    if bytes.len() < HEAD_BYTES {
+        bytes
+    } else {
+        bytes.split_at(HEAD_BYTES).0
+    }
 }
 
 fn read_request(front: &[u8], spans: &mut [HeaderSpan]) -> Result<Option<RequestSpans>, FrameError>
@@ -146,7 +152,11 @@ fn copy_answer(
     })
 }
 
-fn copy_headers(alloc: Global, front: &[u8], spans: &[HeaderSpan]) -> Result<Vec<Header>, AllocError>
+fn copy_headers(
+    alloc: Global,
+    front: &[u8],
+    spans: &[HeaderSpan],
+) -> Result<Vec<Header>, AllocError>
     requires { All (IsHeaderWithin (length front.now)) spans.now }
     ensures { IfOk result (λ headers. headers.items ≡ map (header_at front.now) spans.now) }
 {

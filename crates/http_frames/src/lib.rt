@@ -6,8 +6,8 @@
 #![tactic(auto)]
 
 mod answer;
-mod chunks;
 mod body;
+mod chunks;
 mod frame_error;
 mod framing;
 mod head;

@@ -17,7 +17,13 @@ pub(crate) struct Limits {
 }
 
 /// The limits of a request's body.
-pub(crate) const REQUEST_LIMITS: Limits = Limits { content: 131_072, chunked: 1_048_576 };
+pub(crate) const REQUEST_LIMITS: Limits = Limits {
+    content: 131_072,
+    chunked: 1_048_576,
+};
 
 /// The limits of an answer's body.
-pub(crate) const ANSWER_LIMITS: Limits = Limits { content: 67_108_864, chunked: 67_108_864 };
+pub(crate) const ANSWER_LIMITS: Limits = Limits {
+    content: 67_108_864,
+    chunked: 67_108_864,
+};

@@ -64,7 +64,10 @@ impl RequestReader {
         ensures bytes { result.bytes ≡ [] }
         ensures is_open { result.is_open ≡ true }
     {
-        RequestReader { bytes: Vec::new(alloc), stage: Stage::Head }
+        RequestReader {
+            bytes: Vec::new(alloc),
+            stage: Stage::Head,
+        }
     }
 
     /// Takes a piece, and gives the request once its bytes are whole. Bytes behind the request are ignored.
@@ -86,7 +89,9 @@ impl RequestReader {
     pub fn torn(&self) -> FrameError
         ensures { result ≡ FrameError.Torn (length self.now.bytes) }
     {
-        FrameError::Torn { at: self.bytes.len() as u64 }
+        FrameError::Torn {
+            at: self.bytes.len() as u64,
+        }
     }
 
     // The same, by what was read of the head and of the body.
@@ -162,7 +167,11 @@ fn start_body(head: RequestHead, bytes: &[u8]) -> Result<Option<Started>, FrameE
     ensures { IsStart bytes.now result }
 {
     match request_framing(head.method.as_slice(), head.headers.as_slice()) {
-        Ok(framing) => Ok(Some(Started { head, framing, walk: Walk::new() })),
+        Ok(framing) => Ok(Some(Started {
+            head,
+            framing,
+            walk: Walk::new(),
+        })),
         Err(error) => Err(error),
     }
 }
@@ -172,12 +181,31 @@ impl Started {
         requires { IsStarted bytes.now self }
         ensures { IsAdvance bytes.now (Stage.Body self) result }
     {
-        let Started { head, framing, walk } = self;
+        let Started {
+            head,
+            framing,
+            walk,
+        } = self;
         let (_, body) = bytes.split_at(head.length);
-        match read_body(alloc, &REQUEST_LIMITS, head.length as u64, framing, walk, body) {
-            Ok(Progress::More(walk)) => Advance::More(Stage::Body(Started { head, framing, walk })),
+        match read_body(
+            alloc,
+            &REQUEST_LIMITS,
+            head.length as u64,
+            framing,
+            walk,
+            body,
+        ) {
+            Ok(Progress::More(walk)) => Advance::More(Stage::Body(Started {
+                head,
+                framing,
+                walk,
+            })),
             Ok(Progress::Whole(content)) => Advance::Whole(request(head, content)),
-            Err(FrameError::Memory) => Advance::OutOfMemory(Stage::Body(Started { head, framing, walk })),
+            Err(FrameError::Memory) => Advance::OutOfMemory(Stage::Body(Started {
+                head,
+                framing,
+                walk,
+            })),
             Err(error) => Advance::Refused(error),
         }
     }

@@ -27,7 +27,11 @@ fn request_bytes(alloc: Global, request: &Request, host: &Text) -> Result<Vec<u8
 {
     let name = host.to_utf8()?;
     let mut out = Vec::new(alloc);
-    push_request_line(&mut out, request.method.as_slice(), request.target.as_slice())?;
+    push_request_line(
+        &mut out,
+        request.method.as_slice(),
+        request.target.as_slice(),
+    )?;
     push_header(&mut out, b"Host", without_default_port(name.as_bytes()))?;
     push_header(&mut out, b"Connection", b"close")?;
     push_headers(&mut out, request.headers.as_slice())?;
@@ -132,7 +136,11 @@ fn push_body(out: &mut Vec<u8>, body: &[u8]) -> Result<(), Memory>
 fn phrase(code: u16) -> &'static str
     ensures { result.now ≡ phrase_of code }
 {
-    if code < 100 || code >= 1000 { "" } else { known_phrase(code) }
+    if code < 100 || code >= 1000 {
+        ""
+    } else {
+        known_phrase(code)
+    }
 }
 
 fn known_phrase(code: u16) -> &'static str

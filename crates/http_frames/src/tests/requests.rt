@@ -97,13 +97,31 @@ fn lengths() -> &'static [(&'static [u8], &'static [u8])] {
     &[
         (b"GET / HTTP/1.1\r\nContent-Length: 3\r\n\r\nabc", b"abc"),
         (b"POST / HTTP/1.1\r\nContent-Length: 0\r\n\r\n", b""),
-        (b"POST / HTTP/1.1\r\ncontent-length: 3\r\n\r\nabcdef", b"abc"),
-        (b"POST / HTTP/1.1\r\nContent-Length: 0000000003\r\n\r\nabc", b"abc"),
+        (
+            b"POST / HTTP/1.1\r\ncontent-length: 3\r\n\r\nabcdef",
+            b"abc",
+        ),
+        (
+            b"POST / HTTP/1.1\r\nContent-Length: 0000000003\r\n\r\nabc",
+            b"abc",
+        ),
         (b"POST / HTTP/1.1\r\nContent-Length: 3 \r\n\r\nabc", b"abc"),
-        (b"POST / HTTP/1.1\r\nContent-Length: 3\r\nContent-Encoding: identity\r\nContent-Encoding: IDENTITY\r\n\r\nabc", b"abc"),
-        (b"POST / HTTP/1.1\r\ntransfer-encoding: Chunked\r\n\r\n5\r\nhello\r\n0\r\n\r\n", b"hello"),
-        (b"POST / HTTP/1.0\r\nTransfer-Encoding: chunked\r\n\r\n1\r\na\r\n0\r\n\r\n", b"a"),
-        (b"POST / HTTP/1.1\r\nExpect: 100-continue\r\nContent-Length: 1\r\n\r\nx", b"x"),
+        (
+            b"POST / HTTP/1.1\r\nContent-Length: 3\r\nContent-Encoding: identity\r\nContent-Encoding: IDENTITY\r\n\r\nabc",
+            b"abc",
+        ),
+        (
+            b"POST / HTTP/1.1\r\ntransfer-encoding: Chunked\r\n\r\n5\r\nhello\r\n0\r\n\r\n",
+            b"hello",
+        ),
+        (
+            b"POST / HTTP/1.0\r\nTransfer-Encoding: chunked\r\n\r\n1\r\na\r\n0\r\n\r\n",
+            b"a",
+        ),
+        (
+            b"POST / HTTP/1.1\r\nExpect: 100-continue\r\nContent-Length: 1\r\n\r\nx",
+            b"x",
+        ),
     ]
 }
 
@@ -112,31 +130,106 @@ fn wrong_lengths() -> &'static [(&'static [u8], FrameError)] {
     &[
         (b"POST / HTTP/1.1\r\nA: b\r\n\r\n", FrameError::NoLength),
         (b"PUT / HTTP/1.1\r\n\r\n", FrameError::NoLength),
-        (b"POST / HTTP/1.1\r\nContent-Length: \r\n\r\n", FrameError::Length),
-        (b"POST / HTTP/1.1\r\nContent-Length: +1\r\n\r\n", FrameError::Length),
-        (b"POST / HTTP/1.1\r\nContent-Length: -1\r\n\r\n", FrameError::Length),
-        (b"POST / HTTP/1.1\r\nContent-Length: 0x1\r\n\r\n", FrameError::Length),
-        (b"POST / HTTP/1.1\r\nContent-Length: 1 2\r\n\r\n", FrameError::Length),
-        (b"POST / HTTP/1.1\r\nContent-Length: 1, 1\r\n\r\n", FrameError::Length),
-        (b"POST / HTTP/1.1\r\nContent-Length: 1a\r\n\r\n", FrameError::Length),
-        (b"POST / HTTP/1.1\r\nContent-Length: 00000000001\r\n\r\n", FrameError::Length),
-        (b"POST / HTTP/1.1\r\nContent-Length: 1\r\nContent-Length: 1\r\n\r\n", FrameError::Length),
-        (b"GET / HTTP/1.1\r\nContent-Length: 1\r\ncontent-length: 2\r\n\r\n", FrameError::Length),
-        (b"POST / HTTP/1.1\r\nContent-Length: 1\r\nTransfer-Encoding: chunked\r\n\r\n", FrameError::Length),
-        (b"GET / HTTP/1.1\r\nTransfer-Encoding: chunked\r\nContent-Length: 1\r\n\r\n", FrameError::Length),
-        (b"POST / HTTP/1.1\r\nTransfer-Encoding: gzip\r\n\r\n", FrameError::Coding),
-        (b"POST / HTTP/1.1\r\nTransfer-Encoding: \r\n\r\n", FrameError::Coding),
-        (b"POST / HTTP/1.1\r\nTransfer-Encoding: chunked, gzip\r\n\r\n", FrameError::Coding),
-        (b"POST / HTTP/1.1\r\nTransfer-Encoding: gzip, chunked\r\n\r\n", FrameError::Coding),
-        (b"POST / HTTP/1.1\r\nTransfer-Encoding: chunked, chunked\r\n\r\n", FrameError::Coding),
-        (b"POST / HTTP/1.1\r\nTransfer-Encoding: identity\r\n\r\n", FrameError::Coding),
-        (b"POST / HTTP/1.1\r\nTransfer-Encoding: chunked\r\nTransfer-Encoding: chunked\r\n\r\n", FrameError::Coding),
-        (b"POST / HTTP/1.1\r\nTransfer-Encoding: gzip\r\nContent-Length: 1\r\n\r\n", FrameError::Coding),
-        (b"POST / HTTP/1.1\r\nContent-Encoding: gzip\r\nContent-Length: 1\r\n\r\n", FrameError::Coding),
-        (b"GET / HTTP/1.1\r\nContent-Encoding: \r\nContent-Length: 1\r\n\r\n", FrameError::Coding),
-        (b"POST / HTTP/1.1\r\nContent-Encoding: gzip\r\nContent-Length: 1\r\nContent-Length: 1\r\n\r\n", FrameError::Coding),
-        (b"POST / HTTP/1.1\r\nContent-Length: 131073\r\n\r\n", FrameError::BodyTooLong),
-        (b"GET / HTTP/1.1\r\nContent-Length: 9999999999\r\n\r\n", FrameError::BodyTooLong),
+        (
+            b"POST / HTTP/1.1\r\nContent-Length: \r\n\r\n",
+            FrameError::Length,
+        ),
+        (
+            b"POST / HTTP/1.1\r\nContent-Length: +1\r\n\r\n",
+            FrameError::Length,
+        ),
+        (
+            b"POST / HTTP/1.1\r\nContent-Length: -1\r\n\r\n",
+            FrameError::Length,
+        ),
+        (
+            b"POST / HTTP/1.1\r\nContent-Length: 0x1\r\n\r\n",
+            FrameError::Length,
+        ),
+        (
+            b"POST / HTTP/1.1\r\nContent-Length: 1 2\r\n\r\n",
+            FrameError::Length,
+        ),
+        (
+            b"POST / HTTP/1.1\r\nContent-Length: 1, 1\r\n\r\n",
+            FrameError::Length,
+        ),
+        (
+            b"POST / HTTP/1.1\r\nContent-Length: 1a\r\n\r\n",
+            FrameError::Length,
+        ),
+        (
+            b"POST / HTTP/1.1\r\nContent-Length: 00000000001\r\n\r\n",
+            FrameError::Length,
+        ),
+        (
+            b"POST / HTTP/1.1\r\nContent-Length: 1\r\nContent-Length: 1\r\n\r\n",
+            FrameError::Length,
+        ),
+        (
+            b"GET / HTTP/1.1\r\nContent-Length: 1\r\ncontent-length: 2\r\n\r\n",
+            FrameError::Length,
+        ),
+        (
+            b"POST / HTTP/1.1\r\nContent-Length: 1\r\nTransfer-Encoding: chunked\r\n\r\n",
+            FrameError::Length,
+        ),
+        (
+            b"GET / HTTP/1.1\r\nTransfer-Encoding: chunked\r\nContent-Length: 1\r\n\r\n",
+            FrameError::Length,
+        ),
+        (
+            b"POST / HTTP/1.1\r\nTransfer-Encoding: gzip\r\n\r\n",
+            FrameError::Coding,
+        ),
+        (
+            b"POST / HTTP/1.1\r\nTransfer-Encoding: \r\n\r\n",
+            FrameError::Coding,
+        ),
+        (
+            b"POST / HTTP/1.1\r\nTransfer-Encoding: chunked, gzip\r\n\r\n",
+            FrameError::Coding,
+        ),
+        (
+            b"POST / HTTP/1.1\r\nTransfer-Encoding: gzip, chunked\r\n\r\n",
+            FrameError::Coding,
+        ),
+        (
+            b"POST / HTTP/1.1\r\nTransfer-Encoding: chunked, chunked\r\n\r\n",
+            FrameError::Coding,
+        ),
+        (
+            b"POST / HTTP/1.1\r\nTransfer-Encoding: identity\r\n\r\n",
+            FrameError::Coding,
+        ),
+        (
+            b"POST / HTTP/1.1\r\nTransfer-Encoding: chunked\r\nTransfer-Encoding: chunked\r\n\r\n",
+            FrameError::Coding,
+        ),
+        (
+            b"POST / HTTP/1.1\r\nTransfer-Encoding: gzip\r\nContent-Length: 1\r\n\r\n",
+            FrameError::Coding,
+        ),
+        (
+            b"POST / HTTP/1.1\r\nContent-Encoding: gzip\r\nContent-Length: 1\r\n\r\n",
+            FrameError::Coding,
+        ),
+        (
+            b"GET / HTTP/1.1\r\nContent-Encoding: \r\nContent-Length: 1\r\n\r\n",
+            FrameError::Coding,
+        ),
+        (
+            b"POST / HTTP/1.1\r\nContent-Encoding: gzip\r\nContent-Length: 1\r\nContent-Length: 1\r\n\r\n",
+            FrameError::Coding,
+        ),
+        (
+            b"POST / HTTP/1.1\r\nContent-Length: 131073\r\n\r\n",
+            FrameError::BodyTooLong,
+        ),
+        (
+            b"GET / HTTP/1.1\r\nContent-Length: 9999999999\r\n\r\n",
+            FrameError::BodyTooLong,
+        ),
     ]
 }
 
@@ -272,7 +365,12 @@ fn wrong_heads_are_refused_in_whatever_pieces(rt: HostRuntime) {
 #[test]
 fn bodies_in_chunks_are_read_in_whatever_pieces(rt: HostRuntime) -> Result<(), Fail> {
     for (body, content) in whole_chunks() {
-        reads(&rt, rt.alloc(), &joined(rt.alloc(), CHUNKED, body)?, content);
+        reads(
+            &rt,
+            rt.alloc(),
+            &joined(rt.alloc(), CHUNKED, body)?,
+            content,
+        );
     }
     for body in begun_chunks() {
         awaits(&rt, rt.alloc(), &joined(rt.alloc(), CHUNKED, body)?);
@@ -283,11 +381,18 @@ fn bodies_in_chunks_are_read_in_whatever_pieces(rt: HostRuntime) -> Result<(), F
 #[test]
 fn wrong_chunks_are_refused_at_their_place(rt: HostRuntime) -> Result<(), Fail> {
     for (body, at) in wrong_chunks() {
-        let error = FrameError::Chunk { at: at.saturating_add(CHUNKED.len() as u64) };
+        let error = FrameError::Chunk {
+            at: at.saturating_add(CHUNKED.len() as u64),
+        };
         refuses(&rt, rt.alloc(), &joined(rt.alloc(), CHUNKED, body)?, error);
     }
     for body in long_chunks() {
-        refuses(&rt, rt.alloc(), &joined(rt.alloc(), CHUNKED, body)?, FrameError::BodyTooLong);
+        refuses(
+            &rt,
+            rt.alloc(),
+            &joined(rt.alloc(), CHUNKED, body)?,
+            FrameError::BodyTooLong,
+        );
     }
     Ok(())
 }
@@ -327,9 +432,19 @@ fn a_head_has_16384_bytes_at_most(rt: HostRuntime) -> Result<(), Fail> {
 fn a_body_in_chunks_has_1048576_bytes_at_most(rt: HostRuntime) -> Result<(), Fail> {
     let alloc = rt.alloc();
     let front = joined(alloc, CHUNKED, b"0;")?;
-    let whole = filled(alloc, &front, CHUNKED.len().saturating_add(1_048_573), b"\r\n\n")?;
+    let whole = filled(
+        alloc,
+        &front,
+        CHUNKED.len().saturating_add(1_048_573),
+        b"\r\n\n",
+    )?;
     assert!(rt; gives(&fed_at(alloc, &whole, 9_000), b""));
-    let long = filled(alloc, &front, CHUNKED.len().saturating_add(1_048_574), b"\r\n\n")?;
+    let long = filled(
+        alloc,
+        &front,
+        CHUNKED.len().saturating_add(1_048_574),
+        b"\r\n\n",
+    )?;
     assert!(rt; fails(&fed_at(alloc, &long, 9_000), FrameError::BodyTooLong));
     Ok(())
 }

@@ -8,8 +8,12 @@ fn requests_are_written(rt: HostRuntime) -> Result<(), Fail> {
     let alloc = rt.alloc();
     let get = request(alloc, b"GET", b"")?;
     let host = Text::from_latin1(alloc, b"pull:8080")?;
-    let text = b"GET /a HTTP/1.1\r\nHost: pull:8080\r\nConnection: close\r\nProtocolVersion: 2.0\r\n\r\n";
-    assert_eq!(rt; write_request(alloc, &get, &host)?.as_slice(), text.as_slice());
+    let text =
+        b"GET /a HTTP/1.1\r\nHost: pull:8080\r\nConnection: close\r\nProtocolVersion: 2.0\r\n\r\n";
+    assert_eq!(rt;
+        write_request(alloc, &get, &host)?.as_slice(),
+        text.as_slice()
+    );
     let put = request(alloc, b"PUT", b"{}")?;
     let host = Text::from_latin1(alloc, b"pull:80")?;
     let text =
@@ -27,13 +31,15 @@ fn requests_are_written(rt: HostRuntime) -> Result<(), Fail> {
 fn answers_are_written(rt: HostRuntime) -> Result<(), Fail> {
     let alloc = rt.alloc();
     let missing = reply(alloc, 404, b"")?;
-    let text = b"HTTP/1.1 404 Not Found\r\nConnection: close\r\nProtocolVersion: 2.0\r\nContent-Length: 0\r\n\r\n";
+    let text =
+        b"HTTP/1.1 404 Not Found\r\nConnection: close\r\nProtocolVersion: 2.0\r\nContent-Length: 0\r\n\r\n";
     assert_eq!(rt; write_answer(alloc, &missing)?.as_slice(), text.as_slice());
     let done = reply(alloc, 204, b"")?;
     let text = b"HTTP/1.1 204 No Content\r\nConnection: close\r\nProtocolVersion: 2.0\r\n\r\n";
     assert_eq!(rt; write_answer(alloc, &done)?.as_slice(), text.as_slice());
     let unnamed = reply(alloc, 599, b"x")?;
-    let text = b"HTTP/1.1 599 \r\nConnection: close\r\nProtocolVersion: 2.0\r\nContent-Length: 1\r\n\r\nx";
+    let text =
+        b"HTTP/1.1 599 \r\nConnection: close\r\nProtocolVersion: 2.0\r\nContent-Length: 1\r\n\r\nx";
     let written = write_answer(alloc, &unnamed)?;
     assert_eq!(rt; written.as_slice(), text.as_slice());
     assert_eq!(rt; read_answer(alloc, &written)?.code, 599);

@@ -8,7 +8,7 @@ abbrev pub invariant-loop-left : goal.invariant-loop-left
 invariant-loop-left l = record {
   same : digits_value_after 10 l.number l.left ≡ digits_value 10 l.digits;
   digits : IsTrue (list_all is_ascii_digit l.left);
-  small : digits_value 10 l.digits < 2 ^ 60
+  small : digits_value 10 l.digits < 2 ^ 60;
 }
 
 abbrev pub decreases-loop-left : goal.decreases-loop-left
