@@ -33,13 +33,14 @@ use Rattle.mof_codec.specs.Values.{signed, is_negative, behind_sign}
 use Rattle.mof_codec.specs.Winning.{end_of, sooner, out_of_profile, number_range, too_many, syntax_fault}
 use Rattle.mof_codec.proofs.Runs.{Whole}
 use Rattle.mof_codec.proofs.Options.{of_some, of_none}
-use Rattle.mof_codec.proofs.Stepping.{Stepped, stepped_none, stepped_more, stuck_fault, stuck_walk, end_wide, end_fault, end_behind}
+use Rattle.mof_codec.proofs.Fronts.{is_front}
+use Rattle.mof_codec.proofs.Stepping.{behind_of, Stepped, stepped_none, stepped_more, stuck_fault, stuck_walk, end_wide, end_fault, end_behind}
 use Rattle.mof_codec.proofs.ExcessSearch.{Searched, searched_none, searched_more, first_found, IsPast, long_name, name_is_long, no_name_empty, stuck_none, stuck_wide, end_none, end_count, end_parts}
 use Rattle.mof_codec.proofs.ScalarSearch.{ScalarSearched, scalar_none, scalar_more, scalar_found, scalar_end, scalar_last, StandsHere, real_begins, begins_real, never_stuck}
 use Rattle.mof_codec.proofs.FormSearch.{real_found, real_none, here_found, here_none}
 use Rattle.mof_codec.proofs.IntegerFronts.{told_within, told_excess, told_none}
 use Rattle.mof_codec.proofs.RefusalFound.{Found, found_wins, none_spells, front_there}
-use Rattle.mof_codec.proofs.Searches.{first_state, no_counts, when, next, both, is_end, fault_in, state_in, is_long, is_past, excess_in, in_range, out_of, is_excess_integer, stands, scalar_in, same, stops, begins_word, declared_in, here_in, as_form, as_real, form_in, left_out, number_in, refusal_at, refusal_in}
+use Rattle.mof_codec.proofs.Searches.{first_state, no_counts, when, next, both, is_end, fault_in, state_in, is_long, is_past, excess_in, in_range, out_of, is_excess_integer, stands, scalar_in, same, stops, begins_word, declared_in, here_in, as_form, as_real, form_in, left_out, number_in, refusal_at, refusal_in, is_taken}
 
 clash : {b : Bool} → b ≡ true → b ≡ false → ⊥
 clash e f = cc
@@ -177,7 +178,7 @@ integer_told cs = from (magnitude_rest (behind_sign cs)) (in_range (is_negative 
 real_told : (cs : List ℕ) → Decides (is_real cs) (IsWanted Real cs)
 real_told cs = (λ e. real_begins cs e, λ r. begins_real cs r)
 
-module _ (wanted : Wanted) (test : List ℕ → Bool) (decides : (cs : List ℕ) → Decides (test cs) (IsWanted wanted cs)) (front : List ℕ) (is_front : IsFront front) where
+module _ (wanted : Wanted) (test : List ℕ → Bool) (decides : (cs : List ℕ) → Decides (test cs) (IsWanted wanted cs)) (front : List ℕ) (begins : IsFront front) where
   abbrev ToldScalar : Option ℕ → Type 0
   ToldScalar o = IfSome o (λ at. FirstOf (ScalarStands wanted front) at) × IfNone o ((at : ℕ) → ScalarStands wanted front at → ⊥)
 
@@ -195,7 +196,7 @@ module _ (wanted : Wanted) (test : List ℕ → Bool) (decides : (cs : List ℕ)
       when_is ToldScalar (stands test state (c ∷ cs)) (λ _. Some (length front - length (c ∷ cs))) (λ _. next (step state.half state.place c) (λ _. None) (λ n. scalar_in test front cs n))
           (λ e. (scalar_found front (c ∷ cs) state wanted s (stands_is state (c ∷ cs) e), tt))
           (λ not. next_is ToldScalar (step state.half state.place c) (λ _. None) (λ n. scalar_in test front cs n)
-              (λ e. (tt, λ at x. absurd (never_stuck front is_front (stuck_walk front c cs state s.stepped e))))
+              (λ e. (tt, λ at x. absurd (never_stuck front begins (stuck_walk front c cs state s.stepped e))))
               (λ n e. scalar_told cs n (scalar_more front c cs state n wanted s (is_stands state (c ∷ cs) not) e)))
 
 -- the form that is left out
@@ -348,3 +349,11 @@ module _ (text : List ℕ) where
 
   pub is_fault : (at : ℕ) → fault_in text text first_state ≡ Some at → IsSyntaxFault text at
   is_fault at same = of_some (fault_in text text first_state) at (λ n. IsSyntaxFault text n) same fault_is.0
+
+-- with characters that the machine takes a text begins
+pub taken_front : (front : List ℕ) → is_taken front ≡ true → IsFront front
+taken_front front e = from (state_in front first_state) (state_told front front first_state (stepped_none front)) e
+  where
+    from : (o : Option State) → ToldState front o → next o (λ _. false) (λ _. true) ≡ true → IsFront front
+    from None t e = absurd (clash e refl)
+    from (Some state) t e = is_front front (behind_of state t.0.begun) t.0.behind

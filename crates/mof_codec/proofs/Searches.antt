@@ -144,3 +144,7 @@ refusal_at text fault =
 
 abbrev pub refusal_in : List ℕ → Option MofError
 refusal_in text = refusal_at text (fault_in text text first_state)
+
+-- whether the machine takes the characters
+abbrev pub is_taken : List ℕ → Bool
+is_taken front = next (state_in front first_state) (λ _. false) (λ _. true)
