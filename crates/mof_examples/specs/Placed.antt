@@ -1,6 +1,5 @@
 -- Which refusals win, and where, by example.
-use Rattle.std.specs.Prelude.{codes, ℕ, List, ◌∷◌, ◌++◌}
-use Rattle.std.specs.List.{replicate}
+use Rattle.std.specs.Prelude.{codes, ℕ, List, ◌∷◌, ◌++◌, replicate}
 use Rattle.mof_values.specs.declared.instance.Instance.{Instance}
 use Rattle.mof_syntax.specs.declared.mof_error.MofError.TheVariants.{TooLong, OutOfProfile, NumberRange, TooMany, Syntax}
 use Rattle.mof_syntax.specs.declared.mof_error.Form.TheVariants as forms
