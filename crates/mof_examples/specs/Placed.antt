@@ -1,7 +1,7 @@
 -- Which refusals win, and where, by example.
-use Rattle.std.specs.Prelude.{codes, ℕ, List, ◌∷◌, ◌++◌, replicate}
+use Rattle.std.specs.Prelude.{◌≡◌, codes, ℕ, List, [], ◌∷◌, ◌++◌, length, replicate}
 use Rattle.mof_values.specs.declared.instance.Instance.{Instance}
-use Rattle.mof_syntax.specs.declared.mof_error.MofError.TheVariants.{TooLong, OutOfProfile, NumberRange, TooMany, Syntax}
+use Rattle.mof_syntax.specs.declared.mof_error.MofError.TheVariants.{TooLong, Text, OutOfProfile, NumberRange, TooMany, Syntax}
 use Rattle.mof_syntax.specs.declared.mof_error.Form.TheVariants as forms
 use Rattle.mof_syntax.specs.Limits.{Spells}
 use Rattle.mof_syntax.specs.Fronts.{BeginsIdentifier}
@@ -72,5 +72,7 @@ pub record SyntaxExamples : Type 0 where
 
 -- of bytes
 pub record ByteExamples : Type 0 where
-  pub too_long : Refuses (replicate 2097153 32) TooLong
+  pub too_long : (bytes : List ℕ) → length bytes ≡ 2097153 → Refuses bytes TooLong
+  pub longest : (bytes : List ℕ) → length bytes ≡ 2097152 → Refuses bytes TooLong → ⊥
   pub behind_a_mark : Refuses (0xEF ∷ 0xBB ∷ 0xBF ∷ given (codes "1.5")) (OutOfProfile 20 forms.Real)
+  pub no_character : Refuses (codes "instance" ++ 0xFF ∷ []) (Text 8)
