@@ -36,3 +36,5 @@ pub mod IntegerFronts
 pub mod NumberSearch
 pub mod RefusalFound
 pub mod OnlyRefused
+pub mod Searches
+pub mod Searched
