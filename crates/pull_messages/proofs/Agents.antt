@@ -32,7 +32,7 @@ cells_parsed text cells =
     let hyphens : has_hyphens text ≡ true = rw (h8, h13, h18, h23) refl in
     let hex = digits_of text in
     let digit : (k : ℕ) → k < 32 → is_hex_digit (get_or hex k 0) ≡ true =
-      λ k within. rw (by_index_at 32 (λ i. get_or text (hyphen_place i) 0) k 0 within) (hex_cell text k cells within) in
+    λ k within. rw (by_index_at 32 (λ i. get_or text (hyphen_place i) 0) k 0 within) (hex_cell text k cells within) in
     let out = by_index 16 (byte_of_digits hex) in
     let simple = simple_some hex out (by_index_length 32 _) (by_index_length 16 (byte_of_digits hex)) digit (λ i d within. by_index_at 16 (byte_of_digits hex) i d within) in
     (out, sym (hyphens_pass text cells.1 hyphens) ∙ sym simple)
@@ -91,9 +91,9 @@ hyphen_cell text k parts is =
         | inl two ↦ elim (either (k == 8) (k == 13) two) [
           | inl one ↦ at 8 one second.0
           | inr one ↦ at 13 one second.1
-          ]
-        | inr one ↦ at 18 one third.1
         ]
+        | inr one ↦ at 18 one third.1
+      ]
       | inr one ↦ at 23 one last.1
     ]
 
@@ -136,27 +136,27 @@ zero_cells k within =
     let ones : List ℕ = replicate 36 1 in
     let all : by_index 36 (λ j. bit (is_cell j (get_or zeros j 0))) ≡ ones = refl in
     one_true (is_cell k (get_or zeros k 0))
-      (sym (by_index_at 36 (λ j. bit (is_cell j (get_or zeros j 0))) k 0 within) ∙ ap (λ (l : List ℕ). get_or l k 0) all ∙ get_or-replicate 36 k 1 0 within)
+    (sym (by_index_at 36 (λ j. bit (is_cell j (get_or zeros j 0))) k 0 within) ∙ ap (λ (l : List ℕ). get_or l k 0) all ∙ get_or-replicate 36 k 1 0 within)
 
 filled : (front : List ℕ) → AreCells front → length front < 36 → AreAllCells (front ++ drop (length front) zeros)
 unfolding zeros
 filled front cells small =
     let size : length (front ++ drop (length front) zeros) ≡ 36 = omega (arith, length-append front (drop (length front) zeros), length-drop (length front) zeros) in
     ((λ k within. at k within (nat_lt k (length front)) refl), size)
-    where
-      at : (k : ℕ) → k < length (front ++ drop (length front) zeros) → (b : Bool) → nat_lt k (length front) ≡ b → is_cell k (get_or (front ++ drop (length front) zeros) k 0) ≡ true
-      at k within true is =
-          let inside : k < length front = ltb-true k (length front) is in
-          subst (λ (c : ℕ). is_cell k c ≡ true) (sym (get_or-append front (drop (length front) zeros) 0 k inside)) (cells k inside)
-      at k within false is =
-          let past : length front ≤ k = ltb-false k (length front) is in
-          let n = k - length front in
-          let place : length front + n ≡ k = omega (arith, past) in
-          let within_all : k < 36 = omega (arith, within, length-append front (drop (length front) zeros), length-drop (length front) zeros) in
-          let read : get_or (front ++ drop (length front) zeros) k 0 ≡ get_or zeros k 0 =
-            ap (λ (i : ℕ). get_or (front ++ drop (length front) zeros) i 0) (sym place) ∙ get_or-append-add front (drop (length front) zeros) n 0
-            ∙ get_or-drop (length front) zeros n 0 ∙ ap (λ (i : ℕ). get_or zeros i 0) place in
-          subst (λ (c : ℕ). is_cell k c ≡ true) (sym read) (zero_cells k within_all)
+  where
+    at : (k : ℕ) → k < length (front ++ drop (length front) zeros) → (b : Bool) → nat_lt k (length front) ≡ b → is_cell k (get_or (front ++ drop (length front) zeros) k 0) ≡ true
+    at k within true is =
+        let inside : k < length front = ltb-true k (length front) is in
+        subst (λ (c : ℕ). is_cell k c ≡ true) (sym (get_or-append front (drop (length front) zeros) 0 k inside)) (cells k inside)
+    at k within false is =
+        let past : length front ≤ k = ltb-false k (length front) is in
+        let n = k - length front in
+        let place : length front + n ≡ k = omega (arith, past) in
+        let within_all : k < 36 = omega (arith, within, length-append front (drop (length front) zeros), length-drop (length front) zeros) in
+        let read : get_or (front ++ drop (length front) zeros) k 0 ≡ get_or zeros k 0 =
+        ap (λ (i : ℕ). get_or (front ++ drop (length front) zeros) i 0) (sym place) ∙ get_or-append-add front (drop (length front) zeros) n 0
+        ∙ get_or-drop (length front) zeros n 0 ∙ ap (λ (i : ℕ). get_or zeros i 0) place in
+        subst (λ (c : ℕ). is_cell k c ≡ true) (sym read) (zero_cells k within_all)
 
 tail_scalars : (n : ℕ) → all_scalars (drop n zeros) ≡ true
 unfolding zeros
@@ -168,50 +168,54 @@ pub agent_stops : (chars front left : List ℕ) → chars ≡ front ++ left → 
     → ((c : ℕ) (rest : List ℕ) → left ≡ c ∷ rest → is_cell (length front) c ≡ true → ⊥) → StopsAt IsAgent chars (length left)
 agent_stops chars front left split cells small none =
     record {
-      front = front; rest = left; split = split; size = refl;
+      front = front;
+      rest = left;
+      split = split;
+      size = refl;
       begins = (drop (length front) zeros, tail_scalars (length front), cells_agent (front ++ drop (length front) zeros) (filled front cells small));
       whole = λ agent. absurd (omega (arith, small, agent_length front agent.0 agent.1));
       longest = λ more behind fronts_is begun.
-        elim (fronts more behind front left (sym fronts_is ∙ split)) [
-          | inl longer ↦ within longer.0 more behind longer.1 longer.2 begun
-          | inr shorter ↦ omega (arith, ap length shorter.2, length-append shorter.0 left)
-        ];
+          elim (fronts more behind front left (sym fronts_is ∙ split)) [
+            | inl longer ↦ within longer.0 more behind longer.1 longer.2 begun
+            | inr shorter ↦ omega (arith, ap length shorter.2, length-append shorter.0 left)
+          ];
     }
-    where
-      within : (u more behind : List ℕ) → more ≡ front ++ u → left ≡ u ++ behind → Begins IsAgent more → length left ≤ length behind
-      within [] more behind longer rest begun = omega (arith, ap length rest)
-      within (c ∷ u) more behind longer rest begun =
-          let all = agent_cells (more ++ begun.0) begun.2.0 begun.2.1 in
-          let shape : more ++ begun.0 ≡ front ++ c ∷ (u ++ begun.0) = ap (λ (l : List ℕ). l ++ begun.0) longer ∙ append_assoc front (c ∷ u) begun.0 in
-          let there : get_or (more ++ begun.0) (length front) 0 ≡ c = ap (λ (l : List ℕ). get_or l (length front) 0) shape ∙ get_or-append_seam front c (u ++ begun.0) 0 in
-          let cell = all.0 (length front) (omega (arith, small, all.1)) in
-          absurd (none c (u ++ behind) rest (subst (λ (x : ℕ). is_cell (length front) x ≡ true) there cell))
+  where
+    within : (u more behind : List ℕ) → more ≡ front ++ u → left ≡ u ++ behind → Begins IsAgent more → length left ≤ length behind
+    within [] more behind longer rest begun = omega (arith, ap length rest)
+    within (c ∷ u) more behind longer rest begun =
+        let all = agent_cells (more ++ begun.0) begun.2.0 begun.2.1 in
+        let shape : more ++ begun.0 ≡ front ++ c ∷ (u ++ begun.0) = ap (λ (l : List ℕ). l ++ begun.0) longer ∙ append_assoc front (c ∷ u) begun.0 in
+        let there : get_or (more ++ begun.0) (length front) 0 ≡ c = ap (λ (l : List ℕ). get_or l (length front) 0) shape ∙ get_or-append_seam front c (u ++ begun.0) 0 in
+        let cell = all.0 (length front) (omega (arith, small, all.1)) in
+        absurd (none c (u ++ behind) rest (subst (λ (x : ℕ). is_cell (length front) x ≡ true) there cell))
 
 pub no_cells : AreCells []
 no_cells k within = absurd (omega arith)
 
 pub cells_more : (front : List ℕ) (c : ℕ) → AreCells front → is_cell (length front) c ≡ true → AreCells (front ++ c ∷ [])
 cells_more front c cells next k within = at k within (nat_lt k (length front)) refl
-    where
-      at : (k : ℕ) → k < length (front ++ c ∷ []) → (b : Bool) → nat_lt k (length front) ≡ b → is_cell k (get_or (front ++ c ∷ []) k 0) ≡ true
-      at k within true is =
-          let inside : k < length front = ltb-true k (length front) is in
-          subst (λ (x : ℕ). is_cell k x ≡ true) (sym (get_or-append front (c ∷ []) 0 k inside)) (cells k inside)
-      at k within false is =
-          let past : length front ≤ k = ltb-false k (length front) is in
-          let here : length front ≡ k = omega (arith, past, within, length-append front (c ∷ [])) in
-          subst (λ (i : ℕ). is_cell i (get_or (front ++ c ∷ []) i 0) ≡ true) here
-          (subst (λ (x : ℕ). is_cell (length front) x ≡ true) (sym (get_or-append_seam front c [] 0)) next)
+  where
+    at : (k : ℕ) → k < length (front ++ c ∷ []) → (b : Bool) → nat_lt k (length front) ≡ b → is_cell k (get_or (front ++ c ∷ []) k 0) ≡ true
+    at k within true is =
+        let inside : k < length front = ltb-true k (length front) is in
+        subst (λ (x : ℕ). is_cell k x ≡ true) (sym (get_or-append front (c ∷ []) 0 k inside)) (cells k inside)
+    at k within false is =
+        let past : length front ≤ k = ltb-false k (length front) is in
+        let here : length front ≡ k = omega (arith, past, within, length-append front (c ∷ [])) in
+        subst (λ (i : ℕ). is_cell i (get_or (front ++ c ∷ []) i 0) ≡ true) here
+        (subst (λ (x : ℕ). is_cell (length front) x ≡ true) (sym (get_or-append_seam front c [] 0)) next)
 
 -- the characters of an identifier are ASCII
 pub cells_ascii : (text : List ℕ) → AreCells text → IsAscii text
 cells_ascii text cells k = at k (nat_lt k (length text)) refl
-    where
-      small : (k c : ℕ) → is_cell k c ≡ true → c < 128
-      small k c is = grind (arith, nat_tests)
-      at : (k : ℕ) (b : Bool) → nat_lt k (length text) ≡ b → get_or text k 0 < 128
-      at k true is = small k (get_or text k 0) (cells k (ltb-true k (length text) is))
-      at k false is = let none : get_or text k 0 ≡ 0 = get_or-eq_default text 0 (ltb-false k (length text) is) in omega (arith, none)
+  where
+    small : (k c : ℕ) → is_cell k c ≡ true → c < 128
+    small k c is = grind (arith, nat_tests)
+
+    at : (k : ℕ) (b : Bool) → nat_lt k (length text) ≡ b → get_or text k 0 < 128
+    at k true is = small k (get_or text k 0) (cells k (ltb-true k (length text) is))
+    at k false is = let none : get_or text k 0 ≡ 0 = get_or-eq_default text 0 (ltb-false k (length text) is) in omega (arith, none)
 
 pub agent_some : (text : List ℕ) × (all_scalars text ≡ true) × IsAgent text
 unfolding zeros

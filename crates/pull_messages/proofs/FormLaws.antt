@@ -46,10 +46,11 @@ joined chars a r b s first second = first ∙ ap (λ (l : List ℕ). a ++ l) sec
 pub agent_form_taken : (chars f1 r1 f2 r2 f3 r3 end : List ℕ) (id : ℕ) → chars ≡ f1 ++ r1 → SameName f1 (codes "/PSDSCPullServer.svc/Nodes(AgentId='")
     → r1 ≡ f2 ++ r2 → agent_of f2 ≡ Some id → r2 ≡ f3 ++ r3 → SameName f3 end
     → (front : List ℕ) × (chars ≡ front ++ r3) × Spells IsPart (agent_parts id (word end ∷ [])) front
-agent_form_taken chars f1 r1 f2 r2 f3 r3 end id s1 w1 s2 w2 s3 w3 =
-    (f1 ++ (f2 ++ (f3 ++ [])),
-      joined chars f1 r1 (f2 ++ (f3 ++ [])) r3 s1 (joined r1 f2 r2 (f3 ++ []) r3 s2 (s3 ∙ ap (λ (l : List ℕ). l ++ r3) (sym (append-nil f3)))),
-      (f1, f2 ++ (f3 ++ []), refl, w1, (f2, f3 ++ [], refl, w2, (f3, [], refl, w3, refl))))
+agent_form_taken chars f1 r1 f2 r2 f3 r3 end id s1 w1 s2 w2 s3 w3 = (
+  f1 ++ (f2 ++ (f3 ++ [])),
+  joined chars f1 r1 (f2 ++ (f3 ++ [])) r3 s1 (joined r1 f2 r2 (f3 ++ []) r3 s2 (s3 ∙ ap (λ (l : List ℕ). l ++ r3) (sym (append-nil f3)))),
+  (f1, f2 ++ (f3 ++ []), refl, w1, (f2, f3 ++ [], refl, w2, (f3, [], refl, w3, refl))),
+)
 
 pub spells_append : {A : Type 0} (P : A → List ℕ → Type 0) (xs ys : List A) (a b : List ℕ) → Spells P xs a → Spells P ys b → Spells P (xs ++ ys) (a ++ b)
 spells_append P [] ys a b first second = subst (Spells P ys) (ap (λ (l : List ℕ). l ++ b) (sym first)) second
@@ -71,19 +72,19 @@ finished_of target rest = cond (length rest == 0) (Ok target) (Err (Left (length
 pub finished_ok : (result : Result Target Stop) (target : Target) (chars rest : List ℕ) → result ≡ finished_of target rest
     → (rest ≡ [] → SpellsTarget target chars) → IfOk result (λ t. SpellsTarget t chars)
 finished_ok result target chars rest is spelled = subst (λ (r : Result Target Stop). IfOk r (λ t. SpellsTarget t chars)) (sym is) (at (length rest == 0) refl)
-    where
-      at : (b : Bool) → (length rest == 0) ≡ b → IfOk {E = Stop} (cond b (Ok target) (Err (Left (length rest)))) (λ t. SpellsTarget t chars)
-      at true none = spelled (no_rest rest (eqb-true (length rest) 0 none))
-      at false some = tt
+  where
+    at : (b : Bool) → (length rest == 0) ≡ b → IfOk {E = Stop} (cond b (Ok target) (Err (Left (length rest)))) (λ t. SpellsTarget t chars)
+    at true none = spelled (no_rest rest (eqb-true (length rest) 0 none))
+    at false some = tt
 
 pub finished_bad : (language : List ℕ → Type 0) (result : Result Target Stop) (target : Target) (chars f rest : List ℕ) → PrefixFree language
     → result ≡ finished_of target rest → chars ≡ f ++ rest → language f → IfLeft result (EndsAt language chars)
 finished_bad language result target chars f rest free is split in_f =
     subst (λ (r : Result Target Stop). IfLeft r (EndsAt language chars)) (sym is) (at (length rest == 0) refl)
-    where
-      at : (b : Bool) → (length rest == 0) ≡ b → IfLeft (cond b (Ok target) (Err (Left (length rest)))) (EndsAt language chars)
-      at true none = tt
-      at false some = ends_of_rest language chars f rest free split in_f (some_rest rest some)
+  where
+    at : (b : Bool) → (length rest == 0) ≡ b → IfLeft (cond b (Ok target) (Err (Left (length rest)))) (EndsAt language chars)
+    at true none = tt
+    at false some = ends_of_rest language chars f rest free split in_f (some_rest rest some)
 
 -- ---- contents
 
@@ -106,13 +107,13 @@ content_first chars n stops =
 pub content_second : (chars f rest : List ℕ) (n : ℕ) → chars ≡ f ++ rest → IsAgentForm content_end f → StopsAt (IsAnyQuoted 41) rest n → EndsAt IsContentForm chars n
 content_second chars f rest n split in_f stops =
     ends_of_stop IsContentForm chars n content_free (stop_second (IsAgentForm content_end) content_rest chars f rest n (agent_form_free content_end) split in_f
-      (stop_first (IsAnyQuoted 41) (IsWord (codes "/ConfigurationContent")) rest n (quoted_free 41 (inl refl)) (word_some (codes "/ConfigurationContent") refl) stops))
+    (stop_first (IsAnyQuoted 41) (IsWord (codes "/ConfigurationContent")) rest n (quoted_free 41 (inl refl)) (word_some (codes "/ConfigurationContent") refl) stops))
 
 pub content_third : (chars f rest q last : List ℕ) (n : ℕ) → chars ≡ f ++ rest → IsAgentForm content_end f → rest ≡ q ++ last → IsAnyQuoted 41 q
     → StopsAt (IsWord (codes "/ConfigurationContent")) last n → EndsAt IsContentForm chars n
 content_third chars f rest q last n split in_f split_q in_q stops =
     ends_of_stop IsContentForm chars n content_free (stop_second (IsAgentForm content_end) content_rest chars f rest n (agent_form_free content_end) split in_f
-      (stop_second (IsAnyQuoted 41) (IsWord (codes "/ConfigurationContent")) rest q last n (quoted_free 41 (inl refl)) split_q in_q stops))
+    (stop_second (IsAnyQuoted 41) (IsWord (codes "/ConfigurationContent")) rest q last n (quoted_free 41 (inl refl)) split_q in_q stops))
 
 -- ---- modules
 
@@ -168,13 +169,13 @@ pub module_fourth : (chars f r1 q r2 w r3 : List ℕ) (n : ℕ) → chars ≡ f 
     → r2 ≡ w ++ r3 → IsWord version_word w → StopsAt (IsAnyQuoted 41) r3 n → EndsAt IsModuleForm chars n
 module_fourth chars f r1 q r2 w r3 n split in_f split_q in_q split_w in_w stops =
     in_second chars f r1 n split in_f (in_third r1 q r2 n split_q in_q (stop_second (IsWord version_word) fourth r2 w r3 n (word_free version_word) split_w in_w
-      (stop_first (IsAnyQuoted 41) (IsWord last_word) r3 n (quoted_free 41 (inl refl)) (word_some last_word refl) stops)))
+    (stop_first (IsAnyQuoted 41) (IsWord last_word) r3 n (quoted_free 41 (inl refl)) (word_some last_word refl) stops)))
 
 pub module_fifth : (chars f r1 q r2 w r3 v r4 : List ℕ) (n : ℕ) → chars ≡ f ++ r1 → IsWord module_word f → r1 ≡ q ++ r2 → IsAnyQuoted 44 q
     → r2 ≡ w ++ r3 → IsWord version_word w → r3 ≡ v ++ r4 → IsAnyQuoted 41 v → StopsAt (IsWord last_word) r4 n → EndsAt IsModuleForm chars n
 module_fifth chars f r1 q r2 w r3 v r4 n split in_f split_q in_q split_w in_w split_v in_v stops =
     in_second chars f r1 n split in_f (in_third r1 q r2 n split_q in_q (stop_second (IsWord version_word) fourth r2 w r3 n (word_free version_word) split_w in_w
-      (stop_second (IsAnyQuoted 41) (IsWord last_word) r3 v r4 n (quoted_free 41 (inl refl)) split_v in_v stops)))
+    (stop_second (IsAnyQuoted 41) (IsWord last_word) r3 v r4 n (quoted_free 41 (inl refl)) split_v in_v stops)))
 
 -- ---- all forms
 
@@ -199,9 +200,11 @@ form_out end text (a, b, is, first, (a2, b2, is2, (id, second), last)) =
 content_out : (text : List ℕ) → IsContentForm text → IsAnyTarget text
 content_out text (f, r, is, form, (q, l, is2, (name, value), last)) =
     let head = form_out content_end f form in
-    let tail : Spells IsPart (quoted name 41 ∷ word (codes "/ConfigurationContent") ∷ []) r = (q, l, is2, value, (l, [], sym (append-nil l), last, refl)) in
-    (Content head.0 name, subst (SpellsTarget (Content head.0 name)) (sym is)
-      (spells_append IsPart (agent_parts head.0 (word content_end ∷ [])) (quoted name 41 ∷ word (codes "/ConfigurationContent") ∷ []) f r head.1 tail))
+    let tail : Spells IsPart (quoted name 41 ∷ word (codes "/ConfigurationContent") ∷ []) r = (q, l, is2, value, (l, [], sym (append-nil l), last, refl)) in (
+      Content head.0 name,
+      subst (SpellsTarget (Content head.0 name)) (sym is)
+          (spells_append IsPart (agent_parts head.0 (word content_end ∷ [])) (quoted name 41 ∷ word (codes "/ConfigurationContent") ∷ []) f r head.1 tail),
+    )
 
 module_out : (text : List ℕ) → IsModuleForm text → IsAnyTarget text
 module_out text (a, b, is, first, (q, b2, is2, (name, value), (w, b3, is3, between, (v, b4, is4, (version, value2), last)))) =
@@ -209,10 +212,13 @@ module_out text (a, b, is, first, (q, b2, is2, (name, value), (w, b3, is3, betwe
 
 content_in : (id : ℕ) (name text : List ℕ) → SpellsTarget (Content id name) text → IsContentForm text
 content_in id name text (a, b, is, first, (a2, b2, is2, second, (a3, b3, is3, word3, (q, b4, is4, value, (l, b5, is5, last, nil))))) =
-    let behind : b4 ≡ l = is5 ∙ ap (λ (x : List ℕ). l ++ x) nil ∙ append-nil l in
-    (a ++ (a2 ++ a3), b3, joined text a b (a2 ++ a3) b3 is (joined b a2 b2 a3 b3 is2 is3),
+    let behind : b4 ≡ l = is5 ∙ ap (λ (x : List ℕ). l ++ x) nil ∙ append-nil l in (
+      a ++ (a2 ++ a3),
+      b3,
+      joined text a b (a2 ++ a3) b3 is (joined b a2 b2 a3 b3 is2 is3),
       (a, a2 ++ a3, refl, first, (a2, a3, refl, (id, second), word3)),
-      (q, b4, is4, (name, value), subst (λ (x : List ℕ). SameName x (codes "/ConfigurationContent")) (sym behind) last))
+      (q, b4, is4, (name, value), subst (λ (x : List ℕ). SameName x (codes "/ConfigurationContent")) (sym behind) last),
+    )
 
 module_in : (name version text : List ℕ) → SpellsTarget (Module name version) text → IsModuleForm text
 module_in name version text (a, b, is, first, (q, b2, is2, value, (w, b3, is3, between, (v, b4, is4, value2, (l, b5, is5, last, nil))))) =

@@ -49,10 +49,12 @@ joined_details (x ∷ xs) = rw (joined_details xs) refl
 pub action_back : (x : ActionAnswer) → recoded x.node ≡ x.node → map recoded_detail x.details ≡ x.details → action_of (action_data x) ≡ Ok x
 unfolding action_of within
 action_back x node details =
-    rw (each_back (an_object field.Details) detail_data detail_data (λ _. refl) x.details,
+    rw (
+      each_back (an_object field.Details) detail_data detail_data (λ _. refl) x.details,
       each_back (optional (a_text limit.Free) [] field.ConfigurationName) detail_data (λ (d : Detail). recoded d.name) detail_name x.details,
       each_back (required (a_text limit.Free) field.Status) detail_data (λ (d : Detail). recoded d.status) detail_status x.details,
-      joined_details x.details) (λ i. Ok (record { node = node i; details = details i }))
+      joined_details x.details,
+    ) (λ i. Ok (record { node = node i; details = details i }))
 
 -- ---- queries
 
@@ -75,12 +77,15 @@ items_len-map f (x ∷ xs) = ap suc (items_len-map f xs)
 pub query_back : (x : ActionQuery) → length x.clients ≤ 16 → map recoded_client x.clients ≡ x.clients → query_of (query_data x) ≡ Ok x
 unfolding query_of within
 query_back x few clients =
-    rw (each_back (an_object field.ClientStatus) client_data client_data (λ _. refl) x.clients,
-      items_len-map client_data x.clients, le-leb (length x.clients) 16 few,
+    rw (
+      each_back (an_object field.ClientStatus) client_data client_data (λ _. refl) x.clients,
+      items_len-map client_data x.clients,
+      le-leb (length x.clients) 16 few,
       each_back (optional (a_text limit.Free) [] field.Checksum) client_data (λ (d : Client). recoded d.checksum) client_checksum x.clients,
       each_back (optional (a_text limit.Free) [] field.ConfigurationName) client_data (λ (d : Client). recoded d.name) client_name x.clients,
       each_back (optional sha256 tt field.ChecksumAlgorithm) client_data (λ (d : Client). tt) (λ _. refl) x.clients,
-      joined_clients x.clients) (λ i. Ok (record { clients = clients i }))
+      joined_clients x.clients,
+    ) (λ i. Ok (record { clients = clients i }))
 
 -- ---- registrations
 
@@ -105,11 +110,14 @@ pub registration_back : (x : Registration) → IsSized x → recoded x.lcm_versi
     → recoded x.ip_address ≡ x.ip_address → map recoded x.names ≡ x.names → registration_of (registration_data x) ≡ Ok x
 unfolding registration_of
 registration_back x sized version node address names =
-    rw (within_short field.LCMVersion x.lcm_version version sized.version,
+    rw (
+      within_short field.LCMVersion x.lcm_version version sized.version,
       within_short field.NodeName x.node_name node sized.node,
       within_short field.IPAddress x.ip_address address sized.address,
-      items_len-map text_data x.names, le-leb (length x.names) 16 sized.few,
-      names_back field.ConfigurationNames x.names names sized.named) refl
+      items_len-map text_data x.names,
+      le-leb (length x.names) 16 sized.few,
+      names_back field.ConfigurationNames x.names names sized.named,
+    ) refl
 
 -- ---- reports
 
@@ -120,5 +128,16 @@ pub report_back : (x : ReportMessage) → IsRecodedReport x → report_of (repor
 unfolding report_of within
 report_back x same =
     rw (id_back x.job same.job, texts_back field.Errors x.errors same.errors, texts_back field.StatusData x.status_data same.status_data)
-    (λ i. Ok (record { job = x.job; operation = same.operation i; refresh = same.refresh i; status = same.status i; format = same.format i;
-      version = same.version i; start = same.start i; end = same.end i; reboot = same.reboot i; errors = x.errors; status_data = x.status_data }))
+    (λ i. Ok (record {
+      job = x.job;
+      operation = same.operation i;
+      refresh = same.refresh i;
+      status = same.status i;
+      format = same.format i;
+      version = same.version i;
+      start = same.start i;
+      end = same.end i;
+      reboot = same.reboot i;
+      errors = x.errors;
+      status_data = x.status_data;
+    }))

@@ -102,7 +102,7 @@ registration_sized body x is =
     let address = bind_ok (optional (a_text limit.Short) [] field.IPAddress agent.0) _ x node.2 in
     let listed = bind_ok (optional names [] field.ConfigurationNames top.0) _ x address.2 in
     let named = optional_ok AreNames (names field.ConfigurationNames) [] (member_of field.ConfigurationNames top.0) listed.0
-      (tt, omega arith) (λ value read. names_ok field.ConfigurationNames value listed.0 read) listed.1 in
+    (tt, omega arith) (λ value read. names_ok field.ConfigurationNames value listed.0 read) listed.1 in
     let sized : IsSized (record { lcm_version = version.0; node_name = node.0; ip_address = address.0; names = listed.0 }) = record {
       version = short_ok field.LCMVersion agent.0 version.0 version.1;
       node = short_ok field.NodeName agent.0 node.0 node.1;

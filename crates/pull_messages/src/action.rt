@@ -47,13 +47,20 @@ fn action_in(alloc: Global, body: &Value) -> Result<ActionAnswer, MessageError>
     let objects = optional_objects(top, Field::Details)?;
     let names = each_optional(alloc, objects, Field::ConfigurationName)?;
     let statuses = each_required(alloc, objects, Field::Status)?;
-    Ok(ActionAnswer { node, details: Items::of(details(alloc, names, statuses)?) })
+    Ok(ActionAnswer {
+        node,
+        details: Items::of(details(alloc, names, statuses)?),
+    })
 }
 
 fn details(alloc: Global, names: Vec<Text>, statuses: Vec<Text>) -> Result<Vec<Detail>, AllocError>
     ensures { IfOk result (λ v. v.items ≡ map detail (zip names.items statuses.items)) }
 {
-    names.into_iter().zip(statuses.into_iter()).map(|(name, status)| Detail { name, status }).collect(alloc)
+    names
+        .into_iter()
+        .zip(statuses.into_iter())
+        .map(|(name, status)| Detail { name, status })
+        .collect(alloc)
 }
 
 /// Writes an answer as compact JSON, its members in byte order.

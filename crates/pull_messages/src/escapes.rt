@@ -38,7 +38,11 @@ fn first_byte(text: &[u8]) -> Option<(u8, &[u8])>
     ensures none { IfNone result (HasNoByte text.now) }
 {
     match text {
-        [byte, rest @ ..] => if *byte == b'%' { escaped(rest) } else { Some((*byte, rest)) },
+        [byte, rest @ ..] => if *byte == b'%' {
+            escaped(rest)
+        } else {
+            Some((*byte, rest))
+        },
         [] => None,
     }
 }

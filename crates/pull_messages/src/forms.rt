@@ -18,7 +18,10 @@ pub fn spelled_target(alloc: Global, chars: &[char]) -> Result<Target, Stop>
     let send_report = send_report(alloc, chars);
     let content = content(alloc, chars);
     let module = module(alloc, chars);
-    better(node, better(action, better(send_report, better(content, module))))
+    better(
+        node,
+        better(action, better(send_report, better(content, module))),
+    )
 }
 
 // The target, or the longer front.
@@ -83,7 +86,11 @@ fn module(alloc: Global, chars: &[char]) -> Result<Target, Stop>
 fn finished(target: Target, rest: &[char]) -> Result<Target, Stop>
     ensures { result ≡ (if length rest.now == 0 then Ok target else Err (Stop.Left (length rest.now))) }
 {
-    if rest.is_empty() { Ok(target) } else { Err(Stop::Left(rest.len())) }
+    if rest.is_empty() {
+        Ok(target)
+    } else {
+        Err(Stop::Left(rest.len()))
+    }
 }
 
 // The path of an agent up to that word.

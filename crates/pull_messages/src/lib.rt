@@ -32,8 +32,8 @@ pub use query::{ActionQuery, Client, read_query, write_query};
 pub use registration::{Registration, read_registration, write_registration};
 pub use report::{ReportMessage, read_report, write_report};
 pub use target_error::TargetError;
-pub use target_text::write_target;
 pub use target_kinds::Target;
+pub use target_text::write_target;
 pub use targets::target;
 
 #[cfg(test)]

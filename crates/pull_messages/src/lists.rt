@@ -6,14 +6,20 @@ ghost use Rattle.pull_messages.specs.Members.{required, optional, an_object, a_t
 ghost use Rattle.pull_messages.specs.Results.{Gives, Tests};
 
 use crate::limit::Limit;
-use crate::members::{list, member, object, optional_sha256, optional_text, required_member, required_text, text};
+use crate::members::{
+    list, member, object, optional_sha256, optional_text, required_member, required_text, text,
+};
 use crate::{Field, MessageError};
 use mof_values::{Items, Text};
 use serde_json::Value;
 use std::alloc::Global;
 
 /// The texts of a list that may be absent.
-pub fn optional_texts(alloc: Global, object: &Value, field: Field) -> Result<Items<Text>, MessageError>
+pub fn optional_texts(
+    alloc: Global,
+    object: &Value,
+    field: Field,
+) -> Result<Items<Text>, MessageError>
     ensures { Gives (λ v. v) result (optional texts [] field (view object.now)) }
 {
     match member(object, field) {
@@ -23,7 +29,11 @@ pub fn optional_texts(alloc: Global, object: &Value, field: Field) -> Result<Ite
 }
 
 /// The names of a list that may be absent: at most 16, each of 1 to 255 bytes.
-pub fn optional_names(alloc: Global, object: &Value, field: Field) -> Result<Items<Text>, MessageError>
+pub fn optional_names(
+    alloc: Global,
+    object: &Value,
+    field: Field,
+) -> Result<Items<Text>, MessageError>
     ensures { Gives (λ v. v) result (optional names [] field (view object.now)) }
 {
     match member(object, field) {
@@ -63,7 +73,11 @@ fn objects_of(value: &Value, field: Field) -> Result<&[Value], MessageError>
 fn few_of(values: &[Value], field: Field) -> Result<&[Value], MessageError>
     ensures { Gives (λ v. items_view v.now) result (few field (items_view values.now)) }
 {
-    if values.len() <= 16 { Ok(values) } else { Err(MessageError::Wrong(field)) }
+    if values.len() <= 16 {
+        Ok(values)
+    } else {
+        Err(MessageError::Wrong(field))
+    }
 }
 
 fn test_objects(values: &[Value], field: Field) -> Result<(), MessageError>
@@ -89,7 +103,12 @@ pub fn test_hashes(objects: &[Value], field: Field) -> Result<(), MessageError>
     Ok(())
 }
 
-fn each_text(alloc: Global, values: &[Value], field: Field, limit: Limit) -> Result<Vec<Text>, MessageError>
+fn each_text(
+    alloc: Global,
+    values: &[Value],
+    field: Field,
+    limit: Limit,
+) -> Result<Vec<Text>, MessageError>
     ensures { Gives (λ v. v.items) result (each (a_text limit field) (items_view values.now)) }
 {
     let mut texts = Vec::new(alloc);
@@ -102,7 +121,11 @@ fn each_text(alloc: Global, values: &[Value], field: Field, limit: Limit) -> Res
 }
 
 /// The texts of a member that must be there, object by object.
-pub fn each_required(alloc: Global, objects: &[Value], field: Field) -> Result<Vec<Text>, MessageError>
+pub fn each_required(
+    alloc: Global,
+    objects: &[Value],
+    field: Field,
+) -> Result<Vec<Text>, MessageError>
     ensures { Gives (λ v. v.items) result (each (required (a_text Limit.Free) field) (items_view objects.now)) }
 {
     let mut texts = Vec::new(alloc);
@@ -115,7 +138,11 @@ pub fn each_required(alloc: Global, objects: &[Value], field: Field) -> Result<V
 }
 
 /// The texts of a member, empty where it is absent, object by object.
-pub fn each_optional(alloc: Global, objects: &[Value], field: Field) -> Result<Vec<Text>, MessageError>
+pub fn each_optional(
+    alloc: Global,
+    objects: &[Value],
+    field: Field,
+) -> Result<Vec<Text>, MessageError>
     ensures { Gives (λ v. v.items) result (each (optional (a_text Limit.Free) [] field) (items_view objects.now)) }
 {
     let mut texts = Vec::new(alloc);

@@ -31,7 +31,11 @@ pub fn required_member<'v>(object: &'v Value, field: Field) -> Result<&'v Value,
 pub fn object(value: &Value, field: Field) -> Result<&Value, MessageError>
     ensures { Gives (λ v. view v.now) result (an_object field (view value.now)) }
 {
-    if value.is_object() { Ok(value) } else { Err(MessageError::Wrong(field)) }
+    if value.is_object() {
+        Ok(value)
+    } else {
+        Err(MessageError::Wrong(field))
+    }
 }
 
 /// The elements of a list.
@@ -85,7 +89,12 @@ pub fn required_text(alloc: Global, object: &Value, field: Field) -> Result<Text
 }
 
 /// A text within the limit, empty where it is absent.
-pub fn optional_text(alloc: Global, object: &Value, field: Field, limit: Limit) -> Result<Text, MessageError>
+pub fn optional_text(
+    alloc: Global,
+    object: &Value,
+    field: Field,
+    limit: Limit,
+) -> Result<Text, MessageError>
     ensures { Gives (λ t. t) result (optional (a_text limit) [] field (view object.now)) }
 {
     match member(object, field) {
@@ -141,5 +150,9 @@ fn named_sha256(value: &Value, field: Field) -> Result<(), MessageError>
 fn test_sha256(text: &str, field: Field) -> Result<(), MessageError>
     ensures { Gives (λ u. u) result (if is_sha256 text.now then Ok tt else Err (MessageError.Wrong field)) }
 {
-    if text.eq_ignore_ascii_case("SHA-256") { Ok(()) } else { Err(MessageError::Wrong(field)) }
+    if text.eq_ignore_ascii_case("SHA-256") {
+        Ok(())
+    } else {
+        Err(MessageError::Wrong(field))
+    }
 }

@@ -60,7 +60,11 @@ fn letter(chars: &[char], code: u8) -> Option<&[char]>
 {
     match chars {
         [c, rest @ ..] => {
-            if c.to_ascii_lowercase() as u32 == code.to_ascii_lowercase() as u32 { Some(rest) } else { None }
+            if c.to_ascii_lowercase() as u32 == code.to_ascii_lowercase() as u32 {
+                Some(rest)
+            } else {
+                None
+            }
         }
         [] => None,
     }
@@ -121,7 +125,11 @@ fn cell(chars: &[char], place: usize) -> Option<&[char]>
     ensures none { IfNone result ((c : ℕ) (rest : List ℕ) → chars.now ≡ c ∷ rest → is_cell place c ≡ true → ⊥) }
 {
     match chars {
-        [c, rest @ ..] => if fits_cell(*c, place) { Some(rest) } else { None },
+        [c, rest @ ..] => if fits_cell(*c, place) {
+            Some(rest)
+        } else {
+            None
+        },
         [] => None,
     }
 }
@@ -142,7 +150,9 @@ pub fn quoted(alloc: Global, chars: &[char], end: char) -> Result<(Text, &[char]
     ensures taken { IfOk result (λ x. Takes (IsQuoted x.0 end) chars.now x.1.now) }
     ensures stop { IfLeft result (StopsAt (IsAnyQuoted end) chars.now) }
 {
-    let Some(mut left) = behind(chars, '\'') else { return Err(Stop::Left(chars.len())) };
+    let Some(mut left) = behind(chars, '\'') else {
+        return Err(Stop::Left(chars.len()))
+    };
     let mut text = Vec::new(alloc);
     let mut room = 255;
     while let Some((c, rest)) = value_char(left, room) {
@@ -150,7 +160,9 @@ pub fn quoted(alloc: Global, chars: &[char], end: char) -> Result<(Text, &[char]
         room -= c.len_utf8();
         left = rest;
     }
-    let Some(rest) = behind(left, '\'') else { return Err(Stop::Left(left.len())) };
+    let Some(rest) = behind(left, '\'') else {
+        return Err(Stop::Left(left.len()))
+    };
     if text.as_slice().is_empty() {
         return Err(Stop::Left(rest.len()));
     }
@@ -167,7 +179,11 @@ fn value_char(chars: &[char], room: usize) -> Option<(char, &[char])>
 {
     match chars {
         ['\'', '\'', rest @ ..] => if 1 <= room { Some(('\'', rest)) } else { None },
-        [c, rest @ ..] => if *c != '\'' && c.len_utf8() <= room { Some((*c, rest)) } else { None },
+        [c, rest @ ..] => if *c != '\'' && c.len_utf8() <= room {
+            Some((*c, rest))
+        } else {
+            None
+        },
         [] => None,
     }
 }

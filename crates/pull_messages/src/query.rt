@@ -47,13 +47,19 @@ fn query_in(alloc: Global, body: &Value) -> Result<ActionQuery, MessageError>
     let checksums = each_optional(alloc, objects, Field::Checksum)?;
     let names = each_optional(alloc, objects, Field::ConfigurationName)?;
     test_hashes(objects, Field::ChecksumAlgorithm)?;
-    Ok(ActionQuery { clients: Items::of(clients(alloc, checksums, names)?) })
+    Ok(ActionQuery {
+        clients: Items::of(clients(alloc, checksums, names)?),
+    })
 }
 
 fn clients(alloc: Global, checksums: Vec<Text>, names: Vec<Text>) -> Result<Vec<Client>, AllocError>
     ensures { IfOk result (λ v. v.items ≡ map client (zip checksums.items names.items)) }
 {
-    checksums.into_iter().zip(names.into_iter()).map(|(checksum, name)| Client { checksum, name }).collect(alloc)
+    checksums
+        .into_iter()
+        .zip(names.into_iter())
+        .map(|(checksum, name)| Client { checksum, name })
+        .collect(alloc)
 }
 
 /// Writes a query as compact JSON, its members in byte order.

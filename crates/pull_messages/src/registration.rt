@@ -40,12 +40,20 @@ fn registration_in(alloc: Global, body: &Value) -> Result<Registration, MessageE
     ensures { Gives (λ x. x) result (registration_of (view body.now)) }
 {
     let top = object(body, Field::Body)?;
-    let agent = object(required_member(top, Field::AgentInformation)?, Field::AgentInformation)?;
+    let agent = object(
+        required_member(top, Field::AgentInformation)?,
+        Field::AgentInformation,
+    )?;
     let lcm_version = optional_text(alloc, agent, Field::LCMVersion, Limit::Short)?;
     let node_name = optional_text(alloc, agent, Field::NodeName, Limit::Short)?;
     let ip_address = optional_text(alloc, agent, Field::IPAddress, Limit::Short)?;
     let names = optional_names(alloc, top, Field::ConfigurationNames)?;
-    Ok(Registration { lcm_version, node_name, ip_address, names })
+    Ok(Registration {
+        lcm_version,
+        node_name,
+        ip_address,
+        names,
+    })
 }
 
 /// Writes a registration as compact JSON, its members in byte order.

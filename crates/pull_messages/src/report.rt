@@ -82,7 +82,11 @@ fn report_value(alloc: Global, x: &ReportMessage) -> Result<Value, AllocError>
     Ok(Value::Object(members))
 }
 
-fn put_first(members: &mut Map<String, Value>, alloc: Global, x: &ReportMessage) -> Result<(), AllocError>
+fn put_first(
+    members: &mut Map<String, Value>,
+    alloc: Global,
+    x: &ReportMessage,
+) -> Result<(), AllocError>
     ensures value { OnOk result (members_view members.new.entries ≡ with_first x.now (members_view members.old.entries)) }
     ensures job { OnOk result (x.now.job < 2 ^ 128) }
     ensures version { OnOk result (recoded x.now.version ≡ x.now.version) }
@@ -97,7 +101,11 @@ fn put_first(members: &mut Map<String, Value>, alloc: Global, x: &ReportMessage)
     put_text(members, alloc, Field::OperationType, &x.operation)
 }
 
-fn put_others(members: &mut Map<String, Value>, alloc: Global, x: &ReportMessage) -> Result<(), AllocError>
+fn put_others(
+    members: &mut Map<String, Value>,
+    alloc: Global,
+    x: &ReportMessage,
+) -> Result<(), AllocError>
     ensures value { OnOk result (members_view members.new.entries ≡ with_others x.now (members_view members.old.entries)) }
     ensures reboot { OnOk result (recoded x.now.reboot ≡ x.now.reboot) }
     ensures refresh { OnOk result (recoded x.now.refresh ≡ x.now.refresh) }

@@ -104,7 +104,11 @@ fn quotes_doubled(alloc: Global, chars: &[char]) -> Result<String, AllocError>
 fn push_doubled(text: &mut String, c: char) -> Result<(), AllocError>
     ensures { OnOk result (string_bytes text.new ≡ string_bytes text.old ++ encode_utf8_all (doubled (c ∷ []))) }
 {
-    if c == '\'' { text.push_str("''") } else { text.push(c) }
+    if c == '\'' {
+        text.push_str("''")
+    } else {
+        text.push(c)
+    }
 }
 
 fn push_escaped(out: &mut Vec<u8>, bytes: &[u8]) -> Result<(), AllocError>
@@ -120,7 +124,8 @@ fn push_byte(out: &mut Vec<u8>, byte: u8) -> Result<(), AllocError>
     ensures { OnOk result (out.new.items ≡ out.old.items ++ escaped byte) }
 {
     match byte {
-        b'A'..=b'Z' | b'a'..=b'z' | b'0'..=b'9' | b'-' | b'.' | b'_' | b'~' => out.extend_from_slice(&[byte]),
+        b'A'..=b'Z' | b'a'..=b'z' | b'0'..=b'9' | b'-' | b'.' | b'_' | b'~' =>
+            out.extend_from_slice(&[byte]),
         _ => out.extend_from_slice(&[b'%', upper_digit(byte / 16), upper_digit(byte % 16)]),
     }
 }
@@ -129,5 +134,9 @@ fn upper_digit(value: u8) -> u8
     requires { value < 16 }
     ensures { result ≡ upper_digit_of value }
 {
-    if value < 10 { b'0' + value } else { b'A' + value - 10 }
+    if value < 10 {
+        b'0' + value
+    } else {
+        b'A' + value - 10
+    }
 }

@@ -27,7 +27,11 @@ pub fn target(alloc: Global, text: &[u8]) -> Result<Target, TargetError>
     match spelled_target(alloc, chars) {
         Ok(target) => {
             let at = front_size(text, encoded_size(chars));
-            if at == text.len() { Ok(target) } else { Err(TargetError::BadTarget { at }) }
+            if at == text.len() {
+                Ok(target)
+            } else {
+                Err(TargetError::BadTarget { at })
+            }
         }
         Err(Stop::Left(left)) => {
             let at = front_size(text, encoded_size(&chars[..chars.len() - left]));

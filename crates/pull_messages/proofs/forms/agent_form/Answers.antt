@@ -19,7 +19,7 @@ returns-in_err-rest-clause-stop c =
     let scalars = bytes_scalars end (λ i. omega (arith, c.type_inv.end i)) in
     left_exit c.from_residual.result p.0 c.in_err-rest.field-0.0 (StopsAt (IsWord path_word) chars) (StopsAt (IsAgentForm end) chars) p.1 p.2
     (λ n stops. stop_first (IsWord path_word) (Then IsAgent (IsWord end)) chars n (word_free path_word)
-      (then_some IsAgent (IsWord end) agent_some (word_some end scalars)) stops)
+    (then_some IsAgent (IsWord end) agent_some (word_some end scalars)) stops)
     c.in_err-rest.ensures.stop
 
 pub returns-in_err-id-clause-stop : goal.returns-in_err-id-clause-stop
@@ -31,7 +31,7 @@ returns-in_err-id-clause-stop c =
     let first = c.in_ok-rest.ensures.taken in
     left_exit c.from_residual-in_err-id.result p.0 c.in_err-id.field-0.0 (StopsAt IsAgent c.in_ok-rest.rest.now) (StopsAt (IsAgentForm end) chars) p.1 p.2
     (λ n stops. stop_second (IsWord path_word) (Then IsAgent (IsWord end)) chars first.0 c.in_ok-rest.rest.now n (word_free path_word) first.1 first.2
-      (stop_first IsAgent (IsWord end) c.in_ok-rest.rest.now n agent_free (word_some end scalars) stops))
+    (stop_first IsAgent (IsWord end) c.in_ok-rest.rest.now n agent_free (word_some end scalars) stops))
     c.in_err-id.ensures.stop
 
 pub returns-in_err-rest-2-clause-stop : goal.returns-in_err-rest-2-clause-stop
@@ -43,7 +43,7 @@ returns-in_err-rest-2-clause-stop c =
     let second = c.in_ok-id.ensures.taken in
     left_exit c.from_residual-in_err-rest-2.result p.0 c.in_err-rest-2.field-0.0 (StopsAt (IsWord end) c.in_ok-id.rest.now) (StopsAt (IsAgentForm end) chars) p.1 p.2
     (λ n stops. stop_second (IsWord path_word) (Then IsAgent (IsWord end)) chars first.0 c.in_ok-rest.rest.now n (word_free path_word) first.1 first.2
-      (stop_second IsAgent (IsWord end) c.in_ok-rest.rest.now second.0 c.in_ok-id.rest.now n agent_free second.1 (c.in_ok-id.id, second.2) stops))
+    (stop_second IsAgent (IsWord end) c.in_ok-rest.rest.now second.0 c.in_ok-id.rest.now n agent_free second.1 (c.in_ok-id.id, second.2) stops))
     c.in_err-rest-2.ensures.stop
 
 pub returns-clause-taken : goal.returns-clause-taken

@@ -30,7 +30,7 @@ returns-in_err-rest-clause-bad c =
     let name = c.in_ok-name.ensures.taken in
     left_exit c.from_residual-in_err-rest.result p.0 c.in_err-rest.field-0.0 (StopsAt (IsWord (codes "/ConfigurationContent")) c.in_ok-name.rest.now) (EndsAt IsContentForm chars) p.1 p.2
     (λ n stops. content_third chars form.0 c.in_ok-id.rest.now name.0 c.in_ok-name.rest.now n form.1 (agent_form_in c.in_ok-id.id content_end form.0 form.2)
-      name.1 (c.in_ok-name.name, name.2) stops) c.in_err-rest.ensures.stop
+    name.1 (c.in_ok-name.name, name.2) stops) c.in_err-rest.ensures.stop
 
 pub returns-clause-bad : goal.returns-clause-bad
 returns-clause-bad c =
@@ -49,11 +49,11 @@ returns-clause-ok c =
     let id = c.in_ok-id.id in
     finished_ok c.finished.result (Content id c.in_ok-name.name) c.args.chars.now c.in_ok-rest.rest.now c.finished.ensures
     (λ none.
-      let behind : Spells IsPart (quoted c.in_ok-name.name 41 ∷ word (codes "/ConfigurationContent") ∷ []) (name.0 ++ (last.0 ++ [])) =
-        (name.0, last.0 ++ [], refl, name.2, (last.0, [], refl, last.2, refl)) in
-      let split = joined c.args.chars.now form.0 c.in_ok-id.rest.now (name.0 ++ last.0) c.in_ok-rest.rest.now form.1 (joined _ name.0 c.in_ok-name.rest.now last.0 c.in_ok-rest.rest.now name.1 last.1) in
-      let whole : c.args.chars.now ≡ form.0 ++ (name.0 ++ (last.0 ++ [])) =
-        split ∙ ap (λ (l : List ℕ). (form.0 ++ (name.0 ++ last.0)) ++ l) none ∙ append-nil (form.0 ++ (name.0 ++ last.0))
-        ∙ ap (λ (l : List ℕ). form.0 ++ (name.0 ++ l)) (sym (append-nil last.0)) in
-      subst (SpellsTarget (Content id c.in_ok-name.name)) (sym whole)
-      (spells_append IsPart (agent_parts id (word content_end ∷ [])) (quoted c.in_ok-name.name 41 ∷ word (codes "/ConfigurationContent") ∷ []) form.0 (name.0 ++ (last.0 ++ [])) form.2 behind))
+    let behind : Spells IsPart (quoted c.in_ok-name.name 41 ∷ word (codes "/ConfigurationContent") ∷ []) (name.0 ++ (last.0 ++ [])) =
+    (name.0, last.0 ++ [], refl, name.2, (last.0, [], refl, last.2, refl)) in
+    let split = joined c.args.chars.now form.0 c.in_ok-id.rest.now (name.0 ++ last.0) c.in_ok-rest.rest.now form.1 (joined _ name.0 c.in_ok-name.rest.now last.0 c.in_ok-rest.rest.now name.1 last.1) in
+    let whole : c.args.chars.now ≡ form.0 ++ (name.0 ++ (last.0 ++ [])) =
+    split ∙ ap (λ (l : List ℕ). (form.0 ++ (name.0 ++ last.0)) ++ l) none ∙ append-nil (form.0 ++ (name.0 ++ last.0))
+    ∙ ap (λ (l : List ℕ). form.0 ++ (name.0 ++ l)) (sym (append-nil last.0)) in
+    subst (SpellsTarget (Content id c.in_ok-name.name)) (sym whole)
+    (spells_append IsPart (agent_parts id (word content_end ∷ [])) (quoted c.in_ok-name.name 41 ∷ word (codes "/ConfigurationContent") ∷ []) form.0 (name.0 ++ (last.0 ++ [])) form.2 behind))

@@ -50,7 +50,7 @@ returns-in_err-rest-3-clause-bad c =
     let v = c.in_ok-version.ensures.taken in
     left_exit c.from_residual-in_err-rest-3.result p.0 c.in_err-rest-3.field-0.0 (StopsAt (IsWord (codes "/ModuleContent")) c.in_ok-version.rest.now) (EndsAt IsModuleForm chars) p.1 p.2
     (λ n stops. module_fifth chars a.0 c.in_ok-rest.rest.now b.0 c.in_ok-name.rest.now d.0 c.in_ok-rest-2.rest.now v.0 c.in_ok-version.rest.now n
-      a.1 a.2 b.1 (c.in_ok-name.name, b.2) d.1 d.2 v.1 (c.in_ok-version.version, v.2) stops)
+    a.1 a.2 b.1 (c.in_ok-name.name, b.2) d.1 d.2 v.1 (c.in_ok-version.version, v.2) stops)
     c.in_err-rest-3.ensures.stop
 
 pub returns-clause-bad : goal.returns-clause-bad
@@ -67,6 +67,16 @@ returns-clause-bad c =
     let r5 = c.in_ok-rest-3.rest.now in
     finished_bad IsModuleForm c.finished.result (Module c.in_ok-name.name c.in_ok-version.version) c.args.chars.now (a.0 ++ (b.0 ++ (d.0 ++ (v.0 ++ e.0)))) r5 module_free
     c.finished.ensures
-    (joined _ a.0 r1 (b.0 ++ (d.0 ++ (v.0 ++ e.0))) r5 a.1 (joined _ b.0 r2 (d.0 ++ (v.0 ++ e.0)) r5 b.1 (joined _ d.0 r3 (v.0 ++ e.0) r5 d.1 (joined _ v.0 r4 e.0 r5 v.1 e.1))))
-    (a.0, b.0 ++ (d.0 ++ (v.0 ++ e.0)), refl, a.2, (b.0, d.0 ++ (v.0 ++ e.0), refl, (c.in_ok-name.name, b.2),
-      (d.0, v.0 ++ e.0, refl, d.2, (v.0, e.0, refl, (c.in_ok-version.version, v.2), e.2))))
+    (joined _ a.0 r1 (b.0 ++ (d.0 ++ (v.0 ++ e.0))) r5 a.1 (joined _ b.0 r2 (d.0 ++ (v.0 ++ e.0)) r5 b.1 (joined _ d.0 r3 (v.0 ++ e.0) r5 d.1 (joined _ v.0 r4 e.0 r5 v.1 e.1)))) (
+      a.0,
+      b.0 ++ (d.0 ++ (v.0 ++ e.0)),
+      refl,
+      a.2,
+      (
+        b.0,
+        d.0 ++ (v.0 ++ e.0),
+        refl,
+        (c.in_ok-name.name, b.2),
+        (d.0, v.0 ++ e.0, refl, d.2, (v.0, e.0, refl, (c.in_ok-version.version, v.2), e.2)),
+      ),
+    )

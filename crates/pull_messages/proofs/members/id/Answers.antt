@@ -14,5 +14,5 @@ pub returns-in-Err : goal.returns-in-Err
 unfolding id_of
 returns-in-Err c =
     let none : parsed c.args.text.now ≡ None =
-      none_of _ (λ h. let ok : IsOk c.parse_str.result = c.parse_str.ensures.ok.1 h in let bad = rw c.in-Err.is at ok in cc bad) in
+    none_of _ (λ h. let ok : IsOk c.parse_str.result = c.parse_str.ensures.ok.1 h in let bad = rw c.in-Err.is at ok in cc bad) in
     rw none refl

@@ -10,10 +10,12 @@ loop-place-init c = ([], refl, no_cells, refl)
 pub loop-place-preserved : goal.loop-place-preserved
 loop-place-preserved c =
     let before = c.loop-place.invariant in
-    let next = c.in-Some.ensures.some in
-    (before.0 ++ next.0 ∷ [], more_front c.args.chars.now before.0 c.loop-place.left.now (next.0 ∷ []) c.in-Some.rest.now before.1 next.1,
+    let next = c.in-Some.ensures.some in (
+      before.0 ++ next.0 ∷ [],
+      more_front c.args.chars.now before.0 c.loop-place.left.now (next.0 ∷ []) c.in-Some.rest.now before.1 next.1,
       cells_more before.0 next.0 before.2 (subst (λ (i : ℕ). is_cell i next.0 ≡ true) (sym before.3) next.2),
-      omega (arith, before.3, length-append before.0 (next.0 ∷ [])))
+      omega (arith, before.3, length-append before.0 (next.0 ∷ [])),
+    )
 
 pub returns-in-None-clause-stop : goal.returns-in-None-clause-stop
 returns-in-None-clause-stop c =

@@ -31,9 +31,10 @@ loop-c-preserved c =
     let text = c.loop-c.text.items in
     let size = c.len_utf8-room.ensures.value ∙ sym (length-encode c.in-Some-value_char.c) in
     subst (λ (t : List ℕ). (c.args.chars.now ≡ (39 ∷ doubled t) ++ c.in-Some-value_char.rest.now) × (length (encode_utf8_all t) + (c.loop-c.room - c.len_utf8-room.result) ≡ 255))
-    (sym c.in_ok-push.ensures.items)
-    (value_more c.args.chars.now text c.loop-c.left.now c.in-Some-value_char.rest.now c.in-Some-value_char.c c.loop-c.invariant.0 char.0,
-      room_more text c.in-Some-value_char.c c.loop-c.room c.len_utf8-room.result c.loop-c.invariant.1 char.1 size)
+    (sym c.in_ok-push.ensures.items) (
+      value_more c.args.chars.now text c.loop-c.left.now c.in-Some-value_char.rest.now c.in-Some-value_char.c c.loop-c.invariant.0 char.0,
+      room_more text c.in-Some-value_char.c c.loop-c.room c.len_utf8-room.result c.loop-c.invariant.1 char.1 size,
+    )
 
 pub returns-in-Some-behind-2-clause-taken : goal.returns-in-Some-behind-2-clause-taken
 returns-in-Some-behind-2-clause-taken c =
@@ -41,4 +42,4 @@ returns-in-Some-behind-2-clause-taken c =
     let some = some_chars text (rw c.as_slice.ensures.value at (sym c.is_empty.ensures ∙ c.if-is_empty.false)) in
     subst (λ (t : List ℕ). (front : List ℕ) × (c.args.chars.now ≡ front ++ c.in-Some-behind-2.after.now) × IsQuoted t c.args.end front) (sym c.of.ensures)
     (quoted_taken c.args.chars.now text c.loop-c.left.now c.in-Some-behind.rest.now c.in-Some-behind-2.after.now c.args.end c.loop-c.room
-      c.loop-c.invariant.0 c.in-Some-behind.ensures.some c.in-Some-behind-2.ensures.some c.loop-c.invariant.1 some)
+    c.loop-c.invariant.0 c.in-Some-behind.ensures.some c.in-Some-behind-2.ensures.some c.loop-c.invariant.1 some)

@@ -12,12 +12,14 @@ pub loop-codes-preserved : goal.loop-codes-preserved
 loop-codes-preserved c =
     let before = c.loop-codes.invariant in
     let codes = c.loop-codes.codes.now in
-    let letter = c.in-Some.ensures.some in
-    (before.0 ++ letter.0 ∷ [], before.1 ++ get_or codes 0 0 ∷ [],
+    let letter = c.in-Some.ensures.some in (
+      before.0 ++ letter.0 ∷ [],
+      before.1 ++ get_or codes 0 0 ∷ [],
       more_front c.args.chars.now before.0 c.loop-codes.left.now (letter.0 ∷ []) c.in-Some.rest.now before.2 letter.1,
       more_front c.args.name.now before.1 (get_or codes 0 0 ∷ take (length codes - 1) (drop 1 codes)) (get_or codes 0 0 ∷ []) (take (length codes - 1) (drop 1 codes))
-        (name_more c.args.name.now before.1 codes before.3 c.in-len1-up.len_at_least) refl,
-      word_more before.0 before.1 letter.0 (get_or codes 0 0) before.4 letter.2)
+          (name_more c.args.name.now before.1 codes before.3 c.in-len1-up.len_at_least) refl,
+      word_more before.0 before.1 letter.0 (get_or codes 0 0) before.4 letter.2,
+    )
 
 pub returns-in-None-clause-stop : goal.returns-in-None-clause-stop
 returns-in-None-clause-stop c =

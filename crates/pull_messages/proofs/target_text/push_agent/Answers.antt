@@ -7,5 +7,5 @@ pub returns : goal.returns
 returns c =
     on_ok c.push_word-3.result _ _
     (λ last. four c.args.out.now.items (codes "/Nodes(AgentId='") (id_text c.args.id) (codes "')") c.args.end.now _ _ _ _
-      c.in_ok-push_word.ensures c.in_ok-push_id.ensures c.in_ok-push_word-2.ensures last)
+    c.in_ok-push_word.ensures c.in_ok-push_id.ensures c.in_ok-push_word-2.ensures last)
     c.push_word-3.ensures

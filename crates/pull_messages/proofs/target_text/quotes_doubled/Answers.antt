@@ -12,7 +12,7 @@ loop-c-preserved c =
     let i = c.loop-c.c-index in
     let x = c.c-item.result in
     let next : take (i + 1) chars ≡ take i chars ++ x ∷ [] =
-      (take_at_read chars i x c.loop-c-test.true).1 ∙ ap (λ (y : ℕ). take i chars ++ y ∷ []) (sym c.c-item.is) in
+    (take_at_read chars i x c.loop-c-test.true).1 ∙ ap (λ (y : ℕ). take i chars ++ y ∷ []) (sym c.c-item.is) in
     c.in_ok-push_doubled.ensures ∙ ap (λ (l : List ℕ). l ++ encode_utf8_all (doubled (x ∷ []))) c.loop-c.invariant
     ∙ sym (encodes-append (doubled (take i chars)) (doubled (x ∷ []))) ∙ ap encode_utf8_all (sym (doubled-append (take i chars) (x ∷ [])))
     ∙ ap (λ (l : List ℕ). encode_utf8_all (doubled l)) (sym next)
