@@ -23,7 +23,8 @@ use Rattle.http_frames.specs.Reading.{ReadsBody, IsReadRequest, AwaitsMore, Refu
 use Rattle.http_frames.specs.Answering.{Passes, no_more, one_more, is_interim, IsLastHead, AnswersBody, IsReadAnswer, EndsInside, RefusesAnswer, Answers}
 use Rattle.http_frames.specs.Frames.{FrontBody, AwaitsBody, RefusesBody, RefusesChunked, framing_of, RequestFront, BeginsWithRequest, AwaitsRest, RefusesRequest, answer_framing_of, AnswerFront, Interim, no_interim, interim, LastFront, IsAnswerFrame, IsTorn, RefusesReply, NoAnswer}
 use Rattle.http_frames.proofs.Walking.{request_starts, answer_starts}
-use Rattle.http_frames.proofs.WalkBodies.{body_whole, body_open, body_refused, BodyRefusal, is_wrong_at, is_too_long}
+use Rattle.http_frames.proofs.WalkBodies.{body_whole, body_open}
+use Rattle.http_frames.proofs.Refusals.{body_refused, BodyRefusal, is_wrong_at, is_too_long}
 
 -- ---- bodies
 
