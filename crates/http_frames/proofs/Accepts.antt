@@ -1,17 +1,17 @@
 -- The phases read the bodies in chunks: what each accepts, and that this is the grammar.
-use Rattle.std.proofs.Common.{◌≡◌, ◌≢◌, ℕ, zero, suc, ◌+◌, ◌-◌, ◌*◌, ◌<◌, ◌≤◌, List, [], ◌∷◌, ◌++◌, length, refl, sym, ap, ap₂, ◌∙◌, subst, arith, zero-add, append_assoc, append-nil, length-append, Bool, true, false, not, inl, inr}
+use Rattle.std.proofs.Common.{◌≡◌, ℕ, zero, suc, ◌+◌, ◌-◌, ◌*◌, ◌<◌, ◌≤◌, List, [], ◌∷◌, ◌++◌, length, refl, sym, ap, ap₂, ◌∙◌, subst, arith, zero-add, append_assoc, Bool, true, false, not, inl, inr}
 use Rattle.std.specs.Prelude.{◌⊎◌, Option, Some, None, if◌then◌else◌, ◌==◌, ◌||◌, nat_lt}
 use Rattle.std.specs.List.{AllPass}
 use Rattle.std.specs.Char.{is_ascii_hexdigit, digit_value}
 use Rattle.std.specs.Str.Parse.{digits_value, digits_value_after}
 use Rattle.std.proofs.lemmas.Bool.{false≢true, cases_lt}
 use Rattle.std.proofs.lemmas.Bool.Decides.{eqb_tells}
-use Rattle.std.proofs.lemmas.List.Elements.{All-head, All-tail, All-cons, All-nil}
-use Rattle.httparse.specs.Grammar.{ChunkLine, IsChunkLine, print_chunk_line, chunk_size, LineEnd, crlf, lf, print_end, is_ows, is_extension_byte, print_extension, IsExtension}
+use Rattle.std.proofs.lemmas.List.Elements.{All-cons, All-nil}
+use Rattle.httparse.specs.Grammar.{ChunkLine, IsChunkLine, print_chunk_line, crlf, lf, is_ows, is_extension_byte, print_extension, IsExtension}
 use Rattle.http_frames.specs.declared.chunks.Phase.{Phase}
 use Rattle.http_frames.specs.declared.chunks.Phase.TheVariants.{Line, Size, Pad, Extension, SizeReturn, Data, DataEnd, DataReturn, Trailer as TrailerStart, TrailerReturn, TrailerText, Done}
-use Rattle.http_frames.specs.Phases.{next_phase, behind_size, behind_line, next_in_size, next_in_extension, next_in_trailer, is_data, is_done}
-use Rattle.http_frames.specs.Chunks.{is_trailer_byte, IsTrailerLine, Trailer, ended, lined, Chunked, last_chunk, chunk}
+use Rattle.http_frames.specs.Phases.{next_phase, behind_size, behind_line, next_in_trailer, is_data, is_done}
+use Rattle.http_frames.specs.Chunks.{is_trailer_byte, Trailer, ended, lined, Chunked, last_chunk, chunk}
 
 abbrev pub OnSome : Option Phase → (Phase → Type 0) → Type 0
 OnSome None P = ⊥

@@ -1,6 +1,6 @@
 -- How much a phase still wants, at least, and that so much is enough.
-use Rattle.std.proofs.Common.{◌≡◌, ◌≢◌, ℕ, zero, suc, ◌+◌, ◌-◌, ◌*◌, ◌<◌, ◌≤◌, List, [], ◌∷◌, ◌++◌, length, replicate, refl, sym, ap, ap₂, ◌∙◌, subst, arith, length-append, Bool, true, false, inl, inr}
-use Rattle.std.specs.Prelude.{◌⊎◌, Option, Some, None, if◌then◌else◌, ◌==◌, ◌||◌, nat_lt}
+use Rattle.std.proofs.Common.{◌≡◌, ℕ, zero, suc, ◌+◌, ◌-◌, ◌*◌, ◌<◌, ◌≤◌, List, [], ◌∷◌, ◌++◌, length, replicate, refl, sym, ap, ◌∙◌, subst, arith, length-append, Bool, true, false, inl, inr}
+use Rattle.std.specs.Prelude.{Option, Some, None, if◌then◌else◌, ◌==◌, nat_lt}
 use Rattle.std.specs.Char.{is_ascii_hexdigit, digit_value}
 use Rattle.std.proofs.lemmas.Bool.{false≢true}
 use Rattle.std.proofs.lemmas.Bool.Decides.{eqb_tells}
@@ -8,10 +8,10 @@ use Rattle.std.proofs.lemmas.List.{length-replicate}
 use Rattle.httparse.specs.Grammar.{is_ows}
 use Rattle.http_frames.specs.declared.chunks.Phase.{Phase}
 use Rattle.http_frames.specs.declared.chunks.Phase.TheVariants.{Line, Size, Pad, Extension, SizeReturn, Data, DataEnd, DataReturn, Trailer as TrailerStart, TrailerReturn, TrailerText, Done}
-use Rattle.http_frames.specs.Phases.{next_phase, behind_size, behind_line, next_in_size, next_in_extension, next_in_trailer, is_data, is_done, least_rest, least_behind, begun_content}
+use Rattle.http_frames.specs.Phases.{next_phase, behind_size, behind_line, next_in_trailer, is_data, is_done, least_rest, least_behind, begun_content}
 use Rattle.http_frames.specs.Walks.{content_byte}
 use Rattle.http_frames.proofs.Accepts.{OnSome, Keeps, Accepts}
-use Rattle.http_frames.proofs.Complete.{accept, data_accepted, step_first, size_reads, pad_reads, text_behind, extension_accepted, end_of_line}
+use Rattle.http_frames.proofs.Complete.{data_accepted, size_reads, pad_reads, text_behind, end_of_line}
 
 abbrev pub AllSome : Option Phase → (Phase → Type 0) → Type 0
 AllSome None P = Unit {0}

@@ -1,6 +1,6 @@
 -- Numbers that decimal digits write.
-use Rattle.std.proofs.Common.{◌≡◌, ℕ, ◌+◌, ◌*◌, ◌<◌, ◌≤◌, ◌^◌, List, [], ◌∷◌, length, get_or, IsTrue, Bool, true, false, ◌&&◌, ◌||◌, not, refl, arith, rules, subst, codes, nat_le, lit<}
-use Rattle.std.specs.Prelude.{Option, Some, None, cond}
+use Rattle.std.proofs.Common.{◌≡◌, ℕ, ◌+◌, ◌*◌, ◌<◌, ◌≤◌, ◌^◌, List, [], ◌∷◌, length, get_or, IsTrue, Bool, true, false, ◌&&◌, ◌||◌, not, arith, subst, codes, nat_le, lit<}
+use Rattle.std.specs.Prelude.{Some, cond}
 use Rattle.std.specs.List.{list_all, find}
 use Rattle.std.specs.Char.{is_ascii_digit, digit_value}
 use Rattle.std.specs.Str.Parse.{digits_value, digits_value_after, AllDigits}

@@ -1,30 +1,30 @@
 -- What a reader answers is so of the messages and their bytes.
-use Rattle.std.proofs.Common.{◌≡◌, ℕ, ◌+◌, ◌-◌, ◌<◌, ◌≤◌, List, [], ◌∷◌, ◌++◌, length, take, drop, map, refl, sym, ap, ap₂, ◌∙◌, subst, arith, append_assoc, append-nil, length-append, Bool, true, false, inl, inr}
-use Rattle.std.specs.Prelude.{◌≢◌, ◌⊎◌, Option, Some, None, Result, Ok, Err, IfOk, IfErr, IfSome, IfNone, if◌then◌else◌, nat_le}
-use Rattle.std.proofs.lemmas.List.{take-append-drop, length-take-le, length-drop}
-use Rattle.httparse.specs.Grammar.{RequestHead, print_request, ResponseHead, print_response, status_code}
+use Rattle.std.proofs.Common.{◌≡◌, ℕ, ◌-◌, ◌<◌, ◌≤◌, List, [], ◌++◌, length, take, drop, refl, sym, ap, ap₂, ◌∙◌, subst, arith, append_assoc, append-nil, length-append, Bool, true, false, inl, inr}
+use Rattle.std.specs.Prelude.{◌≢◌, Option, Some, None, Result, Ok, Err, IfOk, IfErr, IfSome, IfNone, if◌then◌else◌, nat_le}
+use Rattle.std.proofs.lemmas.List.{take-append-drop, length-take-le}
+use Rattle.httparse.specs.Grammar.{print_request, ResponseHead, print_response}
 use Rattle.http_frames.specs.declared.limits.Limits.{Limits}
 use Rattle.http_frames.specs.declared.limits.TheConstants.{REQUEST_LIMITS, ANSWER_LIMITS}
 use Rattle.http_frames.specs.declared.framing.Framing.{Framing}
 use Rattle.http_frames.specs.declared.framing.Framing.TheVariants.{Sized, Chunked, ToEnd}
 use Rattle.http_frames.specs.declared.chunks.Walk.{Walk}
 use Rattle.http_frames.specs.declared.frame_error.FrameError.{FrameError}
-use Rattle.http_frames.specs.declared.frame_error.FrameError.TheVariants.{BodyTooLong, Chunk, Memory, Torn}
+use Rattle.http_frames.specs.declared.frame_error.FrameError.TheVariants.{BodyTooLong, Memory}
 use Rattle.http_frames.specs.declared.message.Request.{Request}
 use Rattle.http_frames.specs.declared.message.Reply.{Reply}
-use Rattle.http_frames.specs.declared.message.Header.{Header}
 use Rattle.http_frames.specs.declared.head.RequestHead.{RequestHead as RequestStart}
 use Rattle.http_frames.specs.declared.head.AnswerHead.{AnswerHead as AnswerStart}
 use Rattle.http_frames.specs.Phases.{is_done}
 use Rattle.http_frames.specs.Walks.{can_fit, walk_over, content_over, start}
 use Rattle.http_frames.specs.Bodies.{body_reading, chunked_reading}
-use Rattle.http_frames.specs.Heads.{header_of, IsRequestHeadOf, IsAnswerHeadOf}
+use Rattle.http_frames.specs.Heads.{IsRequestHeadOf, IsAnswerHeadOf}
 use Rattle.http_frames.specs.Framing.{request_framing, answer_framing}
-use Rattle.http_frames.specs.Reading.{ReadsBody, IsReadRequest, AwaitsMore, RefusesFraming, Refuses}
-use Rattle.http_frames.specs.Answering.{Passes, no_more, one_more, is_interim, IsLastHead, AnswersBody, IsReadAnswer, EndsInside, RefusesAnswerFraming, RefusesAnswer, Answers}
-use Rattle.http_frames.specs.Frames.{IsBody, FrontBody, AwaitsBody, RefusesBody, RefusesChunked, framing_of, RequestFront, IsRequestFrame, BeginsWithRequest, AwaitsRequestBody, AwaitsRest, RefusesRequestFraming, RefusesRequestBody, RefusesRequest, answer_framing_of, AnswerFront, Interim, no_interim, interim, LastFront, IsAnswerFrame, EndsInBody, IsTorn, RefusesLastFraming, RefusesLastBody, RefusesReply, NoAnswer}
-use Rattle.http_frames.proofs.Walking.{done_or_not, request_starts, answer_starts}
-use Rattle.http_frames.proofs.WalkBodies.{body_whole, body_open, body_refused, BodyRefusal, is_wrong_at, is_too_long}
+use Rattle.http_frames.specs.Reading.{ReadsBody, IsReadRequest, AwaitsMore, Refuses}
+use Rattle.http_frames.specs.Answering.{Passes, no_more, one_more, is_interim, IsLastHead, AnswersBody, IsReadAnswer, EndsInside, RefusesAnswer, Answers}
+use Rattle.http_frames.specs.Frames.{FrontBody, AwaitsBody, RefusesBody, RefusesChunked, framing_of, RequestFront, BeginsWithRequest, AwaitsRest, RefusesRequest, answer_framing_of, AnswerFront, Interim, no_interim, interim, LastFront, IsAnswerFrame, IsTorn, RefusesReply, NoAnswer}
+use Rattle.http_frames.proofs.Walking.{request_starts, answer_starts}
+use Rattle.http_frames.proofs.WalkBodies.{body_whole, body_open}
+use Rattle.http_frames.proofs.Refusals.{body_refused, BodyRefusal, is_wrong_at, is_too_long}
 
 -- ---- bodies
 
@@ -54,10 +54,10 @@ end_means limits front bytes true e =
     record { body = bytes; rest = []; split = sym (append-nil bytes); is_body = (fits, refl); to_end = λ h. refl }
 end_means limits front bytes false e = (let long : limits.content < length bytes = grind (arith, e) in (refl, long))
 
-refusal_means : (limits : Limits) (front : ℕ) (bytes : List ℕ) (e : FrameError) → BodyRefusal limits bytes e
-    → walk_over limits front start bytes ≡ Err e → RefusesChunked limits front bytes e
-refusal_means limits front bytes _ (is_wrong_at at stops) over = (stops, over)
-refusal_means limits front bytes _ (is_too_long stops) over = stops
+refusal_means : (limits : Limits) (front : ℕ) (bytes : List ℕ) (e : FrameError) → BodyRefusal limits front bytes e
+    → RefusesChunked limits front bytes e
+refusal_means limits front bytes _ (is_wrong_at place stops) = (place, refl, stops)
+refusal_means limits front bytes _ (is_too_long stops) = stops
 
 done_means : (limits : Limits) (front : ℕ) (bytes : List ℕ) (walk : Walk) (t : Bool) → can_fit limits start ≡ true
     → walk_over limits front start bytes ≡ Ok walk → is_done walk.phase ≡ t
@@ -69,7 +69,7 @@ done_means limits front bytes walk false fits over open' = body_open limits fron
 
 chunked_means : (limits : Limits) (front : ℕ) (bytes : List ℕ) (r : Result Walk FrameError) → can_fit limits start ≡ true
     → walk_over limits front start bytes ≡ r → Means limits front Chunked bytes (chunked_reading r (content_over limits front start bytes))
-chunked_means limits front bytes (Err e) fits over = refusal_means limits front bytes e (body_refused limits front bytes e fits over) over
+chunked_means limits front bytes (Err e) fits over = refusal_means limits front bytes e (body_refused limits front bytes e fits over)
 chunked_means limits front bytes (Ok walk) fits over = done_means limits front bytes walk (is_done walk.phase) fits over refl
 
 pub reading_means : (limits : Limits) (front : ℕ) (framing : Framing) (bytes : List ℕ) → can_fit limits start ≡ true

@@ -1,7 +1,7 @@
 -- What was read of a head, by the spans that cover its parts.
 use Rattle.std.proofs.Common.{◌≡◌, ℕ, ◌<◌, ◌≤◌, List, [], ◌∷◌, ◌++◌, length, take, drop, map, refl, sym, ap, ◌∙◌, subst, arith, append_assoc}
-use Rattle.std.proofs.lemmas.List.{take_all, length-map, length-take-le, take-append-drop, drop-append-le, take-append-le, length-take}
-use Rattle.httparse.specs.Grammar.{Field, field_value, RequestHead, ReadsRequest, print_request, ResponseHead, ReadsResponse, print_response}
+use Rattle.std.proofs.lemmas.List.{take_all, length-map, length-take-le, take-append-drop, drop-append-le, length-take}
+use Rattle.httparse.specs.Grammar.{Field, print_request, print_response}
 use Rattle.httparse.specs.declared.spans.HeaderSpan.{HeaderSpan}
 use Rattle.httparse.specs.declared.spans.RequestSpans.{RequestSpans}
 use Rattle.httparse.specs.declared.spans.ResponseSpans.{ResponseSpans}
@@ -9,7 +9,7 @@ use Rattle.httparse.specs.Spans.{IsRequestOf, IsRequestWithin, IsResponseOf, IsR
 use Rattle.http_frames.specs.declared.message.Header.{Header}
 use Rattle.http_frames.specs.declared.head.RequestHead.{RequestHead as RequestStart}
 use Rattle.http_frames.specs.declared.head.AnswerHead.{AnswerHead as AnswerStart}
-use Rattle.http_frames.specs.Heads.{header_of, header_at, BeginsRequest, IsRequestHeadOf, IsCopyOfRequest, IsOpenRequest, AwaitsRequest, BeginsAnswer, IsAnswerHeadOf, IsCopyOfAnswer, IsOpenAnswer, AwaitsAnswer}
+use Rattle.http_frames.specs.Heads.{header_of, header_at, IsRequestHeadOf, IsCopyOfRequest, IsOpenRequest, AwaitsRequest, IsAnswerHeadOf, IsCopyOfAnswer, IsOpenAnswer, AwaitsAnswer}
 
 as_header : List ℕ × List ℕ → Header
 as_header pair = record { name = pair.0; value = pair.1 }

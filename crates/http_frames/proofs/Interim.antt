@@ -1,5 +1,5 @@
 -- Passing over interim heads.
-use Rattle.std.proofs.Common.{◌≡◌, ℕ, ◌<◌, ◌≤◌, List, [], ◌∷◌, ◌++◌, length, drop, true, arith, ap, length-append}
+use Rattle.std.proofs.Common.{◌≡◌, ℕ, ◌<◌, ◌≤◌, List, length, drop, true, arith, ap, length-append}
 use Rattle.httparse.specs.Grammar.{ResponseHead, print_response}
 use Rattle.httparse.proofs.GrammarLemmas.{cons-append}
 use Rattle.http_frames.specs.declared.head.AnswerHead.{AnswerHead as AnswerStart}

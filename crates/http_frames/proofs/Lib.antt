@@ -9,5 +9,7 @@ pub mod Accepts
 pub mod Complete
 pub mod Bounds
 pub mod WalkBodies
+pub mod LineStarts
+pub mod Refusals
 pub mod FrameLaws
 pub mod SentLines

@@ -1,14 +1,13 @@
 -- Where a request's head has begun a header line too many, no continuation makes it a head of 64 lines.
-use Rattle.std.proofs.Common.{◌≡◌, ◌≢◌, ℕ, suc, ◌+◌, ◌<◌, ◌≤◌, List, [], ◌∷◌, ◌++◌, length, refl, sym, ap, ◌∙◌, subst, arith, append_assoc, append-nil, Bool, true, false, inl, inr}
-use Rattle.std.specs.Prelude.{◌⊎◌, ◌==◌, codes}
+use Rattle.std.proofs.Common.{◌≡◌, ℕ, suc, ◌+◌, ◌<◌, List, [], ◌∷◌, ◌++◌, length, refl, sym, ap, ◌∙◌, subst, arith, append_assoc, true, false, inl, inr}
+use Rattle.std.specs.Prelude.{◌==◌}
 use Rattle.std.specs.List.{flat_map}
 use Rattle.std.proofs.lemmas.Bool.Decides.{eqb_tells}
-use Rattle.std.proofs.lemmas.Bool.{false≢true}
 use Rattle.std.proofs.lemmas.List.Elements.{All-head, All-nil}
-use Rattle.httparse.specs.Grammar.{print_end, print_blank, print_version, print_field, IsField, print_section, RequestHead, IsRequestHead, ReadsRequest, print_request, HasNoRequest, MayBecomeRequest, EndsInTarget, AllPass, is_token_byte, is_uri_byte}
+use Rattle.httparse.specs.Grammar.{print_end, print_blank, print_version, print_field, IsField, RequestHead, IsRequestHead, ReadsRequest, print_request, HasNoRequest, MayBecomeRequest, AllPass, is_token_byte, is_uri_byte}
 use Rattle.httparse.proofs.GrammarLemmas.{cons-append, print_request-append}
-use Rattle.http_frames.specs.Lines.{is_break, skip_breaks, skip_lines, begins_line_there, begins_extra_line}
-use Rattle.http_frames.specs.Heads.{BeginsRequest, CanBeRequest, IsNoRequest, IsOpenRequest}
+use Rattle.http_frames.specs.Lines.{skip_lines, begins_line_there, begins_extra_line}
+use Rattle.http_frames.specs.Heads.{CanBeRequest, IsNoRequest, IsOpenRequest}
 use Rattle.http_frames.proofs.LineCounts.{NoFeed, no_feed, token_feed, token_inside, skip_over, skip_byte, skip_end, IsStart, section_of, extra_refuses, no_extra_fits, BeginsInside, blank_breaks, blank_cases, not_extra}
 
 -- method SP target SP version line-end

@@ -1,5 +1,5 @@
 -- A walk reads the body in chunks at the front of the bytes.
-use Rattle.std.proofs.Common.{◌≡◌, ◌≢◌, ℕ, zero, suc, ◌+◌, ◌<◌, ◌≤◌, List, [], ◌∷◌, ◌++◌, length, refl, sym, ap, ap₂, ◌∙◌, subst, arith, append_assoc, append-nil, length-append, IsTrue, Bool, true, false, inl, inr}
+use Rattle.std.proofs.Common.{◌≡◌, ℕ, ◌+◌, ◌<◌, ◌≤◌, List, [], ◌∷◌, ◌++◌, length, refl, sym, ap, ◌∙◌, subst, arith, append-nil, length-append, Bool, true, false, inl, inr}
 use Rattle.std.specs.Prelude.{◌⊎◌, Option, Some, None, Result, Ok, Err, if◌then◌else◌, nat_le, ◌&&◌}
 use Rattle.std.proofs.lemmas.Bool.{false≢true}
 use Rattle.http_frames.specs.declared.limits.Limits.{Limits}
@@ -9,12 +9,12 @@ use Rattle.http_frames.specs.declared.chunks.Walk.{Walk}
 use Rattle.http_frames.specs.declared.frame_error.FrameError.{FrameError}
 use Rattle.http_frames.specs.declared.frame_error.FrameError.TheVariants.{BodyTooLong, Chunk}
 use Rattle.http_frames.specs.Phases.{next_phase, is_data, is_done, least_rest, begun_content}
-use Rattle.http_frames.specs.Walks.{step, step_to, within, stepped, can_fit, and_then_walk, when_ok, walk_over, content_over, start, content_byte}
-use Rattle.http_frames.specs.Chunks.{Chunked, IsBodyWithin, CanBeBody, LacksBody, StopsWrong, StopsLong}
+use Rattle.http_frames.specs.Walks.{step, step_to, stepped, can_fit, and_then_walk, when_ok, walk_over, content_over, start, content_byte}
+use Rattle.http_frames.specs.Chunks.{Chunked, IsBodyWithin, CanBeBody, LacksBody}
 use Rattle.http_frames.proofs.Walking.{walk_done, walk_byte, walk_none, done_or_not, walk_over-append}
-use Rattle.http_frames.proofs.Accepts.{OnSome, Keeps, Accepts, Means, sound}
+use Rattle.http_frames.proofs.Accepts.{OnSome, Keeps, Accepts, sound}
 use Rattle.http_frames.proofs.Complete.{complete}
-use Rattle.http_frames.proofs.Bounds.{AllSome, accepts_least, IsSane, step_sane, Reaches, reach}
+use Rattle.http_frames.proofs.Bounds.{AllSome, IsSane, step_sane, reach}
 
 -- ---- one step
 
@@ -36,15 +36,15 @@ step_is_at limits front walk b (Some next) e = elim (done_or_not (can_fit limits
 pub step_is : (limits : Limits) (front : ℕ) (walk : Walk) (b : ℕ) → StepIs limits front walk b
 step_is limits front walk b = step_is_at limits front walk b (next_phase walk.phase b) refl
 
-stepped_phase : (walk : Walk) (next : Phase) → (stepped walk next).phase ≡ next
+pub stepped_phase : (walk : Walk) (next : Phase) → (stepped walk next).phase ≡ next
 unfolding stepped
 stepped_phase walk next = refl
 
-stepped_length : (walk : Walk) (next : Phase) → (stepped walk next).length ≡ walk.length + 1
+pub stepped_length : (walk : Walk) (next : Phase) → (stepped walk next).length ≡ walk.length + 1
 unfolding stepped
 stepped_length walk next = refl
 
-stepped_content : (walk : Walk) (next : Phase) → (stepped walk next).content ≡ walk.content + content_byte walk.phase
+pub stepped_content : (walk : Walk) (next : Phase) → (stepped walk next).content ≡ walk.content + content_byte walk.phase
 unfolding stepped
 stepped_content walk next = refl
 
@@ -57,7 +57,7 @@ keeps : (t : Bool) (b : ℕ) (P : List ℕ → Type 0) (content : List ℕ) → 
 keeps true b P content h = (content, refl, h)
 keeps false b P content h = h
 
-accept_kept : (p q : Phase) (b : ℕ) (bytes content : List ℕ) → next_phase p b ≡ Some q → Accepts q bytes content
+pub accept_kept : (p q : Phase) (b : ℕ) (bytes content : List ℕ) → next_phase p b ≡ Some q → Accepts q bytes content
     → Accepts p (b ∷ bytes) (kept p b content)
 accept_kept p q b bytes content e h =
     subst (λ (o : Option Phase). OnSome o (λ next. Keeps (is_data p) b (Accepts next bytes) (kept p b content))) (sym e)
@@ -68,7 +68,7 @@ kept_back : (t : Bool) (b : ℕ) (P : List ℕ → Type 0) (content : List ℕ) 
 kept_back true b P content h = h
 kept_back false b P content h = (content, refl, h)
 
-accept_back : (p q : Phase) (b : ℕ) (bytes content : List ℕ) → next_phase p b ≡ Some q → Accepts p (b ∷ bytes) content
+pub accept_back : (p q : Phase) (b : ℕ) (bytes content : List ℕ) → next_phase p b ≡ Some q → Accepts p (b ∷ bytes) content
     → (rest : List ℕ) × (content ≡ kept p b rest) × Accepts q bytes rest
 accept_back p q b bytes content e h =
     kept_back (is_data p) b (Accepts q bytes) content
@@ -78,7 +78,7 @@ kept-append : (t : Bool) (b : ℕ) (x c : List ℕ) → (if t then b ∷ x else 
 kept-append true b x c = refl
 kept-append false b x c = refl
 
-kept_length : (t : Bool) (b : ℕ) (x : List ℕ) → length (if t then b ∷ x else x) ≡ length x + (if t then 1 else 0)
+pub kept_length : (t : Bool) (b : ℕ) (x : List ℕ) → length (if t then b ∷ x else x) ≡ length x + (if t then 1 else 0)
 kept_length true b x = omega arith
 kept_length false b x = omega arith
 
@@ -102,6 +102,7 @@ pub record Reached (limits : Limits) (front : ℕ) (walk : Walk) (bytes : List �
   pub content_is : reached.content ≡ walk.content + length (content_over limits front walk bytes)
   pub sane : IsSane reached.phase
   pub fits : can_fit limits reached ≡ true
+  pub over : walk_over limits front walk bytes ≡ Ok reached
 
 reached_here : (limits : Limits) (front : ℕ) (walk : Walk) → IsSane walk.phase → can_fit limits walk ≡ true → Reached limits front walk [] walk
 unfolding content_over
@@ -112,7 +113,32 @@ reached_here limits front walk sane fits = record {
   content_is = omega arith;
   sane = sane;
   fits = fits;
+  over = walk_none limits front walk;
 }
+
+is_the_end : (phase : Phase) → is_done phase ≡ true → phase ≡ Done
+is_the_end Done h = refl
+is_the_end Line h = absurd (false≢true h)
+is_the_end (Size digits size) h = absurd (false≢true h)
+is_the_end (Pad size) h = absurd (false≢true h)
+is_the_end (Extension size) h = absurd (false≢true h)
+is_the_end (SizeReturn size) h = absurd (false≢true h)
+is_the_end (Data left) h = absurd (false≢true h)
+is_the_end DataEnd h = absurd (false≢true h)
+is_the_end DataReturn h = absurd (false≢true h)
+is_the_end TrailerStart h = absurd (false≢true h)
+is_the_end TrailerReturn h = absurd (false≢true h)
+is_the_end TrailerText h = absurd (false≢true h)
+
+next_of_end : (b : ℕ) → next_phase Done b ≡ None
+unfolding next_phase
+next_of_end b = refl
+
+not_the_end : (p q : Phase) (b : ℕ) → next_phase p b ≡ Some q → is_done p ≡ false
+not_the_end p q b e = elim (done_or_not (is_done p)) [
+  | inl w ↦ absurd (let x = sym (ap (λ (r : Phase). next_phase r b) (is_the_end p w) ∙ next_of_end b) ∙ e in cc)
+  | inr w ↦ w
+]
 
 reached_on : (limits : Limits) (front : ℕ) (walk : Walk) (b : ℕ) (next : Phase) (bytes : List ℕ) (reached : Walk)
     → next_phase walk.phase b ≡ Some next → step limits front walk b ≡ Ok (stepped walk next)
@@ -137,13 +163,15 @@ reached_on limits front walk b next bytes reached e stepped_is far =
       content_is = omega (arith, far.content_is, stepped_content walk next, counted);
       sane = far.sane;
       fits = far.fits;
+      over = walk_byte limits front walk b bytes (not_the_end walk.phase next b e)
+          ∙ ap (λ (r : Result Walk FrameError). and_then_walk r (λ n. walk_over limits front n bytes)) stepped_is ∙ far.over;
     }
 
-next_sane : (walk : Walk) (b : ℕ) (next : Phase) → next_phase walk.phase b ≡ Some next → IsSane walk.phase → IsSane (stepped walk next).phase
+pub next_sane : (walk : Walk) (b : ℕ) (next : Phase) → next_phase walk.phase b ≡ Some next → IsSane walk.phase → IsSane (stepped walk next).phase
 next_sane walk b next e sane =
     subst IsSane (sym (stepped_phase walk next)) (subst (λ (o : Option Phase). AllSome o IsSane) e (step_sane walk.phase b sane))
 
-ok_walk : (a b : Walk) → (let l : Result Walk FrameError = Ok a in l ≡ Ok b) → a ≡ b
+pub ok_walk : (a b : Walk) → (let l : Result Walk FrameError = Ok a in l ≡ Ok b) → a ≡ b
 ok_walk a b e = cc
 
 pub reached_open : (limits : Limits) (front : ℕ) (walk : Walk) (bytes : List ℕ) (reached : Walk) → IsSane walk.phase
@@ -178,24 +206,6 @@ pub record Whole (limits : Limits) (front : ℕ) (walk : Walk) (bytes : List ℕ
   pub length_is : reached.length ≡ walk.length + length body
   pub content_is : reached.content ≡ walk.content + length (content_over limits front walk bytes)
   pub fits : can_fit limits reached ≡ true
-
-is_the_end : (phase : Phase) → is_done phase ≡ true → phase ≡ Done
-is_the_end Done h = refl
-is_the_end Line h = absurd (false≢true h)
-is_the_end (Size digits size) h = absurd (false≢true h)
-is_the_end (Pad size) h = absurd (false≢true h)
-is_the_end (Extension size) h = absurd (false≢true h)
-is_the_end (SizeReturn size) h = absurd (false≢true h)
-is_the_end (Data left) h = absurd (false≢true h)
-is_the_end DataEnd h = absurd (false≢true h)
-is_the_end DataReturn h = absurd (false≢true h)
-is_the_end TrailerStart h = absurd (false≢true h)
-is_the_end TrailerReturn h = absurd (false≢true h)
-is_the_end TrailerText h = absurd (false≢true h)
-
-next_of_end : (b : ℕ) → next_phase Done b ≡ None
-unfolding next_phase
-next_of_end b = refl
 
 content_done : (limits : Limits) (front : ℕ) (walk : Walk) (bytes : List ℕ) → is_done walk.phase ≡ true → content_over limits front walk bytes ≡ []
 unfolding content_over
@@ -286,7 +296,7 @@ stopped_on limits front walk b next bytes e there stepped_is far = record {
   step_fails = far.step_fails;
 }
 
-err_walk : (a b : FrameError) → (let l : Result Walk FrameError = Err a in l ≡ Err b) → a ≡ b
+pub err_walk : (a b : FrameError) → (let l : Result Walk FrameError = Err a in l ≡ Err b) → a ≡ b
 err_walk a b e = cc
 
 stopped_here : (limits : Limits) (front : ℕ) (walk : Walk) (b : ℕ) (bytes : List ℕ) (e f : FrameError) → IsSane walk.phase
@@ -324,21 +334,21 @@ walk_stopped limits front walk (b ∷ bytes) e sane fits is = elim (done_or_not 
 
 -- ---- from the front of a body
 
-start_phase : start.phase ≡ Line
+pub start_phase : start.phase ≡ Line
 unfolding start
 start_phase = refl
 
-start_counts : (start.length ≡ 0) × (start.content ≡ 0)
+pub start_counts : (start.length ≡ 0) × (start.content ≡ 0)
 unfolding start
 start_counts = (refl, refl)
 
-start_sane : IsSane start.phase
+pub start_sane : IsSane start.phase
 start_sane = subst IsSane (sym start_phase) tt
 
-from_start : (bytes content : List ℕ) → Accepts start.phase bytes content → Chunked bytes content
+pub from_start : (bytes content : List ℕ) → Accepts start.phase bytes content → Chunked bytes content
 from_start bytes content h = sound bytes Line content (subst (λ (p : Phase). Accepts p bytes content) start_phase h)
 
-to_start : (bytes content : List ℕ) → Chunked bytes content → Accepts start.phase bytes content
+pub to_start : (bytes content : List ℕ) → Chunked bytes content → Accepts start.phase bytes content
 to_start bytes content h = subst (λ (p : Phase). Accepts p bytes content) (sym start_phase) (complete bytes content h)
 
 both_fit : (a b c d : ℕ) → (nat_le a b && nat_le c d) ≡ true → (a ≤ b) × (c ≤ d)
@@ -347,7 +357,7 @@ both_fit a b c d h = grind arith
 one_not : (a b c d : ℕ) → (nat_le a b && nat_le c d) ≡ false → (b < a) ⊎ (d < c)
 one_not a b c d h = grind arith
 
-no_fit : (limits : Limits) (walk : Walk) → can_fit limits walk ≡ false
+pub no_fit : (limits : Limits) (walk : Walk) → can_fit limits walk ≡ false
     → (limits.content < walk.content + begun_content walk.phase) ⊎ (limits.chunked < walk.length + least_rest walk.phase)
 unfolding can_fit
 no_fit limits walk h = one_not _ _ _ _ h
@@ -373,7 +383,7 @@ body_whole limits front bytes reached fits is done =
       },
     )
 
-can_be : (limits : Limits) (front : ℕ) (bytes : List ℕ) (reached : Walk) → Reached limits front start bytes reached
+pub can_be : (limits : Limits) (front : ℕ) (bytes : List ℕ) (reached : Walk) → Reached limits front start bytes reached
     → is_done reached.phase ≡ false → CanBeBody limits bytes
 can_be limits front bytes reached over not_done =
     let r = reach reached.phase over.sane not_done in
@@ -414,76 +424,3 @@ body_open limits front bytes reached fits is not_done = (
       (sym (walk_over-append limits front start whole rest) ∙ ap (walk_over limits front start) (sym split) ∙ is) not_done
       (to_start whole content h),
 )
-
--- ---- bodies that are refused
-
-some_phase : (a b : Phase) → (let l : Option Phase = Some a in l ≡ Some b) → a ≡ b
-some_phase a b e = cc
-
-wrong_at : (limits : Limits) (front : ℕ) (bytes : List ℕ) (e : FrameError) (s : Stopped limits front start bytes e)
-    → next_phase s.reached.phase s.b ≡ None → StopsWrong limits bytes
-wrong_at limits front bytes e s none = record {
-  before = s.before;
-  wrong = s.b;
-  rest = s.rest;
-  split = s.split;
-  could_be = can_be limits front s.before s.reached s.over s.not_done;
-  never = λ more content h.
-      let back = s.over.back (s.b ∷ more) content (to_start (s.before ++ s.b ∷ more) content h) in
-      subst (λ (o : Option Phase). OnSome o (λ next. Keeps (is_data s.reached.phase) s.b (Accepts next more) back.0)) none back.1;
-}
-
--- some rest completes the body, whatever its length
-reach_any : (phase : Phase) → IsSane phase → (more : List ℕ) × (content : List ℕ) × Accepts phase more content
-reach_any phase sane = elim (done_or_not (is_done phase)) [
-  | inl w ↦ ([], [], (w, refl))
-  | inr w ↦ (let r = reach phase sane w in (r.more, r.content, r.accepts))
-]
-
-long_at : (limits : Limits) (front : ℕ) (bytes : List ℕ) (e : FrameError) (s : Stopped limits front start bytes e) (next : Phase)
-    → next_phase s.reached.phase s.b ≡ Some next → can_fit limits (stepped s.reached next) ≡ false → StopsLong limits bytes
-long_at limits front bytes e s next there long =
-    let x = content_over limits front start s.before in
-    let any = reach_any next (subst IsSane (stepped_phase s.reached next) (next_sane s.reached s.b next there s.over.sane)) in
-    let whole = s.over.accepts (s.b ∷ any.0) (kept s.reached.phase s.b any.1)
-    (accept_kept s.reached.phase next s.b any.0 any.1 there any.2) in
-    record {
-      before = s.before;
-      last = s.b;
-      rest = s.rest;
-      split = s.split;
-      could_be = can_be limits front s.before s.reached s.over s.not_done;
-      begins = (any.0, x ++ kept s.reached.phase s.b any.1, from_start _ _ whole);
-      never = λ more content within.
-          let back = s.over.back (s.b ∷ more) content (to_start (s.before ++ s.b ∷ more) content within.chunked) in
-          let first = accept_back s.reached.phase next s.b more back.0 there back.1 in
-          let least = accepts_least more next first.0 first.2 in
-          let counted : length back.0 ≡ length first.0 + content_byte s.reached.phase =
-          ap length first.1 ∙ kept_length (is_data s.reached.phase) s.b first.0 in
-          let lengths = length-append s.before (s.b ∷ more) in
-          let begun : begun_content (stepped s.reached next).phase ≡ begun_content next = ap begun_content (stepped_phase s.reached next) in
-          let left : least_rest (stepped s.reached next).phase ≡ least_rest next = ap least_rest (stepped_phase s.reached next) in
-          elim (no_fit limits (stepped s.reached next) long) [
-            | inl w ↦ omega (arith, w, begun, least.1, counted, back.2, within.content_fits, s.over.content_is, start_counts.1, stepped_content s.reached next)
-            | inr w ↦ omega (arith, w, left, least.0, lengths, within.length_fits, s.over.length_is, start_counts.0, stepped_length s.reached next)
-          ];
-    }
-
--- a refusal is one of the two
-pub data BodyRefusal (limits : Limits) (bytes : List ℕ) : FrameError → Type 0 where
-  is_wrong_at : (at : ℕ) → StopsWrong limits bytes → BodyRefusal limits bytes (Chunk at)
-  is_too_long : StopsLong limits bytes → BodyRefusal limits bytes BodyTooLong
-
-pub body_refused : (limits : Limits) (front : ℕ) (bytes : List ℕ) (e : FrameError) → can_fit limits start ≡ true
-    → walk_over limits front start bytes ≡ Err e → BodyRefusal limits bytes e
-body_refused limits front bytes e fits is =
-    let s = walk_stopped limits front start bytes e start_sane fits is in
-    elim (step_is limits front s.reached s.b) [
-      | is_wrong none failed ↦
-          subst (BodyRefusal limits bytes) (err_walk (Chunk (front + s.reached.line)) e (sym failed ∙ s.step_fails))
-          (is_wrong_at (front + s.reached.line) (wrong_at limits front bytes e s none))
-      | goes_on next there fit went ↦ absurd (let x = sym went ∙ s.step_fails in cc)
-      | is_long next there long failed ↦
-          subst (BodyRefusal limits bytes) (err_walk BodyTooLong e (sym failed ∙ s.step_fails))
-          (is_too_long (long_at limits front bytes e s next there long))
-    ]

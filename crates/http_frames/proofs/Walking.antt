@@ -1,5 +1,5 @@
 -- A walk over bytes is a walk over the first of them, and then over the rest.
-use Rattle.std.proofs.Common.{◌≡◌, ℕ, suc, ◌+◌, ◌<◌, ◌≤◌, List, [], ◌∷◌, ◌++◌, length, take, drop, refl, sym, ap, ◌∙◌, subst, arith, IsTrue, Bool, true, false, inl, inr}
+use Rattle.std.proofs.Common.{◌≡◌, ℕ, suc, ◌+◌, ◌≤◌, List, [], ◌∷◌, ◌++◌, length, take, drop, refl, sym, ap, ◌∙◌, subst, arith, IsTrue, Bool, true, false, inl, inr}
 use Rattle.std.specs.Prelude.{◌⊎◌, Option, Some, None, Result, Ok, Err, if◌then◌else◌}
 use Rattle.std.proofs.lemmas.Bool.{false≢true}
 use Rattle.std.proofs.lemmas.List.{take-append-drop, take_all}
@@ -12,7 +12,7 @@ use Rattle.http_frames.specs.Phases.{next_phase, begun_content, least_rest}
 use Rattle.http_frames.specs.declared.limits.TheConstants.{REQUEST_LIMITS, ANSWER_LIMITS}
 use Rattle.http_frames.specs.declared.frame_error.FrameError.TheVariants.{BodyTooLong}
 use Rattle.http_frames.specs.declared.framing.Framing.TheVariants.{Chunked}
-use Rattle.http_frames.specs.Walks.{step, step_to, within, stepped, can_fit, and_then_walk, walk_over, content_over, start}
+use Rattle.http_frames.specs.Walks.{step, step_to, stepped, can_fit, and_then_walk, walk_over, content_over, start}
 use Rattle.http_frames.specs.Bodies.{HasWalked, body_reading, chunked_reading}
 
 -- the walk stays at the end of a body

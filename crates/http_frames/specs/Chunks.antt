@@ -1,5 +1,5 @@
 -- Bodies in chunks (RFC 9112, section 7.1). Chunk extensions and the lines of the trailer are dropped.
-use Rattle.std.specs.Prelude.{◌≡◌, ◌≢◌, ℕ, ◌<◌, ◌≤◌, List, [], ◌∷◌, ◌++◌, length}
+use Rattle.std.specs.Prelude.{◌≡◌, ◌≢◌, ◌⊎◌, ℕ, ◌<◌, ◌≤◌, List, [], ◌∷◌, ◌++◌, length}
 use Rattle.std.specs.List.{AllPass}
 use Rattle.std.specs.Prelude.{Bool, not, ◌==◌}
 use Rattle.http_frames.specs.declared.limits.Limits.{Limits}
@@ -43,13 +43,31 @@ CanBeBody limits bytes = (more : List ℕ) × (content : List ℕ) × IsBodyWith
 abbrev pub LacksBody : List ℕ → Type 0
 LacksBody bytes = (whole rest content : List ℕ) → bytes ≡ whole ++ rest → ¬ (Chunked whole content)
 
--- up to the byte that is wrong the bytes could become a body within the limits, and with it they are the begin of none
-pub record StopsWrong (limits : Limits) (bytes : List ℕ) : Type 0 where
+-- whole chunks: behind them any body makes a body
+abbrev pub AreChunks : List ℕ → Type 0
+AreChunks bytes = (body content : List ℕ) → Chunked body content → (joined : List ℕ) × Chunked (bytes ++ body) joined
+
+-- behind the bytes begins a chunk line, or the line end of a chunk
+abbrev pub LineBegins : List ℕ → Type 0
+LineBegins bytes = AreChunks bytes ⊎ AreChunks (bytes ++ crlf_bytes)
+
+-- the line in which the bytes end begins at this place
+pub record IsLineStart (bytes : List ℕ) (place : ℕ) : Type 0 where
+  pub front : List ℕ
+  pub begun : List ℕ
+  pub split : bytes ≡ front ++ begun
+  pub place_is : place ≡ length front
+  pub begins : LineBegins front
+  pub inside : AllPass is_trailer_byte begun
+
+-- up to the byte that is wrong, in the line that begins at this place, the bytes could become a body within the limits, and with it they are the begin of none
+pub record StopsWrong (limits : Limits) (bytes : List ℕ) (place : ℕ) : Type 0 where
   pub before : List ℕ
   pub wrong : ℕ
   pub rest : List ℕ
   pub split : bytes ≡ before ++ wrong ∷ rest
   pub could_be : CanBeBody limits before
+  pub line : IsLineStart before place
   pub never : (more content : List ℕ) → ¬ (Chunked (before ++ wrong ∷ more) content)
 
 -- up to that byte they could, and with it they are the begin of a body, but of none within the limits

@@ -1,6 +1,6 @@
 -- Whole messages and their bytes (RFC 9112), and why bytes are no message.
-use Rattle.std.specs.Prelude.{◌≡◌, ℕ, ◌<◌, ◌≤◌, ◌+◌, ◌⊎◌, true, false, List, [], ◌++◌, length, map, take, Option, Some, None, Result, Ok, Err, ⊤}
-use Rattle.httparse.specs.Grammar.{RequestHead, IsRequestHead, print_request, ReadsRequest, ResponseHead, IsResponseHead, print_response, ReadsResponse, status_code}
+use Rattle.std.specs.Prelude.{◌≡◌, ℕ, ◌<◌, ◌≤◌, ◌+◌, ◌⊎◌, true, false, List, [], ◌++◌, length, map, Result, Ok, Err}
+use Rattle.httparse.specs.Grammar.{RequestHead, print_request, ResponseHead, print_response, status_code}
 use Rattle.http_frames.specs.declared.limits.Limits.{Limits}
 use Rattle.http_frames.specs.declared.limits.TheConstants.{REQUEST_LIMITS, ANSWER_LIMITS}
 use Rattle.http_frames.specs.declared.framing.Framing.{Framing}
@@ -12,7 +12,6 @@ use Rattle.http_frames.specs.declared.message.Reply.{Reply}
 use Rattle.http_frames.specs.Heads.{header_of, BeginsRequest, AwaitsRequest, RefusesRequestHead, BeginsAnswer, AwaitsAnswer, RefusesAnswerHead}
 use Rattle.http_frames.specs.Framing.{request_framing, answer_framing}
 use Rattle.http_frames.specs.Chunks.{IsBodyWithin, CanBeBody, LacksBody, StopsWrong, StopsLong}
-use Rattle.http_frames.specs.Walks.{walk_over, start}
 use Rattle.http_frames.specs.Answering.{is_interim}
 
 -- ---- bodies
@@ -37,11 +36,9 @@ AwaitsBody limits (Sized n) bytes = length bytes < n
 AwaitsBody limits Chunked bytes = CanBeBody limits bytes × LacksBody bytes
 AwaitsBody limits ToEnd bytes = ⊥
 
--- why the bytes are no body, in a message of which front bytes stand before them; the place is where the walk over
--- them began the line, or the line end behind a chunk, that is wrong
+-- why the bytes are no body, in a message of which front bytes stand before them
 abbrev pub RefusesChunked : Limits → ℕ → List ℕ → FrameError → Type 0
-RefusesChunked limits front bytes (errors.Chunk at) =
-    StopsWrong limits bytes × (walk_over limits front start bytes ≡ Err (errors.Chunk at))
+RefusesChunked limits front bytes (errors.Chunk at) = (place : ℕ) × (at ≡ front + place) × StopsWrong limits bytes place
 RefusesChunked limits front bytes errors.BodyTooLong = StopsLong limits bytes
 RefusesChunked limits front bytes errors.Head = ⊥
 RefusesChunked limits front bytes errors.HeadTooLong = ⊥

@@ -1,5 +1,5 @@
 -- Where a head says that its body ends (RFC 9112, section 6.3), and which heads say it wrongly.
-use Rattle.std.specs.Prelude.{ℕ, ◌<◌, Bool, ◌&&◌, ◌||◌, not, List, length, codes, if◌then◌else◌, nat_le, nat_lt, bytes_eq, count_by, ◌==◌, Option, Some, None, Result, Ok, Err}
+use Rattle.std.specs.Prelude.{ℕ, Bool, ◌&&◌, ◌||◌, not, List, length, codes, if◌then◌else◌, nat_le, bytes_eq, count_by, ◌==◌, Option, Some, None, Result, Ok, Err}
 use Rattle.std.specs.List.{list_all, list_any, find}
 use Rattle.std.specs.Str.{str_to_ascii_lowercase}
 use Rattle.std.specs.Char.{is_ascii_digit}

@@ -1,5 +1,5 @@
 -- The lines of a head, counted by their line feeds.
-use Rattle.std.specs.Prelude.{ℕ, zero, suc, Bool, true, false, ◌||◌, not, List, [], ◌∷◌, if◌then◌else◌, ◌==◌, Option, Some, None}
+use Rattle.std.specs.Prelude.{ℕ, zero, suc, Bool, false, ◌||◌, not, List, [], ◌∷◌, if◌then◌else◌, ◌==◌, Option, Some, None}
 
 -- CR or LF
 abbrev pub is_break : ℕ → Bool

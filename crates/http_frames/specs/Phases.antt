@@ -1,5 +1,5 @@
 -- The places inside a body in chunks (RFC 9112, section 7.1), and where the next byte leads.
-use Rattle.std.specs.Prelude.{ℕ, ◌+◌, ◌*◌, ◌-◌, Bool, true, false, ◌||◌, List, [], ◌∷◌, if◌then◌else◌, nat_lt, ◌==◌, Option, Some, None}
+use Rattle.std.specs.Prelude.{ℕ, ◌+◌, ◌*◌, ◌-◌, Bool, true, false, if◌then◌else◌, nat_lt, ◌==◌, Option, Some, None}
 use Rattle.std.specs.Char.{is_ascii_hexdigit, digit_value}
 use Rattle.httparse.specs.Grammar.{is_ows}
 use Rattle.http_frames.specs.declared.chunks.Phase.{Phase}

@@ -1,5 +1,5 @@
 -- What a reader of requests holds, and what it may answer.
-use Rattle.std.specs.Prelude.{◌≡◌, ◌≢◌, ℕ, ◌<◌, ◌⊎◌, Bool, true, false, List, drop, Option, Some, None, Result, Ok, Err, ⊤}
+use Rattle.std.specs.Prelude.{◌≡◌, ◌≢◌, ℕ, ◌⊎◌, Bool, true, false, List, drop, Option, Some, None, Result, Ok, Err, ⊤}
 use Rattle.http_frames.specs.declared.message.Request.{Request}
 use Rattle.http_frames.specs.declared.frame_error.FrameError.{FrameError}
 use Rattle.http_frames.specs.declared.frame_error.FrameError.TheVariants.{Memory}

@@ -1,4 +1,4 @@
-use Rattle.std.proofs.Common.{◌≡◌, List, ℕ, arith, sym, subst, ◌∙◌, length}
+use Rattle.std.proofs.Common.{arith, sym, subst, ◌∙◌}
 use Rattle.http_frames.specs.Answering.{Passes, no_more}
 use Rattle.http_frames.proofs.Interim.{passes_on, some_head}
 use Rattle.http_frames.proofs.answer.pass_heads.Goals as goal

@@ -1,6 +1,5 @@
-use Rattle.std.proofs.Common.{◌≡◌, Ok, Err, inr, sym, ap, ◌∙◌}
+use Rattle.std.proofs.Common.{Ok, inr, sym, ap, ◌∙◌}
 use Rattle.std.specs.Prelude.{Some}
-use Rattle.http_frames.specs.Walks.{walk_over, start}
 use Rattle.http_frames.proofs.Walking.{resumed_at, reading_err, reading_done, reading_open, walked_on}
 use Rattle.http_frames.proofs.body.read_chunked.Goals as goal
 

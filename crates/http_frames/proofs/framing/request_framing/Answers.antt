@@ -1,4 +1,4 @@
-use Rattle.std.proofs.Common.{◌≡◌, true, sym, ap, ◌∙◌, not, Bool}
+use Rattle.std.proofs.Common.{◌≡◌, true, sym, ap, ◌∙◌}
 use Rattle.std.specs.Option.{option_copied}
 use Rattle.http_frames.specs.Framing.{are_lengths_sound}
 use Rattle.http_frames.proofs.Digits.{lengths_are}

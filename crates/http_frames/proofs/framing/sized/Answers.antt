@@ -1,4 +1,4 @@
-use Rattle.std.proofs.Common.{◌≡◌, ◌<◌, ◌^◌, ℕ, List, subst, sym, arith}
+use Rattle.std.proofs.Common.{◌<◌, ◌^◌, ℕ, List, subst, sym}
 use Rattle.std.specs.Str.Parse.{digits_value}
 use Rattle.http_frames.proofs.Digits.{length_is_small}
 use Rattle.http_frames.proofs.framing.sized.Goals as goal
