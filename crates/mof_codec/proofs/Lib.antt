@@ -39,3 +39,6 @@ pub mod Writing
 pub mod CanonicalTokens
 pub mod CanonicalRules
 pub mod CanonicalBytes
+pub mod OnlyRefused
+pub mod Searches
+pub mod Searched

@@ -1,5 +1,6 @@
 //! A document that comes in pieces.
-ghost use Rattle.std.specs.Prelude.{◌≡◌, ◌<◌, ◌↔◌, ◌++◌, [], length, OnOk, OnErr, IfOk, IfErr, IsErrOf};
+ghost use Rattle.std.specs.Prelude.{◌≡◌, ◌≢◌, ◌<◌, ◌↔◌, ◌++◌, [], List, length, OnOk, OnErr, IfOk, IfErr, IsErrOf};
+ghost use Rattle.mof_values.specs.declared.instance.Instance.{Instance};
 ghost use Rattle.mof_syntax.specs.Limits.{document_limit};
 ghost use Rattle.mof_syntax.specs.Refusals.{Reads, Refuses};
 
@@ -80,6 +81,7 @@ impl Feed {
     pub fn finish(self) -> Result<Vec<Instance>, MofError>
         ensures ok { IfOk result (λ instances. Reads self instances.items) }
         ensures refused { IfErr result (λ e. Refuses self e) }
+        ensures only { IfErr result (λ e. e ≢ MofError.Memory → (is : List Instance) → Reads self is → ⊥) }
     {
         let alloc = *self.bytes.allocator();
         read(alloc, &self.bytes)

@@ -1,6 +1,7 @@
 //! Bytes to instances.
-ghost use Rattle.std.specs.Prelude.{◌≡◌, List, IfOk, IfErr};
+ghost use Rattle.std.specs.Prelude.{◌≡◌, ◌≢◌, List, IfOk, IfErr};
 ghost use Rattle.mof_values.specs.declared.instance.Instance.{Instance};
+ghost use Rattle.mof_syntax.specs.declared.mof_error.MofError.TheVariants.{Memory};
 ghost use Rattle.mof_syntax.specs.Limits.{Spells};
 ghost use Rattle.mof_syntax.specs.Refusals.{Reads, Refuses, Wins};
 
@@ -17,6 +18,7 @@ pub(crate) const LIMIT: usize = 2_097_152;
 pub fn read(alloc: Global, bytes: &[u8]) -> Result<Vec<Instance>, MofError>
     ensures ok { IfOk result (λ instances. Reads bytes.now instances.items) }
     ensures refused { IfErr result (λ e. Refuses bytes.now e) }
+    ensures only { IfErr result (λ e. e ≢ Memory → (is : List Instance) → Reads bytes.now is → ⊥) }
 {
     if bytes.len() > LIMIT {
         return Err(MofError::TooLong);

@@ -51,11 +51,11 @@ IsBodyFault-from_utf8 body n v = record {
 
 -- UTF-16
 
-and_left : (x y : Bool) → (x && y) ≡ true → x ≡ true
+pub and_left : (x y : Bool) → (x && y) ≡ true → x ≡ true
 and_left true y h = refl
 and_left false y h = h
 
-and_right : (x y : Bool) → (x && y) ≡ true → y ≡ true
+pub and_right : (x y : Bool) → (x && y) ≡ true → y ≡ true
 and_right true y h = h
 and_right false y h = absurd cc
 
@@ -79,7 +79,7 @@ ReadsBody-next order body chars left rest c r s = record {
       ∙ ap (λ bs. bs ++ rest) (sym (flat_map-append (char_bytes (Utf16 order)) chars (c ∷ []) ∙ ap (λ bs. body_bytes (Utf16 order) chars ++ bs) (append-nil (char_bytes (Utf16 order) c))));
 }
 
-some_units : (order : ByteOrder) (b : Bool) (u v w : ℕ) → 0 < length (flat_map (unit_bytes order) (cond b (u ∷ []) (v ∷ w ∷ [])))
+pub some_units : (order : ByteOrder) (b : Bool) (u v w : ℕ) → 0 < length (flat_map (unit_bytes order) (cond b (u ∷ []) (v ∷ w ∷ [])))
 some_units LittleEndian true u v w = omega arith
 some_units LittleEndian false u v w = omega arith
 some_units BigEndian true u v w = omega arith

@@ -15,3 +15,4 @@ pub mod FirstParts
 pub mod FirstLists
 pub mod FirstBody
 pub mod FirstText
+pub mod Decoded

@@ -1,8 +1,9 @@
 //! Bytes to characters.
-ghost use Rattle.std.specs.Prelude.{◌≡◌, ◌++◌, ◌+◌, ◌^◌, ◌<◌, length, IfOk, IfErr, IfSome, IfNone, MatchOption, encode_utf8_all};
+ghost use Rattle.std.specs.Prelude.{◌≡◌, ◌≢◌, ℕ, List, ◌++◌, ◌+◌, ◌^◌, ◌<◌, length, IfOk, IfErr, IfSome, IfNone, MatchOption, encode_utf8_all};
 ghost use Rattle.mof_syntax.specs.Encodings.{Chars, unit_bytes};
 ghost use Rattle.mof_syntax.specs.Decoding.{RefusesBytes, RefusesBody, IsBody, StartsChar, StartsNoChar};
 ghost use Rattle.mof_syntax.specs.declared.encoding.Encoding.TheVariants.{Utf8, Utf16};
+ghost use Rattle.mof_syntax.specs.declared.text_error.TextError.TheVariants.{Memory};
 
 use crate::encoding::{ByteOrder, Encoding, behind_mark};
 use crate::text_error::TextError;
@@ -13,6 +14,7 @@ use std::alloc::{AllocError, Global};
 pub fn decode_text(alloc: Global, bytes: &[u8]) -> Result<Text, TextError>
     ensures ok { IfOk result (λ text. Chars bytes.now text) }
     ensures refused { IfErr result (λ e. RefusesBytes bytes.now e) }
+    ensures only { IfErr result (λ e. e ≢ Memory → (chars : List ℕ) → Chars bytes.now chars → ⊥) }
 {
     let (encoding, body) = behind_mark(bytes);
     let marked = bytes.len() - body.len();

@@ -22,7 +22,8 @@ fn all(rt: &impl AllocGlobal, pieces: &[&str]) -> Result<String, Fail> {
 
 #[test]
 fn integers_past_the_range_are_refused_where_they_begin(rt: HostRuntime) -> Result<(), Fail> {
-    let bits = all(&rt, &["1", &repeated(&rt, "0", 64)?, "b;};"])?;
+    let zeros = repeated(&rt, "0", 64)?;
+    let bits = all(&rt, &["1", &zeros, "b;};"])?;
     let ones = all(&rt, &[&repeated(&rt, "1", 70)?, "b;};"])?;
     for (before, behind) in [
         (
@@ -103,7 +104,8 @@ fn a_long_word_that_is_no_identifier_is_no_limit(rt: HostRuntime) -> Result<(), 
 
 #[test]
 fn an_instance_has_at_most_256_properties(rt: HostRuntime) -> Result<(), Fail> {
-    let full = all(&rt, &["instance of A{", &repeated(&rt, "P=1;", 256)?])?;
+    let properties = repeated(&rt, "P=1;", 256)?;
+    let full = all(&rt, &["instance of A{", &properties])?;
     assert_eq!(rt; refusal(&rt, &all(&rt, &[&full, "};"])?), None);
     let second = all(&rt, &[&full, "};instance of B{Q=1;};"])?;
     assert_eq!(rt; refusal(&rt, &second), None);
@@ -117,7 +119,8 @@ fn an_instance_has_at_most_256_properties(rt: HostRuntime) -> Result<(), Fail> {
 
 #[test]
 fn an_array_has_at_most_4096_elements(rt: HostRuntime) -> Result<(), Fail> {
-    let full = all(&rt, &["instance of A{X={", &repeated(&rt, "1,", 4095)?, "1"])?;
+    let elements = repeated(&rt, "1,", 4095)?;
+    let full = all(&rt, &["instance of A{X={", &elements, "1"])?;
     assert_eq!(rt; refusal(&rt, &all(&rt, &[&full, "};};"])?), None);
     let next = all(&rt, &[&full, ","])?;
     let at = places(&next);
