@@ -5,8 +5,15 @@
 //! No program names this crate. Each function has no body: its contract is the law.
 #![tactic(auto)]
 
+mod decider;
 mod laws;
 
+pub use decider::is_wide;
 pub use laws::{
-    a_front_of_a_front_is_one, a_text_goes_wrong_at_one_place, a_text_spells_one_list, bytes_are_refused, canonical_texts_are_these, characters_divide_into_tokens_in_one_way, identifiers_are_refused_past_their_limit, identifiers_are_spelled, integers_are_spelled, left_out_forms_are_refused_where_they_stand, literals_are_spelled, numbers_are_refused_out_of_their_range, rules_hold, separators_are_spelled, texts_are_refused_at_their_first_character, texts_are_refused_where_they_go_wrong,
+    a_front_of_a_front_is_one, a_text_goes_wrong_at_one_place, a_text_spells_one_list,
+    bytes_are_refused, canonical_texts_are_these, characters_divide_into_tokens_in_one_way,
+    identifiers_are_refused_past_their_limit, identifiers_are_spelled, integers_are_spelled,
+    left_out_forms_are_refused_where_they_stand, literals_are_spelled,
+    numbers_are_refused_out_of_their_range, rules_hold, separators_are_spelled,
+    texts_are_refused_at_their_first_character, texts_are_refused_where_they_go_wrong,
 };
