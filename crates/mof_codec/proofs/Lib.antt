@@ -37,3 +37,4 @@ pub mod NumberSearch
 pub mod RefusalFound
 pub mod Searches
 pub mod Searched
+pub mod Repeats
