@@ -1,12 +1,12 @@
 -- The searches over texts in which one part stands many times.
-use Rattle.std.proofs.Common.{◌≡◌, ◌≤◌, ◌<◌, ◌+◌, ◌-◌, ◌*◌, ℕ, zero, suc, Bool, true, false, List, [], ◌∷◌, ◌++◌, Option, Some, None, length, take, codes, refl, sym, ◌∙◌, ap, subst, arith, length-append}
+use Rattle.std.proofs.Common.{◌≡◌, ◌≤◌, ◌<◌, ◌+◌, ◌-◌, ◌*◌, ℕ, zero, suc, false, List, [], ◌++◌, Option, Some, None, length, codes, refl, ◌∙◌, ap, arith, length-append}
 use Rattle.std.specs.Prelude.{◌==◌}
 use Rattle.std.proofs.lemmas.List.{take_all}
 use Rattle.std.proofs.lemmas.Bool.Decides.{nat_tests}
 use Rattle.mof_syntax.specs.declared.mof_error.MofError.{MofError}
 use Rattle.mof_syntax.specs.declared.mof_error.MofError.TheVariants.{TooMany}
 use Rattle.mof_codec.specs.declared.machine.state.State.{State}
-use Rattle.mof_codec.specs.declared.machine.state.Place.TheVariants.{Start, Body, AfterComma}
+use Rattle.mof_codec.specs.declared.machine.state.Place.TheVariants.{Body, AfterComma}
 use Rattle.mof_codec.specs.declared.machine.state.Half.TheVariants as halves
 use Rattle.mof_codec.specs.declared.machine.state.Event.TheVariants as events
 use Rattle.mof_codec.specs.declared.machine.counts.Counts.{Counts}
