@@ -42,3 +42,4 @@ pub mod CanonicalBytes
 pub mod OnlyRefused
 pub mod Searches
 pub mod Searched
+pub mod Repeats

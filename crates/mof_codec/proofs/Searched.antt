@@ -1,16 +1,15 @@
 -- What the searches find is what the rules say.
-use Rattle.std.proofs.Common.{◌≡◌, ◌≤◌, ◌<◌, ◌-◌, ◌⊎◌, inl, inr, ℕ, Bool, true, false, List, [], ◌∷◌, Option, Some, None, length, take, drop, codes, refl, sym, ◌∙◌, ap, subst, arith}
-use Rattle.std.specs.Prelude.{◌==◌, IfSome, IfNone, nat_le, nat_lt, pos}
+use Rattle.std.proofs.Common.{◌≡◌, ◌≤◌, ◌<◌, ◌-◌, inl, inr, ℕ, Bool, true, false, List, [], ◌∷◌, Option, Some, None, length, take, drop, codes, refl, ap, subst, arith}
+use Rattle.std.specs.Prelude.{◌==◌, IfSome, IfNone, nat_le}
 use Rattle.std.specs.List.{AllByRecursion}
 use Rattle.std.proofs.lemmas.Bool.{eq-eqb, eqb-true}
 use Rattle.std.proofs.lemmas.Bool.Decides.{nat_tests}
 use Rattle.std.proofs.lemmas.Int.{ints}
-use Rattle.mof_values.specs.Fold.{SameName, fold_case}
+use Rattle.mof_values.specs.Fold.{fold_case}
 use Rattle.mof_values.specs.Ident.{is_first, is_next}
 use Rattle.mof_values.specs.declared.instance.Instance.{Instance}
 use Rattle.mof_syntax.specs.declared.mof_error.MofError.{MofError}
 use Rattle.mof_syntax.specs.declared.mof_error.Form.{Form}
-use Rattle.mof_syntax.specs.declared.mof_error.Form.TheVariants as forms
 use Rattle.mof_syntax.specs.Characters.{Stops}
 use Rattle.mof_syntax.specs.Grammar.{Wide, WideSpells}
 use Rattle.mof_syntax.specs.Limits.{Spells, IsInRange, instances_limit}
@@ -30,7 +29,7 @@ use Rattle.mof_codec.specs.Beginnings.{start_place, begins_declaration, begins_s
 use Rattle.mof_codec.specs.Counting.{counted, is_excess, name_length}
 use Rattle.mof_codec.specs.Searching.{FirstOf, StandsBehind, IsWanted, ScalarStands, BeginsExcessInteger, BeginsLongName, IsFirstExcess, HasNoExcess, HasFewParts, IsFirstForm, HasNoForm, BeginsWord, BeginsForm, pragma, qualifiers, class, qualifier, StandsForm, character, declared, begins_with, is_real}
 use Rattle.mof_codec.specs.Values.{signed, is_negative, behind_sign}
-use Rattle.mof_codec.specs.Winning.{end_of, sooner, out_of_profile, number_range, too_many, syntax_fault}
+use Rattle.mof_codec.specs.Winning.{end_of}
 use Rattle.mof_codec.proofs.Runs.{Whole}
 use Rattle.mof_codec.proofs.Options.{of_some, of_none}
 use Rattle.mof_codec.proofs.Fronts.{is_front}
@@ -143,16 +142,16 @@ excess_told : (text left : List ℕ) (state : State) (counts : Counts) → Searc
 excess_told text [] state counts s = record { some = tt; none = end_none text state counts s; count = end_count text state counts s; parts = end_parts text state counts s }
 excess_told text (c ∷ cs) state counts s =
     next_is (ToldExcess text) (step state.half state.place c) (λ _. None)
-        (λ n. when (is_past state counts n.begun (c ∷ cs)) (λ _. Some (length text - length (c ∷ cs))) (λ _. excess_in text cs n (counted n.begun counts)))
-        (λ e. record {
-          some = tt;
-          none = stuck_none text c cs state counts s e;
-          count = λ is w. absurd (stuck_wide text c cs state counts s e is w);
-          parts = λ is w. absurd (stuck_wide text c cs state counts s e is w);
-        })
-        (λ n e. when_is (ToldExcess text) (is_past state counts n.begun (c ∷ cs)) (λ _. Some (length text - length (c ∷ cs))) (λ _. excess_in text cs n (counted n.begun counts))
-            (λ past. record { some = first_found text c cs state counts s n e (past_is state counts n.begun (c ∷ cs) past); none = tt; count = tt; parts = tt })
-            (λ not. excess_told text cs n (counted n.begun counts) (searched_more text c cs state counts s n e (λ p. clash (is_past_is state counts n.begun (c ∷ cs) p) not))))
+    (λ n. when (is_past state counts n.begun (c ∷ cs)) (λ _. Some (length text - length (c ∷ cs))) (λ _. excess_in text cs n (counted n.begun counts)))
+    (λ e. record {
+      some = tt;
+      none = stuck_none text c cs state counts s e;
+      count = λ is w. absurd (stuck_wide text c cs state counts s e is w);
+      parts = λ is w. absurd (stuck_wide text c cs state counts s e is w);
+    })
+    (λ n e. when_is (ToldExcess text) (is_past state counts n.begun (c ∷ cs)) (λ _. Some (length text - length (c ∷ cs))) (λ _. excess_in text cs n (counted n.begun counts))
+    (λ past. record { some = first_found text c cs state counts s n e (past_is state counts n.begun (c ∷ cs) past); none = tt; count = tt; parts = tt })
+    (λ not. excess_told text cs n (counted n.begun counts) (searched_more text c cs state counts s n e (λ p. clash (is_past_is state counts n.begun (c ∷ cs) p) not))))
 
 -- the first literal of a kind
 
@@ -194,10 +193,10 @@ module _ (wanted : Wanted) (test : List ℕ → Bool) (decides : (cs : List ℕ)
       (λ e. (tt, scalar_end front [] state wanted s (omega arith) (is_stands state [] e)))
   scalar_told (c ∷ cs) state s =
       when_is ToldScalar (stands test state (c ∷ cs)) (λ _. Some (length front - length (c ∷ cs))) (λ _. next (step state.half state.place c) (λ _. None) (λ n. scalar_in test front cs n))
-          (λ e. (scalar_found front (c ∷ cs) state wanted s (stands_is state (c ∷ cs) e), tt))
-          (λ not. next_is ToldScalar (step state.half state.place c) (λ _. None) (λ n. scalar_in test front cs n)
-              (λ e. (tt, λ at x. absurd (never_stuck front begins (stuck_walk front c cs state s.stepped e))))
-              (λ n e. scalar_told cs n (scalar_more front c cs state n wanted s (is_stands state (c ∷ cs) not) e)))
+      (λ e. (scalar_found front (c ∷ cs) state wanted s (stands_is state (c ∷ cs) e), tt))
+      (λ not. next_is ToldScalar (step state.half state.place c) (λ _. None) (λ n. scalar_in test front cs n)
+      (λ e. (tt, λ at x. absurd (never_stuck front begins (stuck_walk front c cs state s.stepped e))))
+      (λ n e. scalar_told cs n (scalar_more front c cs state n wanted s (is_stands state (c ∷ cs) not) e)))
 
 -- the form that is left out
 
@@ -220,13 +219,14 @@ is_stops [] s = refl
 is_stops (c ∷ cs) s = when_is (λ b. b ≡ true) (is_next c) (λ _. false) (λ _. true) (λ so. absurd (clash so s)) (λ _. refl)
 
 word_told : (cs word : List ℕ) → Decides (begins_word cs word) (BeginsWord cs word)
-word_told cs word =
-    (λ e. record {
-      same = same_is (fold_case (take (length word) cs)) (fold_case word) (both_one (same (fold_case (take (length word) cs)) (fold_case word)) _ e);
-      stops = stops_is (drop (length word) cs) (both_other (same (fold_case (take (length word) cs)) (fold_case word)) (λ _. stops (drop (length word) cs)) e);
-    },
-     λ w. both_is (same (fold_case (take (length word) cs)) (fold_case word)) (λ _. stops (drop (length word) cs))
-         (subst (λ (xs : List ℕ). same (fold_case (take (length word) cs)) xs ≡ true) w.same (same_self (fold_case (take (length word) cs)))) (is_stops (drop (length word) cs) w.stops))
+word_told cs word = (
+  λ e. record {
+    same = same_is (fold_case (take (length word) cs)) (fold_case word) (both_one (same (fold_case (take (length word) cs)) (fold_case word)) _ e);
+    stops = stops_is (drop (length word) cs) (both_other (same (fold_case (take (length word) cs)) (fold_case word)) (λ _. stops (drop (length word) cs)) e);
+  },
+  λ w. both_is (same (fold_case (take (length word) cs)) (fold_case word)) (λ _. stops (drop (length word) cs))
+      (subst (λ (xs : List ℕ). same (fold_case (take (length word) cs)) xs ≡ true) w.same (same_self (fold_case (take (length word) cs)))) (is_stops (drop (length word) cs) w.stops),
+)
 
 abbrev ToldDeclared : List ℕ → Option Form → Type 0
 ToldDeclared cs o = IfSome o (λ form. BeginsForm cs form) × IfNone o ((form : Form) → BeginsForm cs form → ⊥)
@@ -260,10 +260,10 @@ module _ (state : State) (cs : List ℕ) where
   here_told : ToldHere state cs (here_in state cs)
   here_told =
       when_is (ToldHere state cs) (both (begins_scalar state.half state.place) (λ _. begins_with cs 39)) _ _
-          (λ e. (character (both_one (begins_scalar state.half state.place) _ e) (both_other (begins_scalar state.half state.place) (λ _. begins_with cs 39) e), tt)) (λ not_so.
+      (λ e. (character (both_one (begins_scalar state.half state.place) _ e) (both_other (begins_scalar state.half state.place) (λ _. begins_with cs 39) e), tt)) (λ not_so.
       when_is (ToldHere state cs) (begins_declaration state.half state.place) _ _
-          (λ b. as_here (declared_in cs) not_so b (declared_told cs))
-          (λ n. (tt, no_form not_so (λ b. absurd (clash b n)))))
+      (λ b. as_here (declared_in cs) not_so b (declared_told cs))
+      (λ n. (tt, no_form not_so (λ b. absurd (clash b n)))))
 
 abbrev ToldForm : List ℕ → ℕ → Option (ℕ × Form) → Type 0
 ToldForm text fault o = IfSome o (λ f. IsFirstForm text fault f.0 f.1) × IfNone o (HasNoForm text fault)

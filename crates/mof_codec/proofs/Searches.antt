@@ -1,5 +1,5 @@
 -- The searches for what refuses a text, as functions over its characters that the check can run.
-use Rattle.std.specs.Prelude.{◌-◌, ℕ, Bool, true, false, ◌==◌, ◌&&◌, nat_le, nat_lt, List, [], ◌∷◌, Option, Some, None, length, take, drop, codes}
+use Rattle.std.specs.Prelude.{◌-◌, ℕ, Bool, true, false, ◌==◌, nat_le, nat_lt, List, [], ◌∷◌, Option, Some, None, length, take, drop, codes}
 use Rattle.mof_values.specs.Fold.{fold_case}
 use Rattle.mof_values.specs.Ident.{is_first, is_next}
 use Rattle.mof_syntax.specs.declared.mof_error.MofError.{MofError}
@@ -7,7 +7,6 @@ use Rattle.mof_syntax.specs.declared.mof_error.Form.{Form}
 use Rattle.mof_syntax.specs.declared.mof_error.Form.TheVariants as forms
 use Rattle.mof_syntax.specs.Scanning.{magnitude_rest, magnitude_value}
 use Rattle.mof_codec.specs.declared.machine.state.State.{State}
-use Rattle.mof_codec.specs.declared.machine.state.Place.{Place}
 use Rattle.mof_codec.specs.declared.machine.state.Place.TheVariants.{Start}
 use Rattle.mof_codec.specs.declared.machine.state.Half.TheVariants as halves
 use Rattle.mof_codec.specs.declared.machine.state.Event.{Event}
@@ -65,7 +64,7 @@ abbrev pub excess_in : List ℕ → List ℕ → State → Counts → Option ℕ
 excess_in text [] state counts = None
 excess_in text (c ∷ cs) state counts =
     next (step state.half state.place c) (λ _. None) (λ n.
-        when (is_past state counts n.begun (c ∷ cs)) (λ _. Some (length text - length (c ∷ cs))) (λ _. excess_in text cs n (counted n.begun counts)))
+    when (is_past state counts n.begun (c ∷ cs)) (λ _. Some (length text - length (c ∷ cs))) (λ _. excess_in text cs n (counted n.begun counts)))
 
 -- the first literal of a kind
 
@@ -127,7 +126,7 @@ as_real (Some at) = Some (at, forms.Real)
 abbrev pub form_in : List ℕ → ℕ → Option (ℕ × Form)
 form_in text fault =
     when (begins_with (drop fault text) 46) (λ _. as_real (scalar_in is_real (take fault text) (take fault text) first_state))
-        (λ _. next (state_in (take fault text) first_state) (λ _. None) (λ state. as_form fault (here_in state (drop fault text))))
+    (λ _. next (state_in (take fault text) first_state) (λ _. None) (λ state. as_form fault (here_in state (drop fault text))))
 
 abbrev pub left_out : List ℕ → Option ℕ → Option (ℕ × Form)
 left_out text None = None

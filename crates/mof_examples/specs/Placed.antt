@@ -1,5 +1,5 @@
 -- Which refusals win, and where, by example.
-use Rattle.std.specs.Prelude.{◌≡◌, codes, ℕ, List, [], ◌∷◌, ◌++◌, length, replicate}
+use Rattle.std.specs.Prelude.{◌≡◌, codes, ℕ, zero, suc, List, [], ◌∷◌, ◌++◌, length, replicate}
 use Rattle.mof_values.specs.declared.instance.Instance.{Instance}
 use Rattle.mof_syntax.specs.declared.mof_error.MofError.TheVariants.{TooLong, Text, OutOfProfile, NumberRange, TooMany, Syntax}
 use Rattle.mof_syntax.specs.declared.mof_error.Form.TheVariants as forms
@@ -61,6 +61,19 @@ pub record LongNameExamples : Type 0 where
   pub in_a_literal : Spelled long_literal
   -- a `z` may stand there and a `1` may not, but so may a `#`
   pub not_behind_an_escape : BeginsIdentifier long_literal 26 → ⊥
+
+-- the part so many times, and then the rest
+unfoldable pub many : ℕ → List ℕ → List ℕ → List ℕ
+many zero part rest = rest
+many (suc count) part rest = part ++ many count part rest
+
+pub record PartExamples : Type 0 where
+  pub most_properties : Spelled (codes "instance of A{" ++ many 256 (codes "P=1;") (codes "};"))
+  pub property : Wins (codes "instance of A{" ++ many 256 (codes "P=1;") (codes "P=1;};")) (TooMany 1038)
+  pub most_elements : Spelled (codes "instance of A{P={1," ++ many 4094 (codes "1,") (codes "1};};"))
+  pub element : Wins (codes "instance of A{P={1," ++ many 4095 (codes "1,") (codes "1};};")) (TooMany 8209)
+  pub most_declarations : Spelled (many 4097 (codes "instance of A{};") [])
+  pub declaration : Wins (many 4097 (codes "instance of A{};") (codes "instance of A{};")) (TooMany 65552)
 
 pub record SyntaxExamples : Type 0 where
   pub open_literal : Wins (codes "instance of A { X = \"ab") (Syntax 23)
