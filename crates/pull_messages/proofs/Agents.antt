@@ -110,7 +110,7 @@ cell_by : (text : List ℕ) (k : ℕ) → k < 36 → IsParsed text → (b : Bool
 cell_by text k within parts true is = rw (is, hyphen_cell text k parts is) refl
 cell_by text k within parts false is = rw is (digit_cell text k within parts is)
 
-agent_cells : (text : List ℕ) (id : ℕ) → agent_of text ≡ Some id → AreAllCells text
+pub agent_cells : (text : List ℕ) (id : ℕ) → agent_of text ≡ Some id → AreAllCells text
 agent_cells text id is =
     let parts = parsed_parts text id is in
     ((λ k within. cell_by text k (omega (arith, parts.len)) parts (is_hyphen_place k) refl), parts.len)

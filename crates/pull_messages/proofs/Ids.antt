@@ -4,8 +4,9 @@ use Rattle.std.specs.Int.{w128, to_be_bytes, from_be_bytes, bytes_high_first, by
 use Rattle.std.proofs.lemmas.List.Elements.{All-nil, All-cons}
 use Rattle.uuid.specs.Text.{hyphenated_text, lower, parsed, parsed_hyphenated}
 use Rattle.uuid.proofs.OrderLemmas.{from_be_bytes-to_be_bytes_16}
-use Rattle.uuid.proofs.RoundTrips.{parses_hyphenated}
+use Rattle.uuid.proofs.RoundTrips.{parses_hyphenated, parses_hyphenated_text}
 use Rattle.pull_messages.specs.Members.{id_of}
+use Rattle.pull_messages.specs.Targets.{agent_of}
 use Rattle.pull_messages.specs.Writing.{id_text}
 
 byte_small : (i n : ℕ) → byte_at i n < 256
@@ -24,4 +25,10 @@ pub id_back : (id : ℕ) → id < 2 ^ 128 → id_of (id_text id) ≡ Some id
 unfolding id_of id_text
 id_back id fits =
     ap (option_map (from_be_bytes w128)) (sym (parses_hyphenated lower (to_be_bytes w128 id) (inl refl) (bytes_length 16 id) (bytes_small 16 id)))
+    ∙ ap Some (from_be_bytes-to_be_bytes_16 id fits)
+
+pub agent_back : (id : ℕ) → id < 2 ^ 128 → agent_of (id_text id) ≡ Some id
+unfolding agent_of id_text
+agent_back id fits =
+    ap (option_map (from_be_bytes w128)) (sym (parses_hyphenated_text lower (to_be_bytes w128 id) (inl refl) (bytes_length 16 id) (bytes_small 16 id)))
     ∙ ap Some (from_be_bytes-to_be_bytes_16 id fits)

@@ -14,3 +14,4 @@ pub mod Scalars
 pub mod SizedMessages
 pub mod TargetLaws
 pub mod Words
+pub mod WrittenTargets

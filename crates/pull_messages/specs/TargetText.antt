@@ -1,5 +1,6 @@
 -- Targets as they are written.
-use Rattle.std.specs.Prelude.{ℕ, ◌+◌, ◌/◌, ◌%◌, List, [], ◌∷◌, ◌++◌, Bool, ◌&&◌, ◌||◌, ◌==◌, nat_le, nat_lt, if◌then◌else◌, codes, encode_utf8_all}
+use Rattle.std.specs.Prelude.{ℕ, ◌+◌, ◌/◌, ◌%◌, List, [], ◌∷◌, ◌++◌, Bool, ◌&&◌, ◌||◌, ◌==◌, nat_le, nat_lt, if◌then◌else◌, codes, encode_utf8_all, All, ◌<◌, ◌^◌}
+use Rattle.std.specs.Char.{IsScalar}
 use Rattle.std.specs.List.{flat_map}
 use Rattle.pull_messages.specs.declared.target_kinds.Target.{Target}
 use Rattle.pull_messages.specs.declared.target_kinds.Target.TheVariants.{Node, Action, Content, Module, SendReport}
@@ -40,3 +41,13 @@ path_of (Module name version) =
 
 unfoldable pub target_text : List ℕ → Target → List ℕ
 target_text prefix target = encode_utf8_all prefix ++ path_of target
+
+-- ---- for private clauses
+
+-- its identifier has 128 bits, and its characters are scalar values
+abbrev pub HasRanges : Target → Type 0
+HasRanges (Node id) = id < 2 ^ 128
+HasRanges (Action id) = id < 2 ^ 128
+HasRanges (SendReport id) = id < 2 ^ 128
+HasRanges (Content id name) = (id < 2 ^ 128) × All IsScalar name
+HasRanges (Module name version) = All IsScalar name × All IsScalar version

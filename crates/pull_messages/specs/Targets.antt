@@ -1,5 +1,5 @@
 -- Targets of requests: paths (RFC 3986, section 3.3) of five forms.
-use Rattle.std.specs.Prelude.{◌≡◌, ℕ, ◌≤◌, List, [], ◌∷◌, ◌++◌, length, true, Some, option_map, Option, codes, ◌==◌, if◌then◌else◌}
+use Rattle.std.specs.Prelude.{◌≡◌, ℕ, ◌≤◌, List, [], ◌∷◌, ◌++◌, length, true, Some, option_map, Option, codes, ◌==◌, if◌then◌else◌, ⊤}
 use Rattle.std.specs.Int.{w128, from_be_bytes}
 use Rattle.std.specs.Str.{all_scalars, encode_utf8_all}
 use Rattle.uuid.specs.Text.{parsed_hyphenated}
@@ -52,6 +52,14 @@ parts_of (Module name version) =
 
 abbrev pub SpellsTarget : Target → List ℕ → Type 0
 SpellsTarget target chars = Spells IsPart (parts_of target) chars
+
+-- the texts of the target are text values
+abbrev pub HasValues : Target → Type 0
+HasValues (Node id) = ⊤
+HasValues (Action id) = ⊤
+HasValues (SendReport id) = ⊤
+HasValues (Content id name) = IsValue name
+HasValues (Module name version) = IsValue name × IsValue version
 
 -- the text is the target's characters, any of their bytes escaped
 unfoldable pub IsTarget : List ℕ → Target → Type 0

@@ -1,7 +1,8 @@
 //! Targets as they are written.
-ghost use Rattle.std.specs.Prelude.{◌≡◌, ◌<◌, ◌++◌, ◌∷◌, [], IfOk, OnOk, encode_utf8_all, string_bytes, codes};
-ghost use Rattle.pull_messages.specs.Targets.{doubled};
-ghost use Rattle.pull_messages.specs.TargetText.{agent_path, escaped, escaped_all, path_of, target_text, upper_digit as upper_digit_of, value_text};
+ghost use Rattle.std.specs.Prelude.{◌≡◌, ◌<◌, ◌++◌, ◌∷◌, [], All, IfOk, OnOk, encode_utf8_all, string_bytes, codes};
+ghost use Rattle.std.specs.Char.{IsScalar};
+ghost use Rattle.pull_messages.specs.Targets.{doubled, HasValues, IsTarget};
+ghost use Rattle.pull_messages.specs.TargetText.{agent_path, escaped, escaped_all, HasRanges, path_of, target_text, upper_digit as upper_digit_of, value_text};
 ghost use Rattle.pull_messages.specs.Writing.{id_text};
 
 use crate::Target;
@@ -9,16 +10,20 @@ use mof_values::{Memory, Text};
 use std::alloc::{AllocError, Global};
 use uuid::Uuid;
 
-/// Writes a target behind the prefix of a server's URL, such as `/PSDSCPullServer.svc`.
+/// Writes a target behind the prefix of a server's URL, such as `/PSDSCPullServer.svc`; behind that prefix it reads
+/// back, where its texts have 1 to 255 bytes of UTF-8.
 pub fn write_target(alloc: Global, prefix: &Text, target: &Target) -> Result<Vec<u8>, Memory>
     ensures text { IfOk result (λ text. text.items ≡ target_text prefix.now target.now) }
+    ensures reads_back { IfOk result (λ text. prefix.now ≡ codes "/PSDSCPullServer.svc" → HasValues target.now
+        → IsTarget text.items target.now) }
 {
     Ok(text_of(alloc, prefix, target)?)
 }
 
 #[tactic(auto, unfolding(crate::specs::TargetText::target_text))]
 fn text_of(alloc: Global, prefix: &Text, target: &Target) -> Result<Vec<u8>, AllocError>
-    ensures { IfOk result (λ text. text.items ≡ target_text prefix.now target.now) }
+    ensures text { IfOk result (λ text. text.items ≡ target_text prefix.now target.now) }
+    ensures ranges { OnOk result (HasRanges target.now) }
 {
     let mut out = Vec::new(alloc);
     out.extend_from_slice(prefix.to_utf8()?.as_bytes())?;
@@ -27,7 +32,8 @@ fn text_of(alloc: Global, prefix: &Text, target: &Target) -> Result<Vec<u8>, All
 }
 
 fn push_path(out: &mut Vec<u8>, target: &Target) -> Result<(), AllocError>
-    ensures { OnOk result (out.new.items ≡ out.old.items ++ path_of target.now) }
+    ensures text { OnOk result (out.new.items ≡ out.old.items ++ path_of target.now) }
+    ensures ranges { OnOk result (HasRanges target.now) }
 {
     match target {
         Target::Node(id) => push_agent(out, *id, ""),
@@ -39,8 +45,10 @@ fn push_path(out: &mut Vec<u8>, target: &Target) -> Result<(), AllocError>
 }
 
 fn push_content(out: &mut Vec<u8>, id: u128, name: &Text) -> Result<(), AllocError>
-    ensures { OnOk result (out.new.items ≡ out.old.items ++ (agent_path id (codes "/Configurations(ConfigurationName='")
-        ++ value_text name.now ++ codes "')/ConfigurationContent")) }
+    ensures text { OnOk result (out.new.items ≡ out.old.items
+        ++ (agent_path id (codes "/Configurations(ConfigurationName='") ++ value_text name.now
+        ++ codes "')/ConfigurationContent")) }
+    ensures scalars { OnOk result (All IsScalar name.now) }
 {
     push_agent(out, id, "/Configurations(ConfigurationName='")?;
     push_value(out, name)?;
@@ -48,8 +56,10 @@ fn push_content(out: &mut Vec<u8>, id: u128, name: &Text) -> Result<(), AllocErr
 }
 
 fn push_module(out: &mut Vec<u8>, name: &Text, version: &Text) -> Result<(), AllocError>
-    ensures { OnOk result (out.new.items ≡ out.old.items ++ (codes "/Modules(ModuleName='" ++ value_text name.now
+    ensures text { OnOk result (out.new.items ≡ out.old.items ++ (codes "/Modules(ModuleName='" ++ value_text name.now
         ++ codes "',ModuleVersion='" ++ value_text version.now ++ codes "')/ModuleContent")) }
+    ensures scalars { OnOk result (All IsScalar name.now) }
+    ensures version_scalars { OnOk result (All IsScalar version.now) }
 {
     push_word(out, "/Modules(ModuleName='")?;
     push_value(out, name)?;
@@ -85,7 +95,8 @@ fn push_id(out: &mut Vec<u8>, id: u128) -> Result<(), AllocError>
 
 // A text with its quotes doubled, and each byte escaped that is not unreserved.
 fn push_value(out: &mut Vec<u8>, text: &Text) -> Result<(), AllocError>
-    ensures { OnOk result (out.new.items ≡ out.old.items ++ value_text text.now) }
+    ensures text { OnOk result (out.new.items ≡ out.old.items ++ value_text text.now) }
+    ensures scalars { OnOk result (All IsScalar text.now) }
 {
     let spelled = quotes_doubled(*out.allocator(), text.as_slice())?;
     push_escaped(out, spelled.as_bytes())
