@@ -13,3 +13,5 @@ pub mod LineStarts
 pub mod Refusals
 pub mod FrameLaws
 pub mod SentLines
+pub mod SentRequests
+pub mod SentAnswers

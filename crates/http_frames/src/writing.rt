@@ -3,8 +3,8 @@ ghost use Rattle.std.specs.Prelude.{◌≡◌, ◌∷◌, ◌++◌, [], length, 
 ghost use Rattle.std.specs.List.{flat_map};
 ghost use Rattle.std.specs.Fmt.{decimal};
 ghost use Rattle.http.specs.StatusCode.{IsStatusCode, reason_phrase};
-ghost use Rattle.http_frames.specs.Frames.{IsRequestFrame};
-ghost use Rattle.http_frames.specs.Sending.{sent, IsSendable};
+ghost use Rattle.http_frames.specs.Frames.{IsRequestFrame, IsAnswerFrame};
+ghost use Rattle.http_frames.specs.Sending.{sent, IsSendable, sent_reply, IsSendableReply};
 ghost use Rattle.http_frames.specs.Writing.{crlf, header_line, header_text, length_line, request_length, answer_length, host_value, without_default_port, request_line, status_line, phrase_of, request_text, answer_text};
 
 use crate::framing::needs_length;
@@ -41,9 +41,16 @@ fn request_bytes(alloc: Global, request: &Request, host: &Text) -> Result<Vec<u8
 }
 
 /// The text of an answer.
-#[tactic(auto, unfolding(crate::specs::Writing::answer_text))]
 pub fn write_answer(alloc: Global, reply: &Reply) -> Result<Vec<u8>, Memory>
     ensures text { IfOk result (λ bytes. bytes.items ≡ answer_text reply.now) }
+    ensures reads_back { IfOk result (λ bytes. IsSendableReply reply.now → IsAnswerFrame bytes.items (sent_reply reply.now)) }
+{
+    answer_bytes(alloc, reply)
+}
+
+#[tactic(auto, unfolding(crate::specs::Writing::answer_text))]
+fn answer_bytes(alloc: Global, reply: &Reply) -> Result<Vec<u8>, Memory>
+    ensures { IfOk result (λ bytes. bytes.items ≡ answer_text reply.now) }
 {
     let mut out = Vec::new(alloc);
     push_status_line(alloc, &mut out, reply.code)?;

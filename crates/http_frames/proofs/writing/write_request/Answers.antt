@@ -1,4 +1,4 @@
-use Rattle.http_frames.proofs.SentLines.{sent_if}
+use Rattle.http_frames.proofs.SentRequests.{sent_if}
 use Rattle.http_frames.proofs.writing.write_request.Goals as goal
 
 pub returns-clause-reads_back : goal.returns-clause-reads_back
