@@ -1,19 +1,21 @@
 -- The resources that instances declare, in their order.
 use Rattle.std.proofs.Common.{◌≡◌, ◌⊎◌, inl, inr, ℕ, zero, suc, ◌+◌, ◌<◌, ◌≤◌, List, [], ◌∷◌, ◌++◌, length, All, Option, Some, None, filter_map, option_map, option_and_then, slice_get, slice_index_or, refl, sym, ap, subst, ◌∙◌, arith, append_assoc, append-nil}
-use Rattle.std.specs.Prelude.{◌^◌, AllPairs, Any, IsSomeAnd}
+use Rattle.mof_values.specs.declared.value.Value.{Value}
+use Rattle.std.specs.Prelude.{if◌then◌else◌, codes, true, false, ◌^◌, AllPairs, Any, IsSomeAnd}
 use Rattle.std.specs.List.{cons_option, enumerate_from}
 use Rattle.std.proofs.lemmas.List.Elements.{All-cons, All-nil, All-push}
+use Rattle.std.proofs.lemmas.Bool.{cases_Bool}
 use Rattle.std.proofs.lemmas.List.Kept.{AllPairs-cons}
 use Rattle.std.proofs.lemmas.Option.{none-some, same_Some}
 use Rattle.mof_values.specs.Fold.{SameName}
 use Rattle.mof_values.specs.declared.instance.Instance.{Instance}
-use Rattle.dsc_document.specs.Declarations.{depends_of, id_of}
+use Rattle.dsc_document.specs.Declarations.{depends_of, id_of, is_header, text_of, value_named}
 use Rattle.dsc_document.specs.Dependencies.{HasDistinctIds, IsId, NamesResources}
 use Rattle.dsc_document.specs.Names.{IsName, ShareName}
 use Rattle.dsc_document.specs.Conditions.{KeepsUpTo, NoneApplies}
 use Rattle.dsc_document.specs.Rules.{IsFirstUnknown, document_of, id_at, resource_at}
 use Rattle.dsc_document.specs.declared.document.Document.{Document}
-use Rattle.dsc_document.specs.declared.error.DocError.TheVariants.{DependsUnknown, DuplicateId}
+use Rattle.dsc_document.specs.declared.error.DocError.TheVariants.{DependsUnknown, DuplicateId, NoHeader}
 use Rattle.dsc_document.specs.declared.document.Resource.{Resource}
 use Rattle.dsc_document.proofs.FoldKeys.{cases_same_name}
 
@@ -147,21 +149,46 @@ known_declared instances none =
 
 -- ---- how many
 
-few_joined : (o : Option Resource) (rs : List Resource) → length (cons_option o rs) ≤ length rs + 1
-few_joined None rs = omega arith
-few_joined (Some r) rs = omega arith
+few_joined : (o : Option Resource) (rs : List Resource) (n : ℕ) → length rs < n → length (cons_option o rs) < n + 1
+few_joined None rs n below = omega (arith, below)
+few_joined (Some r) rs n below = omega (arith, below)
 
-pub few_from : (n : ℕ) (instances : List Instance) → length (resources_from n instances) ≤ length instances
-few_from n [] = omega arith
-few_from n (i ∷ is) = omega (arith, few_joined (resource_at (n, i)) (resources_from (n + 1) is), few_from (n + 1) is)
+most_joined : (o : Option Resource) (rs : List Resource) (n : ℕ) → length rs ≤ n → length (cons_option o rs) ≤ n + 1
+most_joined None rs n within = omega (arith, within)
+most_joined (Some r) rs n within = omega (arith, within)
+
+most_from : (n : ℕ) (instances : List Instance) → length (resources_from n instances) ≤ length instances
+most_from n [] = omega arith
+most_from n (i ∷ is) =
+    let within = most_joined (resource_at (n, i)) (resources_from (n + 1) is) (length is) (most_from (n + 1) is) in
+    omega (arith, within)
+
+id_of_header : (i : Instance) (v : Option Value) → is_header i ≡ true → option_and_then text_of (if is_header i then None else v) ≡ None
+id_of_header i v header = ap (λ b. option_and_then text_of (if b then None else v)) header
+
+header_first : (n : ℕ) (i : Instance) (rs : List Resource) → is_header i ≡ true → length (cons_option (resource_at (n, i)) rs) ≡ length rs
+header_first n i rs header =
+    ap (λ id. length (cons_option (option_map (declaration n i) id) rs)) (id_of_header i (value_named (codes "ResourceID") i) header)
+
+-- a header is no resource
+few_from : (n : ℕ) (instances : List Instance) → (length (resources_from n instances) < length instances) ⊎ All (λ i. is_header i ≡ false) instances
+few_from n [] = inr (All-nil (λ i. is_header i ≡ false))
+few_from n (i ∷ is) = elim (cases_Bool (is_header i)) [
+  | inl header ↦ inl (let same = header_first n i (resources_from (n + 1) is) header in omega (arith, same, most_from (n + 1) is))
+  | inr plain ↦ elim (few_from (n + 1) is) [
+    | inl few ↦ inl (let more = few_joined (resource_at (n, i)) (resources_from (n + 1) is) (length is) few in omega (arith, more))
+    | inr none ↦ inr (All-cons (λ j. is_header j ≡ false) i is plain none)
+  ]
+]
 
 -- ---- documents
 
 module _ (instances : List Instance) (document : Document) (made : document ≡ document_of instances) where
-  pub document_few : length instances < 2 ^ 32 → length document.resources < 2 ^ 32
-  document_few few =
-      let same : length document.resources ≡ length (resources_from 0 instances) = ap (λ (d : Document). length d.resources) made in
-      omega (arith, few_from 0 instances, same)
+  pub document_few : KeepsUpTo 8 instances → length document.resources < length instances
+  document_few kept = elim (few_from 0 instances) [
+    | inl few ↦ let same : length document.resources ≡ length (resources_from 0 instances) = ap (λ (d : Document). length d.resources) made in omega (arith, few, same)
+    | inr none ↦ absurd (kept NoHeader (omega arith) none)
+  ]
 
   pub document_distinct : KeepsUpTo 8 instances → HasDistinctIds document
   document_distinct kept = subst HasDistinctIds (sym made)

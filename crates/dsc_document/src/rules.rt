@@ -24,7 +24,7 @@ use std::alloc::Global;
 pub fn check(alloc: Global, instances: Vec<Instance>) -> Result<Document, DocError>
     requires { vec_len instances < 2 ^ 32 }
     ensures accepted { IfOk result (Rules instances.items) }
-    ensures few { IfOk result (λ document. length document.resources < 2 ^ 32) }
+    ensures few { IfOk result (λ document. length document.resources < vec_len instances) }
     ensures known { IfOk result NamesResources }
     ensures distinct { IfOk result HasDistinctIds }
     ensures refused { IfErr result (λ refusal. refusal ≢ DocError.Memory → IsRefusal instances.items refusal) }
@@ -42,7 +42,7 @@ pub fn check(alloc: Global, instances: Vec<Instance>) -> Result<Document, DocErr
 pub fn check_part(alloc: Global, instances: Vec<Instance>) -> Result<Document, DocError>
     requires { vec_len instances < 2 ^ 32 }
     ensures accepted { IfOk result (PartRules instances.items) }
-    ensures few { IfOk result (λ document. length document.resources < 2 ^ 32) }
+    ensures few { IfOk result (λ document. length document.resources < vec_len instances) }
     ensures distinct { IfOk result HasDistinctIds }
     ensures refused { IfErr result (λ refusal. refusal ≢ DocError.Memory → IsRefusal instances.items refusal) }
     ensures known { IfErr result (λ refusal. condition_of refusal < 9) }

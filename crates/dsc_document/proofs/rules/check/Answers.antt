@@ -5,8 +5,10 @@ use Rattle.dsc_document.proofs.rules.check.Goals as goal
 
 pub returns-clause-few : goal.returns-clause-few
 returns-clause-few c =
-    document_few c.args.instances.items c.in_ok-document_of.field-0 c.in_ok-document_of.ensures
-    (let same : length c.deref.result.now ≡ length c.args.instances.items = ap length c.deref.ensures.value in omega (arith, same, c.deref.ensures.len, c.requires))
+    let few = document_few c.args.instances.items c.in_ok-document_of.field-0 c.in_ok-document_of.ensures
+    (subst (KeepsUpTo 8) c.deref.ensures.value c.in_ok-ids.ensures.kept) in
+    let same : length c.deref.result.now ≡ length c.args.instances.items = ap length c.deref.ensures.value in
+    omega (arith, same, c.deref.ensures.len, few)
 
 pub returns-clause-known : goal.returns-clause-known
 returns-clause-known c =
