@@ -40,17 +40,38 @@ chars_join (c ∷ a) b e f = let p = and_parts (scalar c) (all_scalars a) e in b
 
 literal_char_chars : (c : ℕ) → scalar c ≡ true → AreChars (literal_char c)
 literal_char_chars c e =
-    elim (test_or (c == 8)) [ | inl is ↦ at_short 8 refl (equal c 8 is) | inr n8 ↦
-    elim (test_or (c == 9)) [ | inl is ↦ at_short 9 refl (equal c 9 is) | inr n9 ↦
-    elim (test_or (c == 10)) [ | inl is ↦ at_short 10 refl (equal c 10 is) | inr n10 ↦
-    elim (test_or (c == 12)) [ | inl is ↦ at_short 12 refl (equal c 12 is) | inr n12 ↦
-    elim (test_or (c == 13)) [ | inl is ↦ at_short 13 refl (equal c 13 is) | inr n13 ↦
-    elim (test_or (c == 34)) [ | inl is ↦ at_short 34 refl (equal c 34 is) | inr n34 ↦
-    elim (test_or (c == 92)) [ | inl is ↦ at_short 92 refl (equal c 92 is) | inr n92 ↦
-    elim (test_or (nat_lt c 32)) [
-    | inl low ↦ rw (n8, n9, n10, n12, n13, n34, n92, low) (at_control (below c low))
-    | inr high ↦ rw (n8, n9, n10, n12, n13, n34, n92, high) (both (scalar c) true e refl)
-    ] ] ] ] ] ] ] ]
+    elim (test_or (c == 8)) [
+      | inl is ↦ at_short 8 refl (equal c 8 is)
+      | inr n8 ↦
+          elim (test_or (c == 9)) [
+            | inl is ↦ at_short 9 refl (equal c 9 is)
+            | inr n9 ↦
+                elim (test_or (c == 10)) [
+                  | inl is ↦ at_short 10 refl (equal c 10 is)
+                  | inr n10 ↦
+                      elim (test_or (c == 12)) [
+                        | inl is ↦ at_short 12 refl (equal c 12 is)
+                        | inr n12 ↦
+                            elim (test_or (c == 13)) [
+                              | inl is ↦ at_short 13 refl (equal c 13 is)
+                              | inr n13 ↦
+                                  elim (test_or (c == 34)) [
+                                    | inl is ↦ at_short 34 refl (equal c 34 is)
+                                    | inr n34 ↦
+                                        elim (test_or (c == 92)) [
+                                          | inl is ↦ at_short 92 refl (equal c 92 is)
+                                          | inr n92 ↦
+                                              elim (test_or (nat_lt c 32)) [
+                                                | inl low ↦ rw (n8, n9, n10, n12, n13, n34, n92, low) (at_control (below c low))
+                                                | inr high ↦ rw (n8, n9, n10, n12, n13, n34, n92, high) (both (scalar c) true e refl)
+                                              ]
+                                        ]
+                                  ]
+                            ]
+                      ]
+                ]
+          ]
+    ]
   where
     at_short : (v : ℕ) → AreChars (literal_char v) → c ≡ v → AreChars (literal_char c)
     at_short v h is = subst (λ (x : ℕ). AreChars (literal_char x)) (sym is) h

@@ -92,10 +92,11 @@ value_spelled (Many []) rest ts v f stops l =
     (LeftBrace ∷ RightBrace ∷ ts, behind_left_brace (right_brace ∷ rest) (RightBrace ∷ ts) (behind_right_brace rest ts l), empty_array ts)
 value_spelled (Many (s ∷ ss)) rest ts v f stops l =
     let x = elements_spelled s ss rest ts v.0 f.1.0 v.1 f.1.1 l in
-    let joined = append_assoc (canonical_elements (s ∷ ss)) (codes "}") rest in
-    (LeftBrace ∷ x.us,
-     behind_left_brace ((canonical_elements (s ∷ ss) ++ codes "}") ++ rest) x.us (subst (λ (xs : List ℕ). Lexes xs x.us) (sym joined) x.tokens),
-     array x.us x.behind ts s ss x.first x.others)
+    let joined = append_assoc (canonical_elements (s ∷ ss)) (codes "}") rest in (
+      LeftBrace ∷ x.us,
+      behind_left_brace ((canonical_elements (s ∷ ss) ++ codes "}") ++ rest) x.us (subst (λ (xs : List ℕ). Lexes xs x.us) (sym joined) x.tokens),
+      array x.us x.behind ts s ss x.first x.others,
+    )
 
 -- properties
 
@@ -111,13 +112,14 @@ properties_spelled (p ∷ ps) rest ts vs fs l =
     let v = value_spelled p.value (semicolon ∷ 10 ∷ after) (Semicolon ∷ y.0) vs.0.value fs.0.value refl (behind_semicolon after y.0 y.1) in
     let given : List ℕ = canonical_value p.value ++ semicolon ∷ 10 ∷ after in
     let name = behind_word p.name (32 ∷ equals_sign ∷ 32 ∷ given) (EqualsSign ∷ v.0) vs.0.name.ident refl
-        (behind_blank 32 (equals_sign ∷ 32 ∷ given) (EqualsSign ∷ v.0) refl (behind_equals (32 ∷ given) v.0 (behind_blank 32 given v.0 refl v.1))) in
+    (behind_blank 32 (equals_sign ∷ 32 ∷ given) (EqualsSign ∷ v.0) refl (behind_equals (32 ∷ given) v.0 (behind_blank 32 given v.0 refl v.1))) in
     let joined = append_assoc (canonical_property p) (flat_map canonical_property ps) (right_brace ∷ rest)
-        ∙ ap (λ (xs : List ℕ). 32 ∷ xs) (regrouped p.name (codes " = ") (canonical_value p.value) (codes ";\n") after) in
-    (Word p.name ∷ EqualsSign ∷ v.0,
-     subst (λ (xs : List ℕ). Lexes xs (Word p.name ∷ EqualsSign ∷ v.0)) (sym joined)
-     (behind_blank 32 (p.name ++ 32 ∷ equals_sign ∷ 32 ∷ given) (Word p.name ∷ EqualsSign ∷ v.0) refl name),
-     value_initializer p.name v.0 y.0 ts p.value ps v.2 y.2)
+    ∙ ap (λ (xs : List ℕ). 32 ∷ xs) (regrouped p.name (codes " = ") (canonical_value p.value) (codes ";\n") after) in (
+      Word p.name ∷ EqualsSign ∷ v.0,
+      subst (λ (xs : List ℕ). Lexes xs (Word p.name ∷ EqualsSign ∷ v.0)) (sym joined)
+          (behind_blank 32 (p.name ++ 32 ∷ equals_sign ∷ 32 ∷ given) (Word p.name ∷ EqualsSign ∷ v.0) refl name),
+      value_initializer p.name v.0 y.0 ts p.value ps v.2 y.2,
+    )
 
 -- declarations
 
@@ -157,11 +159,12 @@ instances_spelled (i ∷ all) vs fs =
     let body = properties_spelled i.properties (semicolon ∷ 10 ∷ after) (Semicolon ∷ y.0) vs.0.each fs.0.each (behind_semicolon after y.0 y.1) in
     let inside : List ℕ = flat_map canonical_property i.properties ++ right_brace ∷ semicolon ∷ 10 ∷ after in
     let brace : Lexes (10 ∷ left_brace ∷ 10 ∷ inside) (LeftBrace ∷ body.0) = behind_blank 10 (left_brace ∷ 10 ∷ inside) (LeftBrace ∷ body.0) refl
-        (behind_left_brace (10 ∷ inside) body.0 (behind_blank 10 inside body.0 refl body.1)) in
+    (behind_left_brace (10 ∷ inside) body.0 (behind_blank 10 inside body.0 refl body.1)) in
     let a = alias_spelled i.alias (10 ∷ left_brace ∷ 10 ∷ inside) (LeftBrace ∷ body.0) vs.0.alias refl brace in
     let joined = ap (λ (xs : List ℕ). codes "instance of " ++ xs) (regrouped (i.class ++ canonical_alias i.alias) (codes "\n{\n") (flat_map canonical_property i.properties) (codes "};\n") after
-        ∙ append_assoc i.class (canonical_alias i.alias) (10 ∷ left_brace ∷ 10 ∷ inside)) in
-    (Word (codes "instance") ∷ Word (codes "of") ∷ Word i.class ∷ a.us,
-     subst (λ (xs : List ℕ). Lexes xs (Word (codes "instance") ∷ Word (codes "of") ∷ Word i.class ∷ a.us)) (sym joined)
-     (head_spelled i.class (canonical_alias i.alias ++ 10 ∷ left_brace ∷ 10 ∷ inside) a.us vs.0.class.ident a.apart a.tokens),
-     instance_declaration (codes "instance") (codes "of") i.class i.alias a.us body.0 y.0 i.properties all refl refl a.clause body.2 y.2)
+    ∙ append_assoc i.class (canonical_alias i.alias) (10 ∷ left_brace ∷ 10 ∷ inside)) in (
+      Word (codes "instance") ∷ Word (codes "of") ∷ Word i.class ∷ a.us,
+      subst (λ (xs : List ℕ). Lexes xs (Word (codes "instance") ∷ Word (codes "of") ∷ Word i.class ∷ a.us)) (sym joined)
+          (head_spelled i.class (canonical_alias i.alias ++ 10 ∷ left_brace ∷ 10 ∷ inside) a.us vs.0.class.ident a.apart a.tokens),
+      instance_declaration (codes "instance") (codes "of") i.class i.alias a.us body.0 y.0 i.properties all refl refl a.clause body.2 y.2,
+    )

@@ -44,17 +44,38 @@ control_there c rest h = hexadecimal 120 48 c (48 ∷ hex_glyph (c / 16) ∷ hex
 
 pub quoted_char : (c : ℕ) (cs text rest : List ℕ) → Quoted cs text rest → Quoted (literal_char c ++ cs) (c ∷ text) rest
 quoted_char c cs text rest q =
-    elim (test_or (c == 8)) [ | inl is ↦ at_short 8 98 refl refl (equal c 8 is) | inr n8 ↦
-    elim (test_or (c == 9)) [ | inl is ↦ at_short 9 116 refl refl (equal c 9 is) | inr n9 ↦
-    elim (test_or (c == 10)) [ | inl is ↦ at_short 10 110 refl refl (equal c 10 is) | inr n10 ↦
-    elim (test_or (c == 12)) [ | inl is ↦ at_short 12 102 refl refl (equal c 12 is) | inr n12 ↦
-    elim (test_or (c == 13)) [ | inl is ↦ at_short 13 114 refl refl (equal c 13 is) | inr n13 ↦
-    elim (test_or (c == 34)) [ | inl is ↦ at_short 34 34 refl refl (equal c 34 is) | inr n34 ↦
-    elim (test_or (c == 92)) [ | inl is ↦ at_short 92 92 refl refl (equal c 92 is) | inr n92 ↦
-    elim (test_or (nat_lt c 32)) [
-    | inl low ↦ rw (n8, n9, n10, n12, n13, n34, n92, low) (escaped c (120 ∷ 48 ∷ 48 ∷ hex_glyph (c / 16) ∷ hex_glyph (c % 16) ∷ cs) cs text rest (control_there c cs (below c low)) q)
-    | inr high ↦ rw (n8, n9, n10, n12, n13, n34, n92, high) (plain c cs text rest n34 n92 q)
-    ] ] ] ] ] ] ] ]
+    elim (test_or (c == 8)) [
+      | inl is ↦ at_short 8 98 refl refl (equal c 8 is)
+      | inr n8 ↦
+          elim (test_or (c == 9)) [
+            | inl is ↦ at_short 9 116 refl refl (equal c 9 is)
+            | inr n9 ↦
+                elim (test_or (c == 10)) [
+                  | inl is ↦ at_short 10 110 refl refl (equal c 10 is)
+                  | inr n10 ↦
+                      elim (test_or (c == 12)) [
+                        | inl is ↦ at_short 12 102 refl refl (equal c 12 is)
+                        | inr n12 ↦
+                            elim (test_or (c == 13)) [
+                              | inl is ↦ at_short 13 114 refl refl (equal c 13 is)
+                              | inr n13 ↦
+                                  elim (test_or (c == 34)) [
+                                    | inl is ↦ at_short 34 34 refl refl (equal c 34 is)
+                                    | inr n34 ↦
+                                        elim (test_or (c == 92)) [
+                                          | inl is ↦ at_short 92 92 refl refl (equal c 92 is)
+                                          | inr n92 ↦
+                                              elim (test_or (nat_lt c 32)) [
+                                                | inl low ↦ rw (n8, n9, n10, n12, n13, n34, n92, low) (escaped c (120 ∷ 48 ∷ 48 ∷ hex_glyph (c / 16) ∷ hex_glyph (c % 16) ∷ cs) cs text rest (control_there c cs (below c low)) q)
+                                                | inr high ↦ rw (n8, n9, n10, n12, n13, n34, n92, high) (plain c cs text rest n34 n92 q)
+                                              ]
+                                        ]
+                                  ]
+                            ]
+                      ]
+                ]
+          ]
+    ]
   where
     at_short : (v e : ℕ) → literal_char v ≡ backslash ∷ e ∷ [] → short_escape e ≡ Some v → c ≡ v → Quoted (literal_char c ++ cs) (c ∷ text) rest
     at_short v e written stands is =

@@ -61,7 +61,9 @@ impl Feed {
     pub fn new(alloc: Global) -> Feed
         ensures { result ≡ [] }
     {
-        Feed { bytes: Vec::new(alloc) }
+        Feed {
+            bytes: Vec::new(alloc),
+        }
     }
 
     /// Takes one more piece, or leaves the feed as it was.

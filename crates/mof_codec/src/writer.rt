@@ -8,9 +8,8 @@ mod declarations;
 mod literals;
 mod scalars;
 
-pub use literals::push_literal;
-
 use declarations::push_instances;
+pub use literals::push_literal;
 use mof_values::{Instance, Memory};
 use std::alloc::Global;
 

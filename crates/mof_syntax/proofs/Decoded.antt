@@ -116,7 +116,7 @@ runs_same encoding (c ∷ cs) [] r s one other ends stops e =
     absurd (stops c (body_bytes encoding cs ++ r) (and_left (scalar c) (all_scalars cs) one) (sym e ∙ append_assoc (char_bytes encoding c) (body_bytes encoding cs) r))
 runs_same encoding (c ∷ cs) (d ∷ ds) r s one other ends stops e =
     let first = char_same encoding c d (body_bytes encoding cs ++ r) (body_bytes encoding ds ++ s) (and_left (scalar c) (all_scalars cs) one) (and_left (scalar d) (all_scalars ds) other)
-        (sym (append_assoc (char_bytes encoding c) (body_bytes encoding cs) r) ∙ e ∙ append_assoc (char_bytes encoding d) (body_bytes encoding ds) s) in
+    (sym (append_assoc (char_bytes encoding c) (body_bytes encoding cs) r) ∙ e ∙ append_assoc (char_bytes encoding d) (body_bytes encoding ds) s) in
     let others = runs_same encoding cs ds r s (and_right (scalar c) (all_scalars cs) one) (and_right (scalar d) (all_scalars ds) other) ends stops first.1 in
     (cons_same c d cs ds first.0 others.0, others.1)
   where

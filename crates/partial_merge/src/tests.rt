@@ -8,10 +8,17 @@ use std::test::Fail;
 const HEADER: &str = "instance of OMI_ConfigurationDocument{Version=\"2.0.0\";};";
 
 // A log resource of each id, with what it depends on, and then headers.
-fn document(rt: &impl AllocGlobal, resources: &[(&str, &str)], headers: usize) -> Result<String, Fail> {
+fn document(
+    rt: &impl AllocGlobal,
+    resources: &[(&str, &str)],
+    headers: usize,
+) -> Result<String, Fail> {
     let mut text = String::new(rt.alloc());
     for (id, depends) in resources {
-        write!(text, "instance of MSFT_LogResource{{ResourceID=\"{id}\";Message=\"m\";DependsOn={{{depends}}};}};")?;
+        write!(
+            text,
+            "instance of MSFT_LogResource{{ResourceID=\"{id}\";Message=\"m\";DependsOn={{{depends}}};}};"
+        )?;
     }
     for _ in 0..headers {
         text.push_str(HEADER)?;
@@ -32,11 +39,17 @@ fn merged(rt: &impl AllocGlobal, bytes: &[u8]) -> Result<Result<Document, MergeE
 }
 
 fn doc(refusal: DocError) -> MergeError {
-    MergeError::Part { index: 0, fault: PartFault::Doc(refusal) }
+    MergeError::Part {
+        index: 0,
+        fault: PartFault::Doc(refusal),
+    }
 }
 
 fn mof(refusal: MofError) -> MergeError {
-    MergeError::Part { index: 0, fault: PartFault::Mof(refusal) }
+    MergeError::Part {
+        index: 0,
+        fault: PartFault::Mof(refusal),
+    }
 }
 
 #[test]
@@ -58,13 +71,22 @@ fn one_part_is_a_document(rt: HostRuntime) -> Result<(), Fail> {
         (&[], 0),
         (&[("[Log]A", "")], 1),
         (&[("[Log]A", ""), ("[Log]B", "\"[log]a\"")], 2),
-        (&[("[Log]A", "\"[Log]C\""), ("[Log]B", ""), ("[Log]C", "")], 3),
+        (
+            &[("[Log]A", "\"[Log]C\""), ("[Log]B", ""), ("[Log]C", "")],
+            3,
+        ),
     ];
     for (resources, count) in rows {
         let bytes = document(&rt, resources, 1)?;
         let document = merged(&rt, bytes.as_bytes())??;
         assert_eq!(rt; document.resources.as_slice().len(), count);
-        for ((place, resource), (id, _)) in document.resources.as_slice().iter().enumerate().zip(resources) {
+        for ((place, resource), (id, _)) in document
+            .resources
+            .as_slice()
+            .iter()
+            .enumerate()
+            .zip(resources)
+        {
             assert!(rt; resource.id == text(&rt, id)?);
             assert_eq!(rt; (resource.part, resource.index as usize), (0, place));
         }
@@ -78,12 +100,30 @@ fn one_part_is_a_document(rt: HostRuntime) -> Result<(), Fail> {
 fn the_first_fault_of_a_part_is_told(rt: HostRuntime) -> Result<(), Fail> {
     let cases: [(&[(&str, &str)], usize, DocError); 6] = [
         (&[("[Log]A", "")], 0, DocError::NoHeader),
-        (&[], 2, DocError::TwoHeaders { first: 0, second: 1 }),
+        (
+            &[],
+            2,
+            DocError::TwoHeaders {
+                first: 0,
+                second: 1,
+            },
+        ),
         (&[("A", "")], 1, DocError::BadResourceId { index: 0 }),
-        (&[("[Log]X", ""), ("[log]x", "")], 1, DocError::DuplicateId { first: 0, second: 1 }),
+        (
+            &[("[Log]X", ""), ("[log]x", "")],
+            1,
+            DocError::DuplicateId {
+                first: 0,
+                second: 1,
+            },
+        ),
         (&[("[Log]A", "7")], 1, DocError::BadDependsOn { index: 0 }),
         // a fault of the part wins over an unknown id
-        (&[("[Log]A", "\"[Log]Z\""), ("[Log]B", "7")], 1, DocError::BadDependsOn { index: 1 }),
+        (
+            &[("[Log]A", "\"[Log]Z\""), ("[Log]B", "7")],
+            1,
+            DocError::BadDependsOn { index: 1 },
+        ),
     ];
     for (resources, headers, refusal) in cases {
         let bytes = document(&rt, resources, headers)?;
@@ -95,9 +135,15 @@ fn the_first_fault_of_a_part_is_told(rt: HostRuntime) -> Result<(), Fail> {
 #[test]
 fn a_part_that_spells_nothing_is_refused(rt: HostRuntime) -> Result<(), Fail> {
     for (bytes, refusal) in [
-        (&b"instance of A { X = \"ab"[..], MofError::Syntax { at: 23 }),
+        (
+            &b"instance of A { X = \"ab"[..],
+            MofError::Syntax { at: 23 },
+        ),
         (b"x\xff", MofError::Text { at: 1 }),
-        (b"instance of A { X = 18446744073709551616; };", MofError::NumberRange { at: 20 }),
+        (
+            b"instance of A { X = 18446744073709551616; };",
+            MofError::NumberRange { at: 20 },
+        ),
     ] {
         assert_eq!(rt; merged(&rt, bytes)?.err(), Some(mof(refusal)));
     }
@@ -109,15 +155,33 @@ fn a_part_that_spells_nothing_is_refused(rt: HostRuntime) -> Result<(), Fail> {
 fn the_first_unknown_id_is_told(rt: HostRuntime) -> Result<(), Fail> {
     let rows: [(&[(&str, &str)], u32, &str); 4] = [
         (&[("[Log]A", "\"[Log]Z\"")], 0, "[Log]Z"),
-        (&[("[Log]A", "\"[Log]B\""), ("[Log]B", "\"[log]a\",\"[Log]Y\",\"[Log]Z\"")], 1, "[Log]Y"),
-        (&[("[Log]A", "\"[Log]Z\""), ("[Log]B", "\"[Log]Y\"")], 0, "[Log]Z"),
+        (
+            &[
+                ("[Log]A", "\"[Log]B\""),
+                ("[Log]B", "\"[log]a\",\"[Log]Y\",\"[Log]Z\""),
+            ],
+            1,
+            "[Log]Y",
+        ),
+        (
+            &[("[Log]A", "\"[Log]Z\""), ("[Log]B", "\"[Log]Y\"")],
+            0,
+            "[Log]Z",
+        ),
         // an unknown id wins over a cycle
-        (&[("[Log]A", "\"[Log]A\""), ("[Log]B", "\"Log]B\"")], 1, "Log]B"),
+        (
+            &[("[Log]A", "\"[Log]A\""), ("[Log]B", "\"Log]B\"")],
+            1,
+            "Log]B",
+        ),
     ];
     for (resources, index, name) in rows {
         let bytes = document(&rt, resources, 1)?;
         let name = text(&rt, name)?;
-        let wanted = MergeError::DependsUnknown { spot: Spot { part: 0, index }, name };
+        let wanted = MergeError::DependsUnknown {
+            spot: Spot { part: 0, index },
+            name,
+        };
         assert_eq!(rt; merged(&rt, bytes.as_bytes())?.err(), Some(wanted));
     }
     Ok(())
@@ -130,7 +194,10 @@ fn a_spot_counts_every_instance_of_the_part(rt: HostRuntime) -> Result<(), Fail>
     bytes.push_str(HEADER)?;
     bytes.push_str(document(&rt, &[("[Log]A", "\"[Log]Z\"")], 0)?.as_str())?;
     let name = text(&rt, "[Log]Z")?;
-    let wanted = MergeError::DependsUnknown { spot: Spot { part: 0, index: 2 }, name };
+    let wanted = MergeError::DependsUnknown {
+        spot: Spot { part: 0, index: 2 },
+        name,
+    };
     assert_eq!(rt; merged(&rt, bytes.as_bytes())?.err(), Some(wanted));
     Ok(())
 }
@@ -138,9 +205,19 @@ fn a_spot_counts_every_instance_of_the_part(rt: HostRuntime) -> Result<(), Fail>
 #[test]
 fn dependencies_that_lead_round_are_told(rt: HostRuntime) -> Result<(), Fail> {
     let rows: [(&[(&str, &str)], &[u32]); 3] = [
-        (&[("[Log]A", "\"[Log]B\""), ("[Log]B", "\"[Log]A\"")], &[0, 1]),
+        (
+            &[("[Log]A", "\"[Log]B\""), ("[Log]B", "\"[Log]A\"")],
+            &[0, 1],
+        ),
         (&[("[Log]A", "\"[log]a\"")], &[0]),
-        (&[("[Log]A", ""), ("[Log]B", "\"[Log]C\""), ("[Log]C", "\"[Log]B\"")], &[1, 2]),
+        (
+            &[
+                ("[Log]A", ""),
+                ("[Log]B", "\"[Log]C\""),
+                ("[Log]C", "\"[Log]B\""),
+            ],
+            &[1, 2],
+        ),
     ];
     for (resources, cycle) in rows {
         let bytes = document(&rt, resources, 1)?;

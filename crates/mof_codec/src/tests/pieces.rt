@@ -8,7 +8,11 @@ use std::test::Fail;
 const READ: &[u8] = b"\xef\xbb\xbfinstance of A{X={\"\xc3\xa9\xf0\x9f\x98\x80\",-5};};";
 
 // What a feed answers that was given the bytes in pieces of this size.
-fn finished(rt: &impl AllocGlobal, bytes: &[u8], size: usize) -> Result<Result<Vec<Instance>, MofError>, FeedError> {
+fn finished(
+    rt: &impl AllocGlobal,
+    bytes: &[u8],
+    size: usize,
+) -> Result<Result<Vec<Instance>, MofError>, FeedError> {
     let mut feed = Feed::new(rt.alloc());
     for piece in bytes.chunks(size.max(1)) {
         feed.feed(piece)?;
@@ -45,7 +49,10 @@ fn a_document_in_pieces_is_refused_where_the_whole_is(rt: HostRuntime) -> Result
     let refused: [(&[u8], MofError); 4] = [
         (b"instance of A { X = \"ab", MofError::Syntax { at: 23 }),
         (b"\xff\xfei", MofError::Text { at: 2 }),
-        (b"instance of A{X=\"\xc3\xa9\xc3\";};", MofError::Text { at: 19 }),
+        (
+            b"instance of A{X=\"\xc3\xa9\xc3\";};",
+            MofError::Text { at: 19 },
+        ),
         (
             b"instance of A{X=18446744073709551616;};",
             MofError::NumberRange { at: 16 },
@@ -78,7 +85,10 @@ fn a_piece_past_the_limit_is_refused_and_the_feed_goes_on(rt: HostRuntime) -> Re
     let mut feed = Feed::new(rt.alloc());
     feed.feed(b"instance of A{};")?;
     let rest = spaces(&rt, 2_097_136)?;
-    assert_eq!(rt; feed.feed(&spaces(&rt, 2_097_137)?), Err(FeedError::TooLong));
+    assert_eq!(rt;
+        feed.feed(&spaces(&rt, 2_097_137)?),
+        Err(FeedError::TooLong)
+    );
     feed.feed(&rest)?;
     assert_eq!(rt; feed.feed(b";"), Err(FeedError::TooLong));
     feed.feed(b"")?;
@@ -89,7 +99,10 @@ fn a_piece_past_the_limit_is_refused_and_the_feed_goes_on(rt: HostRuntime) -> Re
 #[test]
 fn refusals_are_told_in_words(rt: HostRuntime) -> Result<(), Fail> {
     for (refusal, words) in [
-        (FeedError::TooLong, "the document is longer than 2097152 bytes"),
+        (
+            FeedError::TooLong,
+            "the document is longer than 2097152 bytes",
+        ),
         (FeedError::Memory, "out of memory"),
     ] {
         assert_eq!(rt; refusal.to_string(rt.alloc())?.as_str(), words);

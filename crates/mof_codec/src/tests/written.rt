@@ -7,7 +7,10 @@ use std::test::Fail;
 const TEXTS: [(&str, &str); 12] = [
     ("", ""),
     ("// none\r\n /* at all */", ""),
-    ("instance of as as $of {};", "instance of as as $of\n{\n};\n"),
+    (
+        "instance of as as $of {};",
+        "instance of as as $of\n{\n};\n",
+    ),
     ("INSTANCE/**/Of\tA{};", "instance of A\n{\n};\n"),
     (
         "instance of A { X = \"ab\" \"c\"; Y = \"\\x41g\"; };",
@@ -68,7 +71,9 @@ fn a_canonical_text_is_its_own_canonical_text(rt: HostRuntime) -> Result<(), Fai
 }
 
 #[test]
-fn a_canonical_text_is_read_as_the_instances_that_were_written(rt: HostRuntime) -> Result<(), Fail> {
+fn a_canonical_text_is_read_as_the_instances_that_were_written(
+    rt: HostRuntime,
+) -> Result<(), Fail> {
     for (text, canonical) in TEXTS {
         assert_eq!(rt; instances(&rt, text)?, instances(&rt, canonical)?);
     }
@@ -77,8 +82,12 @@ fn a_canonical_text_is_read_as_the_instances_that_were_written(rt: HostRuntime) 
 
 #[test]
 fn a_text_in_utf16_is_written_in_utf8_without_a_mark(rt: HostRuntime) -> Result<(), Fail> {
-    let marked = b"\xfe\xff\x00i\x00n\x00s\x00t\x00a\x00n\x00c\x00e\x00 \x00o\x00f\x00 \x00\xe9\x00{\x00}\x00;";
+    let marked =
+        b"\xfe\xff\x00i\x00n\x00s\x00t\x00a\x00n\x00c\x00e\x00 \x00o\x00f\x00 \x00\xe9\x00{\x00}\x00;";
     let bytes = write(rt.alloc(), &read(rt.alloc(), marked)?)?;
-    assert_eq!(rt; bytes.as_slice(), b"instance of \xc3\xa9\n{\n};\n".as_slice());
+    assert_eq!(rt;
+        bytes.as_slice(),
+        b"instance of \xc3\xa9\n{\n};\n".as_slice()
+    );
     Ok(())
 }
