@@ -1,6 +1,6 @@
 -- Where the machine begins a declaration, a property or an element.
-use Rattle.std.proofs.Common.{◌≡◌, ◌⊎◌, inl, inr, ℕ, zero, suc, ◌+◌, ◌*◌, Bool, true, false, cond, List, [], ◌∷◌, Option, Some, None, is_some, drop, refl, sym, ◌∙◌, ap, subst, arith}
-use Rattle.std.specs.Prelude.{nat_le, ◌==◌, ◌||◌}
+use Rattle.std.proofs.Common.{◌≡◌, ◌⊎◌, inl, inr, ℕ, zero, suc, ◌+◌, ◌*◌, Bool, true, false, cond, Option, Some, None, is_some, drop, refl, sym, ◌∙◌, ap, subst, arith}
+use Rattle.std.specs.Prelude.{◌==◌, ◌||◌}
 use Rattle.std.proofs.lemmas.Bool.{eqb-true}
 use Rattle.std.proofs.lemmas.Bool.Decides.{nat_tests}
 use Rattle.std.specs.Char.{digit_value, to_ascii_lowercase}
@@ -20,11 +20,11 @@ use Rattle.mof_codec.specs.declared.machine.state.Half.TheVariants as halves
 use Rattle.mof_codec.specs.declared.machine.state.State.{State}
 use Rattle.mof_codec.specs.declared.machine.state.Event.{Event}
 use Rattle.mof_codec.specs.declared.machine.state.Event.TheVariants as events
-use Rattle.mof_codec.specs.Machine.{is_sign, letters, head_of, is_no_char, go, begin, gapped, opened, keyed, number_begun, value_word, scalar_begun, numbered, quoted, digit_on, key_on, ended, step, kind_of}
-use Rattle.mof_codec.specs.Beginnings.{start_place, scalar_place, begins_declaration, begins_scalar}
+use Rattle.mof_codec.specs.Machine.{is_sign, letters, head_of, is_no_char, go, begin, gapped, opened, keyed, number_begun, value_word, scalar_begun, numbered, quoted, key_on, ended, step, kind_of}
+use Rattle.mof_codec.specs.Beginnings.{start_place}
 use Rattle.mof_codec.proofs.Runs.{Says, kind_says}
 use Rattle.mof_codec.proofs.Forward.{letter_begins}
-use Rattle.mof_codec.proofs.Sane.{Sane, is_separator, marked_place}
+use Rattle.mof_codec.proofs.Sane.{Sane, marked_place}
 
 -- the places of elements
 abbrev pub element_place : Place → Bool

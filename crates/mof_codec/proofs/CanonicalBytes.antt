@@ -1,5 +1,5 @@
 -- The bytes that are written of instances are read as these.
-use Rattle.std.proofs.Common.{◌≡◌, ◌≤◌, ◌<◌, ◌+◌, ◌*◌, ◌/◌, ◌%◌, ◌^◌, inl, inr, ℕ, suc, Bool, true, false, ◌&&◌, nat_lt, List, [], ◌∷◌, ◌++◌, length, encode_utf8_all, refl, sym, ap, ap₂, subst, ◌∙◌, arith, Option, Some, None, ℤ, pos, negsuc, codes}
+use Rattle.std.proofs.Common.{◌≡◌, ◌≤◌, ◌<◌, ◌/◌, ◌%◌, inl, inr, ℕ, suc, Bool, true, false, ◌&&◌, nat_lt, List, [], ◌∷◌, ◌++◌, length, encode_utf8_all, refl, sym, ap, subst, arith, Option, Some, None, ℤ, pos, negsuc, codes}
 use Rattle.std.specs.Prelude.{◌==◌, IfSome}
 use Rattle.std.specs.List.{flat_map, AllByRecursion}
 use Rattle.std.specs.Char.{digit_value}
@@ -20,7 +20,7 @@ use Rattle.mof_values.specs.declared.value.Value.{Value}
 use Rattle.mof_values.specs.declared.value.Value.TheVariants.{One, Many}
 use Rattle.mof_syntax.specs.declared.encoding.Encoding.TheVariants.{Utf8}
 use Rattle.mof_syntax.specs.Encodings.{encoding_of, char_bytes, encoded, Chars}
-use Rattle.mof_syntax.specs.Canonical.{hex_glyph, control_escape, literal_char, canonical_literal, canonical_scalar, canonical_elements, canonical_value, canonical_property, canonical_alias, canonical_instance, canonical_text, canonical_bytes}
+use Rattle.mof_syntax.specs.Canonical.{hex_glyph, control_escape, literal_char, canonical_scalar, canonical_elements, canonical_value, canonical_property, canonical_alias, canonical_instance, canonical_text, canonical_bytes}
 use Rattle.mof_syntax.specs.Limits.{IsInRange, ScalarFits, ValueFits, PropertyFits, InstanceFits, IsWithinLimits, document_limit}
 use Rattle.mof_syntax.specs.Refusals.{Reads}
 use Rattle.mof_syntax.proofs.Scans.{test_or}

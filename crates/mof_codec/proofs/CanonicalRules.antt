@@ -9,11 +9,11 @@ use Rattle.mof_values.specs.declared.value.Scalar.{Scalar}
 use Rattle.mof_values.specs.declared.value.Scalar.TheVariants as scalars
 use Rattle.mof_values.specs.declared.value.Value.{Value}
 use Rattle.mof_values.specs.declared.value.Value.TheVariants.{One, Many}
-use Rattle.mof_syntax.specs.Canonical.{canonical_literal, canonical_scalar, canonical_elements, canonical_value, canonical_property, canonical_alias, canonical_instance, canonical_text}
+use Rattle.mof_syntax.specs.Canonical.{canonical_literal, canonical_scalar, canonical_elements, canonical_value, canonical_property, canonical_alias, canonical_text}
 use Rattle.mof_syntax.specs.Characters.{dollar, comma, semicolon, equals_sign, left_brace, right_brace, is_blank, Stops}
 use Rattle.mof_syntax.specs.Separators.{blank}
 use Rattle.mof_syntax.specs.Tokens.{Lexeme, Word, AliasName, Literal, Number, LeftBrace, RightBrace, EqualsSign, Semicolon, Comma, left_brace_mark, right_brace_mark, equals_mark, semicolon_mark, comma_mark, Lexes, end, separator, token}
-use Rattle.mof_syntax.specs.Grammar.{last, ConstantValue, string_value, integer_value, true_value, false_value, null_value, alias_identifier, Elements, closing, element, Initializer, constant, empty_array, array, ValueInitializers, done, value_initializer, AliasClause, unnamed, named, InstanceDeclarations, nothing, instance_declaration, WideSpells}
+use Rattle.mof_syntax.specs.Grammar.{last, ConstantValue, string_value, integer_value, true_value, false_value, null_value, alias_identifier, Elements, closing, element, Initializer, constant, empty_array, array, ValueInitializers, done, value_initializer, AliasClause, unnamed, named, nothing, instance_declaration, WideSpells}
 use Rattle.mof_syntax.specs.Limits.{ScalarFits, ValueFits, PropertyFits, InstanceFits}
 use Rattle.mof_codec.specs.Written.{IsName, ScalarIsValid, ValueIsValid, PropertyIsValid, InstanceIsValid}
 use Rattle.mof_codec.proofs.CanonicalTokens.{literal_token, integer_token, word_token, alias_token}

@@ -1,6 +1,6 @@
 -- What is written of a text, an integer or a name is one token.
-use Rattle.std.proofs.Common.{◌≡◌, ◌≤◌, ◌<◌, ◌+◌, ◌*◌, ◌/◌, ◌%◌, ◌^◌, ◌⊎◌, inl, inr, ℕ, zero, suc, Bool, true, false, ◌&&◌, nat_lt, List, [], ◌∷◌, ◌++◌, length, get_or, Some, refl, sym, ap, subst, ◌∙◌, arith, append_assoc, append-nil, ℤ, pos, negsuc, codes}
-use Rattle.std.specs.Prelude.{◌==◌, nat_le, neg_ℤ, IsTrue}
+use Rattle.std.proofs.Common.{◌≡◌, ◌<◌, ◌+◌, ◌*◌, ◌/◌, ◌%◌, ◌^◌, inl, inr, ℕ, zero, suc, true, false, ◌&&◌, nat_lt, List, [], ◌∷◌, ◌++◌, length, get_or, Some, refl, sym, subst, arith, append_assoc, ℤ, pos, negsuc}
+use Rattle.std.specs.Prelude.{◌==◌, nat_le}
 use Rattle.std.specs.List.{flat_map, list_all}
 use Rattle.std.specs.Char.{digit_value}
 use Rattle.std.specs.Fmt.{decimal, signed_decimal}
@@ -10,12 +10,12 @@ use Rattle.std.proofs.lemmas.Bool.Decides.{nat_tests}
 use Rattle.std.proofs.lemmas.Fmt.{decimal_is_IsNumeral, decimal_digit, first_decimal}
 use Rattle.std.proofs.lemmas.Int.{ints}
 use Rattle.mof_values.specs.Ident.{is_first, is_next, IsIdent}
-use Rattle.mof_syntax.specs.Canonical.{hex_glyph, control_escape, literal_char, canonical_literal}
+use Rattle.mof_syntax.specs.Canonical.{hex_glyph, literal_char, canonical_literal}
 use Rattle.mof_syntax.specs.Characters.{quote, backslash, dollar, digit_zero, digit_of, Run, stop, more, Stops}
 use Rattle.mof_syntax.specs.Strings.{short_escape, HexDigits, full, digit, Escape, short, hexadecimal, Quoted, closed, plain, escaped}
 use Rattle.mof_syntax.specs.Integers.{Magnitude, decimal_value, octal_value, IntegerValue, unsigned, minus}
 use Rattle.mof_syntax.specs.Limits.{IsInRange}
-use Rattle.mof_syntax.specs.Tokens.{Identifier, identifier, Lexeme, Word, AliasName, Literal, Number, IsToken, word, alias, literal, integer}
+use Rattle.mof_syntax.specs.Tokens.{Identifier, identifier, Word, AliasName, Literal, Number, IsToken, word, alias, literal, integer}
 use Rattle.mof_syntax.proofs.Scans.{test_or}
 use Rattle.mof_codec.proofs.MarkFronts.{equal}
 

@@ -1,29 +1,19 @@
 -- The refusal that wins, of those that were found.
-use Rattle.std.proofs.Common.{◌≡◌, ◌⊎◌, inl, inr, ℕ, zero, suc, ◌+◌, ◌-◌, ◌<◌, ◌≤◌, Bool, true, false, List, [], ◌∷◌, ◌++◌, Option, Some, None, length, take, drop, refl, sym, ◌∙◌, ap, subst, arith, append_assoc}
-use Rattle.std.specs.Prelude.{slice_range, nat_le, ℤ, IfSome, IfNone}
-use Rattle.std.specs.List.{AllByRecursion}
+use Rattle.std.proofs.Common.{◌≡◌, ◌⊎◌, inl, inr, ℕ, ◌+◌, ◌<◌, ◌≤◌, Bool, true, false, List, [], ◌∷◌, ◌++◌, Option, Some, None, length, take, refl, sym, ◌∙◌, ap, subst, arith}
+use Rattle.std.specs.Prelude.{nat_le, IfSome, IfNone}
 use Rattle.std.proofs.lemmas.Bool.{cases_lt}
 use Rattle.std.proofs.lemmas.Bool.Decides.{nat_tests}
-use Rattle.std.proofs.lemmas.List.{take_all, drop-drop}
-use Rattle.mof_values.specs.Ident.{is_next}
-use Rattle.mof_values.specs.declared.instance.Instance.{Instance}
+use Rattle.std.proofs.lemmas.List.{take_all}
 use Rattle.mof_syntax.specs.declared.mof_error.MofError.{MofError}
 use Rattle.mof_syntax.specs.declared.mof_error.MofError.TheVariants as errors
 use Rattle.mof_syntax.specs.declared.mof_error.Form.{Form}
-use Rattle.mof_syntax.specs.Characters.{Stops, Run, stop, more, digit_of}
-use Rattle.mof_syntax.specs.Integers.{IntegerValue}
-use Rattle.mof_syntax.specs.Tokens.{IsToken, Number, integer, Identifier}
-use Rattle.mof_syntax.specs.Grammar.{Wide, WideSpells}
-use Rattle.mof_syntax.specs.Limits.{IsOutOfRange, Spells, instances_limit}
-use Rattle.mof_syntax.specs.Fronts.{IsFront, IsSyntaxFault, GoesUpTo, whole, torn, BeginsScalar}
-use Rattle.mof_syntax.specs.Counts.{TooMany}
+use Rattle.mof_syntax.specs.Grammar.{Wide}
+use Rattle.mof_syntax.specs.Fronts.{IsFront, IsSyntaxFault, GoesUpTo, whole, torn}
 use Rattle.mof_syntax.specs.Profile.{OutOfProfile}
-use Rattle.mof_syntax.specs.Refusals.{Applies, place_of, rank_of, WinsOver, Wins, BeginsExcessNumber}
-use Rattle.mof_codec.specs.declared.refusing.scalar.Wanted.TheVariants.{ExcessInteger}
-use Rattle.mof_codec.specs.Searching.{FirstOf, ScalarStands, BeginsExcessInteger, IsFirstExcess, HasNoExcess, IsFirstForm, HasNoForm}
-use Rattle.mof_codec.specs.Winning.{end_of, sooner, out_of_profile, number_range, too_many, syntax_fault}
-use Rattle.mof_codec.proofs.ExcessSearch.{goes_within, goes_past, goes_to_fault}
-use Rattle.mof_codec.proofs.FormSearch.{drop_take, length_front, begins_in_front, begins_of_front}
+use Rattle.mof_syntax.specs.Refusals.{Applies, place_of, rank_of, WinsOver, Wins}
+use Rattle.mof_codec.specs.Searching.{IsFirstExcess, HasNoExcess, IsFirstForm, HasNoForm}
+use Rattle.mof_codec.specs.Winning.{end_of, sooner, out_of_profile, too_many, syntax_fault}
+use Rattle.mof_codec.proofs.ExcessSearch.{goes_within, goes_past}
 
 -- one refusal of these ranks applies, and wins over each other of them; or none applies
 pub record Leads (text : List ℕ) (low high : ℕ) (e : MofError) : Type 0 where

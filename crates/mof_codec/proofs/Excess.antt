@@ -1,17 +1,15 @@
 -- What is begun past its limit, by the state and the counts.
-use Rattle.std.proofs.Common.{◌≡◌, ◌⊎◌, inl, inr, ℕ, zero, suc, ◌+◌, ◌<◌, ◌≤◌, Bool, true, false, List, [], ◌∷◌, ◌++◌, Option, Some, None, length, drop, take, refl, sym, ◌∙◌, ap, subst, arith, append-nil}
+use Rattle.std.proofs.Common.{◌≡◌, ◌⊎◌, inl, inr, ℕ, ◌+◌, ◌<◌, true, false, List, [], ◌∷◌, ◌++◌, Option, Some, length, drop, take, refl, sym, ◌∙◌, ap, subst, arith, append-nil}
 use Rattle.std.specs.Prelude.{◌==◌, slice_index, codes}
 use Rattle.std.proofs.lemmas.Bool.{eq-eqb, eqb-true}
-use Rattle.std.specs.Char.{to_ascii_lowercase}
-use Rattle.mof_values.specs.Ident.{is_first}
 use Rattle.mof_values.specs.declared.instance.Instance.{Instance}
-use Rattle.mof_syntax.specs.Tokens.{Identifier, identifier}
+use Rattle.mof_syntax.specs.Tokens.{Identifier}
 use Rattle.mof_syntax.specs.Grammar.{WideSpells, Wide}
 use Rattle.mof_syntax.specs.Limits.{instances_limit, properties_limit, elements_limit, identifier_limit}
-use Rattle.mof_syntax.specs.Fronts.{IsFront, BeginsIdentifier}
-use Rattle.mof_syntax.specs.Counts.{last_properties, last_elements, BeginsExcessDeclaration, BeginsExcessProperty, BeginsExcessElement, BeginsLongIdentifier, TooMany, declaration, property, element, identifier as long_identifier}
+use Rattle.mof_syntax.specs.Fronts.{IsFront}
+use Rattle.mof_syntax.specs.Counts.{last_properties, last_elements, BeginsExcessDeclaration, BeginsExcessProperty, BeginsExcessElement, TooMany, declaration, property, element, identifier as long_identifier}
 use Rattle.mof_codec.specs.declared.machine.state.Place.{Place}
-use Rattle.mof_codec.specs.declared.machine.state.Place.TheVariants.{Start, AfterInstance, AfterOf, AfterClass, AfterAs, AfterAlias, Body, AfterBody, AfterName, AfterEquals, AfterStrings, AfterValue, InArray, AfterComma, AfterElementStrings, AfterElement}
+use Rattle.mof_codec.specs.declared.machine.state.Place.TheVariants.{Start, AfterOf, Body, AfterEquals, InArray, AfterComma}
 use Rattle.mof_codec.specs.declared.machine.state.Half.{Half}
 use Rattle.mof_codec.specs.declared.machine.state.Half.TheVariants as halves
 use Rattle.mof_codec.specs.declared.machine.state.State.{State}
@@ -19,16 +17,16 @@ use Rattle.mof_codec.specs.declared.machine.state.Event.{Event}
 use Rattle.mof_codec.specs.declared.machine.state.Event.TheVariants as events
 use Rattle.mof_codec.specs.declared.machine.counts.Counts.{Counts}
 use Rattle.mof_codec.specs.Machine.{begin, step}
-use Rattle.mof_codec.specs.Walked.{tally, Behind, walk_from, start, walked}
+use Rattle.mof_codec.specs.Walked.{Behind, walk_from, start, walked}
 use Rattle.mof_codec.specs.Events.{events_of}
-use Rattle.mof_codec.specs.Beginnings.{name_place, scalar_place, start_place, begins_declaration, begins_scalar, begins_identifier}
+use Rattle.mof_codec.specs.Beginnings.{name_place, scalar_place, begins_declaration, begins_scalar, begins_identifier}
 use Rattle.mof_codec.specs.Counting.{declarations_in, properties_in, elements_in, Tells, is_excess}
 use Rattle.mof_codec.proofs.Walking.{walk-append}
 use Rattle.mof_codec.proofs.Fronts.{events_here, whole_here}
 use Rattle.mof_codec.proofs.Sane.{walked_sane}
 use Rattle.mof_codec.proofs.CountsFit.{declared, last_has, last_holds}
 use Rattle.mof_codec.proofs.Standing.{Takes, may_takes, declaration_begins, begins_there, scalar_begins, scalar_there, identifier_begins, identifier_there}
-use Rattle.mof_codec.proofs.Begun.{element_place, body_place, is_element, TellsOf, begun_tells, declaration_begun, property_begun, element_begun}
+use Rattle.mof_codec.proofs.Begun.{element_place, body_place, TellsOf, begun_tells, declaration_begun, property_begun, element_begun}
 
 last_count : (is : List Instance) → properties_in (events_of is []) ≡ length (last_properties is)
 last_count [] = refl

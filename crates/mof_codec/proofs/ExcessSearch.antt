@@ -1,16 +1,15 @@
 -- The search for the first part past its limit.
-use Rattle.std.proofs.Common.{◌≡◌, ◌⊎◌, inl, inr, ◌↔◌, ℕ, zero, suc, ◌+◌, ◌-◌, ◌<◌, ◌≤◌, Bool, true, false, List, [], ◌∷◌, ◌++◌, Option, Some, None, length, take, drop, refl, sym, ◌∙◌, ap, subst, arith}
-use Rattle.std.specs.Prelude.{slice_index, slice_index_or, ◌==◌, nat_le}
-use Rattle.std.proofs.lemmas.List.{take_all, take_more}
+use Rattle.std.proofs.Common.{◌≡◌, ◌⊎◌, inl, inr, ℕ, suc, ◌+◌, ◌-◌, ◌<◌, ◌≤◌, Bool, true, false, List, [], ◌∷◌, ◌++◌, Some, None, length, take, drop, refl, sym, ◌∙◌, ap, subst, arith}
+use Rattle.std.specs.Prelude.{slice_index, slice_index_or}
+use Rattle.std.proofs.lemmas.List.{take_more}
 use Rattle.std.proofs.lemmas.Bool.{cases_lt}
-use Rattle.std.proofs.lemmas.Bool.Decides.{nat_tests}
 use Rattle.std.specs.List.{AllByRecursion}
 use Rattle.mof_values.specs.Ident.{is_first, is_next}
 use Rattle.mof_values.specs.declared.instance.Instance.{Instance}
 use Rattle.mof_syntax.specs.Characters.{Run, stop, more, Stops}
 use Rattle.mof_syntax.specs.Tokens.{Identifier, identifier as stands}
-use Rattle.mof_syntax.specs.Grammar.{WideSpells, Wide}
-use Rattle.mof_syntax.specs.Limits.{instances_limit, identifier_limit}
+use Rattle.mof_syntax.specs.Grammar.{WideSpells}
+use Rattle.mof_syntax.specs.Limits.{instances_limit}
 use Rattle.mof_syntax.specs.Fronts.{IsFront, IsSyntaxFault, GoesUpTo, whole, torn}
 use Rattle.mof_syntax.specs.Counts.{TooMany, declaration, property, element, identifier}
 use Rattle.mof_codec.specs.declared.machine.state.State.{State}
@@ -20,11 +19,11 @@ use Rattle.mof_codec.specs.declared.machine.state.Event.{Event}
 use Rattle.mof_codec.specs.declared.machine.state.Event.TheVariants as events
 use Rattle.mof_codec.specs.declared.machine.counts.Counts.{Counts}
 use Rattle.mof_codec.specs.Machine.{step}
-use Rattle.mof_codec.specs.Walked.{tally, Behind, walked}
+use Rattle.mof_codec.specs.Walked.{Behind, walked}
 use Rattle.mof_codec.specs.Events.{events_of}
 use Rattle.mof_codec.specs.Beginnings.{begins_identifier}
-use Rattle.mof_codec.specs.Counting.{Tells, WereWithin, counted, is_excess, name_length, AreWithin}
-use Rattle.mof_codec.specs.Searching.{FirstOf, BeginsLongName, IsFirstExcess, HasNoExcess, HasFewParts}
+use Rattle.mof_codec.specs.Counting.{Tells, WereWithin, counted, is_excess, name_length}
+use Rattle.mof_codec.specs.Searching.{BeginsLongName, IsFirstExcess, HasNoExcess, HasFewParts}
 use Rattle.mof_codec.proofs.Walking.{walked-more}
 use Rattle.mof_codec.proofs.Fronts.{is_front, events_here}
 use Rattle.mof_codec.proofs.CountsFit.{declared, are_within, have_few_parts, tells-counted, within-counted}

@@ -1,8 +1,7 @@
 -- The form that stands where a text goes wrong.
-use Rattle.std.proofs.Common.{◌≡◌, ◌⊎◌, inl, inr, ℕ, zero, suc, ◌+◌, ◌-◌, ◌<◌, ◌≤◌, Bool, true, false, List, [], ◌∷◌, ◌++◌, Option, Some, None, length, take, drop, refl, sym, ◌∙◌, ap, subst, arith}
-use Rattle.std.specs.Prelude.{slice_index, slice_range, ◌==◌, codes}
+use Rattle.std.proofs.Common.{◌≡◌, inl, inr, ℕ, zero, suc, ◌+◌, ◌-◌, ◌<◌, ◌≤◌, true, false, List, [], ◌∷◌, ◌++◌, length, take, drop, refl, sym, ◌∙◌, ap, subst, arith}
+use Rattle.std.specs.Prelude.{slice_index, slice_range, codes}
 use Rattle.std.proofs.lemmas.Bool.{eq-eqb, eqb-true}
-use Rattle.std.proofs.lemmas.Bool.Decides.{nat_tests}
 use Rattle.std.proofs.lemmas.List.{drop-drop, take_all}
 use Rattle.std.specs.Char.{to_ascii_lowercase}
 use Rattle.mof_values.specs.Ident.{is_next}
@@ -10,12 +9,11 @@ use Rattle.mof_values.specs.Fold.{SameName, fold_case}
 use Rattle.mof_syntax.specs.declared.mof_error.Form.{Form}
 use Rattle.mof_syntax.specs.declared.mof_error.Form.TheVariants as forms
 use Rattle.mof_syntax.specs.Characters.{Stops}
-use Rattle.mof_syntax.specs.Fronts.{IsFront, IsSyntaxFault, BeginsScalar, BeginsDeclaration}
+use Rattle.mof_syntax.specs.Fronts.{IsFront, BeginsScalar, BeginsDeclaration}
 use Rattle.mof_syntax.specs.Profile as profile
 use Rattle.mof_syntax.specs.Profile.{OutOfProfile, WordStands, BeginsReal}
 use Rattle.mof_codec.specs.declared.machine.state.State.{State}
 use Rattle.mof_codec.specs.declared.refusing.scalar.Wanted.TheVariants.{Real}
-use Rattle.mof_codec.specs.Walked.{walked}
 use Rattle.mof_codec.specs.Searching.{FirstOf, ScalarStands, StandsBehind, IsFirstForm, HasNoForm, BeginsWord, BeginsForm, pragma, qualifiers, class, qualifier, StandsForm, character, declared, begins_with}
 use Rattle.mof_codec.proofs.Standing.{scalar_begins, scalar_there, declaration_begins, begins_there}
 use Rattle.mof_codec.proofs.Stepping.{behind_of}

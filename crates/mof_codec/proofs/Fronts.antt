@@ -1,34 +1,16 @@
 -- Every state can be finished, and so the machine stops exactly where the text leaves the grammar.
-use Rattle.std.proofs.Common.{◌≡◌, ◌≢◌, ◌⊎◌, inl, inr, ℕ, zero, suc, ◌+◌, ◌-◌, ◌*◌, ◌<◌, ◌≤◌, Bool, true, false, cond, List, [], ◌∷◌, ◌++◌, Option, Some, None, is_some, map, length, drop, take, refl, sym, ◌∙◌, ap, subst, arith, append_assoc, append-nil, take-append-drop}
-use Rattle.std.specs.Prelude.{nat_le, nat_lt, ◌==◌, ◌&&◌, ◌||◌, if◌then◌else◌, ℤ, pos, neg_ℤ, slice_index}
-use Rattle.std.proofs.lemmas.Bool.{eq-eqb, eqb-true}
+use Rattle.std.proofs.Common.{◌≡◌, ℕ, zero, suc, ◌+◌, ◌<◌, true, List, [], ◌∷◌, ◌++◌, Option, Some, None, length, drop, take, refl, sym, subst, arith, append_assoc, append-nil, take-append-drop}
+use Rattle.std.specs.Prelude.{nat_le, ◌&&◌, slice_index}
 use Rattle.std.proofs.lemmas.Bool.Decides.{nat_tests}
-use Rattle.std.proofs.lemmas.List.{drop-drop}
-use Rattle.std.specs.Char.{digit_value, to_ascii_lowercase}
-use Rattle.std.specs.Str.Parse.{digits_value}
-use Rattle.mof_values.specs.Fold.{fold_case}
-use Rattle.mof_values.specs.Ident.{is_first, is_next}
+use Rattle.std.specs.Char.{to_ascii_lowercase}
 use Rattle.mof_values.specs.declared.instance.Instance.{Instance}
-use Rattle.mof_values.specs.declared.instance.Property.{Property}
-use Rattle.mof_values.specs.declared.value.Scalar.{Scalar}
-use Rattle.mof_values.specs.declared.value.Scalar.TheVariants as scalars
-use Rattle.mof_values.specs.declared.value.Value.{Value}
-use Rattle.mof_values.specs.declared.value.Value.TheVariants.{One, Many}
-use Rattle.mof_syntax.specs.Characters.{is_blank, digit_of, is_x, is_b, Stops, Run, stop, more}
-use Rattle.mof_syntax.specs.Separators.{LineComment, at_end, at_feed, over, NoEnd, BlockComment, shut, inside, Separator, blank, line, block}
-use Rattle.mof_syntax.specs.Strings.{short_escape, is_surrogate, HexDigits, full, ended, digit, Escape, short, hexadecimal, Quoted, closed, plain, escaped}
-use Rattle.mof_syntax.specs.Integers.{Magnitude, decimal_value, octal_value, hex_value, binary_value, IntegerValue, unsigned, plus, minus}
-use Rattle.mof_syntax.specs.Tokens.{Lexeme, Word, AliasName, Literal, Number, LeftBrace, RightBrace, EqualsSign, Semicolon, Comma, Identifier, identifier, IsToken, word, alias, literal, integer, left_brace_mark, right_brace_mark, equals_mark, semicolon_mark, comma_mark, Lexes, end, separator, token}
-use Rattle.mof_syntax.specs.Grammar.{StringValue, last, joined, ConstantValue, string_value, integer_value, true_value, false_value, null_value, alias_identifier, Elements, closing, element, Initializer, constant, empty_array, array, ValueInitializers, done, value_initializer, AliasClause, unnamed, named, InstanceDeclarations, nothing, instance_declaration, WideSpells, Wide}
+use Rattle.mof_syntax.specs.Tokens.{Lexeme}
+use Rattle.mof_syntax.specs.Grammar.{WideSpells, Wide}
 use Rattle.mof_syntax.specs.Fronts.{IsFront, IsSyntaxFault}
 use Rattle.mof_codec.specs.declared.machine.state.Keyword.{Keyword}
-use Rattle.mof_codec.specs.declared.machine.state.Keyword.TheVariants as keywords
 use Rattle.mof_codec.specs.declared.machine.state.Place.{Place}
 use Rattle.mof_codec.specs.declared.machine.state.Place.TheVariants.{Start, AfterInstance, AfterOf, AfterClass, AfterAs, AfterAlias, Body, AfterBody, AfterName, AfterEquals, AfterStrings, AfterValue, InArray, AfterComma, AfterElementStrings, AfterElement}
-use Rattle.mof_codec.specs.declared.machine.state.Numeral.{Numeral}
 use Rattle.mof_codec.specs.declared.machine.state.Numeral.TheVariants as numerals
-use Rattle.mof_codec.specs.declared.machine.characters.Kind.{Kind}
-use Rattle.mof_codec.specs.declared.machine.characters.Kind.TheVariants as kinds
 use Rattle.mof_codec.specs.declared.machine.state.Half.{Half}
 use Rattle.mof_codec.specs.declared.machine.state.Half.TheVariants as halves
 use Rattle.mof_codec.specs.declared.machine.state.State.{State}
@@ -36,16 +18,16 @@ use Rattle.mof_codec.specs.declared.machine.state.Event.{Event}
 use Rattle.mof_codec.specs.declared.machine.state.Event.TheVariants as events
 use Rattle.std.proofs.lemmas.List.{take_more, take_all}
 use Rattle.mof_syntax.proofs.FrontLaws.{IsSyntaxFault-from_next}
-use Rattle.mof_codec.specs.Machine.{letters, go, begin, step, is_whole}
-use Rattle.mof_codec.specs.Walked.{tally, Behind, start, walked}
+use Rattle.mof_codec.specs.Machine.{letters, begin, step}
+use Rattle.mof_codec.specs.Walked.{tally, Behind, walked}
 use Rattle.mof_codec.specs.Events.{events_of}
 use Rattle.mof_codec.proofs.Goes.{goes_left}
 use Rattle.mof_codec.proofs.Walks.{declarations_on}
-use Rattle.mof_codec.proofs.Runs.{Next, Whole, RunsTo, Ends, Runs, After, Any}
+use Rattle.mof_codec.proofs.Runs.{Next, Whole, Ends, Runs, After, Any}
 use Rattle.mof_codec.proofs.Forward.{runs_from, key_step}
 use Rattle.mof_codec.proofs.Left.{Common, Admits, Along}
 use Rattle.mof_codec.proofs.StepsBack.{left_runs, small, small_letters, small_dropped, and_left, and_right, drop_one}
-use Rattle.mof_codec.proofs.Walking.{goes_on, only_so, walked-more, walked-stuck}
+use Rattle.mof_codec.proofs.Walking.{goes_on, only_so}
 
 -- the grammar's texts are those that the machine takes
 pub wide_runs : (cs : List ℕ) → Wide cs → Runs Any cs halves.Gap Start []

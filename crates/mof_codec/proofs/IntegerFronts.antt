@@ -1,12 +1,12 @@
 -- Integers at the front of characters, cut off there, and out of their range.
-use Rattle.std.proofs.Common.{◌≡◌, ◌≤◌, ◌<◌, ◌^◌, ◌+◌, ◌-◌, ◌⊎◌, inl, inr, ℕ, zero, suc, Bool, true, false, List, [], ◌∷◌, ◌++◌, Option, Some, None, is_none, refl, sym, ap, subst, ◌∙◌, arith}
-use Rattle.std.specs.Prelude.{◌==◌, ℤ, pos, negsuc, neg_ℤ, ◌<ℤ◌}
+use Rattle.std.proofs.Common.{◌≡◌, ◌⊎◌, inl, inr, ℕ, Bool, true, false, List, [], ◌∷◌, ◌++◌, Some, None, refl, sym, ap, subst, ◌∙◌, arith}
+use Rattle.std.specs.Prelude.{ℤ, pos, negsuc}
 use Rattle.std.proofs.lemmas.Bool.{cases_lt}
 use Rattle.std.proofs.lemmas.Int.{ints}
 use Rattle.mof_values.specs.Ident.{is_next}
-use Rattle.mof_syntax.specs.Characters.{plus_sign, minus_sign, digit_of, Stops, Run, stop, more}
+use Rattle.mof_syntax.specs.Characters.{digit_of, Stops, Run, stop, more}
 use Rattle.mof_syntax.specs.Integers.{Magnitude, decimal_value, octal_value, hex_value, binary_value, IntegerValue, unsigned, plus, minus}
-use Rattle.mof_syntax.specs.Limits.{IsInRange, IsOutOfRange, least_integer, greatest_integer}
+use Rattle.mof_syntax.specs.Limits.{IsInRange, IsOutOfRange}
 use Rattle.mof_syntax.specs.Scanning.{magnitude_rest, magnitude_value}
 use Rattle.mof_syntax.specs.Tokens.{Number, IsToken, integer}
 use Rattle.mof_syntax.proofs.Scans.{read-magnitude, magnitude-read}

@@ -1,36 +1,35 @@
 -- Integers past the range, and texts without any that is and without parts past their limits.
-use Rattle.std.proofs.Common.{◌≡◌, ◌⊎◌, inl, inr, ℕ, zero, suc, ◌+◌, ◌-◌, ◌<◌, ◌≤◌, Bool, true, false, List, [], ◌∷◌, ◌++◌, Option, Some, None, length, take, drop, refl, sym, ◌∙◌, ap, subst, arith, append-nil, append_assoc, take-append-drop}
+use Rattle.std.proofs.Common.{◌≡◌, ◌⊎◌, inl, inr, ℕ, zero, suc, ◌+◌, ◌-◌, ◌<◌, ◌≤◌, Bool, true, false, List, [], ◌∷◌, ◌++◌, Option, Some, None, length, take, drop, refl, sym, ◌∙◌, ap, subst, arith, append_assoc, take-append-drop}
 use Rattle.std.specs.Prelude.{slice_range, ℤ, IfSome, IfNone}
 use Rattle.std.specs.List.{AllByRecursion}
 use Rattle.std.proofs.lemmas.Bool.{cases_lt}
-use Rattle.std.proofs.lemmas.List.{take_all, drop-drop, length-drop}
-use Rattle.std.proofs.lemmas.Int.{ints}
+use Rattle.std.proofs.lemmas.List.{drop-drop, length-drop}
 use Rattle.mof_values.specs.Ident.{is_next}
 use Rattle.mof_values.specs.declared.instance.Instance.{Instance}
 use Rattle.mof_syntax.specs.declared.mof_error.MofError.{MofError}
 use Rattle.mof_syntax.specs.declared.mof_error.MofError.TheVariants as errors
 use Rattle.mof_syntax.specs.Characters.{Stops, Run, stop, more}
 use Rattle.mof_syntax.specs.Integers.{Magnitude, decimal_value, octal_value, hex_value, binary_value, IntegerValue, unsigned, plus, minus}
-use Rattle.mof_syntax.specs.Tokens.{Lexeme, Word, AliasName, IsToken, Number, integer, Identifier, identifier}
+use Rattle.mof_syntax.specs.Tokens.{IsToken, Number, integer, Identifier, identifier}
 use Rattle.mof_syntax.specs.Grammar.{Wide, WideSpells}
-use Rattle.mof_syntax.specs.Limits.{IsInRange, IsOutOfRange, Spells, IsWithinLimits, instances_limit, identifier_limit}
-use Rattle.mof_syntax.specs.Fronts.{IsFront, GoesUpTo, whole, BeginsScalar}
-use Rattle.mof_syntax.specs.Refusals.{Applies, place_of, rank_of, WinsOver, BeginsExcessNumber}
+use Rattle.mof_syntax.specs.Limits.{IsInRange, IsOutOfRange, Spells, instances_limit, identifier_limit}
+use Rattle.mof_syntax.specs.Fronts.{GoesUpTo, whole}
+use Rattle.mof_syntax.specs.Refusals.{Applies, rank_of, WinsOver, BeginsExcessNumber}
 use Rattle.mof_codec.specs.declared.machine.state.Place.{Place}
-use Rattle.mof_codec.specs.declared.machine.state.Place.TheVariants.{Start, AfterOf, Body, AfterEquals, InArray, AfterComma}
+use Rattle.mof_codec.specs.declared.machine.state.Place.TheVariants.{Start, AfterEquals, InArray, AfterComma}
 use Rattle.mof_codec.specs.declared.machine.state.Half.{Half}
 use Rattle.mof_codec.specs.declared.machine.state.Half.TheVariants as halves
 use Rattle.mof_codec.specs.declared.machine.state.State.{State}
 use Rattle.mof_codec.specs.declared.machine.state.Event.{Event}
 use Rattle.mof_codec.specs.declared.refusing.scalar.Wanted.TheVariants.{ExcessInteger}
 use Rattle.mof_codec.specs.Machine.{step}
-use Rattle.mof_codec.specs.Walked.{tally, Behind, walked}
-use Rattle.mof_codec.specs.Beginnings.{scalar_place, name_place, begins_scalar, begins_identifier}
+use Rattle.mof_codec.specs.Walked.{tally, walked}
+use Rattle.mof_codec.specs.Beginnings.{scalar_place, begins_scalar, begins_identifier}
 use Rattle.mof_codec.specs.Searching.{FirstOf, ScalarStands, BeginsExcessInteger, HasNoExcess, HasFewParts}
 use Rattle.mof_codec.specs.Winning.{number_range}
 use Rattle.mof_codec.proofs.Goes.{goes_left}
 use Rattle.mof_codec.proofs.Runs.{Next, Runs, After, Any}
-use Rattle.mof_codec.proofs.Left.{AdmitsInteger, AdmitsName, Admits, Along}
+use Rattle.mof_codec.proofs.Left.{AdmitsInteger, Admits, Along}
 use Rattle.mof_codec.proofs.StepsBack.{left_runs}
 use Rattle.mof_codec.proofs.Walking.{walked-more}
 use Rattle.mof_codec.proofs.Fronts.{wide_runs}
@@ -41,7 +40,6 @@ use Rattle.mof_codec.proofs.Excess.{long_excess}
 use Rattle.mof_codec.proofs.TokensFit.{TokenFits, fits_common, are_within_limits}
 use Rattle.mof_codec.proofs.FormSearch.{take_take, drop_take, length_front as front_length, begins_in_front, begins_of_front}
 use Rattle.mof_codec.proofs.Covering.{Covers, only_end}
-use Rattle.mof_codec.proofs.ExcessSearch.{goes_within}
 use Rattle.mof_codec.proofs.IntegerFronts.{excess_first, in_or_out}
 
 -- the two words for an integer past the range
@@ -81,9 +79,6 @@ no_range text at to le = ap (λ (k : ℕ). take k (drop at text)) (none at to le
     none at to le = omega (arith, le)
 
 module _ (text : List ℕ) (end : ℕ) (within : end ≤ length text) where
-  front : List ℕ
-  front = take end text
-
   number_front : (at : ℕ) → BeginsExcessNumber text end at → ScalarStands ExcessInteger (take end text) at
   number_front at n =
       let rises : at < n.to = elim (cases_lt at n.to) [

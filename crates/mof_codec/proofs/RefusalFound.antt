@@ -8,13 +8,13 @@ use Rattle.mof_syntax.specs.declared.mof_error.MofError.{MofError}
 use Rattle.mof_syntax.specs.declared.mof_error.Form.{Form}
 use Rattle.mof_syntax.specs.Grammar.{Wide, WideSpells}
 use Rattle.mof_syntax.specs.Limits.{Spells, instances_limit}
-use Rattle.mof_syntax.specs.Fronts.{IsFront, IsSyntaxFault, GoesUpTo, whole, torn}
+use Rattle.mof_syntax.specs.Fronts.{IsFront, IsSyntaxFault, GoesUpTo}
 use Rattle.mof_syntax.specs.Refusals.{Wins, place_of}
 use Rattle.mof_codec.specs.declared.refusing.scalar.Wanted.TheVariants.{ExcessInteger}
 use Rattle.mof_codec.specs.Searching.{FirstOf, ScalarStands, IsFirstExcess, HasNoExcess, HasFewParts, IsFirstForm, HasNoForm}
 use Rattle.mof_codec.specs.Winning.{end_of, sooner, out_of_profile, number_range, too_many, syntax_fault}
 use Rattle.mof_codec.proofs.ExcessSearch.{goes_within}
-use Rattle.mof_codec.proofs.Covering.{Covers, covers_sooner, covers_wins, covers_form, covers_part, covers_syntax, EndsAt, FoundForm, goes_to}
+use Rattle.mof_codec.proofs.Covering.{Covers, covers_sooner, covers_wins, covers_form, covers_part, covers_syntax, EndsAt, goes_to}
 use Rattle.mof_codec.proofs.NumberSearch.{covers_number, spells_within}
 
 -- what was looked for, and what was found
@@ -49,9 +49,6 @@ front_there text fault end e s n = subst (λ (k : ℕ). IsFront (take k text)) (
     front (Some at) f = f.front
 
 module _ (text : List ℕ) (fault : Option ℕ) (form : Option (ℕ × Form)) (end : ℕ) (number part : Option ℕ) (f : Found text fault form end number part) where
-  all : Option MofError
-  all = sooner (out_of_profile form) (sooner (number_range number) (sooner (too_many part) (syntax_fault fault)))
-
   ends : EndsAt text fault
   ends = ends_at text fault f.fault_some f.fault_none
 

@@ -1,42 +1,20 @@
 -- Runs of the machine, and facts on classes of characters.
-use Rattle.std.proofs.Common.{◌≡◌, ◌≢◌, ◌⊎◌, inl, inr, ℕ, zero, suc, ◌+◌, ◌-◌, ◌*◌, ◌<◌, ◌≤◌, Bool, true, false, cond, List, [], ◌∷◌, ◌++◌, Option, Some, None, is_some, map, length, drop, take, refl, sym, ◌∙◌, ap, subst, arith, append_assoc, append-nil, take-append-drop}
-use Rattle.std.specs.Prelude.{nat_le, nat_lt, ◌==◌, ◌&&◌, ◌||◌, if◌then◌else◌, ℤ, pos, neg_ℤ, slice_index}
-use Rattle.std.proofs.lemmas.Bool.{eq-eqb, eqb-true}
+use Rattle.std.proofs.Common.{◌≡◌, ◌⊎◌, inl, inr, ℕ, Bool, true, false, cond, List, [], ◌∷◌, Option, Some, None, is_some, refl, arith}
+use Rattle.std.specs.Prelude.{◌==◌}
+use Rattle.std.proofs.lemmas.Bool.{eqb-true}
 use Rattle.std.proofs.lemmas.Bool.Decides.{nat_tests}
-use Rattle.std.proofs.lemmas.List.{drop-drop}
-use Rattle.std.specs.Char.{digit_value, to_ascii_lowercase}
-use Rattle.std.specs.Str.Parse.{digits_value}
-use Rattle.mof_values.specs.Fold.{fold_case}
 use Rattle.mof_values.specs.Ident.{is_first, is_next}
-use Rattle.mof_values.specs.declared.instance.Instance.{Instance}
-use Rattle.mof_values.specs.declared.instance.Property.{Property}
-use Rattle.mof_values.specs.declared.value.Scalar.{Scalar}
-use Rattle.mof_values.specs.declared.value.Scalar.TheVariants as scalars
-use Rattle.mof_values.specs.declared.value.Value.{Value}
-use Rattle.mof_values.specs.declared.value.Value.TheVariants.{One, Many}
-use Rattle.mof_syntax.specs.Characters.{is_blank, digit_of, is_x, is_b, Stops, Run, stop, more}
-use Rattle.mof_syntax.specs.Separators.{LineComment, at_end, at_feed, over, NoEnd, BlockComment, shut, inside, Separator, blank, line, block}
-use Rattle.mof_syntax.specs.Strings.{short_escape, is_surrogate, HexDigits, full, ended, digit, Escape, short, hexadecimal, Quoted, closed, plain, escaped}
-use Rattle.mof_syntax.specs.Integers.{Magnitude, decimal_value, octal_value, hex_value, binary_value, IntegerValue, unsigned, plus, minus}
-use Rattle.mof_syntax.specs.Tokens.{Lexeme, Word, AliasName, Literal, Number, LeftBrace, RightBrace, EqualsSign, Semicolon, Comma, Identifier, identifier, IsToken, word, alias, literal, integer, left_brace_mark, right_brace_mark, equals_mark, semicolon_mark, comma_mark, Lexes, end, separator, token}
-use Rattle.mof_syntax.specs.Grammar.{StringValue, last, joined, ConstantValue, string_value, integer_value, true_value, false_value, null_value, alias_identifier, Elements, closing, element, Initializer, constant, empty_array, array, ValueInitializers, done, value_initializer, AliasClause, unnamed, named, InstanceDeclarations, nothing, instance_declaration, WideSpells, Wide}
-use Rattle.mof_syntax.specs.Fronts.{IsFront, IsSyntaxFault}
-use Rattle.mof_codec.specs.declared.machine.state.Keyword.{Keyword}
-use Rattle.mof_codec.specs.declared.machine.state.Keyword.TheVariants as keywords
+use Rattle.mof_syntax.specs.Characters.{is_blank, digit_of, is_x, is_b}
+use Rattle.mof_syntax.specs.Strings.{short_escape}
 use Rattle.mof_codec.specs.declared.machine.state.Place.{Place}
-use Rattle.mof_codec.specs.declared.machine.state.Place.TheVariants.{Start, AfterInstance, AfterOf, AfterClass, AfterAs, AfterAlias, Body, AfterBody, AfterName, AfterEquals, AfterStrings, AfterValue, InArray, AfterComma, AfterElementStrings, AfterElement}
-use Rattle.mof_codec.specs.declared.machine.state.Numeral.{Numeral}
-use Rattle.mof_codec.specs.declared.machine.state.Numeral.TheVariants as numerals
+use Rattle.mof_codec.specs.declared.machine.state.Place.TheVariants.{Start}
 use Rattle.mof_codec.specs.declared.machine.characters.Kind.{Kind}
 use Rattle.mof_codec.specs.declared.machine.characters.Kind.TheVariants as kinds
 use Rattle.mof_codec.specs.declared.machine.state.Half.{Half}
-use Rattle.mof_codec.specs.declared.machine.state.Half.TheVariants as halves
 use Rattle.mof_codec.specs.declared.machine.state.State.{State}
 use Rattle.mof_codec.specs.declared.machine.state.Event.{Event}
-use Rattle.mof_codec.specs.declared.machine.state.Event.TheVariants as events
 use Rattle.mof_codec.specs.Machine.{is_sign, kind_of, step, is_whole}
 use Rattle.mof_codec.specs.Walked.{tally}
-use Rattle.mof_codec.proofs.Goes.{Goes}
 
 abbrev pub Next : Option State → (Half → Place → Event → Type 0) → Type 0
 Next None P = ⊥

@@ -1,23 +1,22 @@
 -- What may stand at a place is what the machine takes there.
-use Rattle.std.proofs.Common.{◌≡◌, ◌⊎◌, inl, inr, ℕ, zero, suc, ◌+◌, Bool, true, false, List, [], ◌∷◌, ◌++◌, Option, Some, None, length, drop, take, refl, sym, ◌∙◌, ap, subst, arith, append_assoc, append-nil}
+use Rattle.std.proofs.Common.{◌≡◌, ◌⊎◌, inl, inr, ℕ, zero, suc, Bool, true, false, List, [], ◌∷◌, ◌++◌, Option, Some, None, drop, take, refl, sym, ◌∙◌, ap, subst, arith, append_assoc}
 use Rattle.std.specs.Prelude.{nat_le, ◌==◌, ◌&&◌}
 use Rattle.std.proofs.lemmas.Bool.Decides.{nat_tests}
 use Rattle.mof_syntax.specs.Fronts.{IsFront, MayStand, BeginsDeclaration, BeginsScalar, BeginsIdentifier}
-use Rattle.mof_syntax.specs.Grammar.{Wide}
 use Rattle.mof_codec.specs.declared.machine.state.Keyword.{Keyword}
 use Rattle.mof_codec.specs.declared.machine.state.Keyword.TheVariants as keywords
 use Rattle.mof_codec.specs.declared.machine.state.Place.{Place}
-use Rattle.mof_codec.specs.declared.machine.state.Place.TheVariants.{Start, AfterInstance, AfterOf, AfterClass, AfterAs, AfterAlias, Body, AfterBody, AfterName, AfterEquals, AfterStrings, AfterValue, InArray, AfterComma, AfterElementStrings, AfterElement}
+use Rattle.mof_codec.specs.declared.machine.state.Place.TheVariants.{Start, AfterOf, Body, AfterEquals, InArray, AfterComma}
 use Rattle.mof_codec.specs.declared.machine.state.Numeral.TheVariants as numerals
 use Rattle.mof_codec.specs.declared.machine.state.Half.{Half}
 use Rattle.mof_codec.specs.declared.machine.state.Half.TheVariants as halves
 use Rattle.mof_codec.specs.declared.machine.state.State.{State}
 use Rattle.mof_codec.specs.declared.machine.state.Event.{Event}
-use Rattle.mof_codec.specs.Machine.{letters, head_of, begin, step, is_whole}
-use Rattle.mof_codec.specs.Walked.{tally, Behind, moved, advance, walk_from, start, walked}
+use Rattle.mof_codec.specs.Machine.{letters, begin, step, is_whole}
+use Rattle.mof_codec.specs.Walked.{tally, Behind, moved, walk_from, start, walked}
 use Rattle.mof_codec.specs.Beginnings.{scalar_place, name_place, start_place, begins_declaration, begins_scalar, begins_identifier}
-use Rattle.mof_codec.proofs.Runs.{Next, Whole, RunsTo, Ends, Runs, Any}
-use Rattle.mof_codec.proofs.Walking.{On, walk-append, only_so}
+use Rattle.mof_codec.proofs.Runs.{Next, Ends, Runs, Any}
+use Rattle.mof_codec.proofs.Walking.{walk-append, only_so}
 use Rattle.mof_codec.proofs.StepsBack.{small, small_letters, small_dropped, and_left}
 use Rattle.mof_codec.proofs.Fronts.{is_front, wide_runs, whole_here, whole_there}
 use Rattle.mof_codec.proofs.Sane.{Sane, is_separator, marked_place, walked_sane}

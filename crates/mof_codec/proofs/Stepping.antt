@@ -1,9 +1,9 @@
 -- A loop that steps over the characters of a text.
-use Rattle.std.proofs.Common.{◌≡◌, ℕ, zero, suc, ◌+◌, ◌-◌, ◌<◌, ◌≤◌, List, [], ◌∷◌, ◌++◌, Option, Some, None, length, take, drop, refl, sym, ◌∙◌, ap, subst, arith, append_assoc, append-nil}
+use Rattle.std.proofs.Common.{◌≡◌, ℕ, ◌+◌, ◌-◌, ◌<◌, ◌≤◌, List, [], ◌∷◌, ◌++◌, Some, None, length, take, drop, refl, sym, ◌∙◌, ap, subst, arith, append_assoc, append-nil}
 use Rattle.std.specs.Prelude.{slice_index, slice_index_or}
 use Rattle.std.proofs.lemmas.List.{take_all}
 use Rattle.mof_syntax.specs.Grammar.{Wide}
-use Rattle.mof_syntax.specs.Fronts.{IsFront, IsSyntaxFault}
+use Rattle.mof_syntax.specs.Fronts.{IsSyntaxFault}
 use Rattle.mof_codec.specs.declared.machine.state.State.{State}
 use Rattle.mof_codec.specs.declared.machine.state.Place.TheVariants.{Start}
 use Rattle.mof_codec.specs.declared.machine.state.Half.TheVariants as halves

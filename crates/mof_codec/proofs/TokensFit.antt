@@ -1,17 +1,15 @@
 -- Instances of which the tokens are within the limits have names and integers within them.
-use Rattle.std.proofs.Common.{◌≡◌, ◌≤◌, ◌+◌, ℕ, List, [], ◌∷◌, Option, Some, None, length, refl, sym, ◌∙◌, ap, subst, arith}
-use Rattle.std.specs.Prelude.{ℤ, IfSome, ⊤}
+use Rattle.std.proofs.Common.{◌≡◌, ◌≤◌, ℕ, List, ◌∷◌, Option, length, sym, ◌∙◌, ap, arith}
+use Rattle.std.specs.Prelude.{IfSome, ⊤}
 use Rattle.std.specs.List.{AllByRecursion}
 use Rattle.std.proofs.lemmas.List.{length-map}
 use Rattle.std.specs.Char.{to_ascii_lowercase}
-use Rattle.mof_values.specs.Fold.{fold_case}
 use Rattle.mof_values.specs.declared.instance.Instance.{Instance}
 use Rattle.mof_values.specs.declared.instance.Property.{Property}
 use Rattle.mof_values.specs.declared.value.Scalar.{Scalar}
-use Rattle.mof_values.specs.declared.value.Scalar.TheVariants as scalars
 use Rattle.mof_values.specs.declared.value.Value.{Value}
 use Rattle.mof_values.specs.declared.value.Value.TheVariants.{One, Many}
-use Rattle.mof_syntax.specs.Tokens.{Lexeme, Word, AliasName, Literal, Number, LeftBrace, RightBrace, EqualsSign, Semicolon, Comma}
+use Rattle.mof_syntax.specs.Tokens.{Lexeme, Word, AliasName, Number, LeftBrace, Semicolon}
 use Rattle.mof_syntax.specs.Grammar.{StringValue, last, joined, ConstantValue, string_value, integer_value, true_value, false_value, null_value, alias_identifier, Elements, closing, element, Initializer, constant, empty_array, array, ValueInitializers, done, value_initializer, AliasClause, unnamed, named, InstanceDeclarations, nothing, instance_declaration}
 use Rattle.mof_syntax.specs.Limits.{instances_limit, IsInRange, IsShortName, ScalarFits, ValueFits, PropertyFits, InstanceFits, IsWithinLimits}
 use Rattle.mof_syntax.specs.Counts.{elements_of}

@@ -1,5 +1,5 @@
 -- The walk of the machine in two parts.
-use Rattle.std.proofs.Common.{◌≡◌, ℕ, List, [], ◌∷◌, ◌++◌, Option, Some, None, refl, sym, ◌∙◌, ap, subst, append-nil}
+use Rattle.std.proofs.Common.{◌≡◌, ℕ, List, [], ◌∷◌, ◌++◌, Option, Some, None, refl, sym, ◌∙◌, ap, subst}
 use Rattle.mof_codec.specs.declared.machine.state.Place.{Place}
 use Rattle.mof_codec.specs.declared.machine.state.Place.TheVariants.{Start}
 use Rattle.mof_codec.specs.declared.machine.state.Half.{Half}
@@ -8,7 +8,7 @@ use Rattle.mof_codec.specs.declared.machine.state.State.{State}
 use Rattle.mof_codec.specs.declared.machine.state.Event.{Event}
 use Rattle.mof_codec.specs.Machine.{step}
 use Rattle.mof_codec.specs.Walked.{tally, Behind, moved, advance, walk_from, start, walked}
-use Rattle.mof_codec.proofs.Runs.{Next, RunsTo, Runs}
+use Rattle.mof_codec.proofs.Runs.{Next, RunsTo}
 
 abbrev pub On : (Behind → Type 0) → Option Behind → Type 0
 On P None = ⊥

@@ -1,37 +1,18 @@
 -- The same walk with what is begun on it.
-use Rattle.std.proofs.Common.{◌≡◌, ◌≢◌, ◌⊎◌, inl, inr, ℕ, zero, suc, ◌+◌, ◌-◌, ◌*◌, ◌<◌, ◌≤◌, Bool, true, false, cond, List, [], ◌∷◌, ◌++◌, Option, Some, None, is_some, map, length, drop, take, refl, sym, ◌∙◌, ap, subst, arith, append_assoc, append-nil, take-append-drop}
-use Rattle.std.specs.Prelude.{nat_le, nat_lt, ◌==◌, ◌&&◌, ◌||◌, if◌then◌else◌, ℤ, pos, neg_ℤ, slice_index}
-use Rattle.std.proofs.lemmas.Bool.{eq-eqb, eqb-true}
-use Rattle.std.proofs.lemmas.Bool.Decides.{nat_tests}
-use Rattle.std.proofs.lemmas.List.{drop-drop}
-use Rattle.std.specs.Char.{digit_value, to_ascii_lowercase}
-use Rattle.std.specs.Str.Parse.{digits_value}
-use Rattle.mof_values.specs.Fold.{fold_case}
-use Rattle.mof_values.specs.Ident.{is_first, is_next}
+use Rattle.std.proofs.Common.{◌≡◌, inl, inr, ℕ, List, [], ◌∷◌, Option, refl, sym, subst}
 use Rattle.mof_values.specs.declared.instance.Instance.{Instance}
 use Rattle.mof_values.specs.declared.instance.Property.{Property}
 use Rattle.mof_values.specs.declared.value.Scalar.{Scalar}
-use Rattle.mof_values.specs.declared.value.Scalar.TheVariants as scalars
 use Rattle.mof_values.specs.declared.value.Value.{Value}
-use Rattle.mof_values.specs.declared.value.Value.TheVariants.{One, Many}
 use Rattle.mof_syntax.specs.Tokens.{Lexeme, Word, AliasName, Literal, Number, LeftBrace, RightBrace, EqualsSign, Semicolon, Comma}
-use Rattle.mof_syntax.specs.Grammar.{StringValue, last, joined, ConstantValue, string_value, integer_value, true_value, false_value, null_value, alias_identifier, Elements, closing, element, Initializer, constant, empty_array, array, ValueInitializers, done, value_initializer, AliasClause, unnamed, named, InstanceDeclarations, nothing, instance_declaration, WideSpells, Wide}
-use Rattle.mof_syntax.specs.Fronts.{IsFront, IsSyntaxFault}
-use Rattle.mof_codec.specs.declared.machine.state.Keyword.{Keyword}
+use Rattle.mof_syntax.specs.Grammar.{StringValue, last, joined, ConstantValue, string_value, integer_value, true_value, false_value, null_value, alias_identifier, Elements, closing, element, Initializer, constant, empty_array, array, ValueInitializers, done, value_initializer, AliasClause, unnamed, named, InstanceDeclarations, nothing, instance_declaration}
 use Rattle.mof_codec.specs.declared.machine.state.Keyword.TheVariants as keywords
 use Rattle.mof_codec.specs.declared.machine.state.Place.{Place}
 use Rattle.mof_codec.specs.declared.machine.state.Place.TheVariants.{Start, AfterInstance, AfterOf, AfterClass, AfterAs, AfterAlias, Body, AfterBody, AfterName, AfterEquals, AfterStrings, AfterValue, InArray, AfterComma, AfterElementStrings, AfterElement}
-use Rattle.mof_codec.specs.declared.machine.state.Numeral.{Numeral}
-use Rattle.mof_codec.specs.declared.machine.state.Numeral.TheVariants as numerals
-use Rattle.mof_codec.specs.declared.machine.characters.Kind.{Kind}
-use Rattle.mof_codec.specs.declared.machine.characters.Kind.TheVariants as kinds
-use Rattle.mof_codec.specs.declared.machine.state.Half.{Half}
-use Rattle.mof_codec.specs.declared.machine.state.Half.TheVariants as halves
-use Rattle.mof_codec.specs.declared.machine.state.State.{State}
 use Rattle.mof_codec.specs.declared.machine.state.Event.{Event}
 use Rattle.mof_codec.specs.declared.machine.state.Event.TheVariants as events
 use Rattle.mof_codec.specs.Events.{items_events, value_events, properties_events, events_of}
-use Rattle.mof_codec.proofs.Goes.{IsKey, IsWordValue, ScalarGoes}
+use Rattle.mof_codec.proofs.Goes.{IsKey, ScalarGoes}
 
 -- the tokens complete a text from the place on
 abbrev pub Walks : (List Event → Type 0) → Place → List Lexeme → List Event → Type 0

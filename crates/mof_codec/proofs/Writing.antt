@@ -1,5 +1,5 @@
 -- What was written, as far as a list was gone over.
-use Rattle.std.proofs.Common.{◌≡◌, ◌≤◌, ◌<◌, ◌-◌, ℕ, true, nat_lt, ◌&&◌, List, [], ◌∷◌, ◌++◌, length, take, drop, get_or, encode_utf8_all, refl, sym, ap, ap₂, subst, ◌∙◌, arith, append_assoc, append-nil, ltb-true, suc, ◌^◌, ℤ, pos, negsuc, codes}
+use Rattle.std.proofs.Common.{◌≡◌, ◌≤◌, ◌<◌, ◌-◌, ℕ, true, nat_lt, List, [], ◌∷◌, ◌++◌, length, take, drop, get_or, encode_utf8_all, refl, sym, ap, ap₂, subst, ◌∙◌, arith, append_assoc, append-nil, ltb-true, suc, ◌^◌, ℤ, pos, negsuc, codes}
 use Rattle.std.specs.Prelude.{encode_utf8}
 use Rattle.std.specs.List.{flat_map, list_all, AllByRecursion}
 use Rattle.std.proofs.Math.Seq.{take-length}

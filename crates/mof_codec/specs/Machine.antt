@@ -1,6 +1,6 @@
 -- What each step of the machine over characters computes. That it takes exactly the texts of the wide grammar is proved
 -- of it in proofs/.
-use Rattle.std.specs.Prelude.{◌≡◌, ◌==◌, ℕ, zero, suc, ◌+◌, ◌*◌, Bool, true, false, ◌||◌, nat_le, List, [], ◌∷◌, Option, Some, None, is_some, drop, codes, if◌then◌else◌}
+use Rattle.std.specs.Prelude.{◌==◌, ℕ, zero, suc, ◌+◌, ◌*◌, Bool, true, false, ◌||◌, nat_le, List, [], ◌∷◌, Option, Some, None, is_some, drop, codes, if◌then◌else◌}
 use Rattle.std.specs.Char.{digit_value, to_ascii_lowercase}
 use Rattle.mof_values.specs.Ident.{is_first, is_next}
 use Rattle.mof_syntax.specs.Characters.{line_feed, quote, dollar, star, comma, plus_sign, minus_sign, slash, digit_zero, semicolon, equals_sign, backslash, left_brace, right_brace, is_blank, digit_of, is_x, is_b}

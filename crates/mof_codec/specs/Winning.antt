@@ -1,5 +1,5 @@
 -- The refusal that wins, of those that were found.
-use Rattle.std.specs.Prelude.{◌≤◌, ℕ, List, Option, Some, None, length, nat_le, if◌then◌else◌}
+use Rattle.std.specs.Prelude.{ℕ, List, Option, Some, None, length, nat_le, if◌then◌else◌}
 use Rattle.mof_syntax.specs.declared.mof_error.MofError.{MofError}
 use Rattle.mof_syntax.specs.declared.mof_error.MofError.TheVariants.{Syntax, OutOfProfile, NumberRange, TooMany}
 use Rattle.mof_syntax.specs.declared.mof_error.Form.{Form}

@@ -1,5 +1,5 @@
 -- What is written of instances, and what the types of their values guarantee.
-use Rattle.std.specs.Prelude.{◌≡◌, ℕ, ℤ, true, false, List, [], ◌∷◌, ◌++◌, Option, Some, None, ⊤, codes, IfSome}
+use Rattle.std.specs.Prelude.{◌≡◌, ℕ, true, List, ◌++◌, ⊤, codes, IfSome}
 use Rattle.std.specs.List.{AllByRecursion}
 use Rattle.std.specs.Str.{all_scalars, encode_utf8_all}
 use Rattle.mof_values.specs.Ident.{IsIdent}

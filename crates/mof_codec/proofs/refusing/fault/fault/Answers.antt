@@ -1,4 +1,4 @@
-use Rattle.mof_codec.proofs.Stepping.{Stepped, stepped_none, stepped_on, stuck_at, all_read, end_wide, end_fault}
+use Rattle.mof_codec.proofs.Stepping.{stepped_none, stepped_on, stuck_at, all_read, end_wide, end_fault}
 use Rattle.std.proofs.Common.{◌≡◌, Bool, true, false, sym, ◌∙◌}
 use Rattle.mof_codec.proofs.refusing.fault.fault.Goals as goal
 

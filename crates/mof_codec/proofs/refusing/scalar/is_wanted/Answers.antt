@@ -1,6 +1,5 @@
-use Rattle.std.proofs.Common.{◌≡◌, sym, ◌∙◌, subst, true}
+use Rattle.std.proofs.Common.{sym, ◌∙◌, subst}
 use Rattle.mof_codec.specs.declared.refusing.scalar.Wanted.{Wanted}
-use Rattle.mof_codec.specs.declared.refusing.scalar.Wanted.TheVariants.{Real}
 use Rattle.mof_codec.specs.Searching.{IsWanted}
 use Rattle.mof_codec.proofs.ScalarSearch.{real_begins, begins_real}
 use Rattle.mof_codec.proofs.refusing.scalar.is_wanted.Goals as goal

@@ -1,4 +1,3 @@
-use Rattle.std.proofs.Common.{sym, ◌∙◌}
 use Rattle.mof_codec.proofs.IntegerFronts.{told_within, told_excess, told_none}
 use Rattle.mof_codec.proofs.values.integers.is_out_of_range.Goals as goal
 

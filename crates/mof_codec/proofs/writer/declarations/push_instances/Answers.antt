@@ -1,4 +1,3 @@
-use Rattle.std.proofs.Common.{refl}
 use Rattle.mof_codec.proofs.Writing.{written_next}
 use Rattle.mof_codec.proofs.writer.declarations.push_instances.Goals as goal
 

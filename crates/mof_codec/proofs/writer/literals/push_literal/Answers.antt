@@ -1,4 +1,3 @@
-use Rattle.std.proofs.Common.{refl}
 use Rattle.mof_codec.proofs.Writing.{adds_join, adds_char}
 use Rattle.mof_codec.proofs.writer.literals.push_literal.Goals as goal
 
