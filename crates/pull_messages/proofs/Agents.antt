@@ -76,7 +76,7 @@ parsed_parts text id is =
     let inner = chosen_some ((length (digits_of text) == 32) && list_all is_hex_digit (digits_of text)) (Some (by_index 16 (byte_of_digits (digits_of text)))) found.0 outer.1 in
     record { len = eqb-true (length text) 36 shape.0; hyphens = shape.1; digits = (both (length (digits_of text) == 32) (list_all is_hex_digit (digits_of text)) inner.0).1 }
 
-agent_length : (text : List ℕ) (id : ℕ) → agent_of text ≡ Some id → length text ≡ 36
+pub agent_length : (text : List ℕ) (id : ℕ) → agent_of text ≡ Some id → length text ≡ 36
 agent_length text id is = (parsed_parts text id is).len
 
 hyphen_cell : (text : List ℕ) (k : ℕ) → IsParsed text → is_hyphen_place k ≡ true → get_or text k 0 ≡ 45

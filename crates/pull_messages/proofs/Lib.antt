@@ -4,6 +4,7 @@ pub mod FormLaws
 pub mod Fronts
 pub mod Ids
 pub mod Languages
+pub mod OneTarget
 pub mod Options
 pub mod Outlines
 pub mod ReadBack

@@ -94,7 +94,7 @@ peel end is (c ∷ t) (d ∷ value) y e =
       ]
     ]
 
-same_value : (end : ℕ) → IsEnd end → (t value r s : List ℕ) → doubled t ++ (closing end ++ r) ≡ doubled value ++ (closing end ++ s) → t ≡ value
+pub same_value : (end : ℕ) → IsEnd end → (t value r s : List ℕ) → doubled t ++ (closing end ++ r) ≡ doubled value ++ (closing end ++ s) → t ≡ value
 same_value end is [] [] r s e = refl
 same_value end is [] (d ∷ value) r s e =
     absurd (elim (doubled_cases d value) [

@@ -14,11 +14,11 @@ pub bytes_scalars : (bytes : List ℕ) → ((i : ℕ) → get_or bytes i 0 < 256
 bytes_scalars [] small = refl
 bytes_scalars (b ∷ bytes) small = rw (low_scalar b (omega (arith, small 0)), bytes_scalars bytes (λ i. small (suc i))) refl
 
-fold-append : (a b : List ℕ) → fold_case (a ++ b) ≡ fold_case a ++ fold_case b
+pub fold-append : (a b : List ℕ) → fold_case (a ++ b) ≡ fold_case a ++ fold_case b
 fold-append [] b = refl
 fold-append (x ∷ a) b = ap (λ (l : List ℕ). to_ascii_lowercase x ∷ l) (fold-append a b)
 
-fold-length : (a b : List ℕ) → fold_case a ≡ fold_case b → length a ≡ length b
+pub fold-length : (a b : List ℕ) → fold_case a ≡ fold_case b → length a ≡ length b
 fold-length a b e = omega (arith, ap length e, length-map a to_ascii_lowercase, length-map b to_ascii_lowercase)
 
 pub word_free : (name : List ℕ) → PrefixFree (IsWord name)

@@ -18,6 +18,7 @@ use std::str;
 /// doubled, with 1 to 255 bytes of UTF-8.
 pub fn target(alloc: Global, text: &[u8]) -> Result<Target, TargetError>
     ensures ok { IfOk result (IsTarget text.now) }
+    ensures only { IfOk result (λ found. (t : TargetValue) → IsTarget text.now t → t ≡ found) }
     ensures bad { IfBad result (IsLongestFront text.now) }
     ensures refused { IfBad result (λ _. (t : TargetValue) → IsTarget text.now t → ⊥) }
 {

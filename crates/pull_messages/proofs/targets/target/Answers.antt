@@ -4,6 +4,7 @@ use Rattle.pull_messages.specs.Decoding.{IsDecoded}
 use Rattle.pull_messages.specs.Escapes.{IsUnescaped, IsFrontOf}
 use Rattle.pull_messages.specs.Stops.{EndsAt, Begins, IsAnyTarget}
 use Rattle.pull_messages.specs.Targets.{IsTarget, SpellsTarget, IsLongestFront}
+use Rattle.pull_messages.proofs.OneTarget.{one_target}
 use Rattle.pull_messages.proofs.TargetLaws.{is_target, longest_front, no_target, whole_target, front_taken, small_front}
 use Rattle.pull_messages.proofs.targets.target.Goals as goal
 
@@ -17,6 +18,9 @@ returns-then-at-text-clause-ok c =
     let size = c.encoded_size.ensures ∙ ap (λ (l : List ℕ). length (encode_utf8_all l)) c.as_slice-chars.ensures.value in
     is_target text bytes cs c.in-Ok.target c.front_size-at.result c.in_ok-bytes.ensures decoded spelled
     (subst (λ n. IsFrontOf text n c.front_size-at.result) size c.front_size-at.ensures) c.if-at-text.true
+
+pub returns-then-at-text-clause-only : goal.returns-then-at-text-clause-only
+returns-then-at-text-clause-only c = λ t is. one_target c.args.text.now t c.in-Ok.target is (returns-then-at-text-clause-ok c)
 
 longest-in-Ok : goal.returns-in-Ok-clause-bad
 longest-in-Ok c =
