@@ -25,7 +25,7 @@ use Rattle.http_frames.specs.declared.frame_error.FrameError.{FrameError}
 use Rattle.http_frames.specs.Framing.{has_no_body, stated_framing, answer_framing}
 use Rattle.http_frames.specs.Writing.{header_text, header_line, length_line, phrase_of, answer_length, answer_text}
 use Rattle.http_frames.specs.Answering.{is_interim}
-use Rattle.http_frames.specs.Sending.{IsPlainHeader, close_header, length_header, reply_length_headers, reply_headers, sent_reply, IsSendableReply}
+use Rattle.http_frames.specs.Sending.{IsPlainHeader, close_header, length_header, reply_length_headers, reply_headers, sent_reply, IsSendableReply, ReplyReadsBack}
 use Rattle.http_frames.specs.Frames.{IsAnswerFrame, no_interim}
 use Rattle.http_frames.proofs.SentLines.{field_of, fields_print, fields_back, fields_valid, own, digits_pass, IsSilent, sound_sent, stated_sent, token_by, added_plain, close_is_plain, added_text}
 
@@ -206,6 +206,6 @@ sent_reads reply can =
     }
 
 pub sent_if : (reply : Reply) (r : Result (Vec ℕ Global) MemoryUnit) → IfOk r (λ bytes. bytes.items ≡ answer_text reply)
-    → IfOk r (λ bytes. IsSendableReply reply → IsAnswerFrame bytes.items (sent_reply reply))
+    → IfOk r (λ bytes. ReplyReadsBack reply bytes.items)
 sent_if reply (Ok bytes) is = λ can. subst (λ (l : List ℕ). IsAnswerFrame l (sent_reply reply)) (sym is) (sent_reads reply can)
 sent_if reply (Err e) is = tt

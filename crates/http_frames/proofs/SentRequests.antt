@@ -14,7 +14,7 @@ use Rattle.http_frames.specs.declared.framing.Framing.TheVariants.{Sized}
 use Rattle.http_frames.specs.declared.frame_error.FrameError.TheVariants.{NoLength}
 use Rattle.http_frames.specs.Framing.{needs_length, request_framing}
 use Rattle.http_frames.specs.Writing.{header_text, header_line, host_value, request_text, request_length}
-use Rattle.http_frames.specs.Sending.{IsPlainValue, IsPlainHeader, close_header, length_headers, sent_headers, sent, IsSendable}
+use Rattle.http_frames.specs.Sending.{IsPlainValue, IsPlainHeader, close_header, length_headers, sent_headers, sent, IsSendable, ReadsBack}
 use Rattle.http_frames.specs.Frames.{IsRequestFrame}
 use Rattle.http_frames.proofs.SentLines.{field_of, fields_print, fields_back, fields_valid, added_length, IsSilent, sound_sent, stated_sent, token_by, added_plain, close_is_plain, added_text}
 
@@ -121,6 +121,6 @@ sent_reads request host can =
     }
 
 pub sent_if : (request : Request) (host : List ℕ) (r : Result (Vec ℕ Global) MemoryUnit) → IfOk r (λ bytes. bytes.items ≡ request_text request host)
-    → IfOk r (λ bytes. IsSendable request host → IsRequestFrame bytes.items (sent request host))
+    → IfOk r (λ bytes. ReadsBack request host bytes.items)
 sent_if request host (Ok bytes) is = λ can. subst (λ (l : List ℕ). IsRequestFrame l (sent request host)) (sym is) (sent_reads request host can)
 sent_if request host (Err e) is = tt

@@ -7,6 +7,7 @@ use Rattle.http_frames.specs.declared.message.Request.{Request}
 use Rattle.http_frames.specs.declared.message.Reply.{Reply}
 use Rattle.http_frames.specs.Framing.{has_named, needs_length, has_no_body}
 use Rattle.http_frames.specs.Writing.{host_value, request_text, answer_text}
+use Rattle.http_frames.specs.Frames.{IsRequestFrame, IsAnswerFrame}
 
 -- a value as it is read back: no white space at either end
 pub record IsPlainValue (value : List ℕ) : Type 0 where
@@ -33,7 +34,9 @@ length_headers request = if needs_length request.method then length_header (leng
 -- the request's headers, and the lines that are added
 abbrev pub sent_headers : Request → List ℕ → List Header
 sent_headers request host =
-    (record { name = codes "Host"; value = host_value host }) ∷ close_header ∷ (request.headers ++ length_headers request)
+    (record { name = codes "Host"; value = host_value host })
+    ∷ close_header
+    ∷ (request.headers ++ length_headers request)
 
 -- the request as it is read back
 abbrev pub sent : Request → List ℕ → Request
@@ -54,6 +57,10 @@ pub record IsSendable (request : Request) (host : List ℕ) : Type 0 where
   pub short : length (request_text request host) ≤ 16_384 + length request.body
   pub body : length request.body ≤ 131_072
   pub bodied : needs_length request.method ≡ false → request.body ≡ []
+
+-- where the request is sendable, the bytes are its frame, with the lines that are added
+abbrev pub ReadsBack : Request → List ℕ → List ℕ → Type 0
+ReadsBack request host bytes = IsSendable request host → IsRequestFrame bytes (sent request host)
 
 -- ---- answers
 
@@ -83,3 +90,7 @@ pub record IsSendableReply (reply : Reply) : Type 0 where
   pub short : length (answer_text reply) ≤ 16_384 + length reply.body
   pub body : length reply.body ≤ 67_108_864
   pub bodiless : has_no_body reply.code ≡ true → reply.body ≡ []
+
+-- where the reply is sendable, the bytes are its frame, with the lines that are added
+abbrev pub ReplyReadsBack : Reply → List ℕ → Type 0
+ReplyReadsBack reply bytes = IsSendableReply reply → IsAnswerFrame bytes (sent_reply reply)

@@ -3,8 +3,7 @@ ghost use Rattle.std.specs.Prelude.{◌≡◌, ◌∷◌, ◌++◌, [], length, 
 ghost use Rattle.std.specs.List.{flat_map};
 ghost use Rattle.std.specs.Fmt.{decimal};
 ghost use Rattle.http.specs.StatusCode.{IsStatusCode, reason_phrase};
-ghost use Rattle.http_frames.specs.Frames.{IsRequestFrame, IsAnswerFrame};
-ghost use Rattle.http_frames.specs.Sending.{sent, IsSendable, sent_reply, IsSendableReply};
+ghost use Rattle.http_frames.specs.Sending.{ReadsBack, ReplyReadsBack};
 ghost use Rattle.http_frames.specs.Writing.{crlf, header_line, header_text, length_line, request_length, answer_length, host_value, without_default_port, request_line, status_line, phrase_of, request_text, answer_text};
 
 use crate::framing::needs_length;
@@ -16,7 +15,7 @@ use std::alloc::Global;
 /// The text of a request to a host, which is a name, or a name, `:` and a port. A port 80 is left out.
 pub fn write_request(alloc: Global, request: &Request, host: &Text) -> Result<Vec<u8>, Memory>
     ensures text { IfOk result (λ bytes. bytes.items ≡ request_text request.now host.now) }
-    ensures reads_back { IfOk result (λ bytes. IsSendable request.now host.now → IsRequestFrame bytes.items (sent request.now host.now)) }
+    ensures reads_back { IfOk result (λ bytes. ReadsBack request.now host.now bytes.items) }
 {
     request_bytes(alloc, request, host)
 }
@@ -43,7 +42,7 @@ fn request_bytes(alloc: Global, request: &Request, host: &Text) -> Result<Vec<u8
 /// The text of an answer.
 pub fn write_answer(alloc: Global, reply: &Reply) -> Result<Vec<u8>, Memory>
     ensures text { IfOk result (λ bytes. bytes.items ≡ answer_text reply.now) }
-    ensures reads_back { IfOk result (λ bytes. IsSendableReply reply.now → IsAnswerFrame bytes.items (sent_reply reply.now)) }
+    ensures reads_back { IfOk result (λ bytes. ReplyReadsBack reply.now bytes.items) }
 {
     answer_bytes(alloc, reply)
 }
