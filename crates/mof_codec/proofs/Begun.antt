@@ -57,12 +57,16 @@ either P false x y f g = g
 
 first_element : (c : ℕ) → is_first c ≡ true → is_element c ≡ false
 first_element c h = grind (arith, nat_tests)
+
 digit_element : (c : ℕ) → digit_of 10 c ≡ true → is_element c ≡ false
 digit_element c h = grind (arith, nat_tests)
+
 sign_element : (c : ℕ) → is_sign c ≡ true → is_element c ≡ false
 sign_element c h = grind (arith, nat_tests)
+
 quote_element : (c : ℕ) → c ≡ 34 → is_element c ≡ false
 quote_element c h = ap is_element h
+
 dollar_element : (c : ℕ) → c ≡ 36 → is_element c ≡ false
 dollar_element c h = ap is_element h
 
@@ -204,8 +208,8 @@ step_each halves.EscapeX p c s = either (TellsOf halves.EscapeX p c) (digit_of 1
 step_each (halves.Digits zero v) p c s = quoted_each (halves.Digits zero v) p c
 step_each (halves.Digits (suc n) v) p c s =
     either (TellsOf (halves.Digits (suc n) v) p c) (digit_of 16 c) _ _
-        (λ e. either (TellsOf (halves.Digits (suc n) v) p c) (is_no_char (v * 16 + digit_value c)) None (go p (halves.Digits n (v * 16 + digit_value c))) (λ e. tt) tt)
-        (quoted_each (halves.Digits (suc n) v) p c)
+    (λ e. either (TellsOf (halves.Digits (suc n) v) p c) (is_no_char (v * 16 + digit_value c)) None (go p (halves.Digits n (v * 16 + digit_value c))) (λ e. tt) tt)
+    (quoted_each (halves.Digits (suc n) v) p c)
 
 -- what is begun says where
 pub begun_tells : (h : Half) (p : Place) (c : ℕ) (t : State) → Sane h p → step h p c ≡ Some t → TellsOf h p c t.begun
@@ -222,8 +226,10 @@ declaration_begun c t e is = elim (i_of c e) [
   where
     i_of : (c : ℕ) → to_ascii_lowercase c ≡ 105 → (c ≡ 105) ⊎ (c ≡ 73)
     i_of c e = grind (arith, nat_tests)
+
     small_case : step halves.Gap Start 105 ≡ Some t → t.begun ≡ events.Declaration
     small_case e = cc
+
     great_case : step halves.Gap Start 73 ≡ Some t → t.begun ≡ events.Declaration
     great_case e = cc
 

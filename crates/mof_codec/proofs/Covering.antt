@@ -37,7 +37,7 @@ Covers text low high None = (other : MofError) → low ≤ rank_of other → ran
 Covers text low high (Some e) = Leads text low high e
 
 win_or_tie : (e f : MofError) → WinsOver e f → place_of e ≤ place_of f
-win_or_tie e f w = elim w [ | inl lt ↦ omega (arith, lt) | inr same ↦ omega (arith, same.0) ]
+win_or_tie e f w = elim w [ inl lt ↦ omega (arith, lt) | inr same ↦ omega (arith, same.0) ]
 
 wins_far : (e f g : MofError) → place_of e < place_of f → WinsOver f g → WinsOver e g
 wins_far e f g lt w = inl (omega (arith, lt, win_or_tie f g w))
@@ -132,6 +132,7 @@ only_end text m n a b = from a b
         nil [] = refl
         nil (x ∷ xs) = ap (λ (ys : List ℕ). x ∷ ys) (nil xs)
     end_front n (torn e f) = f.front
+
     from : GoesUpTo text m → GoesUpTo text n → m ≡ n
     from a b =
         let up = goes_past text m n a (goes_within text n b) (end_front n b) in
@@ -172,7 +173,8 @@ covers_part text end None goes s n = none
 covers_part text end (Some at) goes s n = record { least = omega arith; greatest = omega arith; applies = (end, goes, (s end goes).found); first = leads }
   where
     by_place : (n : ℕ) → at ≤ n → WinsOver (errors.TooMany at) (errors.TooMany n)
-    by_place n le = elim (cases_lt at n) [ | inl lt ↦ inl lt | inr ge ↦ inr (omega (arith, le, ge), omega arith) ]
+    by_place n le = elim (cases_lt at n) [ inl lt ↦ inl lt | inr ge ↦ inr (omega (arith, le, ge), omega arith) ]
+
     leads : (other : MofError) → 3 ≤ rank_of other → rank_of other ≤ 3 → Applies text other → WinsOver (errors.TooMany at) other
     leads (errors.TooMany n) lo hi a = by_place n ((s a.0 a.1).first n a.2)
     leads (errors.OutOfProfile n what) lo hi a = absurd (omega (arith, lo))
@@ -210,7 +212,8 @@ covers_form text (Some at) None fault f = none
 covers_form text (Some at) (Some found) fault f = record { least = omega arith; greatest = omega arith; applies = (at, fault, f.0.found); first = leads }
   where
     by_place : (n : ℕ) (what : Form) → found.0 ≤ n → WinsOver (errors.OutOfProfile found.0 found.1) (errors.OutOfProfile n what)
-    by_place n what le = elim (cases_lt found.0 n) [ | inl lt ↦ inl lt | inr ge ↦ inr (omega (arith, le, ge), omega arith) ]
+    by_place n what le = elim (cases_lt found.0 n) [ inl lt ↦ inl lt | inr ge ↦ inr (omega (arith, le, ge), omega arith) ]
+
     leads : (other : MofError) → 1 ≤ rank_of other → rank_of other ≤ 1 → Applies text other → WinsOver (errors.OutOfProfile found.0 found.1) other
     leads (errors.OutOfProfile n what) lo hi a =
         by_place n what (f.0.first n what (subst (λ (m : ℕ). OutOfProfile text m n what) (only_end text a.0 at (torn a.0 a.1) (torn at fault)) a.2))

@@ -109,6 +109,7 @@ word_stands text at word b = record {
   where
     less : (a n : ℕ) → n ≡ (a + n) - a
     less a n = omega arith
+
     dropped : (a n : ℕ) (xs : List ℕ) → drop n (drop a xs) ≡ drop (a + n) xs
     dropped a n xs = drop-drop n a xs
 
@@ -120,6 +121,7 @@ stands_word text at word w = record {
   where
     less : (a n : ℕ) → n ≡ (a + n) - a
     less a n = omega arith
+
     dropped : (a n : ℕ) (xs : List ℕ) → drop n (drop a xs) ≡ drop (a + n) xs
     dropped a n xs = drop-drop n a xs
 
@@ -147,8 +149,10 @@ apart (x ∷ xs) a b n e f = n (sym (eqb-true x a e) ∙ eqb-true x b f)
 
 no_pragma : ◌≡◌ {A = ℕ} 46 35 → ⊥
 no_pragma e = omega (arith, e)
+
 no_qualifiers : ◌≡◌ {A = ℕ} 46 91 → ⊥
 no_qualifiers e = omega (arith, e)
+
 no_character : ◌≡◌ {A = ℕ} 46 39 → ⊥
 no_character e = omega (arith, e)
 

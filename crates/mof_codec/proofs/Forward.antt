@@ -70,6 +70,7 @@ module _ (E : List Event → Type 0) (p : Place) (acc : List Event) where
   abbrev Mid : ℕ → ℕ → Type 0
   Mid zero v = v < 65536
   Mid (suc n) v = v < 55296
+
   abbrev Safe : ℕ → ℕ → Type 0
   Safe zero v = Unit {0}
   Safe (suc n) v = (d : ℕ) → d < 16 → Mid n (v * 16 + d) × Safe n (v * 16 + d)
@@ -97,7 +98,7 @@ module _ (E : List Event → Type 0) (p : Place) (acc : List Event) where
   text_after (suc n) v (c ∷ cs) s g = rw s g
 
   digits_on : (n v w : ℕ) (cs behind : List ℕ) → HexDigits n v cs w behind → is_surrogate w ≡ false → Safe n v → Runs E behind halves.Literal p acc → Runs E cs (halves.Digits n v) p acc
-  digits_on n v w cs behind (full u [] ) ok safe g = g
+  digits_on n v w cs behind (full u []) ok safe g = g
   digits_on n v w cs behind (full u (c ∷ r)) ok safe g = g
   digits_on n v w cs behind (ended m u r s) ok safe g = text_after m u r s g
   digits_on n v w cs behind (digit m u d x us r e h) ok safe g =
@@ -351,7 +352,7 @@ module _ (E : List Event → Type 0) (acc : List Event) (ts : List Lexeme) (rest
   signed_on : (q : Place) (a : List Event) (n : ℕ) (cs : List ℕ) → Magnitude cs n rest → Stops is_next rest → Runs E rest halves.Gap q a → Runs E cs (halves.Integer numerals.Sign) q a
   signed_on q a n cs h s g =
       after_sign (Ends E) q a rest (λ f e. number_done E q a f rest e s g) cs
-          (number_on (Ends E) q a rest (λ f e. number_done E q a f rest e s g) events.Quiet a refl cs n h)
+      (number_on (Ends E) q a rest (λ f e. number_done E q a f rest e s g) events.Quiet a refl cs n h)
 
   sign_on : (p : Place) (z : ℤ) (n c : ℕ) (cs : List ℕ) → Magnitude cs n rest → Stops is_next rest → Walks E p (Number z ∷ ts) acc → Next (opened p kinds.Sign c) (After E cs acc)
   sign_on AfterEquals z n c cs h s g = signed_on AfterValue acc n cs h s (r AfterValue acc g)
@@ -407,7 +408,7 @@ module _ (E : List Event → Type 0) where
   integer_on p acc cs z rest ts (unsigned us n r h) s rs g =
       let f = number_first us n r h in
       subst (λ (x : List ℕ). Runs E x halves.Gap p acc) (sym f.2)
-          (subst (λ (x : Option State). Next x (After E f.1 acc)) (sym (digit_begins p f.0 f.3)) (digit_on E acc ts r rs p (pos n) n f.0 f.1 (subst (λ (x : List ℕ). Magnitude x n r) f.2 h) s g))
+      (subst (λ (x : Option State). Next x (After E f.1 acc)) (sym (digit_begins p f.0 f.3)) (digit_on E acc ts r rs p (pos n) n f.0 f.1 (subst (λ (x : List ℕ). Magnitude x n r) f.2 h) s g))
   integer_on p acc cs z rest ts (plus us n r h) s rs g =
       subst (λ (x : Option State). Next x (After E us acc)) (sym (sign_begins p 43 refl)) (sign_on E acc ts r rs p (pos n) n 43 us h s g)
   integer_on p acc cs z rest ts (minus us n r h) s rs g =

@@ -183,8 +183,8 @@ pub fault_here : (text : List ℕ) (at : ℕ) (b : Behind) → at < length text 
 fault_here text at b lt is stuck =
     let none : IsFront (take (at + 1) text) → ⊥ = λ f. no_front (take at text) (slice_index text at) b is stuck (subst (λ (x : List ℕ). IsFront x) (take_more text at 0 lt) f) in
     IsSyntaxFault-from_next text at
-        (λ w. none (drop (at + 1) text, subst (λ (x : List ℕ). Wide x) (sym (take-append-drop (at + 1) text)) w))
-        (omega arith) (is_front (take at text) b is) (λ _ f. none f)
+    (λ w. none (drop (at + 1) text, subst (λ (x : List ℕ). Wide x) (sym (take-append-drop (at + 1) text)) w))
+    (omega arith) (is_front (take at text) b is) (λ _ f. none f)
 
 -- at the text's end
 

@@ -80,8 +80,10 @@ Goes _ _ = ⊥
 
 abbrev BodyLeft : List Lexeme → Type 0
 BodyLeft ts = (ps : List Property) × (behind : List Lexeme) × (is : List Instance) × ValueInitializers ts ps (Semicolon ∷ behind) × InstanceDeclarations behind is
+
 abbrev ClassLeft : List Lexeme → Type 0
 ClassLeft ts = (a : Option (List ℕ)) × (body : List Lexeme) × AliasClause ts a (LeftBrace ∷ body) × BodyLeft body
+
 abbrev ItemsLeft : List Lexeme → Type 0
 ItemsLeft ts = (s : Scalar) × (mid : List Lexeme) × (ss : List Scalar) × (behind : List Lexeme) × ConstantValue ts s mid × Elements mid ss (Semicolon ∷ behind) × BodyLeft behind
 
@@ -150,10 +152,11 @@ pub goes_left : (ts : List Lexeme) (p : Place) → Goes p ts → Left p ts
 goes_left [] Start g = ([], nothing)
 goes_left (Word w ∷ ts) Start g =
     let l = goes_left ts AfterInstance g.1 in
-    let b = l.5 in
-    (record { class = l.1; alias = b.0; properties = b.3.0 } ∷ b.3.2,
-     subst (λ (x : List Lexeme). InstanceDeclarations (Word w ∷ x) (record { class = l.1; alias = b.0; properties = b.3.0 } ∷ b.3.2)) (sym l.3)
-        (instance_declaration w l.0 l.1 b.0 l.2 b.1 b.3.1 b.3.0 b.3.2 g.0 l.4 b.2 b.3.3 b.3.4))
+    let b = l.5 in (
+      record { class = l.1; alias = b.0; properties = b.3.0 } ∷ b.3.2,
+      subst (λ (x : List Lexeme). InstanceDeclarations (Word w ∷ x) (record { class = l.1; alias = b.0; properties = b.3.0 } ∷ b.3.2)) (sym l.3)
+          (instance_declaration w l.0 l.1 b.0 l.2 b.1 b.3.1 b.3.0 b.3.2 g.0 l.4 b.2 b.3.3 b.3.4),
+    )
 goes_left (Word w ∷ ts) AfterInstance g = let l = goes_left ts AfterOf g.1 in (w, l.0, l.1, subst (λ (x : List Lexeme). Word w ∷ ts ≡ Word w ∷ x) l.2 refl, g.0, l.3)
 goes_left (Word w ∷ ts) AfterOf g = (w, ts, refl, goes_left ts AfterClass g)
 goes_left (LeftBrace ∷ ts) AfterClass g = (None, ts, unnamed (LeftBrace ∷ ts), goes_left ts Body g)
@@ -165,9 +168,13 @@ goes_left (LeftBrace ∷ ts) AfterAlias g = (ts, refl, goes_left ts Body g)
 goes_left (RightBrace ∷ ts) Body g = let l = goes_left ts AfterBody g in ([], l.0, l.1, subst (λ (x : List Lexeme). ValueInitializers (RightBrace ∷ ts) [] x) l.2 (done ts), l.3)
 goes_left (Word w ∷ ts) Body g =
     let l = goes_left ts AfterName g in
-    let b = l.5 in
-    (record { name = w; value = l.1 } ∷ b.0, b.1, b.2,
-     subst (λ (x : List Lexeme). ValueInitializers (Word w ∷ x) (record { name = w; value = l.1 } ∷ b.0) (Semicolon ∷ b.1)) (sym l.3) (value_initializer w l.0 l.2 (Semicolon ∷ b.1) l.1 b.0 l.4 b.3), b.4)
+    let b = l.5 in (
+      record { name = w; value = l.1 } ∷ b.0,
+      b.1,
+      b.2,
+      subst (λ (x : List Lexeme). ValueInitializers (Word w ∷ x) (record { name = w; value = l.1 } ∷ b.0) (Semicolon ∷ b.1)) (sym l.3) (value_initializer w l.0 l.2 (Semicolon ∷ b.1) l.1 b.0 l.4 b.3),
+      b.4,
+    )
 goes_left (Semicolon ∷ ts) AfterBody g = let l = goes_left ts Start g in (ts, l.0, refl, l.1)
 goes_left (EqualsSign ∷ ts) AfterName g = let l = goes_left ts AfterEquals g in (ts, l.0, l.1, refl, l.2, l.3)
 goes_left (LeftBrace ∷ ts) AfterEquals g = goes_left ts InArray g

@@ -100,8 +100,8 @@ module _ (cs digits : List ℕ) (behind : digits ≡ behind_sign cs) (negative :
       let m = read-magnitude (behind_sign cs) rest (sym (e ∙ ap magnitude_rest behind)) in
       let t = token_integer cs (signed (is_negative cs) m.0) rest (signed_number cs m.0 rest m.1 m.2) in
       let outside_it : IsInRange (signed (is_negative cs) m.0) → ⊥ = λ r.
-          outside negative (magnitude_value digits) capped cap out
-              (subst (λ (k : ℕ). IsInRange (signed negative k)) (sym (value_there m.0 rest m.1 m.2)) (subst (λ (b : Bool). IsInRange (signed b m.0)) (sym sign) r)) in
+      outside negative (magnitude_value digits) capped cap out
+      (subst (λ (k : ℕ). IsInRange (signed negative k)) (sym (value_there m.0 rest m.1 m.2)) (subst (λ (b : Bool). IsInRange (signed b m.0)) (sym sign) r)) in
       excess_first cs (signed (is_negative cs) m.0) rest t.0 t.1 (out_of_range (signed (is_negative cs) m.0) outside_it)
 
   pub excess_reads : (e : BeginsExcessInteger cs) → magnitude_rest digits ≡ Some e.rest
@@ -129,10 +129,11 @@ no_some : (rest : List ℕ) → None ≡ Some rest → ⊥
 no_some rest e = cc
 
 pub told_none : (cs digits : List ℕ) → digits ≡ behind_sign cs → None ≡ magnitude_rest digits → (false ≡ true → BeginsExcessInteger cs) × (BeginsExcessInteger cs → false ≡ true)
-told_none cs digits behind e =
-    (λ f. absurd (differ f),
-     λ b. let m = number_signed cs b.value b.rest (first_excess cs b) in
-         absurd (no_some b.rest (e ∙ ap magnitude_rest behind ∙ magnitude-read (behind_sign cs) m.0 b.rest m.1 m.2)))
+told_none cs digits behind e = (
+  λ f. absurd (differ f),
+  λ b. let m = number_signed cs b.value b.rest (first_excess cs b) in
+      absurd (no_some b.rest (e ∙ ap magnitude_rest behind ∙ magnitude-read (behind_sign cs) m.0 b.rest m.1 m.2)),
+)
   where
     differ : false ≡ true → ⊥
     differ f = cc

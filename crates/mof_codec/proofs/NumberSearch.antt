@@ -93,7 +93,7 @@ module _ (text : List ℕ) (end : ℕ) (within : end ≤ length text) where
       let left = drop_take at end text in
       let size : n.to - at ≤ end - at = omega (arith, rises, n.before) in
       let cut : take (n.to - at) (drop at (take end text)) ≡ slice_range text at n.to =
-          ap (λ (xs : List ℕ). take (n.to - at) xs) left ∙ take_take (n.to - at) (end - at) (drop at text) size in
+      ap (λ (xs : List ℕ). take (n.to - at) xs) left ∙ take_take (n.to - at) (end - at) (drop at text) size in
       record {
         within = omega (arith, rises, n.before, front_length end text within);
         begins = begins_of_front text at end (omega (arith, rises, n.before)) n.begins;
@@ -118,6 +118,7 @@ module _ (text : List ℕ) (end : ℕ) (within : end ≤ length text) where
         where
           sum : (at to : ℕ) → at < to → at + (to - at) ≡ to
           sum at to lt = omega (arith, lt)
+
       at_end : (at to : ℕ) → at < to → to ≡ end → drop (to - at) (drop at (take end text)) ≡ []
       at_end at to lt same =
           behind at to lt ∙ ap (λ (k : ℕ). take k (drop to text)) (none at to same)
@@ -131,10 +132,10 @@ module _ (text : List ℕ) (end : ℕ) (within : end ≤ length text) where
       let le : at ≤ end = omega (arith, s.within, front_length end text within) in
       let left : take (end - at) (drop at text) ≡ e.literal ++ e.rest = sym (drop_take at end text) ∙ e.split in
       let size : length e.literal + length e.rest ≡ end - at =
-          sym (length_front e.literal e.rest) ∙ ap (λ (xs : List ℕ). length xs) (sym left) ∙ front_length (end - at) (drop at text) (left_size at le) in
+      sym (length_front e.literal e.rest) ∙ ap (λ (xs : List ℕ). length xs) (sym left) ∙ front_length (end - at) (drop at text) (left_size at le) in
       let literal : slice_range text at (at + length e.literal) ≡ e.literal =
-          ap (λ (k : ℕ). take k (drop at text)) (less at (length e.literal)) ∙ sym (take_take (length e.literal) (end - at) (drop at text) (omega (arith, size)))
-          ∙ ap (λ (xs : List ℕ). take (length e.literal) xs) left ∙ take_front e.literal e.rest in
+      ap (λ (k : ℕ). take k (drop at text)) (less at (length e.literal)) ∙ sym (take_take (length e.literal) (end - at) (drop at text) (omega (arith, size)))
+      ∙ ap (λ (xs : List ℕ). take (length e.literal) xs) left ∙ take_front e.literal e.rest in
       record {
         begins = begins_in_front text at end le s.begins;
         to = at + length e.literal;
@@ -147,15 +148,17 @@ module _ (text : List ℕ) (end : ℕ) (within : end ≤ length text) where
     where
       less : (a n : ℕ) → (a + n) - a ≡ n
       less a n = omega arith
+
       left_size : (at : ℕ) → at ≤ end → end - at ≤ length (drop at text)
       left_size at le = omega (arith, within, le, length-drop at text)
+
       goes_on : (at n : ℕ) (literal rest : List ℕ) → n ≡ length literal → at ≤ end → take (end - at) (drop at text) ≡ literal ++ rest → length literal + length rest ≡ end - at → Stops is_next rest
           → (at + n ≡ end) ⊎ Stops is_next (drop (at + n) text)
       goes_on at n literal [] same le left size s = inl (omega (arith, same, size, le))
       goes_on at n literal (c ∷ rest) same le left size s =
           inr (take_stops is_next (end - at - n) (drop (at + n) text) c rest
-              (ap (λ (xs : List ℕ). take (end - at - n) xs) (sym (drop-drop n at text)) ∙ sym (drop_take n (end - at) (drop at text)) ∙ ap (λ (xs : List ℕ). drop n xs) left
-               ∙ ap (λ (k : ℕ). drop k (literal ++ c ∷ rest)) same ∙ drop_front literal (c ∷ rest)) s)
+          (ap (λ (xs : List ℕ). take (end - at - n) xs) (sym (drop-drop n at text)) ∙ sym (drop_take n (end - at) (drop at text)) ∙ ap (λ (xs : List ℕ). drop n xs) left
+          ∙ ap (λ (k : ℕ). drop k (literal ++ c ∷ rest)) same ∙ drop_front literal (c ∷ rest)) s)
 
   pub covers_number : (found : Option ℕ) → GoesUpTo text end → IfSome found (λ at. FirstOf (ScalarStands ExcessInteger (take end text)) at)
       → IfNone found ((at : ℕ) → ScalarStands ExcessInteger (take end text) at → ⊥) → Covers text 2 2 (number_range found)
@@ -170,7 +173,8 @@ module _ (text : List ℕ) (end : ℕ) (within : end ≤ length text) where
   covers_number (Some at) goes s n = record { least = omega arith; greatest = omega arith; applies = (end, goes, number_stands at s.found); first = leads }
     where
       by_place : (m : ℕ) → at ≤ m → WinsOver (errors.NumberRange at) (errors.NumberRange m)
-      by_place m le = elim (cases_lt at m) [ | inl lt ↦ inl lt | inr ge ↦ inr (omega (arith, le, ge), omega arith) ]
+      by_place m le = elim (cases_lt at m) [ inl lt ↦ inl lt | inr ge ↦ inr (omega (arith, le, ge), omega arith) ]
+
       leads : (other : MofError) → 2 ≤ rank_of other → rank_of other ≤ 2 → Applies text other → WinsOver (errors.NumberRange at) other
       leads (errors.NumberRange m) lo hi a = by_place m (s.first m (number_front m (subst (λ (k : ℕ). BeginsExcessNumber text k m) (only_end text a.0 end a.1 goes) a.2)))
       leads (errors.OutOfProfile m what) lo hi a = absurd (omega (arith, lo))
@@ -219,7 +223,7 @@ module _ (text : List ℕ) (wide : Wide text) (no_number : (at : ℕ) → Scalar
     fitting_name : begins_identifier h p ≡ true → (name rest : List ℕ) → Identifier left name rest → length name ≤ identifier_limit
     fitting_name begins name rest i = elim (cases_lt identifier_limit (length name)) [
       | inl long ↦ absurd (no_excess (length text) (whole wide) (length front)
-            (long_excess text (length front) _ there (length text) (omega (arith, size, some_left left name rest i)) begins name rest (subst (λ (xs : List ℕ). Identifier xs name rest) (sym left_there) i) long))
+          (long_excess text (length front) _ there (length text) (omega (arith, size, some_left left name rest i)) begins name rest (subst (λ (xs : List ℕ). Identifier xs name rest) (sym left_there) i) long))
       | inr few ↦ few
     ]
       where

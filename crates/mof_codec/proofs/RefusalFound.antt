@@ -43,6 +43,7 @@ front_there text fault end e s n = subst (λ (k : ℕ). IsFront (take k text)) (
     nil : (xs : List ℕ) → xs ++ [] ≡ xs
     nil [] = refl
     nil (x ∷ xs) = ap (λ (ys : List ℕ). x ∷ ys) (nil xs)
+
     front : (fault : Option ℕ) → EndsAt text fault → IsFront (take (end_of text fault) text)
     front None w = ([], subst (λ (xs : List ℕ). Wide xs) (sym (ap (λ (xs : List ℕ). xs ++ []) (take_all (length text) text (omega arith)) ∙ nil text)) w)
     front (Some at) f = f.front
@@ -60,13 +61,13 @@ module _ (text : List ℕ) (fault : Option ℕ) (form : Option (ℕ × Form)) (e
   covers : Covers text 1 4 (sooner (out_of_profile form) (sooner (number_range number) (sooner (too_many part) (syntax_fault fault))))
   covers =
       covers_sooner text 1 1 4 (omega arith) (omega arith) (out_of_profile form) _ (covers_form text fault form ends (f.form_some, f.form_wide, f.form_none))
-          (covers_sooner text 2 2 4 (omega arith) (omega arith) (number_range number) _ (covers_number text end (goes_within text end goes) number goes f.number_some f.number_none)
-              (covers_sooner text 3 3 4 (omega arith) (omega arith) (too_many part) (syntax_fault fault) (covers_part text end part goes f.part_some f.part_none) (covers_syntax text fault ends)))
+      (covers_sooner text 2 2 4 (omega arith) (omega arith) (number_range number) _ (covers_number text end (goes_within text end goes) number goes f.number_some f.number_none)
+      (covers_sooner text 3 3 4 (omega arith) (omega arith) (too_many part) (syntax_fault fault) (covers_part text end part goes f.part_some f.part_none) (covers_syntax text fault ends)))
 
   pub found_wins : (result others inner : Option MofError) → others ≡ sooner (too_many part) (syntax_fault fault) → inner ≡ sooner (number_range number) others → result ≡ sooner (out_of_profile form) inner → IfSome result (λ e. Wins text e)
   found_wins result others inner o i r =
       subst (λ (x : Option MofError). IfSome x (λ e. Wins text e)) (sym (r ∙ ap (λ (x : Option MofError). sooner (out_of_profile form) x) (i ∙ ap (λ (x : Option MofError). sooner (number_range number) x) o)))
-          (covers_wins text _ covers)
+      (covers_wins text _ covers)
 
   some_none : (e : MofError) → Some e ≡ None → ⊥
   some_none e h = cc

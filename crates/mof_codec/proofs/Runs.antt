@@ -81,14 +81,19 @@ pub record NotNext (c : ℕ) : Type 0 where
 
 no_x_of : (c : ℕ) → is_next c ≡ false → is_x c ≡ false
 no_x_of c h = grind (arith, nat_tests)
+
 no_b_of : (c : ℕ) → is_next c ≡ false → is_b c ≡ false
 no_b_of c h = grind (arith, nat_tests)
+
 no_bit_of : (c : ℕ) → is_next c ≡ false → digit_of 2 c ≡ false
 no_bit_of c h = grind (arith, nat_tests)
+
 no_octal_of : (c : ℕ) → is_next c ≡ false → digit_of 8 c ≡ false
 no_octal_of c h = grind (arith, nat_tests)
+
 no_digit_of : (c : ℕ) → is_next c ≡ false → digit_of 10 c ≡ false
 no_digit_of c h = grind (arith, nat_tests)
+
 no_hex_of : (c : ℕ) → is_next c ≡ false → digit_of 16 c ≡ false
 no_hex_of c h = grind (arith, nat_tests)
 
@@ -97,30 +102,43 @@ not_next c h = record { no_x = no_x_of c h; no_b = no_b_of c h; no_bit = no_bit_
 
 pub octal_no_x : (c : ℕ) → digit_of 8 c ≡ true → is_x c ≡ false
 octal_no_x c h = grind (arith, nat_tests)
+
 pub bit_no_x : (c : ℕ) → digit_of 2 c ≡ true → is_x c ≡ false
 bit_no_x c h = grind (arith, nat_tests)
+
 pub b_no_x : (c : ℕ) → is_b c ≡ true → is_x c ≡ false
 b_no_x c h = grind (arith, nat_tests)
+
 pub b_no_bit : (c : ℕ) → is_b c ≡ true → digit_of 2 c ≡ false
 b_no_bit c h = grind (arith, nat_tests)
+
 pub b_no_octal : (c : ℕ) → is_b c ≡ true → digit_of 8 c ≡ false
 b_no_octal c h = grind (arith, nat_tests)
+
 pub b_no_digit : (c : ℕ) → is_b c ≡ true → digit_of 10 c ≡ false
 b_no_digit c h = grind (arith, nat_tests)
+
 pub bit_digit : (c : ℕ) → digit_of 2 c ≡ true → digit_of 10 c ≡ true
 bit_digit c h = grind (arith, nat_tests)
+
 pub bit_octal : (c : ℕ) → digit_of 2 c ≡ true → digit_of 8 c ≡ true
 bit_octal c h = grind (arith, nat_tests)
+
 pub first_next : (c : ℕ) → is_first c ≡ true → is_next c ≡ true
 first_next c h = grind (arith, nat_tests)
+
 pub digit_no_first : (c : ℕ) → digit_of 10 c ≡ true → is_first c ≡ false
 digit_no_first c h = grind (arith, nat_tests)
+
 pub sign_no_first : (c : ℕ) → is_sign c ≡ true → is_first c ≡ false
 sign_no_first c h = grind (arith, nat_tests)
+
 pub sign_no_digit : (c : ℕ) → is_sign c ≡ true → digit_of 10 c ≡ false
 sign_no_digit c h = grind (arith, nat_tests)
+
 pub short_no_x : (c : ℕ) → is_x c ≡ true → is_some (short_escape c) ≡ false
 short_no_x c h = grind (arith, nat_tests)
+
 pub hex_no_quote : (c : ℕ) → digit_of 16 c ≡ true → (c == 34) ≡ false
 hex_no_quote c h = grind (arith, nat_tests)
 
@@ -146,7 +164,6 @@ says_pick false k r c f h = h
 
 says_is : (n : ℕ) (k r : Kind) (c : ℕ) → (c ≡ n → Says k c) → Says r c → Says (cond (c == n) k r) c
 says_is n k r c f h = says_pick (c == n) k r c (λ e. f (eqb-true c n e)) h
-
 
 pub kind_says : (c : ℕ) → Says (kind_of c) c
 kind_says c =

@@ -28,6 +28,7 @@ digits_are (c ∷ cs) e = (and_left (digit_of 10 c) (list_all (digit_of 10) cs) 
     and_left : (a b : Bool) → (a && b) ≡ true → a ≡ true
     and_left true b e = refl
     and_left false b e = e
+
     and_right : (a b : Bool) → (a && b) ≡ true → b ≡ true
     and_right true b e = e
     and_right false b e = absurd cc
@@ -94,9 +95,10 @@ module _ (front left : List ℕ) (state : State) (wanted : Wanted) (s : ScalarSe
 
   pub scalar_here : ScalarStands wanted front (length front - length left) → StandsHere state wanted left
   scalar_here stands =
-      let there = subst (λ (n : ℕ). ScalarStands wanted front n) (place_is front left state s.stepped) stands in
-      (scalar_there front (length s.stepped.front) (behind_of state s.stepped.begun) (walked_there front left state s.stepped) there.begins,
-       subst (λ (cs : List ℕ). IsWanted wanted cs) (left_is front left state s.stepped) there.stands)
+      let there = subst (λ (n : ℕ). ScalarStands wanted front n) (place_is front left state s.stepped) stands in (
+        scalar_there front (length s.stepped.front) (behind_of state s.stepped.begun) (walked_there front left state s.stepped) there.begins,
+        subst (λ (cs : List ℕ). IsWanted wanted cs) (left_is front left state s.stepped) there.stands,
+      )
 
   -- nothing stands up to here and with it
   pub scalar_up_to : (StandsHere state wanted left → ⊥) → (n : ℕ) → n ≤ length front - length left → ScalarStands wanted front n → ⊥

@@ -53,7 +53,7 @@ module _ (text : List ℕ) (at : ℕ) (b : Behind) (is : walked (take at text) �
   pub may_takes : (cs : List ℕ) → MayStand text at cs → Takes cs b.half b.place
   may_takes cs f =
       takes_front cs f.0 b.half b.place b.begun
-          (only_so (Ends Any) (take at text) (cs ++ f.0) b is (subst (λ (x : List ℕ). Runs Any x halves.Gap Start []) (append_assoc (take at text) cs f.0) (wide_runs ((take at text ++ cs) ++ f.0) f.1)))
+      (only_so (Ends Any) (take at text) (cs ++ f.0) b is (subst (λ (x : List ℕ). Runs Any x halves.Gap Start []) (append_assoc (take at text) cs f.0) (wide_runs ((take at text ++ cs) ++ f.0) f.1)))
 
   pub takes_may : (cs : List ℕ) → Takes cs b.half b.place → MayStand text at cs
   takes_may cs t =
@@ -135,6 +135,7 @@ at_takes (halves.Key k n) p t = from (drop n (letters k)) refl t
   where
     no_dollar : (l : ℕ) → nat_le 97 l ≡ true → (36 == l) ≡ false
     no_dollar l h = grind (arith, nat_tests)
+
     from : (ls : List ℕ) → drop n (letters k) ≡ ls → TakesScalar (halves.Key k n) p → at_scalar (halves.Key k n) p ≡ true
     from [] e t = rw e (takes_gap p (rw e at t))
     from (l ∷ ls) e t =
@@ -197,10 +198,13 @@ module _ (text : List ℕ) (at : ℕ) (b : Behind) (is : walked (take at text) �
       }
 
   pub scalar_there : BeginsScalar text at → begins_scalar b.half b.place ≡ true
-  scalar_there s = gap_scalar b.half b.place (walked_sane (take at text) b is) (at_takes b.half b.place (elim s.scalar [
+  scalar_there s = gap_scalar b.half b.place (walked_sane (take at text) b is) (at_takes b.half b.place (
+    elim s.scalar [
       | inl a ↦ inl (may_takes text at b is (36 ∷ 65 ∷ 59 ∷ []) a)
       | inr c ↦ inr (may_takes text at b is (36 ∷ 65 ∷ 44 ∷ []) c)
-    ], λ t. s.outside (takes_may text at b is (35 ∷ []) t)))
+    ],
+    λ t. s.outside (takes_may text at b is (35 ∷ []) t),
+  ))
 
 -- identifiers
 
@@ -251,6 +255,7 @@ take_names (halves.Key k n) p t = absurd (from (drop n (letters k)) refl t.lette
   where
     no_z : (l : ℕ) → nat_le l 121 ≡ true → (122 == l) ≡ false
     no_z l h = grind (arith, nat_tests)
+
     from : (ls : List ℕ) → drop n (letters k) ≡ ls → Takes (122 ∷ []) (halves.Key k n) p → ⊥
     from [] e t = rw e at t
     from (l ∷ ls) e t =

@@ -77,8 +77,8 @@ char_is chars c rest state s = ap (λ (x : List ℕ). slice_index x (length s.fr
 pub stuck_fault : (chars : List ℕ) (c : ℕ) (rest : List ℕ) (state : State) → Stepped chars (c ∷ rest) state → None ≡ step state.half state.place c → IsSyntaxFault chars (length chars - length (c ∷ rest))
 stuck_fault chars c rest state s e =
     subst (λ (x : ℕ). IsSyntaxFault chars x) (sym (place_is chars (c ∷ rest) state s))
-        (fault_here chars (length s.front) (behind_of state s.begun) (omega (arith, place_within chars (c ∷ rest) state s)) (walked_there chars (c ∷ rest) state s)
-            (ap (λ (x : ℕ). step state.half state.place x) (char_is chars c rest state s) ∙ sym e))
+    (fault_here chars (length s.front) (behind_of state s.begun) (omega (arith, place_within chars (c ∷ rest) state s)) (walked_there chars (c ∷ rest) state s)
+    (ap (λ (x : ℕ). step state.half state.place x) (char_is chars c rest state s) ∙ sym e))
 
 pub stuck_walk : (chars : List ℕ) (c : ℕ) (rest : List ℕ) (state : State) → Stepped chars (c ∷ rest) state → None ≡ step state.half state.place c → walked chars ≡ None
 stuck_walk chars c rest state s e = ap (λ (x : List ℕ). walked x) s.split ∙ walked-stuck s.front c (behind_of state s.begun) s.behind (sym e) rest

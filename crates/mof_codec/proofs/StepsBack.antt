@@ -120,10 +120,15 @@ module _ (T : Lexeme → Type 0) (common : Common T) where
   numbered_back numerals.Zero p c cs a h = elim (split (is_x c) _ _ (λ f r e. Left T f r cs) h) [
     | inl is ↦ (is.1.0, is.1.1 c is.0, is.1.2, is.1.3)
     | inr no_x ↦ elim (split (digit_of 2 c) _ _ (λ f r e. Left T f r cs) no_x.1) [
-      | inl is ↦ (is.1.0, elim is.1.1 [
+      | inl is ↦ (
+        is.1.0,
+        elim is.1.1 [
           | inl run ↦ (_, octal_value (c ∷ cs) (c ∷ run.0) is.1.0 (more c cs run.0 is.1.0 (bit_octal c is.0) run.1))
           | inr bits ↦ zero_binary (c ∷ cs) is.1.0 (another_bit c cs is.1.0 is.0 bits)
-        ], is.1.2, is.1.3)
+        ],
+        is.1.2,
+        is.1.3,
+      )
       | inr no_bit ↦ elim (split (digit_of 8 c) _ _ (λ f r e. Left T f r cs) no_bit.1) [
         | inl is ↦ (is.1.0, (_, octal_value (c ∷ cs) (c ∷ is.1.1.0) is.1.0 (more c cs is.1.1.0 is.1.0 is.0 is.1.1.1)), is.1.2, is.1.3)
         | inr no_octal ↦ elim (split (is_b c) _ _ (λ f r e. Left T f r cs) no_octal.1) [
@@ -134,10 +139,15 @@ module _ (T : Lexeme → Type 0) (common : Common T) where
     ]
   ]
   numbered_back numerals.ZeroBits p c cs a h = elim (split (digit_of 2 c) _ _ (λ f r e. Left T f r cs) h) [
-    | inl is ↦ (is.1.0, elim is.1.1 [
+    | inl is ↦ (
+      is.1.0,
+      elim is.1.1 [
         | inl run ↦ inl (c ∷ run.0, more c cs run.0 is.1.0 (bit_octal c is.0) run.1)
         | inr bits ↦ inr (another_bit c cs is.1.0 is.0 bits)
-      ], is.1.2, is.1.3)
+      ],
+      is.1.2,
+      is.1.3,
+    )
     | inr no_bit ↦ elim (split (digit_of 8 c) _ _ (λ f r e. Left T f r cs) no_bit.1) [
       | inl is ↦ (is.1.0, inl (c ∷ is.1.1.0, more c cs is.1.1.0 is.1.0 is.0 is.1.1.1), is.1.2, is.1.3)
       | inr no_octal ↦ elim (split (is_b c) _ _ (λ f r e. Left T f r cs) no_octal.1) [
@@ -151,10 +161,15 @@ module _ (T : Lexeme → Type 0) (common : Common T) where
     | inr behind ↦ number_end numerals.Octal p c cs a ([], stop (c ∷ cs)) behind.1
   ]
   numbered_back numerals.Bits p c cs a h = elim (split (digit_of 2 c) _ _ (λ f r e. Left T f r cs) h) [
-    | inl is ↦ (is.1.0, elim is.1.1 [
+    | inl is ↦ (
+      is.1.0,
+      elim is.1.1 [
         | inl run ↦ inl (c ∷ run.0, more c cs run.0 is.1.0 (bit_digit c is.0) run.1)
         | inr bits ↦ inr (another_bit c cs is.1.0 is.0 bits)
-      ], is.1.2, is.1.3)
+      ],
+      is.1.2,
+      is.1.3,
+    )
     | inr no_bit ↦ elim (split (digit_of 10 c) _ _ (λ f r e. Left T f r cs) no_bit.1) [
       | inl is ↦ (is.1.0, inl (c ∷ is.1.1.0, more c cs is.1.1.0 is.1.0 is.0 is.1.1.1), is.1.2, is.1.3)
       | inr no_digit ↦ elim (split (is_b c) _ _ (λ f r e. Left T f r cs) no_digit.1) [
@@ -201,9 +216,14 @@ module _ (T : Lexeme → Type 0) (common : Common T) where
   key_back (l ∷ ls) k n p c cs a e h =
       let was = keyed_back T common p c cs events.Quiet l ls k n p h in
       let left = was.1 in
-      let letter = subst (λ (x : List ℕ). small x ≡ true) e (small_dropped n (letters k) (small_letters k)) in
-      (c ∷ left.0, left.1, more c cs left.0 left.1 (small_next c l ls was.0 letter) left.2,
-       ap (λ (x : ℕ). x ∷ fold_case left.0) was.0 ∙ ap (λ (x : List ℕ). l ∷ x) (left.3 ∙ drop_one k n l ls e) ∙ sym e, left.4, left.5)
+      let letter = subst (λ (x : List ℕ). small x ≡ true) e (small_dropped n (letters k) (small_letters k)) in (
+        c ∷ left.0,
+        left.1,
+        more c cs left.0 left.1 (small_next c l ls was.0 letter) left.2,
+        ap (λ (x : ℕ). x ∷ fold_case left.0) was.0 ∙ ap (λ (x : List ℕ). l ∷ x) (left.3 ∙ drop_one k n l ls e) ∙ sym e,
+        left.4,
+        left.5,
+      )
 
   short_here : (p : Place) (c : ℕ) (cs : List ℕ) → (o : Option ℕ) → short_escape c ≡ o → is_some o ≡ true → TextLeft T p cs → TextLeft T p (92 ∷ c ∷ cs)
   short_here p c cs None e some l = absurd (differ some)
@@ -229,7 +249,7 @@ module _ (T : Lexeme → Type 0) (common : Common T) where
   back halves.Line p c cs a h = elim (split (c == 10) _ _ (λ f r e. Left T f r cs) h) [
     | inl is ↦
         subst (λ (x : ℕ). Left T halves.Line p (x ∷ cs)) (sym (eqb-true c 10 is.0))
-            (10 ∷ cs, at_feed cs, (is.1.0, separator (10 ∷ cs) cs is.1.0 (blank 10 cs refl) is.1.1, is.1.2, is.1.3))
+        (10 ∷ cs, at_feed cs, (is.1.0, separator (10 ∷ cs) cs is.1.0 (blank 10 cs refl) is.1.1, is.1.2, is.1.3))
     | inr not ↦ (not.1.0, over c cs not.1.0 not.0 not.1.1, not.1.2)
   ]
   back halves.Block p c cs a h = elim (split (c == 42) _ _ (λ f r e. Left T f r cs) h) [

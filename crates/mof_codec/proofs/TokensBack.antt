@@ -102,11 +102,15 @@ module _ (T : Lexeme → Type 0) (common : Common T) where
       | inr no_zero ↦ elim (split (c == 49) _ _ (λ f r e. Left T f r cs) no_zero.1) [
         | inl is ↦
             let ten : digit_of 10 c ≡ true = grind (arith, nat_tests, is.0) in
-            let bit : digit_of 2 c ≡ true = grind (arith, nat_tests, is.0) in
-            (is.1.0, elim is.1.1 [
-              | inl run ↦ (_, decimal_value c cs run.0 is.1.0 no_zero.0 ten run.1)
-              | inr bits ↦ (_, binary_value c bits.1 (c ∷ cs) bits.0 is.1.0 (more c cs bits.0 (bits.1 ∷ is.1.0) bit bits.2) bits.3)
-            ], is.1.2, is.1.3)
+            let bit : digit_of 2 c ≡ true = grind (arith, nat_tests, is.0) in (
+              is.1.0,
+              elim is.1.1 [
+                | inl run ↦ (_, decimal_value c cs run.0 is.1.0 no_zero.0 ten run.1)
+                | inr bits ↦ (_, binary_value c bits.1 (c ∷ cs) bits.0 is.1.0 (more c cs bits.0 (bits.1 ∷ is.1.0) bit bits.2) bits.3)
+              ],
+              is.1.2,
+              is.1.3,
+            )
         | inr no_one ↦ elim (split (digit_of 10 c) _ _ (λ f r e. Left T f r cs) no_one.1) [
           | inl is ↦ (is.1.0, (_, decimal_value c cs is.1.1.0 is.1.0 no_zero.0 is.0 is.1.1.1), is.1.2, is.1.3)
           | inr none ↦ absurd none.1
@@ -205,6 +209,7 @@ module _ (T : Lexeme → Type 0) (common : Common T) where
     where
       clash : true ≡ false → ⊥
       clash e = cc
+
       first_clash : (c : ℕ) (cs name rest : List ℕ) → Identifier (c ∷ cs) name rest → is_next c ≡ false → ⊥
       first_clash c cs name rest (identifier d us w r first run s) e = clash (sym (first_next d first) ∙ e)
 

@@ -62,7 +62,6 @@ Walks E AfterElement (Comma ∷ ts) acc = Walks E AfterComma ts acc
 Walks E AfterElement (RightBrace ∷ ts) acc = Walks E AfterValue ts acc
 Walks E _ _ acc = ⊥
 
-
 -- what the rules allow is such a walk
 
 module _ (E : List Event → Type 0) where

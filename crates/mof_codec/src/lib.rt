@@ -6,8 +6,8 @@ mod reader;
 mod refusing;
 mod values;
 
-pub use reader::read;
 pub use mof_syntax::{Form, MofError, TextError, Token, TokenKind, Tokens, decode_text, tokens};
+pub use reader::read;
 
 #[cfg(test)]
 mod tests;

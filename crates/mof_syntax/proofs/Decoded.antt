@@ -119,7 +119,7 @@ some_bytes (Utf16 order) c = some_units order (nat_lt c 0x1_0000) c (high_of c) 
 nothing_starts : (encoding : Encoding) → StartsNoChar encoding []
 nothing_starts encoding c rest one e =
     let lengths : length (char_bytes encoding c) + length rest ≡ 0 =
-        sym (ap length e ∙ length-append (char_bytes encoding c) rest) in
+    sym (ap length e ∙ length-append (char_bytes encoding c) rest) in
     omega (arith, some_bytes encoding c)
 
 -- characters that no further one follows are one list, with one rest
@@ -136,7 +136,7 @@ runs_same e (c ∷ cs) (d ∷ ds) r s one other ends stops is =
     let first = char_same e c d (body_bytes e cs ++ r) (body_bytes e ds ++ s)
     (and_left (scalar c) (all_scalars cs) one) (and_left (scalar d) (all_scalars ds) other)
     (sym (append_assoc (char_bytes e c) (body_bytes e cs) r) ∙ is
-            ∙ append_assoc (char_bytes e d) (body_bytes e ds) s) in
+    ∙ append_assoc (char_bytes e d) (body_bytes e ds) s) in
     let others = runs_same e cs ds r s (and_right (scalar c) (all_scalars cs) one)
     (and_right (scalar d) (all_scalars ds) other) ends stops first.1 in
     (cons_same c d cs ds first.0 others.0, others.1)
@@ -183,16 +183,16 @@ one_text bytes a b c d = (divides_same bytes a b [] [] (whole_divides bytes a c)
 pub no_fault : (bytes text : List ℕ) (at : ℕ) → Chars bytes text → IsTextFault bytes at → ⊥
 no_fault bytes text at c f =
     let rests = (divides_same bytes text f.before [] (drop at bytes)
-        (whole_divides bytes text c) (fault_divides bytes at f)).1 in
+    (whole_divides bytes text c) (fault_divides bytes at f)).1 in
     let lengths : 0 ≡ length bytes - at = ap length rests ∙ length-drop at bytes in
     omega (arith, f.within)
 
 pub one_fault : (bytes : List ℕ) (m n : ℕ) → IsTextFault bytes m → IsTextFault bytes n → m ≡ n
 one_fault bytes m n f g =
     let rests = (divides_same bytes f.before g.before (drop m bytes) (drop n bytes)
-        (fault_divides bytes m f) (fault_divides bytes n g)).1 in
+    (fault_divides bytes m f) (fault_divides bytes n g)).1 in
     let lengths : length bytes - m ≡ length bytes - n =
-        sym (length-drop m bytes) ∙ ap length rests ∙ length-drop n bytes in
+    sym (length-drop m bytes) ∙ ap length rests ∙ length-drop n bytes in
     omega (arith, f.within, g.within)
 
 -- bytes that are refused, not for want of memory, are no characters

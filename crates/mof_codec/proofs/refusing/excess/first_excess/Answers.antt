@@ -32,7 +32,7 @@ with-counts-requires-clause-elements c = (few _ _ _ _ c.loop-left.invariant).2
 pub loop-left-preserved : goal.loop-left-preserved
 loop-left-preserved c =
     searched_to _ _ _ _ _ _ c.in-Some.next c.with-counts.result c.loop-left.invariant c.in-len1-up.len_at_least c.c-item.is (sym c.in-Some.is ∙ c.step.ensures)
-        (λ p. clash (c.is_past.ensures.1 p) c.if-is_past.false) c.with-counts.ensures
+    (λ p. clash (c.is_past.ensures.1 p) c.if-is_past.false) c.with-counts.ensures
 
 pub returns-clause-none : goal.returns-clause-none
 returns-clause-none c = end_none _ _ _ (all_searched _ _ _ _ c.loop-left.invariant c.in_default.len_below)

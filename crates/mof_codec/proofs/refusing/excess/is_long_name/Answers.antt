@@ -12,12 +12,14 @@ told : (left : List ℕ) (c d n : ℕ) → 1 ≤ length left → c ≡ slice_ind
     → (nat_le 255 n ≡ true → BeginsLongName left) × (BeginsLongName left → nat_le 255 n ≡ true)
 told [] c d n le is first e = nothing_left le
 told (x ∷ rest) c d n le is first e =
-    let same : n ≡ name_length rest = e ∙ ap (λ (r : List ℕ). name_length r) (rest_is x rest) in
-    (λ big. long_name x rest (ap is_first (sym is) ∙ first) (subst (λ (m : ℕ). 255 ≤ m) same (le_of n big)),
-     λ long. of_le n (subst (λ (m : ℕ). 255 ≤ m) (sym same) (name_is_long x rest long).1))
+    let same : n ≡ name_length rest = e ∙ ap (λ (r : List ℕ). name_length r) (rest_is x rest) in (
+      λ big. long_name x rest (ap is_first (sym is) ∙ first) (subst (λ (m : ℕ). 255 ≤ m) same (le_of n big)),
+      λ long. of_le n (subst (λ (m : ℕ). 255 ≤ m) (sym same) (name_is_long x rest long).1),
+    )
   where
     le_of : (n : ℕ) → nat_le 255 n ≡ true → 255 ≤ n
     le_of n h = grind (arith, nat_tests)
+
     of_le : (n : ℕ) → 255 ≤ n → nat_le 255 n ≡ true
     of_le n h = grind (arith, nat_tests)
 

@@ -28,4 +28,4 @@ none_begins cs p q c k form (qualifier w) = k w
 pub returns-clause-none : goal.returns-clause-none
 returns-clause-none c =
     none_begins _ (sym c.begins_with.ensures ∙ c.if-begins_with.false) (sym c.begins_with-2.ensures ∙ c.if-begins_with-2.false)
-        (λ w. clash (c.begins_word.ensures.1 w) c.if-begins_word.false) (λ w. clash (c.begins_word-2.ensures.1 w) c.if-begins_word-2.false)
+    (λ w. clash (c.begins_word.ensures.1 w) c.if-begins_word.false) (λ w. clash (c.begins_word-2.ensures.1 w) c.if-begins_word-2.false)

@@ -30,9 +30,9 @@ returns-in_err-state-clause-none c = absurd (never_stuck _ c.requires.fault.fron
 pub returns-in-Some-form_here-clause-some : goal.returns-in-Some-form_here-clause-some
 returns-in-Some-form_here-clause-some c =
     here_found _ _ c.requires.within _ c.in_ok-state.ensures.some (λ e. clash e (at_place c.args.chars.now c.args.fault 46 _ (sym c.begins_with.ensures ∙ c.if-begins_with.false))) c.in-Some-form_here.form
-        (form_place c.args.chars.now c.args.fault _ _ c.in-Some-form_here.ensures.some)
+    (form_place c.args.chars.now c.args.fault _ _ c.in-Some-form_here.ensures.some)
 
 pub returns-in-None-form_here-clause-none : goal.returns-in-None-form_here-clause-none
 returns-in-None-form_here-clause-none c =
     here_none _ _ c.requires.within _ c.in_ok-state.ensures.some (λ e. clash e (at_place c.args.chars.now c.args.fault 46 _ (sym c.begins_with.ensures ∙ c.if-begins_with.false)))
-        (λ form s. c.in-None-form_here.ensures.none form (place_form c.args.chars.now c.args.fault _ _ s))
+    (λ form s. c.in-None-form_here.ensures.none form (place_form c.args.chars.now c.args.fault _ _ s))

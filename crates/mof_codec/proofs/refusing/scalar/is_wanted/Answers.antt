@@ -6,6 +6,7 @@ use Rattle.mof_codec.proofs.ScalarSearch.{real_begins, begins_real}
 use Rattle.mof_codec.proofs.refusing.scalar.is_wanted.Goals as goal
 
 pub returns-in-Real : goal.returns-in-Real
-returns-in-Real c =
-    (λ e. subst (λ (w : Wanted). IsWanted w c.args.chars.now) (sym c.in-Real.is) (real_begins c.args.chars.now (sym c.is_real.ensures ∙ e)),
-     λ r. c.is_real.ensures ∙ begins_real c.args.chars.now (subst (λ (w : Wanted). IsWanted w c.args.chars.now) c.in-Real.is r))
+returns-in-Real c = (
+  λ e. subst (λ (w : Wanted). IsWanted w c.args.chars.now) (sym c.in-Real.is) (real_begins c.args.chars.now (sym c.is_real.ensures ∙ e)),
+  λ r. c.is_real.ensures ∙ begins_real c.args.chars.now (subst (λ (w : Wanted). IsWanted w c.args.chars.now) c.in-Real.is r),
+)
