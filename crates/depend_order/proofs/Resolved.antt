@@ -11,7 +11,8 @@ use Rattle.dsc_document.specs.declared.document.Document.{Document}
 use Rattle.dsc_document.specs.declared.document.Resource.{Resource}
 use Rattle.mof_values.specs.Fold.{fold_case, SameName}
 use Rattle.depend_order.specs.Cycle.{DependsOn, IsCycle}
-use Rattle.depend_order.specs.Documents.{Means, Names, HasDistinctIds, IsOrderOfDocument, IsCycleOfDocument}
+use Rattle.dsc_document.specs.Dependencies.{Means, Names, HasDistinctIds}
+use Rattle.depend_order.specs.Documents.{IsOrderOfDocument, IsCycleOfDocument}
 use Rattle.depend_order.specs.Index.{AreResolved}
 use Rattle.depend_order.specs.Numbers.{Lists, AreBelow, IsOrderOfNumbers, IsCycleOfNumbers}
 use Rattle.depend_order.specs.Order.{IsOrder}

@@ -13,7 +13,7 @@ use Rattle.std.specs.Prelude.{All, Any, IsSome, IsSomeAnd, nat_eq, slice_get}
 use Rattle.std.specs.Str.{bytes_eq}
 use Rattle.dsc_document.specs.declared.document.Resource.{Resource}
 use Rattle.mof_values.specs.Fold.{fold_case, SameName}
-use Rattle.depend_order.specs.Documents.{Means}
+use Rattle.dsc_document.specs.Dependencies.{Means}
 use Rattle.depend_order.specs.Index.{Index, IsIndex, IsKnown, IsKept, AreResolved, place_at}
 use Rattle.depend_order.proofs.Options.{some_of, some_is, get_push, get-push_left, get-push_last}
 

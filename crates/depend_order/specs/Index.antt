@@ -8,7 +8,7 @@ use Rattle.std.specs.declared.hash.BuildHasherDefault.{BuildHasherDefault}
 use Rattle.std.specs.declared.hash.FoldHasher.{FoldHasher}
 use Rattle.dsc_document.specs.declared.document.Resource.{Resource}
 use Rattle.mof_values.specs.Fold.{fold_case}
-use Rattle.depend_order.specs.Documents.{Means}
+use Rattle.dsc_document.specs.Dependencies.{Means}
 
 abbrev pub Index : Type 0
 Index = HashMap (Vec ℕ) ℕ (BuildHasherDefault FoldHasher)

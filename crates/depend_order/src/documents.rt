@@ -1,7 +1,8 @@
 //! The order of the resources of a document.
 ghost use Rattle.std.specs.Prelude.{◌<◌, ◌^◌, ℕ, List, IfOk, length};
 ghost use Rattle.depend_order.specs.Answers.{IfCycle, OnCycle};
-ghost use Rattle.depend_order.specs.Documents.{HasDistinctIds, IsCycleOfDocument, IsOrderOfDocument, NamesResources};
+ghost use Rattle.dsc_document.specs.Dependencies.{HasDistinctIds, NamesResources};
+ghost use Rattle.depend_order.specs.Documents.{IsCycleOfDocument, IsOrderOfDocument};
 
 use crate::OrderError;
 use crate::names::places_of_names;

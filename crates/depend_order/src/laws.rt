@@ -1,7 +1,7 @@
 //! Laws of orders and cycles. The calls do nothing; their clauses are the laws.
 ghost use Rattle.std.specs.Prelude.{length};
 ghost use Rattle.depend_order.specs.Cycle.{DependsOn};
-ghost use Rattle.depend_order.specs.Documents.{HasDistinctIds, IsDependency, Names};
+ghost use Rattle.dsc_document.specs.Dependencies.{HasDistinctIds, IsDependency, Names};
 ghost use Rattle.depend_order.specs.Laws.{AtMostOneCycle, AtMostOneOrder, CyclesAreClosed, NeverBoth};
 ghost use Rattle.depend_order.specs.Numbers.{Lists};
 

@@ -2,7 +2,7 @@
 ghost use Rattle.std.specs.Prelude.{◌≡◌, ◌<◌, ◌^◌, All, IfOk, OnOk, length};
 ghost use Rattle.std.specs.List.{AllZip};
 ghost use Rattle.mof_values.specs.Fold.{fold_case};
-ghost use Rattle.depend_order.specs.Documents.{NamesResources};
+ghost use Rattle.dsc_document.specs.Dependencies.{NamesResources};
 ghost use Rattle.depend_order.specs.Index.{IsIndex, IsKnown, IsKept, AreResolved};
 
 use dsc_document::{Document, Resource};

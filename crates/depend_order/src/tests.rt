@@ -1,7 +1,7 @@
 ghost use Rattle.std.specs.Prelude.{◌<◌, ◌↔◌, All, Any, IsTrue, length};
 ghost use Rattle.std.specs.Bool.{OnTrue};
 ghost use Rattle.mof_values.specs.Fold.{SameName};
-ghost use Rattle.depend_order.specs.Documents.{HasDistinctIds, NamesResources};
+ghost use Rattle.dsc_document.specs.Dependencies.{HasDistinctIds, NamesResources};
 ghost use Rattle.depend_order.specs.Numbers.{AreBelow};
 
 use super::*;

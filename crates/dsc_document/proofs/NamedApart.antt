@@ -1,6 +1,6 @@
 -- Lists of instances whose names are all different.
 use Rattle.std.proofs.Common.{◌≡◌, ◌<◌, ◌≤◌, ◌+◌, ℕ, List, Option, Some, None, true, false, is_some, length, get_or, option_map, slice_get, refl, sym, ap, ◌∙◌, arith}
-use Rattle.std.proofs.lemmas.Option.{slice_get-get_or, slice_get_within}
+use Rattle.std.proofs.lemmas.Option.{slice_get-get_or}
 use Rattle.mof_values.specs.Fold.{fold_case}
 use Rattle.mof_values.specs.declared.instance.Instance.{Instance}
 use Rattle.dsc_document.specs.declared.places.Places.{Places}

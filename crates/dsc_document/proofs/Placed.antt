@@ -1,9 +1,8 @@
 -- Names that are put at their places one after another.
-use Rattle.std.proofs.Common.{◌≡◌, ℕ, ◌+◌, ◌<◌, ◌≤◌, List, length, Option, Some, None, IsTrue, is_some, option_and_then, slice_get, get_or, refl, sym, ap, subst, ◌∙◌, ⊎_elim, arith}
+use Rattle.std.proofs.Common.{◌≡◌, ℕ, ◌+◌, ◌<◌, ◌≤◌, List, length, Option, Some, None, IsTrue, is_some, option_and_then, slice_get, get_or, sym, ap, subst, ◌∙◌, ⊎_elim, arith}
 use Rattle.std.proofs.lemmas.Bool.{cases_lt}
 use Rattle.std.proofs.lemmas.Option.{slice_get-get_or, slice_get_past}
 use Rattle.mof_values.specs.declared.instance.Instance.{Instance}
-use Rattle.mof_values.specs.Fold.{SameName}
 use Rattle.dsc_document.specs.Names.{ShareName, IsName}
 use Rattle.dsc_document.specs.Places.{place_of, PutsIfAny, HoldsNames}
 use Rattle.dsc_document.specs.Rules.{StandsBefore}

@@ -1,5 +1,5 @@
 -- What a declaration says: the header, a resource, or another instance. Names compare by fold.
-use Rattle.std.specs.Prelude.{◌≡◌, ◌≢◌, ℕ, ◌≤◌, Bool, true, false, not, ◌&&◌, if◌then◌else◌, List, [], ◌∷◌, ◌++◌, length, take, ◌==◌, IsTrue, Option, Some, None, is_some, IsSomeAnd, option_map, option_and_then, unwrap_or, find, filter_map, codes, encode_utf8_all}
+use Rattle.std.specs.Prelude.{◌≡◌, ◌≢◌, ℕ, ◌≤◌, Bool, true, not, ◌&&◌, if◌then◌else◌, List, [], ◌∷◌, ◌++◌, length, take, ◌==◌, IsTrue, Option, Some, None, is_some, option_map, option_and_then, unwrap_or, find, filter_map, codes, encode_utf8_all}
 use Rattle.std.specs.List.{list_all}
 use Rattle.std.specs.Option.{option_map_or}
 use Rattle.mof_values.specs.declared.instance.Instance.{Instance}

@@ -1,5 +1,5 @@
 -- The rules of documents, and which refusal wins where some are broken.
-use Rattle.std.specs.Prelude.{◌≡◌, ◌⊎◌, ℕ, ◌<◌, ◌≤◌, true, false, IsTrue, IsFalse, List, [], ◌∷◌, ◌++◌, All, Contains, Option, Some, None, IsSomeAnd, IfSome, slice_get, option_map, option_and_then, find, filter, filter_map}
+use Rattle.std.specs.Prelude.{◌≡◌, ◌⊎◌, ℕ, ◌<◌, ◌≤◌, false, IsTrue, List, [], ◌∷◌, ◌++◌, All, Contains, Option, Some, IsSomeAnd, slice_get, option_map, option_and_then, find, filter, filter_map}
 use Rattle.std.specs.List.{enumerate_from}
 use Rattle.std.specs.Option.{option_map_or}
 use Rattle.mof_values.specs.declared.instance.Instance.{Instance}

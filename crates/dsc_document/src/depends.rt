@@ -111,7 +111,7 @@ fn push_text(names: &mut Vec<Text>, scalar: &Scalar) -> Result<(), AllocError>
     Ok(())
 }
 
-fn copy_of(name: &Text) -> Result<Text, AllocError>
+pub fn copy_of(name: &Text) -> Result<Text, AllocError>
     ensures { IfOk result (λ copy. copy ≡ name.now) }
 {
     name.clone()

@@ -21,11 +21,15 @@ mod ids;
 mod places;
 mod properties;
 mod rules;
+mod spot;
+mod unknown;
 
 pub use document::{Document, Resource};
 pub use error::DocError;
 pub use first_form::first;
 pub use rules::{check, check_part, one_refusal_wins};
+pub use spot::Spot;
+pub use unknown::{UnknownId, unknown_id};
 
 #[cfg(test)]
 mod tests;

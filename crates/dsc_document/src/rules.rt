@@ -1,5 +1,6 @@
 //! The rules of documents.
 ghost use Rattle.std.specs.Prelude.{◌≡◌, ◌≢◌, ◌<◌, ◌^◌, List, length, IfOk, IfErr, vec_len};
+ghost use Rattle.dsc_document.specs.Dependencies.{HasDistinctIds, NamesResources};
 ghost use Rattle.dsc_document.specs.Places.{HoldsNames};
 ghost use Rattle.dsc_document.specs.Rules.{Rules, PartRules, IsRefusal, Applies, condition_of, id_at};
 ghost use Rattle.dsc_document.specs.Conditions.{KeepsUpTo};
@@ -23,6 +24,9 @@ use std::alloc::Global;
 pub fn check(alloc: Global, instances: Vec<Instance>) -> Result<Document, DocError>
     requires { vec_len instances < 2 ^ 32 }
     ensures accepted { IfOk result (Rules instances.items) }
+    ensures few { IfOk result (λ document. length document.resources < vec_len instances) }
+    ensures known { IfOk result NamesResources }
+    ensures distinct { IfOk result HasDistinctIds }
     ensures refused { IfErr result (λ refusal. refusal ≢ DocError.Memory → IsRefusal instances.items refusal) }
 {
     let ids = check_part_rules(alloc, &instances)?;
@@ -38,6 +42,8 @@ pub fn check(alloc: Global, instances: Vec<Instance>) -> Result<Document, DocErr
 pub fn check_part(alloc: Global, instances: Vec<Instance>) -> Result<Document, DocError>
     requires { vec_len instances < 2 ^ 32 }
     ensures accepted { IfOk result (PartRules instances.items) }
+    ensures few { IfOk result (λ document. length document.resources < vec_len instances) }
+    ensures distinct { IfOk result HasDistinctIds }
     ensures refused { IfErr result (λ refusal. refusal ≢ DocError.Memory → IsRefusal instances.items refusal) }
     ensures known { IfErr result (λ refusal. condition_of refusal < 9) }
 {

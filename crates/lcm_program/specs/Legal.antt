@@ -2,7 +2,7 @@
 use Rattle.std.specs.Prelude.{◌≡◌, ◌⊎◌, ℕ, ◌<◌, List, ◌∷◌, ◌++◌, length, Contains}
 use Rattle.dsc_terms.specs.Lists.{Precedes}
 use Rattle.dsc_document.specs.declared.document.Document.{Document}
-use Rattle.depend_order.specs.Documents.{IsDependency}
+use Rattle.dsc_document.specs.Dependencies.{IsDependency}
 use Rattle.lcm_program.specs.declared.runs.RunMode.{RunMode}
 use Rattle.lcm_program.specs.declared.runs.RunMode.TheVariants.{Repair}
 use Rattle.lcm_program.specs.declared.entry.TestAnswer.TheVariants as tests

@@ -1,13 +1,16 @@
+pub mod Checksum
 pub mod Holds
 pub mod Input
 pub mod Kinds
 pub mod Legal
 pub mod Lines
+pub mod Printed
 pub mod Program
 pub mod Ran
 pub mod Refusal
 pub mod Status
 pub mod Streams
+pub mod Tool
 pub mod Trace
 pub mod True
 pub mod Unread

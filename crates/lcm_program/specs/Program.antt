@@ -11,21 +11,12 @@ use Rattle.lcm_program.specs.declared.status.InputError.{InputError}
 use Rattle.lcm_program.specs.declared.status.InputError.TheVariants.{TooLong, NotYet}
 use Rattle.lcm_program.specs.Unread.{IsNoDocument}
 use Rattle.lcm_program.specs.Kinds.{calls_of, host_of}
-use Rattle.lcm_program.specs.Streams.{AppendsPart}
+use Rattle.lcm_program.specs.Printed.{IsCutShort}
 use Rattle.lcm_program.specs.Trace.{missed_count}
 use Rattle.lcm_program.specs.Legal.{GoesOn}
 use Rattle.lcm_program.specs.Lines.{run_lines}
 use Rattle.lcm_program.specs.Input.{Reads, input_limit}
 use Rattle.lcm_program.specs.Ran.{Ran}
-
--- the output failed, and holds a part from the front of the text
-pub record IsCutShort {K : Type 0} (held : K → Option (List ℕ)) (faults : K → ℕ) (old new : K) (text : List ℕ) : Type 0 where
-  pub rose : Rose (faults old) (faults new)
-  pub part : AppendsPart (held old) (held new) text
-
--- the output holds the text and nothing else, or it failed and holds a part from its front
-abbrev pub Printed : {K : Type 0} → (K → Option (List ℕ)) → (K → ℕ) → K → K → List ℕ → Type 0
-Printed held faults old new text = Appends (held old) (held new) text ⊎ IsCutShort held faults old new text
 
 -- a run came to its end
 abbrev pub IsRun : Status → Type 0

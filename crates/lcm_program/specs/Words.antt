@@ -1,11 +1,16 @@
 -- The forms of the command line.
 use Rattle.std.specs.Prelude.{◌≡◌, ℕ, ◌+◌, ◌<◌, ◌≤◌, List, [], ◌∷◌, ◌++◌, length, take, codes}
 use Rattle.lcm_program.specs.declared.words.Command.{Command}
-use Rattle.lcm_program.specs.declared.words.Command.TheVariants.{Test}
+use Rattle.lcm_program.specs.declared.words.Command.TheVariants.{Test, Checksum}
+
+-- the word that a command begins with
+abbrev pub word_of : Command → List ℕ
+word_of Test = codes "test"
+word_of Checksum = codes "checksum"
 
 -- the words, each in UTF-8, ask for the command
 abbrev pub IsForm : Command → List (List ℕ) → Type 0
-IsForm Test words = words ≡ codes "test" ∷ []
+IsForm command words = words ≡ word_of command ∷ []
 
 -- some form begins with these words
 abbrev pub BeginsForm : List (List ℕ) → Type 0

@@ -4,6 +4,7 @@
 //! real objects, hands them to `node`, and ends with the number of its status.
 #![tactic(auto)]
 
+mod checksum;
 mod command_line;
 mod entry;
 mod input;
@@ -19,6 +20,7 @@ mod streams;
 mod test;
 mod words;
 
+pub use checksum::{checksum_line, read_digest};
 use command_line::CommandLine;
 use dsc_outside::Absent;
 use dsc_outside::real::{FolderHost, InSource, OutSink};

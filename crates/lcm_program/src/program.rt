@@ -7,8 +7,12 @@ ghost use Rattle.lcm_program.specs.Words.{IsForm, IsUsage};
 ghost use Rattle.lcm_program.specs.Kinds.{calls_of, host_of};
 ghost use Rattle.lcm_program.specs.Refusal.{status_of, refusal_line};
 ghost use Rattle.lcm_program.specs.Unread.{IsRefused};
-ghost use Rattle.lcm_program.specs.Program.{Printed, IsRun, RanToEnd, Stopped, IsUsageOrMemory, AnswersEach};
+ghost use Rattle.lcm_program.specs.Printed.{Printed};
+ghost use Rattle.lcm_program.specs.Program.{IsRun, RanToEnd, Stopped, IsUsageOrMemory, AnswersEach};
+ghost use Rattle.lcm_program.specs.Tool.{RanTool, TellsAnswer, OnlyForRefusal};
+ghost use Rattle.lcm_program.specs.Checksum.{AnswersChecksum};
 
+use crate::checksum::{checksum_line, read_digest};
 use crate::input::{Unread, read_input};
 use crate::kinds::Kinds;
 use crate::refusal::Refusal;
@@ -44,17 +48,28 @@ pub fn node<S: Source, K: Sink, D: Disk, H: Host, L: Link, C: Clock>(
     ensures refused { (refusal : Refusal) → result ≡ status_of refusal → Printed K.held K.faults output.old output.new (refusal_line refusal) × (kinds.new ≡ kinds.old) }
     ensures usage { (word : ℕ) → result ≡ Status.Usage word → IsUsage (map string_bytes words.now) word × (input.new ≡ input.old) }
     ensures no_form { ((command : Command) → IsForm command (map string_bytes words.now) → ⊥) → IsUsageOrMemory result × (input.new ≡ input.old) × (kinds.new ≡ kinds.old) }
+
+    // The word `test`: what may be answered of each input.
     ensures unread { (refusal : Refusal) → result ≡ status_of refusal → IsForm Command.Test (map string_bytes words.now) → IsRefused refusal (S.left input.old) (S.faults input.old) (S.faults input.new) }
     ensures each { IsForm Command.Test (map string_bytes words.now) → IfSome (S.left input.old) (AnswersEach result (S.faults input.old) (S.faults input.new)) }
 
-    // A run is told whole.
-    ensures tested { IsRun result → RanToEnd K.held K.faults H.told H.faults (S.left input.old) kinds.old kinds.new result output.old output.new }
+    // The word `test`: a run is told whole.
+    ensures tested { IsForm Command.Test (map string_bytes words.now) → IsRun result
+        → RanToEnd K.held K.faults H.told H.faults (S.left input.old) kinds.old kinds.new result output.old output.new }
+
+    // The word `checksum`: it changes nothing, prints the checksum of the input, and takes memory for a refusal alone.
+    ensures checksum { IsForm Command.Checksum (map string_bytes words.now)
+        → RanTool AnswersChecksum K.held K.faults (S.left input.old) (S.faults input.old) (S.faults input.new)
+        kinds.old kinds.new result output.old output.new }
+    ensures checksum_memory { IsForm Command.Checksum (map string_bytes words.now) → result ≡ Status.Memory
+        → OnlyForRefusal AnswersChecksum (S.left input.old) (S.faults input.old) (S.faults input.new) }
 
     // Where memory was refused nothing is told, and what was done is the front of a run.
     ensures memory { result ≡ Status.Memory → Stopped H.told H.faults (S.left input.old) kinds.old kinds.new × (output.new ≡ output.old) }
 {
     match read_words(words) {
         Ok(Command::Test) => test(alloc, input, output, kinds),
+        Ok(Command::Checksum) => checksum(alloc, input, output),
         Err(UsageError { word }) => refuse(alloc, output, Refusal::Usage { word }),
     }
 }
@@ -89,6 +104,26 @@ fn test<S: Source, K: Sink, H: Host>(
     }
     Status::NotCompliant {
         count: outcome.missed,
+    }
+}
+
+// The word `checksum`.
+fn checksum<S: Source, K: Sink>(alloc: Global, input: &mut S, output: &mut K) -> Status
+    ensures refused { (refusal : Refusal) → result ≡ status_of refusal
+        → Printed K.held K.faults output.old output.new (refusal_line refusal) }
+    ensures tells { TellsAnswer AnswersChecksum K.held K.faults (S.left input.old)
+        (S.faults input.old) (S.faults input.new) result output.old output.new }
+    ensures memory { result ≡ Status.Memory
+        → OnlyForRefusal AnswersChecksum (S.left input.old) (S.faults input.old) (S.faults input.new) }
+    ensures silent { result ≡ Status.Memory → output.new ≡ output.old }
+{
+    let digest = match read_digest(input) {
+        Ok(digest) => digest,
+        Err(refusal) => return refuse(alloc, output, refusal),
+    };
+    match write_all(output, &checksum_line(&digest)) {
+        Ok(()) => Status::Done,
+        Err(Failed) => Status::WriteFault,
     }
 }
 

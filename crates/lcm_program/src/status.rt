@@ -5,7 +5,7 @@ ghost use Rattle.lcm_program.specs.Status.{number_of};
 /// Why the input was refused.
 #[derive(Clone, Copy, Debug, PartialEq, Eq)]
 pub enum InputError {
-    /// It is longer than 2,097,152 bytes.
+    /// It is longer than the command takes: 2,097,152 bytes of a document, 67,108,864 bytes for a checksum.
     TooLong,
 
     /// It is not in the form that is read so far.

@@ -1,3 +1,5 @@
+mod checksum;
+
 use super::*;
 use dsc_outside::{Ends, Failed, MemoryHost, MemorySink, MemorySource, Sink, Source, Variable};
 use mof_values::Bytes;
@@ -66,10 +68,11 @@ impl Source for Trickle {
     }
 }
 
-/// A sink that takes one byte at a time.
+/// A sink that takes one byte at a time, and no more than it has room for.
 #[derive(Drop)]
 struct Drip {
     bytes: Vec<u8>,
+    room: usize,
     faults: u64,
 }
 
@@ -88,11 +91,45 @@ impl Sink for Drip {
         let Some(first) = piece.first() else {
             return Ok(0);
         };
-        if self.bytes.push(*first).is_err() {
+        if self.bytes.len() >= self.room || self.bytes.push(*first).is_err() {
             self.faults = self.faults.saturating_add(1);
             return Err(Failed);
         }
         Ok(1)
+    }
+}
+
+// The case of a command that does not look at the machine.
+fn reading(
+    words: &'static [&'static str],
+    failing_read: Option<u64>,
+    lines: &'static str,
+    status: u8,
+) -> Case {
+    Case {
+        words,
+        value: None,
+        failing_look: None,
+        failing_read,
+        lines,
+        status,
+    }
+}
+
+fn trickle_of<R: AllocGlobal>(rt: &R, case: &Case, bytes: &[u8]) -> Result<Trickle, Fail> {
+    Ok(Trickle {
+        bytes: bytes.to_vec(rt.alloc())?,
+        at: 0,
+        failing: case.failing_read,
+        faults: 0,
+    })
+}
+
+fn drip_of<R: AllocGlobal>(rt: &R, room: usize) -> Drip {
+    Drip {
+        bytes: Vec::new(rt.alloc()),
+        room,
+        faults: 0,
     }
 }
 
@@ -148,16 +185,8 @@ fn expect<R: AllocGlobal + Abort>(rt: &R, case: &Case, bytes: &[u8]) -> Result<(
     assert_eq!(rt; status.number(), case.status, "{}", case.lines);
     assert!(rt; !input.short() && !output.short());
 
-    let mut input = Trickle {
-        bytes: bytes.to_vec(rt.alloc())?,
-        at: 0,
-        failing: case.failing_read,
-        faults: 0,
-    };
-    let mut output = Drip {
-        bytes: Vec::new(rt.alloc()),
-        faults: 0,
-    };
+    let mut input = trickle_of(rt, case, bytes)?;
+    let mut output = drip_of(rt, usize::MAX);
     let status = run(rt, case, &mut input, &mut output)?;
     assert_eq!(rt;
         output.bytes.as_slice(),
@@ -229,16 +258,11 @@ fn words_in_no_form_are_refused_with_the_first_that_does_not_fit(
         (&[""], "refused Usage 0\n"),
         (&["test", "x"], "refused Usage 1\n"),
         (&["test", "test", "x"], "refused Usage 1\n"),
+        (&["checksum", "checksum"], "refused Usage 1\n"),
+        (&["Checksum"], "refused Usage 0\n"),
+        (&["checksum "], "refused Usage 0\n"),
     ] {
-        let case = Case {
-            words,
-            value: None,
-            failing_look: None,
-            failing_read: None,
-            lines,
-            status: 2,
-        };
-        expect(&rt, &case, ONE.as_bytes())?;
+        expect(&rt, &reading(words, None, lines, 2), ONE.as_bytes())?;
     }
     Ok(())
 }
@@ -252,14 +276,7 @@ fn an_input_that_fails_or_is_too_long_is_refused(rt: HostRuntime) -> Result<(), 
         (2_097_153, None, "refused TooLong\n", 3),
         (2_097_152, None, "refused NotYet\n", 3),
     ] {
-        let case = Case {
-            words,
-            value: None,
-            failing_look: None,
-            failing_read,
-            lines,
-            status,
-        };
+        let case = reading(words, failing_read, lines, status);
         expect(&rt, &case, &spaces(&rt, count)?)?;
     }
     Ok(())
@@ -267,14 +284,7 @@ fn an_input_that_fails_or_is_too_long_is_refused(rt: HostRuntime) -> Result<(), 
 
 #[test]
 fn an_output_that_fails_is_told_but_for_a_refusal(rt: HostRuntime) -> Result<(), Fail> {
-    let case = Case {
-        words: &["test"],
-        value: None,
-        failing_look: None,
-        failing_read: None,
-        lines: "",
-        status: 0,
-    };
+    let case = reading(&["test"], None, "", 0);
     for (input, status) in [
         (ONE, Status::WriteFault),
         ("x", Status::InputRefused(InputError::NotYet)),

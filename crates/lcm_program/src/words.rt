@@ -1,12 +1,15 @@
 //! The words of the command line.
-ghost use Rattle.std.specs.Prelude.{◌≡◌, IfOk, IfErr, map, string_bytes};
-ghost use Rattle.lcm_program.specs.Words.{IsForm, IsUsage};
+ghost use Rattle.std.specs.Prelude.{◌≡◌, IfOk, IfErr, IfSome, IfNone, map, string_bytes};
+ghost use Rattle.lcm_program.specs.Words.{IsForm, IsUsage, word_of};
 
 /// What the program is asked to do.
 #[derive(Clone, Copy, Debug, PartialEq, Eq)]
 pub enum Command {
     /// Tests the document that the input is.
     Test,
+
+    /// Prints the checksum of the input.
+    Checksum,
 }
 
 /// The words are in no form; `word` is the place of the first word that no form goes on with, or their count.
@@ -20,11 +23,26 @@ pub fn read_words(words: &[String]) -> Result<Command, UsageError>
     ensures ok { IfOk result (λ command. IsForm command (map string_bytes words.now)) }
     ensures usage { IfErr result (λ error. IsUsage (map string_bytes words.now) error.word) }
 {
-    match words {
-        [first, rest @ ..] if first.as_str() == "test" => match rest {
-            [] => Ok(Command::Test),
-            _ => Err(UsageError { word: 1 }),
-        },
-        _ => Err(UsageError { word: 0 }),
+    let [first, rest @ ..] = words else {
+        return Err(UsageError { word: 0 });
+    };
+    let Some(command) = command_of(first) else {
+        return Err(UsageError { word: 0 });
+    };
+    match rest {
+        [] => Ok(command),
+        _ => Err(UsageError { word: 1 }),
+    }
+}
+
+// The command of that word.
+fn command_of(word: &str) -> Option<Command>
+    ensures some { IfSome result (λ command. word.now ≡ word_of command) }
+    ensures none { IfNone result ((command : Command) → word.now ≡ word_of command → ⊥) }
+{
+    match word {
+        "test" => Some(Command::Test),
+        "checksum" => Some(Command::Checksum),
+        _ => None,
     }
 }

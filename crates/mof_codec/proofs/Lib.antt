@@ -35,4 +35,11 @@ pub mod DeclarationsRead
 pub mod IntegerFronts
 pub mod NumberSearch
 pub mod RefusalFound
+pub mod Writing
+pub mod CanonicalTokens
+pub mod CanonicalRules
+pub mod CanonicalBytes
 pub mod OnlyRefused
+pub mod Searches
+pub mod Searched
+pub mod Repeats

@@ -12,7 +12,7 @@ use mof_values::Instance;
 use std::alloc::Global;
 
 /// The most bytes of a document.
-const LIMIT: usize = 2_097_152;
+pub(crate) const LIMIT: usize = 2_097_152;
 
 /// The instances that the bytes spell (DSP0004, in this profile), or why they spell none.
 pub fn read(alloc: Global, bytes: &[u8]) -> Result<Vec<Instance>, MofError>

@@ -5,6 +5,8 @@ mod bytes;
 mod faults;
 mod forms;
 mod limits;
+mod pieces;
+mod written;
 
 use crate::read;
 use mof_syntax::MofError;

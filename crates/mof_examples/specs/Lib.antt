@@ -6,3 +6,4 @@ pub mod Rules
 pub mod Canon
 pub mod Laws
 pub mod Refused
+pub mod Placed

@@ -6,6 +6,7 @@ ghost use Rattle.mof_examples.specs.Literals.{LiteralExamples};
 ghost use Rattle.mof_examples.specs.Rules.{RuleExamples};
 ghost use Rattle.mof_examples.specs.Canon.{CanonicalExamples};
 ghost use Rattle.mof_examples.specs.Refused.{RefusalExamples};
+ghost use Rattle.mof_examples.specs.Placed.{FormExamples, NumberExamples, LongNameExamples, PartExamples, SyntaxExamples, ByteExamples};
 ghost use Rattle.mof_examples.specs.Laws.{DividesOnce, SpellsOne, FrontsOfFronts, GoesWrongOnce, GoesWrongByTheNext};
 
 pub fn separators_are_spelled()
@@ -51,4 +52,28 @@ pub fn a_text_goes_wrong_at_one_place()
 
 pub fn texts_are_refused_at_their_first_character()
     ensures { RefusalExamples }
+{}
+
+pub fn left_out_forms_are_refused_where_they_stand()
+    ensures { FormExamples }
+{}
+
+pub fn numbers_are_refused_out_of_their_range()
+    ensures { NumberExamples }
+{}
+
+pub fn identifiers_are_refused_past_their_limit()
+    ensures { LongNameExamples }
+{}
+
+pub fn parts_are_refused_past_their_limits()
+    ensures { PartExamples }
+{}
+
+pub fn texts_are_refused_where_they_go_wrong()
+    ensures { SyntaxExamples }
+{}
+
+pub fn bytes_are_refused()
+    ensures { ByteExamples }
 {}

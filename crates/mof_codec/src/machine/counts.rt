@@ -6,7 +6,9 @@ use crate::machine::state::Event;
 
 /// The most instances of a text, properties of an instance, and elements of an array.
 const INSTANCES: usize = 4097;
+
 const PROPERTIES: usize = 256;
+
 const ELEMENTS: usize = 4096;
 
 /// The declarations of a text, the properties of the last one, and the elements of the last property.

@@ -34,9 +34,21 @@ fn opened(place: Place, kind: Kind, c: char) -> Option<State>
 {
     match (place, kind) {
         (Place::Start, Kind::Letter) => {
-            keyed(Event::Declaration, Keyword::Instance, 0, Place::AfterInstance, c)
+            keyed(
+                Event::Declaration,
+                Keyword::Instance,
+                0,
+                Place::AfterInstance,
+                c,
+            )
         }
-        (Place::AfterInstance, Kind::Letter) => keyed(Event::Quiet, Keyword::Of, 0, Place::AfterOf, c),
+        (Place::AfterInstance, Kind::Letter) => keyed(
+            Event::Quiet,
+            Keyword::Of,
+            0,
+            Place::AfterOf,
+            c,
+        ),
         (Place::AfterOf, Kind::Letter) => go(Place::AfterClass, Half::Name),
         (Place::AfterClass, Kind::LeftBrace) => go(Place::Body, Half::Gap),
         (Place::AfterClass, Kind::Letter) => keyed(Event::Quiet, Keyword::As, 0, Place::AfterAs, c),
@@ -48,13 +60,25 @@ fn opened(place: Place, kind: Kind, c: char) -> Option<State>
         (Place::AfterName, Kind::EqualsSign) => go(Place::AfterEquals, Half::Gap),
         (Place::AfterEquals, Kind::LeftBrace) => go(Place::InArray, Half::Gap),
         (Place::AfterEquals, _) => {
-            scalar_begun(Event::Quiet, Place::AfterStrings, Place::AfterValue, kind, c)
+            scalar_begun(
+                Event::Quiet,
+                Place::AfterStrings,
+                Place::AfterValue,
+                kind,
+                c,
+            )
         }
         (Place::AfterStrings, Kind::Quote) => go(Place::AfterStrings, Half::Literal),
         (Place::AfterStrings | Place::AfterValue, Kind::Semicolon) => go(Place::Body, Half::Gap),
         (Place::InArray, Kind::RightBrace) => go(Place::AfterValue, Half::Gap),
         (Place::InArray | Place::AfterComma, _) => {
-            scalar_begun(Event::Element, Place::AfterElementStrings, Place::AfterElement, kind, c)
+            scalar_begun(
+                Event::Element,
+                Place::AfterElementStrings,
+                Place::AfterElement,
+                kind,
+                c,
+            )
         }
         (Place::AfterElementStrings, Kind::Quote) => go(Place::AfterElementStrings, Half::Literal),
         (Place::AfterElementStrings | Place::AfterElement, Kind::Comma) => {

@@ -35,7 +35,13 @@ pub(crate) fn mark(begun: Event, place: Place, half: Half) -> Option<State>
 }
 
 /// A letter of the keyword, behind so many.
-pub(crate) fn keyed(begun: Event, word: Keyword, read: usize, place: Place, c: char) -> Option<State>
+pub(crate) fn keyed(
+    begun: Event,
+    word: Keyword,
+    read: usize,
+    place: Place,
+    c: char,
+) -> Option<State>
     ensures { result ≡ keyed (head_of (drop read (letters word))) begun word read place c }
 {
     match letter(word, read) {

@@ -22,7 +22,10 @@ fn a_document_has_at_most_2_097_152_bytes(rt: HostRuntime) -> Result<(), Fail> {
     assert_eq!(rt; refusal(&rt, &spaces), None);
     spaces.push(b' ')?;
     assert_eq!(rt; refusal(&rt, &spaces), Some(MofError::TooLong));
-    assert_eq!(rt; refusal(&rt, &filled(&rt, 0xff, 2_097_153)?), Some(MofError::TooLong));
+    assert_eq!(rt;
+        refusal(&rt, &filled(&rt, 0xff, 2_097_153)?),
+        Some(MofError::TooLong)
+    );
     Ok(())
 }
 
@@ -30,15 +33,30 @@ fn a_document_has_at_most_2_097_152_bytes(rt: HostRuntime) -> Result<(), Fail> {
 fn bytes_that_are_no_characters_come_before_the_grammar(rt: HostRuntime) {
     assert_eq!(rt; refusal(&rt, b"\xff\xfei"), Some(MofError::Text { at: 2 }));
     assert_eq!(rt; refusal(&rt, b"x\xff"), Some(MofError::Text { at: 1 }));
-    assert_eq!(rt; refusal(&rt, b"instance of A{X=\"\xed\xa0\x80\";};"), Some(MofError::Text { at: 17 }));
+    assert_eq!(rt;
+        refusal(&rt, b"instance of A{X=\"\xed\xa0\x80\";};"),
+        Some(MofError::Text { at: 17 })
+    );
 }
 
 #[test]
 fn places_count_characters_behind_the_mark(rt: HostRuntime) {
-    assert_eq!(rt; refusal(&rt, b"\xef\xbb\xbfx"), Some(MofError::Syntax { at: 0 }));
-    assert_eq!(rt; refusal(&rt, b"\xff\xfei\x00x\x00"), Some(MofError::Syntax { at: 1 }));
-    assert_eq!(rt; refusal(&rt, b"\xfe\xff\x00i\x00x"), Some(MofError::Syntax { at: 1 }));
-    assert_eq!(rt; refusal(&rt, b"instance of \xc3\xa4\xc3\xb6;"), Some(MofError::Syntax { at: 14 }));
+    assert_eq!(rt;
+        refusal(&rt, b"\xef\xbb\xbfx"),
+        Some(MofError::Syntax { at: 0 })
+    );
+    assert_eq!(rt;
+        refusal(&rt, b"\xff\xfei\x00x\x00"),
+        Some(MofError::Syntax { at: 1 })
+    );
+    assert_eq!(rt;
+        refusal(&rt, b"\xfe\xff\x00i\x00x"),
+        Some(MofError::Syntax { at: 1 })
+    );
+    assert_eq!(rt;
+        refusal(&rt, b"instance of \xc3\xa4\xc3\xb6;"),
+        Some(MofError::Syntax { at: 14 })
+    );
 }
 
 #[test]

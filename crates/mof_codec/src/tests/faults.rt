@@ -75,7 +75,11 @@ fn texts_go_wrong_where_no_text_goes_on(rt: HostRuntime) -> Result<(), Fail> {
         ("instance of A{X={1}", "};"),
     ] {
         let at = places(before);
-        assert_eq!(rt; refusal(&rt, &joined(&rt, before, behind)?), Some(MofError::Syntax { at }), "{before}|{behind}");
+        assert_eq!(rt;
+            refusal(&rt, &joined(&rt, before, behind)?),
+            Some(MofError::Syntax { at }),
+            "{before}|{behind}"
+        );
     }
     Ok(())
 }
@@ -128,7 +132,11 @@ fn tokens_go_wrong_within(rt: HostRuntime) -> Result<(), Fail> {
         ("instance of A{}; // x\n/", "\u{0}"),
     ] {
         let at = places(before);
-        assert_eq!(rt; refusal(&rt, &joined(&rt, before, behind)?), Some(MofError::Syntax { at }), "{before}|{behind}");
+        assert_eq!(rt;
+            refusal(&rt, &joined(&rt, before, behind)?),
+            Some(MofError::Syntax { at }),
+            "{before}|{behind}"
+        );
     }
     Ok(())
 }

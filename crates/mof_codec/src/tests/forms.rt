@@ -36,7 +36,11 @@ fn forms_that_are_left_out_are_named(rt: HostRuntime) -> Result<(), Fail> {
         ("instance of A{X=1;Y=/**/", "+.", Form::Real),
     ] {
         let at = places(before);
-        assert_eq!(rt; refusal(&rt, &joined(&rt, before, behind)?), Some(MofError::OutOfProfile { at, what }), "{before}|{behind}");
+        assert_eq!(rt;
+            refusal(&rt, &joined(&rt, before, behind)?),
+            Some(MofError::OutOfProfile { at, what }),
+            "{before}|{behind}"
+        );
     }
     Ok(())
 }
@@ -68,7 +72,11 @@ fn nothing_else_is_such_a_form(rt: HostRuntime) -> Result<(), Fail> {
         ("instance of A{X={}", ".5;};"),
     ] {
         let at = places(before);
-        assert_eq!(rt; refusal(&rt, &joined(&rt, before, behind)?), Some(MofError::Syntax { at }), "{before}|{behind}");
+        assert_eq!(rt;
+            refusal(&rt, &joined(&rt, before, behind)?),
+            Some(MofError::Syntax { at }),
+            "{before}|{behind}"
+        );
     }
     Ok(())
 }

@@ -22,7 +22,8 @@ fn all(rt: &impl AllocGlobal, pieces: &[&str]) -> Result<String, Fail> {
 
 #[test]
 fn integers_past_the_range_are_refused_where_they_begin(rt: HostRuntime) -> Result<(), Fail> {
-    let bits = all(&rt, &["1", &repeated(&rt, "0", 64)?, "b;};"])?;
+    let zeros = repeated(&rt, "0", 64)?;
+    let bits = all(&rt, &["1", &zeros, "b;};"])?;
     let ones = all(&rt, &[&repeated(&rt, "1", 70)?, "b;};"])?;
     for (before, behind) in [
         (
@@ -42,7 +43,11 @@ fn integers_past_the_range_are_refused_where_they_begin(rt: HostRuntime) -> Resu
         ("instance of A{X=", ones.as_str()),
     ] {
         let at = places(before);
-        assert_eq!(rt; refusal(&rt, &all(&rt, &[before, behind])?), Some(MofError::NumberRange { at }), "{before}|{behind}");
+        assert_eq!(rt;
+            refusal(&rt, &all(&rt, &[before, behind])?),
+            Some(MofError::NumberRange { at }),
+            "{before}|{behind}"
+        );
     }
     Ok(())
 }
@@ -82,9 +87,17 @@ fn identifiers_have_at_most_255_characters(rt: HostRuntime) -> Result<(), Fail> 
         let whole = all(&rt, &[before, &name, behind])?;
         assert_eq!(rt; refusal(&rt, &whole), None, "{before}");
         let long = all(&rt, &[before, &name, "1", behind])?;
-        assert_eq!(rt; refusal(&rt, &long), Some(MofError::TooMany { at }), "{before}");
+        assert_eq!(rt;
+            refusal(&rt, &long),
+            Some(MofError::TooMany { at }),
+            "{before}"
+        );
         let torn = all(&rt, &[before, &name, "n"])?;
-        assert_eq!(rt; refusal(&rt, &torn), Some(MofError::TooMany { at }), "{before}");
+        assert_eq!(rt;
+            refusal(&rt, &torn),
+            Some(MofError::TooMany { at }),
+            "{before}"
+        );
     }
     Ok(())
 }
@@ -103,31 +116,50 @@ fn a_long_word_that_is_no_identifier_is_no_limit(rt: HostRuntime) -> Result<(), 
 
 #[test]
 fn an_instance_has_at_most_256_properties(rt: HostRuntime) -> Result<(), Fail> {
-    let full = all(&rt, &["instance of A{", &repeated(&rt, "P=1;", 256)?])?;
+    let properties = repeated(&rt, "P=1;", 256)?;
+    let full = all(&rt, &["instance of A{", &properties])?;
     assert_eq!(rt; refusal(&rt, &all(&rt, &[&full, "};"])?), None);
     let second = all(&rt, &[&full, "};instance of B{Q=1;};"])?;
     assert_eq!(rt; refusal(&rt, &second), None);
     let at = places(&full);
     for behind in ["P=1;};", "P", "x"] {
-        assert_eq!(rt; refusal(&rt, &all(&rt, &[&full, behind])?), Some(MofError::TooMany { at }), "{behind}");
+        assert_eq!(rt;
+            refusal(&rt, &all(&rt, &[&full, behind])?),
+            Some(MofError::TooMany { at }),
+            "{behind}"
+        );
     }
-    assert_eq!(rt; refusal(&rt, &all(&rt, &[&full, "1"])?), Some(MofError::Syntax { at }));
+    assert_eq!(rt;
+        refusal(&rt, &all(&rt, &[&full, "1"])?),
+        Some(MofError::Syntax { at })
+    );
     Ok(())
 }
 
 #[test]
 fn an_array_has_at_most_4096_elements(rt: HostRuntime) -> Result<(), Fail> {
-    let full = all(&rt, &["instance of A{X={", &repeated(&rt, "1,", 4095)?, "1"])?;
+    let elements = repeated(&rt, "1,", 4095)?;
+    let full = all(&rt, &["instance of A{X={", &elements, "1"])?;
     assert_eq!(rt; refusal(&rt, &all(&rt, &[&full, "};};"])?), None);
     let next = all(&rt, &[&full, ","])?;
     let at = places(&next);
     for behind in ["1};};", "\"", "$A", "-"] {
-        assert_eq!(rt; refusal(&rt, &all(&rt, &[&next, behind])?), Some(MofError::TooMany { at }), "{behind}");
+        assert_eq!(rt;
+            refusal(&rt, &all(&rt, &[&next, behind])?),
+            Some(MofError::TooMany { at }),
+            "{behind}"
+        );
     }
     let wins = all(&rt, &[&next, "18446744073709551616};};"])?;
     assert_eq!(rt; refusal(&rt, &wins), Some(MofError::NumberRange { at }));
     let real = all(&rt, &[&next, "1.5};};"])?;
-    assert_eq!(rt; refusal(&rt, &real), Some(MofError::OutOfProfile { at, what: Form::Real }));
+    assert_eq!(rt;
+        refusal(&rt, &real),
+        Some(MofError::OutOfProfile {
+            at,
+            what: Form::Real
+        })
+    );
     let torn = all(&rt, &[&next, "};};"])?;
     assert_eq!(rt; refusal(&rt, &torn), Some(MofError::Syntax { at }));
     Ok(())
@@ -139,11 +171,24 @@ fn a_text_has_at_most_4097_instances(rt: HostRuntime) -> Result<(), Fail> {
     assert_eq!(rt; refusal(&rt, &full), None);
     let at = places(&full);
     for behind in ["instance of B{};", "i", "Ix"] {
-        assert_eq!(rt; refusal(&rt, &all(&rt, &[&full, behind])?), Some(MofError::TooMany { at }), "{behind}");
+        assert_eq!(rt;
+            refusal(&rt, &all(&rt, &[&full, behind])?),
+            Some(MofError::TooMany { at }),
+            "{behind}"
+        );
     }
     let class = all(&rt, &[&full, "class"])?;
-    assert_eq!(rt; refusal(&rt, &class), Some(MofError::OutOfProfile { at, what: Form::Class }));
-    assert_eq!(rt; refusal(&rt, &all(&rt, &[&full, "x"])?), Some(MofError::Syntax { at }));
+    assert_eq!(rt;
+        refusal(&rt, &class),
+        Some(MofError::OutOfProfile {
+            at,
+            what: Form::Class
+        })
+    );
+    assert_eq!(rt;
+        refusal(&rt, &all(&rt, &[&full, "x"])?),
+        Some(MofError::Syntax { at })
+    );
     Ok(())
 }
 
@@ -151,15 +196,48 @@ fn a_text_has_at_most_4097_instances(rt: HostRuntime) -> Result<(), Fail> {
 fn the_refusal_with_the_least_place_wins(rt: HostRuntime) -> Result<(), Fail> {
     let name = repeated(&rt, "n", 256)?;
     for (pieces, refused) in [
-        (["instance of A{X=", "99999999999999999999", ".5;};"], MofError::OutOfProfile { at: 16, what: Form::Real }),
-        (["instance of A{X=", "99999999999999999999", ";Y=1.5;};"], MofError::NumberRange { at: 16 }),
-        (["instance of A{X=1.5;Y=", "99999999999999999999", ";};"], MofError::OutOfProfile { at: 16, what: Form::Real }),
-        (["instance of A{X=", "99999999999999999999", ";Y=;};"], MofError::NumberRange { at: 16 }),
-        (["instance of A{X=;Y=", "99999999999999999999", ";};"], MofError::Syntax { at: 16 }),
-        (["instance of ", &name, "{X=99999999999999999999;};"], MofError::TooMany { at: 12 }),
-        (["instance of A{X=99999999999999999999;", &name, "=1;};"], MofError::NumberRange { at: 16 }),
-        (["instance of ", &name, "{X=};"], MofError::TooMany { at: 12 }),
-        (["instance of A{X=};", &name, ""], MofError::Syntax { at: 16 }),
+        (
+            ["instance of A{X=", "99999999999999999999", ".5;};"],
+            MofError::OutOfProfile {
+                at: 16,
+                what: Form::Real,
+            },
+        ),
+        (
+            ["instance of A{X=", "99999999999999999999", ";Y=1.5;};"],
+            MofError::NumberRange { at: 16 },
+        ),
+        (
+            ["instance of A{X=1.5;Y=", "99999999999999999999", ";};"],
+            MofError::OutOfProfile {
+                at: 16,
+                what: Form::Real,
+            },
+        ),
+        (
+            ["instance of A{X=", "99999999999999999999", ";Y=;};"],
+            MofError::NumberRange { at: 16 },
+        ),
+        (
+            ["instance of A{X=;Y=", "99999999999999999999", ";};"],
+            MofError::Syntax { at: 16 },
+        ),
+        (
+            ["instance of ", &name, "{X=99999999999999999999;};"],
+            MofError::TooMany { at: 12 },
+        ),
+        (
+            ["instance of A{X=99999999999999999999;", &name, "=1;};"],
+            MofError::NumberRange { at: 16 },
+        ),
+        (
+            ["instance of ", &name, "{X=};"],
+            MofError::TooMany { at: 12 },
+        ),
+        (
+            ["instance of A{X=};", &name, ""],
+            MofError::Syntax { at: 16 },
+        ),
     ] {
         let text = all(&rt, &pieces)?;
         assert_eq!(rt; refusal(&rt, &text), Some(refused), "{text}");

@@ -1,5 +1,5 @@
 use Rattle.std.proofs.Common.{length}
-use Rattle.depend_order.specs.Documents.{IsDependency, Names}
+use Rattle.dsc_document.specs.Dependencies.{IsDependency, Names}
 use Rattle.depend_order.proofs.Cycles.{one_cycle, never_both, closed}
 use Rattle.depend_order.proofs.Orders.{order_same}
 use Rattle.depend_order.proofs.Resolved.{names_one}

@@ -1,17 +1,12 @@
-use Rattle.std.proofs.Common.{◌≡◌, ℕ, ◌≤◌, ◌-◌, List, [], ◌∷◌, ◌++◌, All, IsTrue, is_some, Option, Some, None, length, take, drop, get_or, filter_map, false, true, refl, sym, ap, ◌∙◌, arith, take_all, append_assoc}
+use Rattle.std.proofs.Common.{◌≡◌, ℕ, ◌-◌, List, [], ◌∷◌, ◌++◌, All, IsTrue, is_some, length, take, drop, filter_map, sym, ap, ◌∙◌, append_assoc}
 use Rattle.std.proofs.lemmas.List.Elements.{All-push}
 use Rattle.mof_values.specs.declared.value.Scalar.{Scalar}
 use Rattle.mof_values.specs.declared.value.Scalar.TheVariants.{Text}
 use Rattle.dsc_document.specs.Declarations.{text_of_scalar}
 use Rattle.dsc_document.specs.Places.{place_of}
 use Rattle.dsc_document.specs.declared.places.Places.{Places}
+use Rattle.dsc_document.proofs.Passing.{front_of}
 use Rattle.dsc_document.proofs.depends.first_unknown.Goals as goal
-
-cons_from_reads : (xs : List Scalar) (x : Scalar) → 1 ≤ length xs → x ≡ get_or xs 0 x → xs ≡ x ∷ take (length xs - 1) (drop 1 xs)
-cons_from_reads [] x some is = absurd (omega arith)
-cons_from_reads (y ∷ ys) x some is =
-    let all : take (length (y ∷ ys) - 1) ys ≡ ys = take_all (length (y ∷ ys) - 1) ys (omega arith) in
-    cc
 
 -- a name that has a place joins those that were passed
 passed : (ids : Places) (all left rest : List Scalar) (known : List (List ℕ)) (name : List ℕ)
@@ -26,7 +21,7 @@ passed ids all left rest known name split is placed has = (
 
 pub loop-left-preserved-else-is_none : goal.loop-left-preserved-else-is_none
 loop-left-preserved-else-is_none c =
-    let left = cons_from_reads c.loop-left.left.now c.scalar-item.result c.in-len1-up.len_at_least c.scalar-item.is in
+    let left = front_of c.loop-left.left.now c.scalar-item.result c.in-len1-up.len_at_least c.scalar-item.is in
     let rest : List Scalar = take (length c.loop-left.left.now - 1) (drop 1 c.loop-left.left.now) in
     passed c.args.ids.now c.args.scalars.now c.loop-left.left.now rest c.loop-left.invariant.0 c.in-Text.name
     c.loop-left.invariant.1 (left ∙ ap (λ s. s ∷ rest) c.in-Text.is) c.loop-left.invariant.2

@@ -1,7 +1,4 @@
-use Rattle.std.proofs.Common.{◌≡◌, ℕ, ◌+◌, ◌<◌, List, length, get_or, refl, ap, ◌∙◌, sym, subst, ⊎_elim, arith}
-use Rattle.std.proofs.lemmas.Bool.{cases_eq}
-use Rattle.std.proofs.lemmas.List.{get_or_default}
-use Rattle.mof_values.specs.declared.instance.Instance.{Instance}
+use Rattle.std.proofs.Common.{refl, ◌∙◌, sym, arith}
 use Rattle.dsc_document.specs.First.{IsEnvironment, id_of, name_of}
 use Rattle.dsc_document.proofs.NamedApart.{named_apart, named_more, named_twice}
 use Rattle.dsc_document.proofs.OneCondition.{each_more}

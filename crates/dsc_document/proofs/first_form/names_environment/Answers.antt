@@ -1,4 +1,4 @@
-use Rattle.std.proofs.Common.{rules, ◌≡◌, ◌≢◌, ◌<◌, ◌+◌, ℕ, List, [], ◌∷◌, ◌++◌, length, take, drop, sym, ap, ◌∙◌, arith, codes, length-drop}
+use Rattle.std.proofs.Common.{rules, ◌≡◌, ◌<◌, ℕ, List, ◌++◌, length, take, drop, sym, ap, ◌∙◌, arith, codes, length-drop}
 use Rattle.std.proofs.lemmas.List.{take-append-drop}
 use Rattle.dsc_document.specs.First.{NamesEnvironment}
 use Rattle.dsc_document.proofs.first_form.names_environment.Goals as goal

@@ -1,5 +1,4 @@
-use Rattle.std.proofs.Common.{◌≡◌, ℕ, List, subst, sym}
-use Rattle.mof_values.specs.declared.instance.Instance.{Instance}
+use Rattle.std.proofs.Common.{subst, sym}
 use Rattle.dsc_document.specs.Rules.{Applies, RepeatsName, property_name_at}
 use Rattle.dsc_document.specs.Names.{ShareName}
 use Rattle.dsc_document.proofs.OneCondition.{HasAt-never, each_more, only_duplicate_property}

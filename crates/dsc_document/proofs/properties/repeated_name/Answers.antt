@@ -1,6 +1,6 @@
-use Rattle.std.proofs.Common.{◌≡◌, ℕ, zero, suc, ◌+◌, ◌<◌, ◌≤◌, List, [], ◌∷◌, length, take, get_or, slice_get, option_map, Some, None, refl, sym, ap, subst, ◌∙◌, ⊎_elim, arith, length-take}
+use Rattle.std.proofs.Common.{◌≡◌, ℕ, zero, suc, ◌+◌, ◌<◌, ◌≤◌, List, [], ◌∷◌, length, take, get_or, slice_get, option_map, Some, refl, sym, ap, subst, ◌∙◌, ⊎_elim, arith, length-take}
 use Rattle.std.proofs.lemmas.Bool.{cases_eq, cases_lt, both_ways}
-use Rattle.std.proofs.lemmas.Option.{slice_get-get_or, slice_get_past, slice_get_within}
+use Rattle.std.proofs.lemmas.Option.{slice_get-get_or, slice_get_past}
 use Rattle.mof_values.specs.Fold.{fold_case}
 use Rattle.mof_values.specs.declared.instance.Property.{Property}
 use Rattle.dsc_document.specs.Names.{ShareName, IsName}

@@ -1,11 +1,10 @@
-use Rattle.std.proofs.Common.{◌≡◌, ◌⊎◌, ℕ, zero, suc, ◌<◌, List, [], ◌∷◌, ◌++◌, length, get_or, slice_get, Option, Some, None, IsSomeAnd, refl, sym, ap, subst, ◌∙◌, inl, inr, ⊎_elim, arith, length-append}
+use Rattle.std.proofs.Common.{◌≡◌, ℕ, zero, suc, ◌<◌, List, [], ◌∷◌, ◌++◌, length, get_or, slice_get, Option, Some, None, IsSomeAnd, refl, sym, ap, subst, ◌∙◌, inl, inr, ⊎_elim, arith}
 use Rattle.std.proofs.lemmas.Bool.{cases_order}
-use Rattle.std.proofs.lemmas.List.{get_or_default}
 use Rattle.mof_values.specs.declared.instance.Instance.{Instance}
 use Rattle.mof_values.specs.declared.instance.Property.{Property}
 use Rattle.dsc_document.specs.Declarations.{depends_of}
 use Rattle.dsc_document.specs.Names.{IsName}
-use Rattle.dsc_document.specs.Rules.{Applies, HasAt, IsFirstUnknown, IsRefusal, RepeatsName, WinsOver, condition_of, id_at, indexes_of, property_name_at}
+use Rattle.dsc_document.specs.Rules.{Applies, HasAt, IsFirstUnknown, IsRefusal, RepeatsName, condition_of, id_at, indexes_of, property_name_at}
 use Rattle.dsc_document.specs.declared.error.DocError.{DocError}
 use Rattle.dsc_document.specs.declared.error.DocError.TheVariants.{DuplicateProperty, TwoAliases, AliasUnknown, NoHeader, TwoHeaders, BadResourceId, DuplicateId, BadDependsOn, DependsUnknown, Memory}
 use Rattle.dsc_document.proofs.rules.one_refusal_wins.Goals as goal

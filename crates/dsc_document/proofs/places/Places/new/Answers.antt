@@ -1,4 +1,4 @@
-use Rattle.std.proofs.Common.{refl, rules, List, ℕ}
+use Rattle.std.proofs.Common.{refl}
 use Rattle.dsc_document.specs.Places.{place_of}
 use Rattle.dsc_document.proofs.places.Places.new.Goals as goal
 

@@ -1,0 +1,21 @@
+use Rattle.std.proofs.Common.{◌≡◌, length, ap, subst, arith}
+use Rattle.dsc_document.specs.Conditions.{KeepsUpTo, NoneApplies}
+use Rattle.dsc_document.proofs.Declared.{document_distinct, document_few, document_known}
+use Rattle.dsc_document.proofs.rules.check.Goals as goal
+
+pub returns-clause-few : goal.returns-clause-few
+returns-clause-few c =
+    let few = document_few c.args.instances.items c.in_ok-document_of.field-0 c.in_ok-document_of.ensures
+    (subst (KeepsUpTo 8) c.deref.ensures.value c.in_ok-ids.ensures.kept) in
+    let same : length c.deref.result.now ≡ length c.args.instances.items = ap length c.deref.ensures.value in
+    omega (arith, same, c.deref.ensures.len, few)
+
+pub returns-clause-known : goal.returns-clause-known
+returns-clause-known c =
+    document_known c.args.instances.items c.in_ok-document_of.field-0 c.in_ok-document_of.ensures
+    (subst (NoneApplies 9) c.deref-2.ensures.value c.in_ok-check_known.ensures)
+
+pub returns-clause-distinct : goal.returns-clause-distinct
+returns-clause-distinct c =
+    document_distinct c.args.instances.items c.in_ok-document_of.field-0 c.in_ok-document_of.ensures
+    (subst (KeepsUpTo 8) c.deref.ensures.value c.in_ok-ids.ensures.kept)

@@ -1,0 +1,17 @@
+pub mod Digits
+pub mod LineCounts
+pub mod RequestLines
+pub mod AnswerLines
+pub mod HeadReads
+pub mod Walking
+pub mod Interim
+pub mod Accepts
+pub mod Complete
+pub mod Bounds
+pub mod WalkBodies
+pub mod LineStarts
+pub mod Refusals
+pub mod FrameLaws
+pub mod SentLines
+pub mod SentRequests
+pub mod SentAnswers

@@ -1,0 +1,12 @@
+pub mod Framing
+pub mod Phases
+pub mod Walks
+pub mod Lines
+pub mod Heads
+pub mod Writing
+pub mod Bodies
+pub mod Reading
+pub mod Answering
+pub mod Chunks
+pub mod Frames
+pub mod Sending

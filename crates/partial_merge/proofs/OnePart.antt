@@ -1,0 +1,54 @@
+-- The document of one part.
+use Rattle.std.proofs.Common.{◌≡◌, ℕ, ◌≤◌, List, [], ◌∷◌, All, length, get_or, map, refl, sym, ap, subst, ◌∙◌, arith, append-nil}
+use Rattle.std.proofs.lemmas.List.Elements.{All-tail}
+use Rattle.mof_values.specs.declared.instance.Instance.{Instance}
+use Rattle.dsc_document.specs.declared.document.Document.{Document}
+use Rattle.dsc_document.specs.declared.document.Resource.{Resource}
+use Rattle.dsc_document.specs.Dependencies.{HasDistinctIds}
+use Rattle.dsc_document.proofs.Declared.{document_part}
+use Rattle.partial_merge.specs.declared.part.Part.{Part}
+use Rattle.partial_merge.specs.Parts.{AreParts, IsWhole, in_part, joined, resources_limit}
+
+in_first : (resource : Resource) → resource.part ≡ 0 → in_part 0 resource ≡ resource
+in_first resource is = ap (λ place. in_part place resource) (sym is)
+
+all_in_first : (resources : List Resource) → All (λ r. r.part ≡ 0) resources → map (in_part 0) resources ≡ resources
+all_in_first [] each = refl
+all_in_first (r ∷ rs) each =
+    let here : in_part 0 r ≡ r = in_first r (each 0 r (omega arith)) in
+    let behind : map (in_part 0) rs ≡ rs = all_in_first rs (All-tail (λ r. r.part ≡ 0) r rs each) in
+    cc
+
+same_document : {a b : List ℕ} {r s : List Resource} {x y : List Instance} {p q : List (List ℕ)} → a ≡ b → r ≡ s → x ≡ y → p ≡ q
+    → ◌≡◌ {A = Document} (record { version = a; resources = r; others = x; parts = p }) (record { version = b; resources = s; others = y; parts = q })
+same_document same_version same_resources same_others same_parts = cc
+
+-- the document with the part's name
+abbrev pub named : Document → List (List ℕ) → Document
+named document names = record { version = document.version; resources = document.resources; others = document.others; parts = names }
+
+joined_one : (part : Part) (document : Document) → All (λ r. r.part ≡ 0) document.resources → named document (part.name ∷ []) ≡ joined (part ∷ []) (document ∷ [])
+joined_one part document each =
+    same_document refl (sym (append-nil (map (in_part 0) document.resources) ∙ all_in_first document.resources each)) (sym (append-nil document.others)) refl
+
+one_of : (parts : List Part) (part : Part) → length parts ≡ 1 → part ≡ get_or parts 0 part → parts ≡ part ∷ []
+one_of [] part one is = absurd (omega (arith, one))
+one_of (p ∷ []) part one is = ap (λ q. q ∷ []) (sym is)
+one_of (p ∷ q ∷ rest) part one is = absurd (omega (arith, one))
+
+parts_one : (part : Part) (document : Document) → IsWhole part document → length document.resources ≤ resources_limit → HasDistinctIds document
+    → AreParts (part ∷ []) (named document (part.name ∷ []))
+parts_one part document whole few ids = record {
+  names = λ i j d before within. absurd (omega (arith, before, within));
+  documents = document ∷ [];
+  whole = (whole, tt);
+  joined = joined_one part document (document_part whole.instances document whole.rules.made);
+  few = few;
+  ids = ids;
+}
+
+pub are_parts : (parts : List Part) (part : Part) (document : Document) (names : List (List ℕ)) → length parts ≡ 1 → part ≡ get_or parts 0 part → names ≡ part.name ∷ []
+    → IsWhole part document → length document.resources ≤ resources_limit → HasDistinctIds document → AreParts parts (named document names)
+are_parts parts part document names one is called whole few ids =
+    subst (λ ps. AreParts ps (named document names)) (sym (one_of parts part one is))
+    (subst (λ ns. AreParts (part ∷ []) (named document ns)) (sym called) (parts_one part document whole few ids))

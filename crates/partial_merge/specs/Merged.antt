@@ -1,0 +1,13 @@
+-- The document that parts are merged to.
+use Rattle.std.specs.Prelude.{ℕ, List}
+use Rattle.dsc_document.specs.declared.document.Document.{Document}
+use Rattle.dsc_document.specs.Dependencies.{NamesResources}
+use Rattle.depend_order.specs.Documents.{IsOrderOfDocument}
+use Rattle.partial_merge.specs.declared.part.Part.{Part}
+use Rattle.partial_merge.specs.Parts.{AreParts}
+
+-- the document is that of the parts, each dependency is a resource, and the resources have an order
+pub record Merged (parts : List Part) (document : Document) : Type 0 where
+  pub parts_are : AreParts parts document
+  pub known : NamesResources document
+  pub ordered : (order : List ℕ) × IsOrderOfDocument document order

@@ -1,0 +1,53 @@
+-- Why parts are not merged. A reason stands only where none that wins over it does.
+use Rattle.std.specs.Prelude.{◌≡◌, ◌≢◌, ℕ, ◌<◌, List, IsSomeAnd, slice_get, ⊤}
+use Rattle.mof_values.specs.declared.instance.Instance.{Instance}
+use Rattle.mof_syntax.specs.Refusals.{Reads, Refuses}
+use Rattle.mof_syntax.specs.declared.mof_error.MofError.TheVariants as mof
+use Rattle.dsc_document.specs.declared.document.Document.{Document}
+use Rattle.dsc_document.specs.declared.spot.Spot.{Spot}
+use Rattle.dsc_document.specs.Dependencies.{IsFirstUnknownId, NamesResources}
+use Rattle.dsc_document.specs.Rules.{IsRefusal, condition_of}
+use Rattle.depend_order.specs.Documents.{IsCycleOfDocument}
+use Rattle.partial_merge.specs.declared.part.Part.{Part}
+use Rattle.partial_merge.specs.declared.error.PartFault.{PartFault}
+use Rattle.partial_merge.specs.declared.error.PartFault.TheVariants.{Mof, Doc}
+use Rattle.partial_merge.specs.declared.error.MergeError.{MergeError}
+use Rattle.partial_merge.specs.declared.error.MergeError.TheVariants as refusals
+use Rattle.partial_merge.specs.Parts.{AreParts, IsWhole}
+
+-- the bytes are refused so, or the instances that they spell break this rule of parts; never for want of memory
+abbrev pub HasFault : Part → PartFault → Type 0
+HasFault part (Mof refusal) = (refusal ≢ mof.Memory) × Refuses part.bytes refusal
+HasFault part (Doc refusal) =
+    (instances : List Instance) × Reads part.bytes instances × IsRefusal instances refusal × (condition_of refusal < 9)
+
+-- the refusal is a fault of the first part, of which the fact holds, or want of memory
+abbrev pub IsFaultOfFirst : (PartFault → Type 0) → MergeError → Type 0
+IsFaultOfFirst P (refusals.Part index fault) = (index ≡ 0) × P fault
+IsFaultOfFirst P refusals.Memory = ⊤
+IsFaultOfFirst P _ = ⊥
+
+-- the part at the index has the fault, and every part before it is whole
+pub record IsFirstFault (parts : List Part) (index : ℕ) (fault : PartFault) : Type 0 where
+  pub here : IsSomeAnd (slice_get parts index) (λ part. HasFault part fault)
+  pub before : (k : ℕ) → k < index → IsSomeAnd (slice_get parts k) (λ part. (document : Document) × IsWhole part document)
+
+-- the parts are one document, in which the first unknown id is this one
+pub record HasUnknown (parts : List Part) (spot : Spot) (name : List ℕ) : Type 0 where
+  pub document : Document
+  pub parts_are : AreParts parts document
+  pub unknown : IsFirstUnknownId document spot name
+
+-- the parts are one document, whose dependencies are resources and lead round
+pub record HasCycle (parts : List Part) (cycle : List ℕ) : Type 0 where
+  pub document : Document
+  pub parts_are : AreParts parts document
+  pub known : NamesResources document
+  pub leads_round : IsCycleOfDocument document cycle
+
+-- the parts are refused so. Want of memory has no cause here
+abbrev pub Refused : List Part → MergeError → Type 0
+Refused parts (refusals.Part index fault) = IsFirstFault parts index fault
+Refused parts (refusals.DependsUnknown spot name) = HasUnknown parts spot name
+Refused parts (refusals.Cycle cycle) = HasCycle parts cycle
+Refused parts refusals.Memory = ⊤

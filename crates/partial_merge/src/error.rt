@@ -1,0 +1,50 @@
+//! Why parts have no document.
+ghost use Rattle.std.specs.Prelude.{◌≡◌};
+ghost use Rattle.partial_merge.specs.declared.error.MergeError.TheVariants.{Memory};
+
+use dsc_document::{DocError, Spot};
+use mof_codec::MofError;
+use mof_values::{Items, Text};
+use std::alloc::{AllocError, AllocFailed};
+
+/// Why a part is no part of a document.
+#[derive(Debug, Drop, PartialEq)]
+pub enum PartFault {
+    /// Its bytes spell no instances.
+    Mof(MofError),
+
+    /// Its instances break a rule of parts.
+    Doc(DocError),
+}
+
+/// Why parts have no document, in the order in which the reasons win.
+#[derive(Debug, Drop, PartialEq)]
+pub enum MergeError {
+    /// The first part with a fault, counted from 0.
+    Part { index: u32, fault: PartFault },
+
+    /// The first resource that depends on what is no resource's id, and its first such name.
+    DependsUnknown { spot: Spot, name: Text },
+
+    /// The dependencies lead round: each of these resources depends on the next, and the last on the first. A
+    /// resource is its place in the document, counted from 0.
+    Cycle(Items<u32>),
+
+    Memory,
+}
+
+impl From<AllocError> for MergeError {
+    ghost from_gives = { λ _ e. e ≡ Memory };
+
+    fn from(_: AllocError) -> Self {
+        MergeError::Memory
+    }
+}
+
+impl<T: Drop> From<AllocFailed<T>> for MergeError {
+    ghost from_gives = { λ _ e. e ≡ Memory };
+
+    fn from(_: AllocFailed<T>) -> Self {
+        MergeError::Memory
+    }
+}

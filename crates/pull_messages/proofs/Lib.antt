@@ -1,0 +1,17 @@
+pub mod Agents
+pub mod Escaped
+pub mod FormLaws
+pub mod Fronts
+pub mod Ids
+pub mod Languages
+pub mod Options
+pub mod Outlines
+pub mod ReadBack
+pub mod PathTexts
+pub mod Quotes
+pub mod Reading
+pub mod Scalars
+pub mod SizedMessages
+pub mod TargetLaws
+pub mod Words
+pub mod WrittenTargets

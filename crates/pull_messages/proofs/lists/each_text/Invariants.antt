@@ -1,0 +1,12 @@
+use Rattle.std.proofs.Common.{◌≡◌, [], length}
+use Rattle.serde_json.specs.View.{items_view}
+use Rattle.pull_messages.specs.declared.limit.Limit.TheVariants.{Free}
+use Rattle.pull_messages.specs.Members.{required, optional, a_text, each}
+use Rattle.pull_messages.proofs.Fronts.{with_front}
+use Rattle.pull_messages.proofs.lists.each_text.Given as goal
+
+abbrev pub invariant-loop-left : goal.invariant-loop-left
+invariant-loop-left l = with_front l.texts.items (each (a_text l.limit l.field) (items_view l.left)) ≡ each (a_text l.limit l.field) (items_view l.values)
+
+abbrev pub decreases-loop-left : goal.decreases-loop-left
+decreases-loop-left l = length l.left

@@ -1,0 +1,13 @@
+use Rattle.serde_json.specs.View.{view}
+use Rattle.pull_messages.specs.Tables.{registration_of}
+use Rattle.pull_messages.specs.Sizes.{IsSized}
+use Rattle.pull_messages.proofs.Reading.{reads_by}
+use Rattle.pull_messages.proofs.SizedMessages.{if_gives, registration_sized}
+use Rattle.pull_messages.proofs.registration.read_registration.Goals as goal
+
+pub returns-clause-answers : goal.returns-clause-answers
+returns-clause-answers c = reads_by registration_of c.args.body.now (view c.in_ok-value_of.field-0) c.registration_in.result c.in_ok-value_of.ensures.ok c.registration_in.ensures
+
+pub returns-clause-sized : goal.returns-clause-sized
+returns-clause-sized c =
+    if_gives IsSized c.registration_in.result (registration_of (view c.in_ok-value_of.field-0)) c.registration_in.ensures (registration_sized (view c.in_ok-value_of.field-0))

@@ -1,0 +1,11 @@
+use Rattle.std.proofs.Common.{◌≡◌, map, take}
+use Rattle.serde_json.specs.View.{view}
+use Rattle.pull_messages.specs.Recoding.{recoded}
+use Rattle.pull_messages.specs.Writing.{text_data}
+use Rattle.pull_messages.proofs.values.text_values.Given as goal
+
+abbrev pub invariant-loop-text : goal.invariant-loop-text
+invariant-loop-text l = record {
+  values : map view l.values.items ≡ map text_data (take l.text-index l.texts);
+  recoded : map recoded (take l.text-index l.texts) ≡ take l.text-index l.texts;
+}

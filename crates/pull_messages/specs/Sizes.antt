@@ -1,0 +1,19 @@
+-- Sizes of registrations.
+use Rattle.std.specs.Prelude.{ℕ, ◌≤◌, List, length, encode_utf8_all}
+use Rattle.std.specs.List.{AllByRecursion}
+use Rattle.pull_messages.specs.declared.registration.Registration.{Registration}
+
+-- the text has so many bytes of UTF-8 at most
+abbrev pub IsShort : List ℕ → Type 0
+IsShort text = length (encode_utf8_all text) ≤ 65_535
+
+abbrev pub IsName : List ℕ → Type 0
+IsName text = (1 ≤ length (encode_utf8_all text)) × (length (encode_utf8_all text) ≤ 255)
+
+-- the sizes that a registration which was read has
+pub record IsSized (x : Registration) : Type 0 where
+  pub version : IsShort x.lcm_version
+  pub node : IsShort x.node_name
+  pub address : IsShort x.ip_address
+  pub few : length x.names ≤ 16
+  pub named : AllByRecursion IsName x.names

@@ -1,0 +1,40 @@
+//! The messages of the pull protocol and the targets of its requests, read and written.
+//!
+//! A message is a JSON text (RFC 8259) with the members of its table; a target is the path of a request (RFC 3986,
+//! section 3.3), in which names compare by fold and text values stand in quotes. A layer above may rely on it that what
+//! is read is the value that the bytes stand for, that a refusal names the first field of the table that is missing or
+//! wrong, or the longest front with which some target begins, and that what is written reads back.
+#![tactic(auto)]
+
+mod action;
+mod body;
+mod error;
+mod escapes;
+mod field;
+mod forms;
+mod limit;
+mod lists;
+mod members;
+mod parts;
+mod query;
+mod registration;
+mod report;
+mod target_error;
+mod target_kinds;
+mod target_text;
+mod targets;
+mod values;
+
+pub use action::{ActionAnswer, Detail, read_action, write_action};
+pub use error::MessageError;
+pub use field::Field;
+pub use query::{ActionQuery, Client, read_query, write_query};
+pub use registration::{Registration, read_registration, write_registration};
+pub use report::{ReportMessage, read_report, write_report};
+pub use target_error::TargetError;
+pub use target_kinds::Target;
+pub use target_text::write_target;
+pub use targets::target;
+
+#[cfg(test)]
+mod tests;

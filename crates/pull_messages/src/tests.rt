@@ -1,0 +1,3 @@
+//! Tables of bodies and targets.
+mod bodies;
+mod paths;
