@@ -35,3 +35,5 @@ pub mod DeclarationsRead
 pub mod IntegerFronts
 pub mod NumberSearch
 pub mod RefusalFound
+pub mod DecodesOnce
+pub mod OneRefusal

@@ -1,5 +1,5 @@
 //! Bytes to instances.
-ghost use Rattle.std.specs.Prelude.{◌≡◌, List, IfOk, IfErr};
+ghost use Rattle.std.specs.Prelude.{◌≡◌, ◌≢◌, List, IfOk, IfErr};
 ghost use Rattle.mof_values.specs.declared.instance.Instance.{Instance};
 ghost use Rattle.mof_syntax.specs.Limits.{Spells};
 ghost use Rattle.mof_syntax.specs.Refusals.{Reads, Refuses, Wins};
@@ -17,6 +17,7 @@ const LIMIT: usize = 2_097_152;
 pub fn read(alloc: Global, bytes: &[u8]) -> Result<Vec<Instance>, MofError>
     ensures ok { IfOk result (λ instances. Reads bytes.now instances.items) }
     ensures refused { IfErr result (λ e. Refuses bytes.now e) }
+    ensures none { IfErr result (λ e. e ≢ MofError.Memory → (instances : List Instance) → Reads bytes.now instances → ⊥) }
 {
     if bytes.len() > LIMIT {
         return Err(MofError::TooLong);
