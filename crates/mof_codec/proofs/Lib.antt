@@ -37,3 +37,4 @@ pub mod NumberSearch
 pub mod RefusalFound
 pub mod DecodesOnce
 pub mod OneRefusal
+pub mod Writing

@@ -7,3 +7,4 @@ pub mod Searching
 pub mod Winning
 pub mod Values
 pub mod Reading
+pub mod Written

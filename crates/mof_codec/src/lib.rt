@@ -5,8 +5,10 @@ mod machine;
 mod reader;
 mod refusing;
 mod values;
+mod writer;
 
 pub use reader::read;
+pub use writer::{push_literal, write};
 pub use mof_syntax::{Form, MofError, TextError, Token, TokenKind, Tokens, decode_text, tokens};
 
 #[cfg(test)]

@@ -1,0 +1,7 @@
+use Rattle.std.proofs.Common.{refl}
+use Rattle.mof_codec.proofs.Writing.{written_next}
+use Rattle.mof_codec.proofs.writer.declarations.push_properties.Goals as goal
+
+pub loop-left-preserved : goal.loop-left-preserved
+loop-left-preserved c =
+    written_next _ _ _ _ _ _ _ _ c.loop-left.invariant c.in-len1-up.len_at_least c.property-item.is c.in_ok-push_property.ensures.text c.in_ok-push_property.ensures.valid
