@@ -38,3 +38,6 @@ pub mod RefusalFound
 pub mod DecodesOnce
 pub mod OneRefusal
 pub mod Writing
+pub mod CanonicalTokens
+pub mod CanonicalRules
+pub mod CanonicalBytes
