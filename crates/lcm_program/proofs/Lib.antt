@@ -1,6 +1,8 @@
 pub mod Answered
+pub mod Inputs
 pub mod Monitored
 pub mod Refusals
 pub mod Results
 pub mod ToolInputs
+pub mod ToolTexts
 pub mod Traces

@@ -7,16 +7,22 @@ use Rattle.std.specs.Io.KnownBytes.{Consumes}
 use Rattle.lcm_program.specs.declared.status.InputError.{InputError}
 use Rattle.lcm_program.specs.declared.status.InputError.TheVariants.{TooLong}
 use Rattle.lcm_program.specs.Checksum.{AnswersChecksum, checksum_limit, checksum_line}
-use Rattle.lcm_program.specs.Tool.{Answer, Answered}
+use Rattle.lcm_program.specs.Tool.{Answer, Answered, IsLonger}
 
 -- an input is too long where its front is
+pub longer_front : (limit : ℕ) (left now : Option (List ℕ)) (taken : List ℕ) → Consumes left now taken → limit < length taken
+    → Answered IsLonger left limit
+longer_front limit None now taken p above = record { all = taken; input_is = tt; is_answer = above }
+longer_front limit (Some all) None taken p above = absurd p
+longer_front limit (Some all) (Some rest) taken p above =
+    let longer_too : limit < length all = omega (arith, above, ap length p, length-append taken rest) in
+    record { all = all; input_is = refl; is_answer = longer_too }
+
 pub longer : (left now : Option (List ℕ)) (taken : List ℕ) → Consumes left now taken → checksum_limit < length taken
     → Answered AnswersChecksum left (Err TooLong)
-longer None now taken p above = record { all = taken; input_is = tt; is_answer = (refl, above) }
-longer (Some all) None taken p above = absurd p
-longer (Some all) (Some rest) taken p above =
-    let longer_too : checksum_limit < length all = omega (arith, above, ap length p, length-append taken rest) in
-    record { all = all; input_is = refl; is_answer = (refl, longer_too) }
+longer left now taken p above =
+    let found = longer_front checksum_limit left now taken p above in
+    record { all = found.all; input_is = found.input_is; is_answer = (refl, found.is_answer) }
 
 -- each input has one answer
 pub has_answer : (all : List ℕ) → (answer : Answer) × AnswersChecksum all answer

@@ -1,3 +1,4 @@
+pub mod Canon
 pub mod Checksum
 pub mod Holds
 pub mod Input

@@ -3,19 +3,20 @@ use Rattle.std.specs.Prelude.{◌≡◌, ◌⊎◌, ℕ, ◌<◌, ◌≤◌, Lis
 use Rattle.std.specs.Io.KnownBytes.{Appends}
 use Rattle.dsc_terms.specs.Counts.{Rose}
 use Rattle.dsc_outside.specs.Host.{HostState}
+use Rattle.mof_syntax.specs.declared.mof_error.MofError.{MofError}
 use Rattle.dsc_document.specs.declared.document.Document.{Document}
 use Rattle.lcm_program.specs.declared.kinds.Kinds.{Kinds}
 use Rattle.lcm_program.specs.declared.status.Status.{Status}
 use Rattle.lcm_program.specs.declared.status.Status.TheVariants.{Done, NotCompliant, Usage, InputRefused, ReadFault, WriteFault, Memory}
 use Rattle.lcm_program.specs.declared.status.InputError.{InputError}
-use Rattle.lcm_program.specs.declared.status.InputError.TheVariants.{TooLong, NotYet}
+use Rattle.lcm_program.specs.declared.status.InputError.TheVariants.{TooLong, Mof, NotYet}
 use Rattle.lcm_program.specs.Unread.{IsNoDocument}
 use Rattle.lcm_program.specs.Kinds.{calls_of, host_of}
 use Rattle.lcm_program.specs.Printed.{IsCutShort}
 use Rattle.lcm_program.specs.Trace.{missed_count}
 use Rattle.lcm_program.specs.Legal.{GoesOn}
 use Rattle.lcm_program.specs.Lines.{run_lines}
-use Rattle.lcm_program.specs.Input.{Reads, input_limit}
+use Rattle.lcm_program.specs.Input.{Reads, IsRefusedFor, input_limit}
 use Rattle.lcm_program.specs.Ran.{Ran}
 
 -- a run came to its end
@@ -73,10 +74,11 @@ Tells held faults ReadFault missed text old new = ⊥
 Tells held faults WriteFault missed text old new = IsCutShort held faults old new text
 Tells held faults Memory missed text old new = ⊥
 
--- each input has its answer: a document is run, what is too long or no document is refused so
+-- each input has its answer: a document is run, and what is too long, spells no instances, or no document, is refused so
 pub record AnswersEach (status : Status) (before now : ℕ) (all : List ℕ) : Type 0 where
   pub document : (d : Document) → IsInput d all → AnswersDocument status before now
   pub too_long : input_limit < length all → AnswersRefused TooLong status before now
+  pub refused : (error : MofError) → IsRefusedFor all error → AnswersRefused (Mof error) status before now
   pub not_yet : IsNoDocument all → AnswersRefused NotYet status before now
 
 -- a run over the kinds

@@ -1,5 +1,5 @@
 -- Tools: words that print a text made from the input, and change nothing else.
-use Rattle.std.specs.Prelude.{◌≡◌, ℕ, List, Option, Result, Ok, Err, IfSome, ⊤}
+use Rattle.std.specs.Prelude.{◌≡◌, ◌<◌, ℕ, List, length, Option, Result, Ok, Err, IfSome, ⊤}
 use Rattle.std.specs.Io.KnownBytes.{Appends}
 use Rattle.dsc_terms.specs.Counts.{Rose}
 use Rattle.lcm_program.specs.declared.kinds.Kinds.{Kinds}
@@ -16,16 +16,30 @@ abbrev pub Answer : Type 0
 Answer = Result (List ℕ) InputError
 
 -- the whole input, that of the source where it is told, has this answer
-pub record Answered (answers : List ℕ → Answer → Type 0) (input : Option (List ℕ)) (answer : Answer) : Type 0 where
+pub record Answered {A : Type 0} (answers : List ℕ → A → Type 0) (input : Option (List ℕ)) (answer : A) : Type 0 where
   pub all : List ℕ
   pub input_is : IfSome input (λ told. told ≡ all)
   pub is_answer : answers all answer
+
+-- the input has more bytes
+abbrev pub IsLonger : List ℕ → ℕ → Type 0
+IsLonger all most = most < length all
 
 -- why a tool refuses: that is the answer of its input, or a read failed
 abbrev pub IsRefusalOf : (List ℕ → Answer → Type 0) → Refusal → Option (List ℕ) → ℕ → ℕ → Type 0
 IsRefusalOf answers (refusals.Usage word) input before now = ⊥
 IsRefusalOf answers (refusals.Input error) input before now = Answered answers input (Err error)
 IsRefusalOf answers refusals.ReadFault input before now = Rose before now
+
+-- a text is printed, or a part from its front where the output failed
+abbrev pub TellsText : {K : Type 0} → (K → Option (List ℕ)) → (K → ℕ) → List ℕ → Status → K → K → Type 0
+TellsText held faults text Done old new = Appends (held old) (held new) text
+TellsText held faults text (NotCompliant count) old new = ⊥
+TellsText held faults text (Usage word) old new = ⊥
+TellsText held faults text (InputRefused error) old new = ⊥
+TellsText held faults text ReadFault old new = ⊥
+TellsText held faults text WriteFault old new = IsCutShort held faults old new text
+TellsText held faults text Memory old new = ⊥
 
 -- how a tool ends: the text is printed, or a part from its front where the output failed; or the input is refused for
 -- its error, or a read failed; or memory was refused

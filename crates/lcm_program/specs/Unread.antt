@@ -1,23 +1,27 @@
 -- Why an input is no document.
-use Rattle.std.specs.Prelude.{ℕ, ◌<◌, ◌≤◌, List, length, Option, IfSome, ⊤}
+use Rattle.std.specs.Prelude.{ℕ, ◌<◌, List, length, Option, IfSome, ⊤}
 use Rattle.dsc_terms.specs.Counts.{Rose}
-use Rattle.dsc_document.specs.declared.document.Document.{Document}
+use Rattle.mof_values.specs.declared.instance.Instance.{Instance}
+use Rattle.mof_syntax.specs.Refusals as syntax
+use Rattle.dsc_document.specs.First.{IsFirstForm}
 use Rattle.lcm_program.specs.declared.input.Unread.{Unread}
 use Rattle.lcm_program.specs.declared.input.Unread.TheVariants.{Refused, Memory}
 use Rattle.lcm_program.specs.declared.refusal.Refusal.{Refusal}
 use Rattle.lcm_program.specs.declared.refusal.Refusal.TheVariants.{Usage, Input, ReadFault}
-use Rattle.lcm_program.specs.declared.status.InputError.TheVariants.{TooLong, NotYet}
-use Rattle.lcm_program.specs.Input.{Reads, input_limit}
+use Rattle.lcm_program.specs.declared.status.InputError.TheVariants.{TooLong, Mof, NotYet}
+use Rattle.lcm_program.specs.Input.{IsRefusedFor, input_limit}
 
--- the input is within the limit, and no document
+-- the input spells instances that are no document
 pub record IsNoDocument (all : List ℕ) : Type 0 where
-  pub fits : length all ≤ input_limit
-  pub unread : (document : Document) → Reads all document → ⊥
+  pub instances : List Instance
+  pub spelled : syntax.Reads all instances
+  pub no_form : IsFirstForm instances → ⊥
 
 -- what a refusal shows, where the source tells what it has left: of its count of faults, or of the whole input
 abbrev pub IsRefused : Refusal → Option (List ℕ) → ℕ → ℕ → Type 0
 IsRefused (Usage word) input before now = ⊥
 IsRefused (Input TooLong) input before now = IfSome input (λ all. input_limit < length all)
+IsRefused (Input (Mof error)) input before now = IfSome input (λ all. IsRefusedFor all error)
 IsRefused (Input NotYet) input before now = IfSome input IsNoDocument
 IsRefused ReadFault input before now = Rose before now
 

@@ -1,11 +1,12 @@
 -- The forms of the command line.
 use Rattle.std.specs.Prelude.{◌≡◌, ℕ, ◌+◌, ◌<◌, ◌≤◌, List, [], ◌∷◌, ◌++◌, length, take, codes}
 use Rattle.lcm_program.specs.declared.words.Command.{Command}
-use Rattle.lcm_program.specs.declared.words.Command.TheVariants.{Test, Checksum}
+use Rattle.lcm_program.specs.declared.words.Command.TheVariants.{Test, Canon, Checksum}
 
 -- the word that a command begins with
 abbrev pub word_of : Command → List ℕ
 word_of Test = codes "test"
+word_of Canon = codes "canon"
 word_of Checksum = codes "checksum"
 
 -- the words, each in UTF-8, ask for the command

@@ -1,8 +1,9 @@
-//! The document that the input is.
-ghost use Rattle.std.specs.Prelude.{◌≡◌, ◌<◌, ◌≤◌, length, IfOk, IfErr, IfSome};
-ghost use Rattle.dsc_terms.specs.Counts.{Rose};
-ghost use Rattle.dsc_document.specs.declared.document.Document.{Document};
+//! What the input is: instances, and the document that they are.
+ghost use Rattle.std.specs.Prelude.{◌≡◌, ◌≢◌, ◌⊎◌, ◌<◌, ◌≤◌, length, IfOk, IfErr, IfSome};
+ghost use Rattle.mof_syntax.specs.Refusals as syntax;
+ghost use Rattle.lcm_program.specs.Canon.{IsUnspelled};
 ghost use Rattle.lcm_program.specs.Input.{Reads, input_limit};
+ghost use Rattle.lcm_program.specs.Tool.{Answered};
 ghost use Rattle.lcm_program.specs.Unread.{IsUnread};
 
 use crate::refusal::Refusal;
@@ -10,14 +11,14 @@ use crate::status::InputError;
 use crate::streams::{ReadError, read_all};
 use dsc_document::{Document, first};
 use dsc_outside::Source;
-use mof_syntax::read_first;
-use mof_values::FirstError;
+use mof_codec::{MofError, read};
+use mof_values::{FirstError, Instance};
 use std::alloc::Global;
 
 /// The most bytes of a document.
 const LIMIT: usize = 2_097_152;
 
-/// Why there is no document.
+/// Why there is no document, or why there are no instances.
 #[derive(Clone, Copy, Debug, PartialEq, Eq)]
 pub enum Unread {
     Refused(Refusal),
@@ -31,25 +32,41 @@ pub fn read_input<S: Source>(alloc: Global, input: &mut S) -> Result<Document, U
     ensures few { IfOk result (λ d. length d.resources ≤ 4096) }
     ensures err { IfErr result (λ e. IsUnread e (S.left input.old) (S.faults input.old) (S.faults input.new)) }
 {
-    let bytes = match read_all(alloc, input, LIMIT) {
-        Ok(bytes) => bytes,
-        Err(ReadError::Failed) => return Err(Unread::Refused(Refusal::ReadFault)),
-        Err(ReadError::TooLong) => return Err(Unread::Refused(Refusal::Input(InputError::TooLong))),
-        Err(ReadError::Memory) => return Err(Unread::Memory),
+    let instances = match read_instances(alloc, input) {
+        Ok(instances) => instances,
+        Err(unread) => return Err(unread),
     };
-    match read_document(alloc, &bytes) {
+    match first(alloc, instances) {
         Ok(document) => Ok(document),
         Err(FirstError::NotYet) => Err(Unread::Refused(Refusal::Input(InputError::NotYet))),
         Err(FirstError::Memory) => Err(Unread::Memory),
     }
 }
 
-// The document that the bytes are.
-fn read_document(alloc: Global, bytes: &[u8]) -> Result<Document, FirstError>
-    ensures ok { IfOk result (λ d. Reads bytes.now d) }
-    ensures few { IfOk result (λ d. length d.resources ≤ 4096) }
-    ensures refused { IfErr result (λ e. e ≡ FirstError.NotYet → (d : Document) → Reads bytes.now d → ⊥) }
+/// Reads the input to its end, and the instances that it spells.
+pub fn read_instances<S: Source>(alloc: Global, input: &mut S) -> Result<Vec<Instance>, Unread>
+    ensures ok { IfOk result (λ instances. Answered (λ all is. syntax.Reads all is) (S.left input.old) instances.items) }
+    ensures err { IfErr result (λ e. IsUnspelled e (S.left input.old) (S.faults input.old) (S.faults input.new)) }
 {
-    let instances = read_first(alloc, bytes)?;
-    first(alloc, instances)
+    let bytes = match read_all(alloc, input, LIMIT) {
+        Ok(bytes) => bytes,
+        Err(ReadError::Failed) => return Err(Unread::Refused(Refusal::ReadFault)),
+        Err(ReadError::TooLong) => return Err(Unread::Refused(Refusal::Input(InputError::TooLong))),
+        Err(ReadError::Memory) => return Err(Unread::Memory),
+    };
+    match read(alloc, &bytes) {
+        Ok(instances) => Ok(instances),
+        Err(error) => Err(unspelled(error)),
+    }
+}
+
+// What a refusal of the text is here.
+fn unspelled(error: MofError) -> Unread
+    ensures { ((error ≡ MofError.Memory) × (result ≡ Unread.Memory))
+        ⊎ ((error ≢ MofError.Memory) × (result ≡ Unread.Refused (Refusal.Input (InputError.Mof error)))) }
+{
+    match error {
+        MofError::Memory => Unread::Memory,
+        _ => Unread::Refused(Refusal::Input(InputError::Mof(error))),
+    }
 }

@@ -4,6 +4,7 @@
 //! real objects, hands them to `node`, and ends with the number of its status.
 #![tactic(auto)]
 
+mod canon;
 mod checksum;
 mod command_line;
 mod entry;
@@ -20,12 +21,13 @@ mod streams;
 mod test;
 mod words;
 
+pub use canon::read_canonical;
 pub use checksum::{checksum_line, read_digest};
 use command_line::CommandLine;
 use dsc_outside::Absent;
 use dsc_outside::real::{FolderHost, InSource, OutSink};
 pub use entry::{Entry, Failure, SetAnswer, TestAnswer};
-pub use input::{Unread, read_input};
+pub use input::{Unread, read_input, read_instances};
 pub use kinds::Kinds;
 pub use lines::{lines_of, succeeded};
 pub use program::node;

@@ -9,9 +9,11 @@ ghost use Rattle.lcm_program.specs.Refusal.{status_of, refusal_line};
 ghost use Rattle.lcm_program.specs.Unread.{IsRefused};
 ghost use Rattle.lcm_program.specs.Printed.{Printed};
 ghost use Rattle.lcm_program.specs.Program.{IsRun, RanToEnd, Stopped, IsUsageOrMemory, AnswersEach};
-ghost use Rattle.lcm_program.specs.Tool.{RanTool, TellsAnswer, OnlyForRefusal};
+ghost use Rattle.lcm_program.specs.Tool.{RanTool, TellsText, TellsAnswer, OnlyForRefusal};
+ghost use Rattle.lcm_program.specs.Canon.{AnswersCanon, AnswersEachText};
 ghost use Rattle.lcm_program.specs.Checksum.{AnswersChecksum};
 
+use crate::canon::read_canonical;
 use crate::checksum::{checksum_line, read_digest};
 use crate::input::{Unread, read_input};
 use crate::kinds::Kinds;
@@ -57,6 +59,13 @@ pub fn node<S: Source, K: Sink, D: Disk, H: Host, L: Link, C: Clock>(
     ensures tested { IsForm Command.Test (map string_bytes words.now) → IsRun result
         → RanToEnd K.held K.faults H.told H.faults (S.left input.old) kinds.old kinds.new result output.old output.new }
 
+    // The word `canon`: it changes nothing and prints the canonical text of the input; what is answered of each input.
+    ensures canon { IsForm Command.Canon (map string_bytes words.now)
+        → RanTool AnswersCanon K.held K.faults (S.left input.old) (S.faults input.old) (S.faults input.new)
+        kinds.old kinds.new result output.old output.new }
+    ensures canon_each { IsForm Command.Canon (map string_bytes words.now)
+        → IfSome (S.left input.old) (AnswersEachText result (S.faults input.old) (S.faults input.new)) }
+
     // The word `checksum`: it changes nothing, prints the checksum of the input, and takes memory for a refusal alone.
     ensures checksum { IsForm Command.Checksum (map string_bytes words.now)
         → RanTool AnswersChecksum K.held K.faults (S.left input.old) (S.faults input.old) (S.faults input.new)
@@ -69,6 +78,7 @@ pub fn node<S: Source, K: Sink, D: Disk, H: Host, L: Link, C: Clock>(
 {
     match read_words(words) {
         Ok(Command::Test) => test(alloc, input, output, kinds),
+        Ok(Command::Canon) => canon(alloc, input, output),
         Ok(Command::Checksum) => checksum(alloc, input, output),
         Err(UsageError { word }) => refuse(alloc, output, Refusal::Usage { word }),
     }
@@ -107,6 +117,23 @@ fn test<S: Source, K: Sink, H: Host>(
     }
 }
 
+// The word `canon`.
+fn canon<S: Source, K: Sink>(alloc: Global, input: &mut S, output: &mut K) -> Status
+    ensures refused { (refusal : Refusal) → result ≡ status_of refusal
+        → Printed K.held K.faults output.old output.new (refusal_line refusal) }
+    ensures tells { TellsAnswer AnswersCanon K.held K.faults (S.left input.old)
+        (S.faults input.old) (S.faults input.new) result output.old output.new }
+    ensures each { IfSome (S.left input.old) (AnswersEachText result (S.faults input.old) (S.faults input.new)) }
+    ensures silent { result ≡ Status.Memory → output.new ≡ output.old }
+{
+    let text = match read_canonical(alloc, input) {
+        Ok(text) => text,
+        Err(Unread::Refused(refusal)) => return refuse(alloc, output, refusal),
+        Err(Unread::Memory) => return Status::Memory,
+    };
+    print(output, &text)
+}
+
 // The word `checksum`.
 fn checksum<S: Source, K: Sink>(alloc: Global, input: &mut S, output: &mut K) -> Status
     ensures refused { (refusal : Refusal) → result ≡ status_of refusal
@@ -121,7 +148,14 @@ fn checksum<S: Source, K: Sink>(alloc: Global, input: &mut S, output: &mut K) ->
         Ok(digest) => digest,
         Err(refusal) => return refuse(alloc, output, refusal),
     };
-    match write_all(output, &checksum_line(&digest)) {
+    print(output, &checksum_line(&digest))
+}
+
+// Prints the text with which a tool answers.
+fn print<K: Sink>(output: &mut K, text: &[u8]) -> Status
+    ensures { TellsText K.held K.faults text.now result output.old output.new }
+{
+    match write_all(output, text) {
         Ok(()) => Status::Done,
         Err(Failed) => Status::WriteFault,
     }

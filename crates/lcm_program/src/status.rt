@@ -2,13 +2,18 @@
 ghost use Rattle.std.specs.Prelude.{◌≡◌};
 ghost use Rattle.lcm_program.specs.Status.{number_of};
 
+use mof_codec::MofError;
+
 /// Why the input was refused.
 #[derive(Clone, Copy, Debug, PartialEq, Eq)]
 pub enum InputError {
     /// It is longer than the command takes: 2,097,152 bytes of a document, 67,108,864 bytes for a checksum.
     TooLong,
 
-    /// It is not in the form that is read so far.
+    /// It spells no instances. `MofError::TooLong` and `MofError::Memory` are never told so.
+    Mof(MofError),
+
+    /// Its instances are no document of the form that is read so far.
     NotYet,
 }
 

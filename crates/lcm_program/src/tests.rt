@@ -1,7 +1,9 @@
+mod canon;
 mod checksum;
 
 use super::*;
 use dsc_outside::{Ends, Failed, MemoryHost, MemorySink, MemorySource, Sink, Source, Variable};
+use mof_codec::MofError;
 use mof_values::Bytes;
 use std::process::Abort;
 use std::test::Fail;
@@ -10,6 +12,14 @@ const HEADER: &str = "instance of OMI_ConfigurationDocument{Version=\"2.0.0\";};
 
 const ONE: &str =
     "instance of MSFT_EnvironmentResource{ResourceID=\"[Environment]A\";Name=\"V\";Value=\"1\";};instance of OMI_ConfigurationDocument{Version=\"2.0.0\";};";
+
+/// The resource of `ONE`, with a comment, joined literals, escapes and a Version that is no text.
+const SPELLED: &str =
+    "INSTANCE of MSFT_EnvironmentResource\n{ // one\n ResourceID = \"[Environment]\" \"A\"; Name = \"\\x56\"; Value = \"1\";\n};\ninstance of OMI_ConfigurationDocument { Version = 2; };\n";
+
+/// A resource whose Value is a number.
+const NUMBER: &str =
+    "instance of MSFT_EnvironmentResource{ResourceID=\"[Environment]A\";Name=\"V\";Value=1;};instance of OMI_ConfigurationDocument{Version=\"2.0.0\";};";
 
 const TWO: &str =
     "instance of MSFT_EnvironmentResource{ResourceID=\"[Environment]A\";Name=\"V\";Value=\"1\";};instance of MSFT_EnvironmentResource{ResourceID=\"[Environment]B\";Name=\"W\";Value=\"2\";};instance of OMI_ConfigurationDocument{Version=\"2.0.0\";};";
@@ -230,8 +240,12 @@ fn test_prints_the_answers_and_ends_with_the_verdict(rt: HostRuntime) -> Result<
         (ONE, Some(b"1".as_slice()), Some(0), FAULT, 1),
         (TWO, Some(b"1".as_slice()), Some(0), BEHIND_FAULT, 1),
         (HEADER, None, None, NOTHING, 0),
-        ("x", None, None, "refused NotYet\n", 3),
         ("", None, None, "refused NotYet\n", 3),
+        ("instance of A { X = 1; };", None, None, "refused NotYet\n", 3),
+        (NUMBER, None, None, "refused NotYet\n", 3),
+        (SPELLED, None, None, NO, 1),
+        ("x", None, None, "refused Syntax 0\n", 3),
+        ("instance of A { X = 1.5; };", None, None, "refused OutOfProfile 20 real\n", 3),
     ] {
         let words: &'static [&'static str] = &["test"];
         let case = Case {
@@ -261,6 +275,8 @@ fn words_in_no_form_are_refused_with_the_first_that_does_not_fit(
         (&["checksum", "checksum"], "refused Usage 1\n"),
         (&["Checksum"], "refused Usage 0\n"),
         (&["checksum "], "refused Usage 0\n"),
+        (&["canon", "x"], "refused Usage 1\n"),
+        (&["Canon"], "refused Usage 0\n"),
     ] {
         expect(&rt, &reading(words, None, lines, 2), ONE.as_bytes())?;
     }
@@ -287,7 +303,7 @@ fn an_output_that_fails_is_told_but_for_a_refusal(rt: HostRuntime) -> Result<(),
     let case = reading(&["test"], None, "", 0);
     for (input, status) in [
         (ONE, Status::WriteFault),
-        ("x", Status::InputRefused(InputError::NotYet)),
+        ("", Status::InputRefused(InputError::NotYet)),
     ] {
         let bytes = input.as_bytes().to_vec(rt.alloc())?;
         let mut source = MemorySource::new(bytes, Vec::new(rt.alloc()));

@@ -8,6 +8,9 @@ pub enum Command {
     /// Tests the document that the input is.
     Test,
 
+    /// Prints the canonical text of the instances that the input spells.
+    Canon,
+
     /// Prints the checksum of the input.
     Checksum,
 }
@@ -42,6 +45,7 @@ fn command_of(word: &str) -> Option<Command>
 {
     match word {
         "test" => Some(Command::Test),
+        "canon" => Some(Command::Canon),
         "checksum" => Some(Command::Checksum),
         _ => None,
     }

@@ -1,0 +1,102 @@
+-- What is known of an input that was read, and of one that was not.
+use Rattle.std.proofs.Common.{◌≡◌, ◌≢◌, ◌∙◌, ◌⊎◌, inl, inr, ◌<◌, ◌≤◌, ℕ, List, Option, Some, None, Ok, Err, length, refl, sym, ap, subst, arith}
+use Rattle.std.specs.Prelude.{IfSome}
+use Rattle.mof_values.specs.declared.instance.Instance.{Instance}
+use Rattle.mof_syntax.specs.declared.mof_error.MofError.{MofError}
+use Rattle.mof_syntax.specs.declared.mof_error.MofError.TheVariants as faults
+use Rattle.mof_syntax.specs.Refusals as syntax
+use Rattle.mof_codec.proofs.OneRefusal.{refuses_once}
+use Rattle.lcm_program.specs.declared.input.Unread.{Unread}
+use Rattle.lcm_program.specs.declared.input.Unread.TheVariants as unread
+use Rattle.lcm_program.specs.declared.refusal.Refusal.{Refusal}
+use Rattle.lcm_program.specs.declared.refusal.Refusal.TheVariants as refusals
+use Rattle.lcm_program.specs.declared.status.InputError.TheVariants.{TooLong, Mof, NotYet}
+use Rattle.lcm_program.specs.declared.status.Status.{Status}
+use Rattle.lcm_program.specs.declared.status.Status.TheVariants.{Done, NotCompliant, Usage, InputRefused, ReadFault, WriteFault, Memory}
+use Rattle.lcm_program.specs.Canon.{AnswersCanon, AnswersEachText, IsUnspelled}
+use Rattle.lcm_program.specs.Input.{IsRefusedFor, input_limit}
+use Rattle.lcm_program.specs.Tool.{Answered, IsRefusalOf, TellsAnswer}
+use Rattle.lcm_program.specs.Unread.{IsRefused, IsUnread}
+use Rattle.lcm_program.proofs.Results.{if_some_weaker}
+
+-- what holds of each input that has the answer holds of the source's
+pub told : {A : Type 0} (answers : List ℕ → A → Type 0) (answer : A) (left : Option (List ℕ)) (Q : List ℕ → Type 0)
+    → ((all : List ℕ) → answers all answer → Q all) → Answered answers left answer → IfSome left Q
+told answers answer None Q f a = tt
+told answers answer (Some all) Q f a = subst Q (sym a.input_is) (f a.all a.is_answer)
+
+module _ (left : Option (List ℕ)) (before now : ℕ) where
+  unread_refusal : (refusal : Refusal) → IsRefusalOf AnswersCanon refusal left before now → IsRefused refusal left before now
+  unread_refusal (refusals.Usage word) cause = cause
+  unread_refusal (refusals.Input TooLong) cause = told AnswersCanon (Err TooLong) left (λ all. input_limit < length all) (λ all above. above) cause
+  unread_refusal (refusals.Input (Mof error)) cause = told AnswersCanon (Err (Mof error)) left (λ all. IsRefusedFor all error) (λ all r. r) cause
+  unread_refusal (refusals.Input NotYet) cause = absurd cause.is_answer
+  unread_refusal refusals.ReadFault cause = cause
+
+  -- what has no instances is no document
+  pub unread_unspelled : (e : Unread) → IsUnspelled e left before now → IsUnread e left before now
+  unread_unspelled (unread.Refused refusal) cause = unread_refusal refusal cause
+  unread_unspelled unread.Memory cause = tt
+
+-- bytes that spell no instances are refused so, or memory was
+pub mof_unspelled : (left : Option (List ℕ)) (before now : ℕ) (bytes taken : List ℕ) (error : MofError) (e : Unread)
+    → IfSome left (λ all. bytes ≡ all) → taken ≡ bytes → length bytes ≤ input_limit
+    → (error ≢ faults.Memory → (instances : List Instance) → syntax.Reads taken instances → ⊥) → syntax.Refuses taken error
+    → ((error ≡ faults.Memory) × (e ≡ unread.Memory)) ⊎ ((error ≢ faults.Memory) × (e ≡ unread.Refused (refusals.Input (Mof error))))
+    → IsUnspelled e left before now
+mof_unspelled left before now bytes taken error e input same fits none wins (inl memory) =
+    subst (λ (u : Unread). IsUnspelled u left before now) (sym memory.1) tt
+mof_unspelled left before now bytes taken error e input same fits none wins (inr refused) =
+    subst (λ (u : Unread). IsUnspelled u left before now) (sym refused.1) (record {
+      all = taken;
+      input_is = if_some_weaker left (λ all. bytes ≡ all) (λ all. all ≡ taken) (λ all b. sym b ∙ sym same) input;
+      is_answer = record { fits = omega (arith, fits, ap length same); none = none refused.0; wins = wins; cause = refused.0 };
+    })
+
+-- what an input that spells instances is not
+module _ (all : List ℕ) (before now : ℕ) (instances : List Instance) (reads : syntax.Reads all instances) where
+  text_each : AnswersEachText Done before now all
+  text_each = record {
+    text = λ is r. tt;
+    too_long = λ above. absurd (omega (arith, above, reads.within));
+    refused = λ e r. absurd (r.none instances reads);
+  }
+
+  text_each_cut : AnswersEachText WriteFault before now all
+  text_each_cut = record {
+    text = λ is r. tt;
+    too_long = λ above. absurd (omega (arith, above, reads.within));
+    refused = λ e r. absurd (r.none instances reads);
+  }
+
+module _ (all : List ℕ) (before now : ℕ) where
+  too_long_each : input_limit < length all → AnswersEachText (InputRefused TooLong) before now all
+  too_long_each above = record {
+    text = λ is r. absurd (omega (arith, above, r.within));
+    too_long = λ a. refl;
+    refused = λ e r. absurd (omega (arith, above, r.fits));
+  }
+
+  refused_each : (error : MofError) → IsRefusedFor all error → AnswersEachText (InputRefused (Mof error)) before now all
+  refused_each error cause = record {
+    text = λ is r. absurd (cause.none is r);
+    too_long = λ above. absurd (omega (arith, above, cause.fits));
+    refused = λ e r. ap (λ (x : MofError). Mof x) (refuses_once all error e cause.cause r.cause cause.wins r.wins);
+  }
+
+-- each input has its answer where the answer that was told has its cause
+pub each_text : {K : Type 0} (held : K → Option (List ℕ)) (faults : K → ℕ) (left : Option (List ℕ)) (before now : ℕ) (status : Status) (old new : K)
+    → TellsAnswer AnswersCanon held faults left before now status old new → IfSome left (AnswersEachText status before now)
+each_text held faults None before now status old new tells = tt
+each_text held faults (Some all) before now status old new tells = each status tells
+  where
+    each : (status : Status) → TellsAnswer AnswersCanon held faults (Some all) before now status old new → AnswersEachText status before now all
+    each Done t = told AnswersCanon (Ok t.0) (Some all) (AnswersEachText Done before now) (λ given a. text_each given before now a.0 a.1) t.1
+    each (NotCompliant count) t = absurd t
+    each (Usage word) t = absurd t
+    each (InputRefused TooLong) t = told AnswersCanon (Err TooLong) (Some all) (AnswersEachText (InputRefused TooLong) before now) (λ given a. too_long_each given before now a) t
+    each (InputRefused (Mof error)) t = told AnswersCanon (Err (Mof error)) (Some all) (AnswersEachText (InputRefused (Mof error)) before now) (λ given a. refused_each given before now error a) t
+    each (InputRefused NotYet) t = absurd t.is_answer
+    each ReadFault t = record { text = λ is r. t; too_long = λ a. t; refused = λ e r. t }
+    each WriteFault t = told AnswersCanon (Ok t.0) (Some all) (AnswersEachText WriteFault before now) (λ given a. text_each_cut given before now a.0 a.1) t.1
+    each Memory t = record { text = λ is r. tt; too_long = λ a. tt; refused = λ e r. tt }
