@@ -15,3 +15,5 @@ pub mod FrameLaws
 pub mod SentLines
 pub mod SentRequests
 pub mod SentAnswers
+pub mod LinePlaces
+pub mod OneBody
