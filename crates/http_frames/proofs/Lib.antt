@@ -17,3 +17,6 @@ pub mod SentRequests
 pub mod SentAnswers
 pub mod LinePlaces
 pub mod OneBody
+pub mod OneHead
+pub mod OneRequest
+pub mod OneReply

@@ -104,10 +104,10 @@ one_accepted (b ∷ xs) ys phase c d h k =
     on_both (next_phase phase b) (λ next. Keeps (is_data phase) b (Accepts next xs) c)
     (λ next. Keeps (is_data phase) b (Accepts next (xs ++ ys)) d) ((ys ≡ []) × (d ≡ c))
     (λ next h k. (
-      let u = kept_back (is_data phase) b (Accepts next xs) c h in
-      let v = kept_back (is_data phase) b (Accepts next (xs ++ ys)) d k in
-      let w = one_accepted xs ys next u.0 v.0 u.2 v.2 in
-      (w.0, v.1 ∙ ap (λ (l : List ℕ). if is_data phase then b ∷ l else l) w.1 ∙ sym u.1)))
+    let u = kept_back (is_data phase) b (Accepts next xs) c h in
+    let v = kept_back (is_data phase) b (Accepts next (xs ++ ys)) d k in
+    let w = one_accepted xs ys next u.0 v.0 u.2 v.2 in
+    (w.0, v.1 ∙ ap (λ (l : List ℕ). if is_data phase then b ∷ l else l) w.1 ∙ sym u.1)))
     h k
 
 pub one_body : (xs ys c d : List ℕ) → Chunked xs c → Chunked (xs ++ ys) d → (ys ≡ []) × (d ≡ c)

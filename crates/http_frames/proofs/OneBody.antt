@@ -20,7 +20,7 @@ record Stop (limits : Limits) (bytes : List ℕ) : Type 0 where
   could_be : CanBeBody limits before
   never : (more content : List ℕ) → ¬ (IsBodyWithin limits (before ++ byte ∷ more) content)
 
-wrong_stop : (limits : Limits) (bytes : List ℕ) (place : ℕ) → StopsWrong limits bytes place → Stop limits bytes
+abbrev wrong_stop : (limits : Limits) (bytes : List ℕ) (place : ℕ) → StopsWrong limits bytes place → Stop limits bytes
 wrong_stop limits bytes place s = record {
   before = s.before;
   byte = s.wrong;
@@ -30,7 +30,7 @@ wrong_stop limits bytes place s = record {
   never = λ more content body. s.never more content body.chunked;
 }
 
-long_stop : (limits : Limits) (bytes : List ℕ) → StopsLong limits bytes → Stop limits bytes
+abbrev long_stop : (limits : Limits) (bytes : List ℕ) → StopsLong limits bytes → Stop limits bytes
 long_stop limits bytes s = record {
   before = s.before;
   byte = s.last;
@@ -126,7 +126,7 @@ one_wrong_place limits bytes p q s t =
     let same = same_stop limits bytes (wrong_stop limits bytes p s) (wrong_stop limits bytes q t) in
     one_place t.before p q (subst (λ (l : List ℕ). IsLineStart l p) same.0 s.line) t.line
 
-abbrev Reading : Type 0
+abbrev pub Reading : Type 0
 Reading = Result (Option (List ℕ)) FrameError
 
 one_refusal : (limits : Limits) (front : ℕ) (bytes : List ℕ) (e f : FrameError) → RefusesChunked limits front bytes e
@@ -197,16 +197,16 @@ end_is : (limits : Limits) (bytes c : List ℕ) → FrontBody limits ToEnd bytes
 end_is limits bytes c h =
     h.is_body.1 ∙ sym (h.split ∙ ap (λ (l : List ℕ). h.body ++ l) (h.to_end refl) ∙ append-nil h.body)
 
+not_too_long : (limits : Limits) (bytes c : List ℕ) → FrontBody limits ToEnd bytes c → limits.content < length bytes → ⊥
+not_too_long limits bytes c h long = omega (arith, long, h.is_body.0, ap length h.is_body.1, ap length (end_is limits bytes c h))
+
 one_to_end : (limits : Limits) (front : ℕ) (bytes : List ℕ) (x y : Reading) → Means limits front ToEnd bytes x
     → Means limits front ToEnd bytes y → x ≡ y
 one_to_end limits front bytes (Ok (Some c)) (Ok (Some d)) h k =
     ap (λ (l : List ℕ). Ok (Some l)) (end_is limits bytes c h ∙ sym (end_is limits bytes d k))
 one_to_end limits front bytes (Err e) (Err f) h k = ap (λ (g : FrameError). Err g) (h.0 ∙ sym k.0)
-one_to_end limits front bytes (Ok (Some c)) (Err f) h k = absurd (too_long limits bytes c h k.1)
-  where
-    too_long : (limits : Limits) (bytes c : List ℕ) → FrontBody limits ToEnd bytes c → limits.content < length bytes → ⊥
-    too_long limits bytes c h long = omega (arith, long, h.is_body.0, ap length (h.is_body.1), ap length (end_is limits bytes c h))
-one_to_end limits front bytes (Err e) (Ok (Some d)) h k = sym (one_to_end limits front bytes (Ok (Some d)) (Err e) k h)
+one_to_end limits front bytes (Ok (Some c)) (Err f) h k = absurd (not_too_long limits bytes c h k.1)
+one_to_end limits front bytes (Err e) (Ok (Some d)) h k = absurd (not_too_long limits bytes d k h.1)
 one_to_end limits front bytes (Ok None) y h k = absurd h
 one_to_end limits front bytes x (Ok None) h k = absurd k
 

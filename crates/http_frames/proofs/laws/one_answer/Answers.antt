@@ -1,5 +1,9 @@
-use Rattle.http_frames.proofs.OneBody.{one_reading}
+use Rattle.http_frames.proofs.OneRequest.{one_request}
+use Rattle.http_frames.proofs.OneReply.{one_reply}
 use Rattle.http_frames.proofs.laws.one_answer.Goals as goal
 
 pub returns-clause-requests : goal.returns-clause-requests
-returns-clause-requests c = let z = one_reading in ?
+returns-clause-requests c = one_request
+
+pub returns-clause-replies : goal.returns-clause-replies
+returns-clause-replies c = one_reply
