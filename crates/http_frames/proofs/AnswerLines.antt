@@ -25,7 +25,7 @@ answer_parts h rest =
     regroup : (a b c d e f g r : List ℕ)
         → a ++ (b ++ 32 ∷ (c ++ (d ++ (e ++ ((f ++ g) ++ r)))))
         ≡ a ++ ((b ++ 32 ∷ (c ++ (d ++ e))) ++ (f ++ (g ++ r)))
-    regroup a b c d e f g r = simp (append_assoc, cons-append)
+    regroup a b c d e f g r = simp append_assoc
 
 reason_feed : (reason : Option (List ℕ)) → AllPass is_value_byte (reason_phrase reason) → NoFeed (print_reason reason)
 reason_feed None all = tt
@@ -41,7 +41,7 @@ status_starts h valid = λ n rest.
     ∙ skip_end n h.line_end rest
   where
     regroup : (b c d e r : List ℕ) → (b ++ 32 ∷ (c ++ (d ++ e))) ++ r ≡ b ++ (32 ∷ (c ++ (d ++ (e ++ r))))
-    regroup b c d e r = simp (append_assoc, cons-append)
+    regroup b c d e r = simp append_assoc
 
 answer_inside : (h : ResponseHead) (rest : List ℕ) → BeginsInside (status_line h ++ rest)
 answer_inside h rest = (72, _, refl, refl)

@@ -20,3 +20,4 @@ pub mod OneBody
 pub mod OneHead
 pub mod OneRequest
 pub mod OneReply
+pub mod InTarget

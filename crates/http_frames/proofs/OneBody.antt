@@ -1,13 +1,13 @@
 -- Of a body at most one reading is so.
-use Rattle.std.proofs.Common.{◌≡◌, ℕ, ◌+◌, ◌<◌, ◌≤◌, List, [], ◌∷◌, ◌++◌, length, refl, sym, ap, ap₂, ◌∙◌, subst, arith, append_assoc, append-nil, length-append, inl, inr}
+use Rattle.std.proofs.Common.{◌≡◌, ℕ, ◌+◌, ◌<◌, List, [], ◌∷◌, ◌++◌, length, refl, sym, ap, ap₂, ◌∙◌, subst, arith, append_assoc, append-nil, length-append, inl, inr}
 use Rattle.std.specs.Prelude.{Option, Some, None, Result, Ok, Err}
 use Rattle.http_frames.specs.declared.limits.Limits.{Limits}
 use Rattle.http_frames.specs.declared.framing.Framing.{Framing}
 use Rattle.http_frames.specs.declared.framing.Framing.TheVariants.{Sized, Chunked as InChunks, ToEnd}
 use Rattle.http_frames.specs.declared.frame_error.FrameError.{FrameError}
 use Rattle.http_frames.specs.declared.frame_error.FrameError.TheVariants as errors
-use Rattle.http_frames.specs.Chunks.{Chunked, IsBodyWithin, CanBeBody, LacksBody, IsLineStart, StopsWrong, StopsLong}
-use Rattle.http_frames.specs.Frames.{FrontBody, AwaitsBody, RefusesBody, RefusesChunked}
+use Rattle.http_frames.specs.Chunks.{Chunked, IsBodyWithin, CanBeBody, IsLineStart, StopsWrong, StopsLong}
+use Rattle.http_frames.specs.Frames.{FrontBody, RefusesChunked}
 use Rattle.http_frames.proofs.LinePlaces.{two_fronts, one_body, one_place, body_ends}
 use Rattle.http_frames.proofs.FrameLaws.{Means}
 

@@ -1,5 +1,5 @@
 -- At the front of bytes at most one head stands, is awaited or is refused.
-use Rattle.std.proofs.Common.{◌≡◌, ℕ, ◌+◌, ◌<◌, ◌≤◌, List, [], ◌∷◌, ◌++◌, length, take, drop, refl, sym, ap, ap₂, ◌∙◌, subst, arith, append-nil, length-append, inl, inr}
+use Rattle.std.proofs.Common.{◌≡◌, ℕ, ◌≤◌, List, [], ◌∷◌, ◌++◌, length, take, drop, refl, sym, ap, ap₂, ◌∙◌, subst, arith, append-nil, length-append, inl, inr}
 use Rattle.std.specs.Prelude.{◌≢◌, Option, Some, None, Result, Ok, Err}
 use Rattle.std.proofs.lemmas.List.{take_all, take-append-drop, length-take}
 use Rattle.httparse.specs.Grammar.{RequestHead, print_request, EndsInTarget, ResponseHead, print_response}
@@ -15,7 +15,7 @@ no_bytes [] e = refl
 no_bytes (b ∷ z) e = absurd (omega (arith, e))
 
 -- a front of at most n bytes is one of the first n
-front_within : (n : ℕ) (bytes printed rest : List ℕ) → bytes ≡ printed ++ rest → length printed ≤ n
+pub front_within : (n : ℕ) (bytes printed rest : List ℕ) → bytes ≡ printed ++ rest → length printed ≤ n
     → (z : List ℕ) × (take n bytes ≡ printed ++ z)
 front_within n bytes printed rest e short =
     elim (two_fronts printed (take n bytes) rest (drop n bytes) (sym e ∙ sym (take-append-drop n bytes))) [

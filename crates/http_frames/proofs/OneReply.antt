@@ -1,6 +1,6 @@
 -- Of an answer's bytes at most one answer is so.
-use Rattle.std.proofs.Common.{◌≡◌, ℕ, ◌+◌, ◌-◌, List, ◌++◌, length, map, refl, sym, ap, ◌∙◌, subst, arith, Bool, true, false, inl, inr}
-use Rattle.std.specs.Prelude.{◌⊎◌, Option, Some, None, Result, Ok, Err}
+use Rattle.std.proofs.Common.{◌≡◌, ℕ, ◌-◌, List, length, map, refl, sym, ap, ◌∙◌, subst, arith, true, false, inl, inr}
+use Rattle.std.specs.Prelude.{◌⊎◌, Some, None, Result, Ok, Err}
 use Rattle.std.proofs.lemmas.Bool.{false≢true}
 use Rattle.httparse.specs.Grammar.{ResponseHead, status_code}
 use Rattle.httparse.proofs.GrammarLemmas.{response_unique}

@@ -1,24 +1,25 @@
 -- Of a request's bytes at most one answer is so.
-use Rattle.std.proofs.Common.{◌≡◌, ℕ, List, [], ◌++◌, length, map, refl, sym, ap, ◌∙◌, subst, append_assoc, Bool, true, false, not, codes, inl, inr}
-use Rattle.std.specs.Prelude.{Option, Some, None, Result, Ok, Err, if◌then◌else◌, nat_le}
+use Rattle.std.proofs.Common.{◌≡◌, ℕ, ◌<◌, ◌≤◌, take, arith, List, ◌++◌, length, map, refl, sym, ap, ◌∙◌, subst, append_assoc, Bool, true, false, not, codes, inl, inr}
+use Rattle.std.specs.Prelude.{Option, Some, None, Result, Ok, Err, if◌then◌else◌, nat_le, nat_lt, ◌⊎◌}
 use Rattle.std.specs.List.{find}
 use Rattle.std.proofs.lemmas.Bool.{false≢true}
 use Rattle.std.specs.Str.Parse.{digits_value}
-use Rattle.httparse.specs.Grammar.{RequestHead, print_request}
+use Rattle.httparse.specs.Grammar.{RequestHead, print_request, EndsInTarget}
 use Rattle.http_frames.specs.declared.limits.TheConstants.{REQUEST_LIMITS}
 use Rattle.http_frames.specs.declared.framing.Framing.{Framing}
 use Rattle.http_frames.specs.declared.framing.Framing.TheVariants.{Sized, Chunked, ToEnd}
 use Rattle.http_frames.specs.declared.frame_error.FrameError.{FrameError}
-use Rattle.http_frames.specs.declared.frame_error.FrameError.TheVariants.{Coding, Length, NoLength, BodyTooLong}
+use Rattle.http_frames.specs.declared.frame_error.FrameError.TheVariants.{Head, HeadTooLong, Coding, Length, NoLength, BodyTooLong, Memory}
 use Rattle.http_frames.specs.declared.message.Header.{Header}
 use Rattle.http_frames.specs.declared.message.Request.{Request}
 use Rattle.http_frames.specs.Heads.{header_of}
 use Rattle.http_frames.specs.Framing.{is_named, has_named, are_codings_known, are_lengths_sound, needs_length, length_framing, request_framing}
 use Rattle.http_frames.specs.Frames.{framing_of}
-use Rattle.http_frames.specs.OneAnswer.{RequestAnswer, OneRequestAnswer}
+use Rattle.http_frames.specs.OneAnswer.{RequestAnswer, OneRequestAnswer, left_open, HeadOrOpen}
 use Rattle.http_frames.proofs.FrameLaws.{Means}
 use Rattle.http_frames.proofs.OneHead.{FoundRequest, RequestHeadIs, one_request_head}
 use Rattle.http_frames.proofs.OneBody.{Reading, one_reading}
+use Rattle.http_frames.proofs.InTarget.{whole_not_in_target}
 
 -- ---- no request's body goes to the end
 
@@ -139,3 +140,28 @@ one_request bytes x y target h k =
     let w = view bytes y k in
     one_follows w.front x y
     (subst (λ (f : FoundRequest). Follows f x) (one_request_head bytes v.front w.front target v.head w.head) v.follows) w.follows
+
+-- ---- inside a target
+
+less : (n m : ℕ) → n < m → nat_lt n m ≡ true
+less n m h = grind arith
+
+not_less : (n m : ℕ) → m ≤ n → nat_lt n m ≡ false
+not_less n m h = grind arith
+
+open_by : (bytes : List ℕ) (t : Bool) → nat_lt (length bytes) 16384 ≡ t → (if t then Ok None else Err HeadTooLong) ≡ left_open bytes
+open_by bytes t e = ap (λ (b : Bool). if b then Ok None else Err HeadTooLong) (sym e)
+
+follows_in_target : (bytes : List ℕ) (front : FoundRequest) (x : Result (Option Request) FrameError) → EndsInTarget (take 16384 bytes)
+    → RequestHeadIs bytes front → Follows front x → (x ≡ left_open bytes) ⊎ (x ≡ Err Head)
+follows_in_target bytes (Ok (Some found)) x ends h k = absurd (whole_not_in_target bytes found.0 found.1 h ends)
+follows_in_target bytes (Ok None) x ends h k =
+    inl (k ∙ open_by bytes true (less (length bytes) 16384 h.short))
+follows_in_target bytes (Err Head) x ends h k = inr k
+follows_in_target bytes (Err HeadTooLong) x ends h k =
+    inl (k ∙ open_by bytes false (not_less (length bytes) 16384 h.1.0))
+follows_in_target bytes (Err Memory) x ends h k = absurd (h.0 refl)
+follows_in_target bytes (Err e) x ends h k = absurd h.1
+
+pub head_or_open : HeadOrOpen
+head_or_open bytes x ends h = (let v = view bytes x h in follows_in_target bytes v.front x ends v.head v.follows)

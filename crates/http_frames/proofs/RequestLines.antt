@@ -24,7 +24,7 @@ request_parts h rest =
     regroup : (a b c d e f g r : List ℕ)
         → a ++ (b ++ 32 ∷ (c ++ 32 ∷ (d ++ (e ++ ((f ++ g) ++ r)))))
         ≡ a ++ ((b ++ 32 ∷ (c ++ 32 ∷ (d ++ e))) ++ (f ++ (g ++ r)))
-    regroup a b c d e f g r = simp (append_assoc, cons-append)
+    regroup a b c d e f g r = simp append_assoc
 
 minor_feed : (minor : ℕ) → ((48 + minor) == 10) ≡ false
 minor_feed minor = elim (eqb_tells (48 + minor) 10) [ inl w ↦ absurd (omega (arith, w.1)) | inr w ↦ w.0 ]
@@ -44,15 +44,15 @@ request_starts h valid = λ n rest.
   where
     regroup : (b c d e r : List ℕ)
         → (b ++ 32 ∷ (c ++ 32 ∷ (d ++ e))) ++ r ≡ b ++ (32 ∷ (c ++ (32 ∷ (d ++ (e ++ r)))))
-    regroup b c d e r = simp (append_assoc, cons-append)
+    regroup b c d e r = simp append_assoc
 
-inside_by_method : (method rest : List ℕ) → 0 < length method → AllPass is_token_byte method → BeginsInside (method ++ rest)
+pub inside_by_method : (method rest : List ℕ) → 0 < length method → AllPass is_token_byte method → BeginsInside (method ++ rest)
 inside_by_method [] rest some all = absurd (omega arith)
 inside_by_method (b ∷ method) rest some all =
     let P : ℕ → Type 0 = λ v. is_token_byte v ≡ true in
     (b, method ++ rest, refl, token_inside b (All-head P b method all))
 
-request_inside : (h : RequestHead) (rest : List ℕ) → IsRequestHead h → BeginsInside (request_line h ++ rest)
+pub request_inside : (h : RequestHead) (rest : List ℕ) → IsRequestHead h → BeginsInside (request_line h ++ rest)
 request_inside h rest valid =
     subst BeginsInside (sym (append_assoc h.method (32 ∷ (h.target ++ 32 ∷ (print_version h.minor ++ print_end h.line_end))) rest))
     (inside_by_method h.method _ valid.method.0 valid.method.1)
