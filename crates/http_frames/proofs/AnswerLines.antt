@@ -5,7 +5,7 @@ use Rattle.std.specs.List.{flat_map}
 use Rattle.std.specs.Char.{is_ascii_digit}
 use Rattle.std.proofs.lemmas.List.Elements.{All-nil}
 use Rattle.httparse.specs.Grammar.{print_end, print_blank, print_version, print_field, IsField, ResponseHead, IsResponseHead, ReadsResponse, print_response, print_reason, reason_phrase, HasNoResponse, MayBecomeResponse, AllPass, is_value_byte}
-use Rattle.httparse.proofs.GrammarLemmas.{cons-append, print_response-append}
+use Rattle.httparse.proofs.GrammarLemmas.{print_response-append}
 use Rattle.http_frames.specs.Lines.{skip_lines, begins_line_there, begins_extra_line}
 use Rattle.http_frames.specs.Heads.{CanBeAnswer, IsNoAnswer, IsOpenAnswer}
 use Rattle.http_frames.proofs.LineCounts.{NoFeed, no_feed, skip_over, skip_byte, skip_end, IsStart, section_of, extra_refuses, no_extra_fits, BeginsInside, blank_breaks, blank_cases, not_extra}

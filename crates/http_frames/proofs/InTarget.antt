@@ -1,8 +1,7 @@
 -- Bytes that end inside a request's target hold no whole head.
-use Rattle.std.proofs.Common.{◌≡◌, ℕ, ◌≤◌, List, ◌∷◌, ◌++◌, length, take, refl, sym, ap, ◌∙◌, subst, append_assoc}
+use Rattle.std.proofs.Common.{◌≡◌, ℕ, List, ◌∷◌, ◌++◌, take, refl, sym, ap, ◌∙◌, subst, append_assoc}
 use Rattle.std.specs.List.{flat_map}
-use Rattle.httparse.specs.Grammar.{LineEnd, IsToken, AllPass, is_token_byte, is_uri_byte, EndsInTarget, print_blank, print_version, print_end, print_field, RequestHead, IsRequestHead, print_request}
-use Rattle.httparse.proofs.GrammarLemmas.{cons-append}
+use Rattle.httparse.specs.Grammar.{AllPass, is_token_byte, is_uri_byte, EndsInTarget, print_blank, print_version, print_end, print_field, RequestHead, print_request}
 use Rattle.httparse.proofs.RunLemmas.{run_unique, run_unstopped}
 use Rattle.http_frames.specs.Lines.{skip_breaks}
 use Rattle.http_frames.specs.Frames.{RequestFront}

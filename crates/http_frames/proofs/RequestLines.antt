@@ -5,7 +5,7 @@ use Rattle.std.specs.List.{flat_map}
 use Rattle.std.proofs.lemmas.Bool.Decides.{eqb_tells}
 use Rattle.std.proofs.lemmas.List.Elements.{All-head, All-nil}
 use Rattle.httparse.specs.Grammar.{print_end, print_blank, print_version, print_field, IsField, RequestHead, IsRequestHead, ReadsRequest, print_request, HasNoRequest, MayBecomeRequest, AllPass, is_token_byte, is_uri_byte}
-use Rattle.httparse.proofs.GrammarLemmas.{cons-append, print_request-append}
+use Rattle.httparse.proofs.GrammarLemmas.{print_request-append}
 use Rattle.http_frames.specs.Lines.{skip_lines, begins_line_there, begins_extra_line}
 use Rattle.http_frames.specs.Heads.{CanBeRequest, IsNoRequest, IsOpenRequest}
 use Rattle.http_frames.proofs.LineCounts.{NoFeed, no_feed, token_feed, token_inside, skip_over, skip_byte, skip_end, IsStart, section_of, extra_refuses, no_extra_fits, BeginsInside, blank_breaks, blank_cases, not_extra}
