@@ -5,7 +5,7 @@ use Rattle.std.specs.List.{flat_map}
 use Rattle.std.specs.Char.{is_ascii_digit}
 use Rattle.std.proofs.lemmas.List.Elements.{All-nil}
 use Rattle.httparse.specs.Grammar.{print_end, print_blank, print_version, print_field, IsField, ResponseHead, IsResponseHead, ReadsResponse, print_response, print_reason, reason_phrase, HasNoResponse, MayBecomeResponse, AllPass, is_value_byte}
-use Rattle.httparse.proofs.GrammarLemmas.{cons-append, print_response-append}
+use Rattle.httparse.proofs.GrammarLemmas.{print_response-append}
 use Rattle.http_frames.specs.Lines.{skip_lines, begins_line_there, begins_extra_line}
 use Rattle.http_frames.specs.Heads.{CanBeAnswer, IsNoAnswer, IsOpenAnswer}
 use Rattle.http_frames.proofs.LineCounts.{NoFeed, no_feed, skip_over, skip_byte, skip_end, IsStart, section_of, extra_refuses, no_extra_fits, BeginsInside, blank_breaks, blank_cases, not_extra}
@@ -25,7 +25,7 @@ answer_parts h rest =
     regroup : (a b c d e f g r : List ℕ)
         → a ++ (b ++ 32 ∷ (c ++ (d ++ (e ++ ((f ++ g) ++ r)))))
         ≡ a ++ ((b ++ 32 ∷ (c ++ (d ++ e))) ++ (f ++ (g ++ r)))
-    regroup a b c d e f g r = simp (append_assoc, cons-append)
+    regroup a b c d e f g r = simp append_assoc
 
 reason_feed : (reason : Option (List ℕ)) → AllPass is_value_byte (reason_phrase reason) → NoFeed (print_reason reason)
 reason_feed None all = tt
@@ -41,7 +41,7 @@ status_starts h valid = λ n rest.
     ∙ skip_end n h.line_end rest
   where
     regroup : (b c d e r : List ℕ) → (b ++ 32 ∷ (c ++ (d ++ e))) ++ r ≡ b ++ (32 ∷ (c ++ (d ++ (e ++ r))))
-    regroup b c d e r = simp (append_assoc, cons-append)
+    regroup b c d e r = simp append_assoc
 
 answer_inside : (h : ResponseHead) (rest : List ℕ) → BeginsInside (status_line h ++ rest)
 answer_inside h rest = (72, _, refl, refl)

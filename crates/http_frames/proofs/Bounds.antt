@@ -17,7 +17,7 @@ abbrev pub AllSome : Option Phase → (Phase → Type 0) → Type 0
 AllSome None P = Unit {0}
 AllSome (Some phase) P = P phase
 
-all_if : (t : Bool) (x y : Option Phase) (P : Phase → Type 0) → AllSome x P → AllSome y P → AllSome (if t then x else y) P
+pub all_if : (t : Bool) (x y : Option Phase) (P : Phase → Type 0) → AllSome x P → AllSome y P → AllSome (if t then x else y) P
 all_if true x y P h k = h
 all_if false x y P h k = k
 

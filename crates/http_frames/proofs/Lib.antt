@@ -15,3 +15,9 @@ pub mod FrameLaws
 pub mod SentLines
 pub mod SentRequests
 pub mod SentAnswers
+pub mod LinePlaces
+pub mod OneBody
+pub mod OneHead
+pub mod OneRequest
+pub mod OneReply
+pub mod InTarget

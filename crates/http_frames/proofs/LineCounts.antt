@@ -306,13 +306,13 @@ breaks_front : (xs ys : List ℕ) → Breaks (xs ++ ys) → Breaks xs
 breaks_front [] ys all = tt
 breaks_front (x ∷ xs) ys all = (all.0, breaks_front xs ys all.1)
 
-skip_all : (xs ys : List ℕ) → Breaks xs → skip_breaks (xs ++ ys) ≡ skip_breaks ys
+pub skip_all : (xs ys : List ℕ) → Breaks xs → skip_breaks (xs ++ ys) ≡ skip_breaks ys
 unfolding skip_breaks
 skip_all [] ys all = refl
 skip_all (x ∷ xs) ys all =
     ap (λ (t : Bool). if t then skip_breaks (xs ++ ys) else x ∷ (xs ++ ys)) all.0 ∙ skip_all xs ys all.1
 
-skip_no_more : (x : ℕ) (xs : List ℕ) → is_break x ≡ false → skip_breaks (x ∷ xs) ≡ x ∷ xs
+pub skip_no_more : (x : ℕ) (xs : List ℕ) → is_break x ≡ false → skip_breaks (x ∷ xs) ≡ x ∷ xs
 unfolding skip_breaks
 skip_no_more x xs inside = ap (λ (t : Bool). if t then skip_breaks xs else x ∷ xs) inside
 

@@ -5,7 +5,7 @@ use Rattle.std.specs.List.{flat_map}
 use Rattle.std.proofs.lemmas.Bool.Decides.{eqb_tells}
 use Rattle.std.proofs.lemmas.List.Elements.{All-head, All-nil}
 use Rattle.httparse.specs.Grammar.{print_end, print_blank, print_version, print_field, IsField, RequestHead, IsRequestHead, ReadsRequest, print_request, HasNoRequest, MayBecomeRequest, AllPass, is_token_byte, is_uri_byte}
-use Rattle.httparse.proofs.GrammarLemmas.{cons-append, print_request-append}
+use Rattle.httparse.proofs.GrammarLemmas.{print_request-append}
 use Rattle.http_frames.specs.Lines.{skip_lines, begins_line_there, begins_extra_line}
 use Rattle.http_frames.specs.Heads.{CanBeRequest, IsNoRequest, IsOpenRequest}
 use Rattle.http_frames.proofs.LineCounts.{NoFeed, no_feed, token_feed, token_inside, skip_over, skip_byte, skip_end, IsStart, section_of, extra_refuses, no_extra_fits, BeginsInside, blank_breaks, blank_cases, not_extra}
@@ -24,7 +24,7 @@ request_parts h rest =
     regroup : (a b c d e f g r : List ℕ)
         → a ++ (b ++ 32 ∷ (c ++ 32 ∷ (d ++ (e ++ ((f ++ g) ++ r)))))
         ≡ a ++ ((b ++ 32 ∷ (c ++ 32 ∷ (d ++ e))) ++ (f ++ (g ++ r)))
-    regroup a b c d e f g r = simp (append_assoc, cons-append)
+    regroup a b c d e f g r = simp append_assoc
 
 minor_feed : (minor : ℕ) → ((48 + minor) == 10) ≡ false
 minor_feed minor = elim (eqb_tells (48 + minor) 10) [ inl w ↦ absurd (omega (arith, w.1)) | inr w ↦ w.0 ]
@@ -44,15 +44,15 @@ request_starts h valid = λ n rest.
   where
     regroup : (b c d e r : List ℕ)
         → (b ++ 32 ∷ (c ++ 32 ∷ (d ++ e))) ++ r ≡ b ++ (32 ∷ (c ++ (32 ∷ (d ++ (e ++ r)))))
-    regroup b c d e r = simp (append_assoc, cons-append)
+    regroup b c d e r = simp append_assoc
 
-inside_by_method : (method rest : List ℕ) → 0 < length method → AllPass is_token_byte method → BeginsInside (method ++ rest)
+pub inside_by_method : (method rest : List ℕ) → 0 < length method → AllPass is_token_byte method → BeginsInside (method ++ rest)
 inside_by_method [] rest some all = absurd (omega arith)
 inside_by_method (b ∷ method) rest some all =
     let P : ℕ → Type 0 = λ v. is_token_byte v ≡ true in
     (b, method ++ rest, refl, token_inside b (All-head P b method all))
 
-request_inside : (h : RequestHead) (rest : List ℕ) → IsRequestHead h → BeginsInside (request_line h ++ rest)
+pub request_inside : (h : RequestHead) (rest : List ℕ) → IsRequestHead h → BeginsInside (request_line h ++ rest)
 request_inside h rest valid =
     subst BeginsInside (sym (append_assoc h.method (32 ∷ (h.target ++ 32 ∷ (print_version h.minor ++ print_end h.line_end))) rest))
     (inside_by_method h.method _ valid.method.0 valid.method.1)

@@ -63,7 +63,7 @@ accept_kept p q b bytes content e h =
     subst (λ (o : Option Phase). OnSome o (λ next. Keeps (is_data p) b (Accepts next bytes) (kept p b content))) (sym e)
     (keeps (is_data p) b (Accepts q bytes) content h)
 
-kept_back : (t : Bool) (b : ℕ) (P : List ℕ → Type 0) (content : List ℕ) → Keeps t b P content
+pub kept_back : (t : Bool) (b : ℕ) (P : List ℕ → Type 0) (content : List ℕ) → Keeps t b P content
     → (rest : List ℕ) × (content ≡ (if t then b ∷ rest else rest)) × P rest
 kept_back true b P content h = h
 kept_back false b P content h = (content, refl, h)

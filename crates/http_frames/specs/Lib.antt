@@ -10,3 +10,4 @@ pub mod Answering
 pub mod Chunks
 pub mod Frames
 pub mod Sending
+pub mod OneAnswer

@@ -11,6 +11,7 @@ mod chunks;
 mod frame_error;
 mod framing;
 mod head;
+mod laws;
 mod limits;
 mod message;
 mod reader;
@@ -18,6 +19,7 @@ mod writing;
 
 pub use answer::read_answer;
 pub use frame_error::FrameError;
+pub use laws::one_answer;
 pub use message::{Header, Reply, Request};
 pub use reader::RequestReader;
 pub use writing::{write_answer, write_request};
