@@ -1,5 +1,5 @@
 -- A text is at most one target.
-use Rattle.std.proofs.Common.{◌≡◌, ◌<◌, ◌≤◌, ℕ, List, [], ◌∷◌, ◌++◌, length, get_or, Some, codes, inl, inr, refl, sym, ◌∙◌, ap, subst, arith, append-nil, length-append}
+use Rattle.std.proofs.Common.{◌≡◌, ◌<◌, ℕ, List, [], ◌∷◌, ◌++◌, length, get_or, Some, codes, inl, inr, refl, sym, ◌∙◌, ap, subst, arith, append-nil, length-append}
 use Rattle.std.proofs.Math.ListN.{get_or-append}
 use Rattle.std.proofs.lemmas.List.{length-map}
 use Rattle.std.specs.Char.{to_ascii_lowercase}
@@ -87,9 +87,9 @@ modules_same name version name2 version2 text first second =
     let p = word (codes "ModuleVersion=") ∷ quoted version 41 ∷ last in
     let q = word (codes "ModuleVersion=") ∷ quoted version2 41 ∷ last in
     let names = quoted_same 44 (inr refl) name name2 p q
-        (word_same (codes "/PSDSCPullServer.svc/Modules(ModuleName=") (quoted name 44 ∷ p) (quoted name2 44 ∷ q) (text, first, second)) in
+    (word_same (codes "/PSDSCPullServer.svc/Modules(ModuleName=") (quoted name 44 ∷ p) (quoted name2 44 ∷ q) (text, first, second)) in
     let versions = quoted_same 41 (inl refl) version version2 last last
-        (word_same (codes "ModuleVersion=") (quoted version 41 ∷ last) (quoted version2 41 ∷ last) names.1) in
+    (word_same (codes "ModuleVersion=") (quoted version 41 ∷ last) (quoted version2 41 ∷ last) names.1) in
     (λ i. Module (names.0 i) (versions.0 i))
 
 content_parts : List ℕ → List Part
