@@ -1,7 +1,7 @@
 -- Bytes at the front of a text.
-use Rattle.std.proofs.Common.{◌≡◌, ◌≢◌, ◌⊎◌, inl, inr, ◌-◌, ◌+◌, ◌*◌, ◌≤◌, ◌<◌, ℕ, suc, List, [], ◌∷◌, ◌++◌, length, take, drop, get_or, Option, Some, None, MatchOption, IfSome, IfNone, refl, sym, ◌∙◌, ap, subst, arith, append_assoc, append-nil, length-append}
+use Rattle.std.proofs.Common.{◌≡◌, ◌≢◌, inl, inr, ◌-◌, ◌≤◌, ℕ, List, [], ◌∷◌, ◌++◌, length, take, drop, get_or, Option, Some, None, IfSome, IfNone, refl, sym, ◌∙◌, ap, arith, append_assoc, append-nil}
 use Rattle.std.proofs.Math.Seq.{take_all}
-use Rattle.pull_messages.specs.Escapes.{IsWritten, IsEscapeOf, HasNoByte, digit_of}
+use Rattle.pull_messages.specs.Escapes.{IsWritten, IsEscapeOf, HasNoByte}
 use Rattle.pull_messages.specs.Spelling.{Spells}
 
 -- a text of at least one byte as its first and the others

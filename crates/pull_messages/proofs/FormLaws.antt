@@ -1,15 +1,15 @@
 -- The forms of targets, part by part.
-use Rattle.std.proofs.Common.{◌≡◌, ◌⊎◌, ◌≤◌, ◌==◌, ℕ, List, [], ◌∷◌, ◌++◌, length, Bool, true, false, true≢false, cond, codes, Result, Ok, Err, IfOk, Some, inl, inr, refl, sym, ◌∙◌, ap, subst, arith, append_assoc, append-nil}
-use Rattle.std.proofs.lemmas.Bool.{eqb-true, eqb-false}
+use Rattle.std.proofs.Common.{◌≡◌, ◌≤◌, ◌==◌, ℕ, List, [], ◌∷◌, ◌++◌, length, Bool, true, false, true≢false, cond, codes, Result, Ok, Err, IfOk, Some, inl, inr, refl, sym, ◌∙◌, ap, subst, arith, append_assoc, append-nil}
+use Rattle.std.proofs.lemmas.Bool.{eqb-true}
 use Rattle.std.specs.Str.{all_scalars}
 use Rattle.pull_messages.specs.declared.parts.Stop.{Stop}
 use Rattle.pull_messages.specs.declared.parts.Stop.TheVariants.{Left, Memory}
 use Rattle.pull_messages.specs.declared.target_kinds.Target.{Target}
 use Rattle.pull_messages.specs.declared.target_kinds.Target.TheVariants.{Node, Action, Content, Module, SendReport}
 use Rattle.pull_messages.specs.Spelling.{Spells}
-use Rattle.pull_messages.specs.Stops.{StopsAt, EndsAt, IfLeft, IsWord, IsAgent, IsAnyQuoted, IsEnd, Then, IsAgentForm, IsContentForm, IsModuleForm, IsAnyTarget, better_of}
-use Rattle.pull_messages.specs.Targets.{IsPart, Part, SpellsTarget, agent_parts, word, agent, quoted, agent_of, IsQuoted}
-use Rattle.pull_messages.proofs.Agents.{agent_free, agent_some}
+use Rattle.pull_messages.specs.Stops.{StopsAt, EndsAt, IfLeft, IsWord, IsAnyQuoted, Then, IsAgentForm, IsContentForm, IsModuleForm, IsAnyTarget, better_of}
+use Rattle.pull_messages.specs.Targets.{IsPart, SpellsTarget, agent_parts, word, quoted, agent_of}
+use Rattle.pull_messages.proofs.Agents.{agent_free}
 use Rattle.pull_messages.proofs.Languages.{PrefixFree, IsSome, Either, ends_either, then_free, then_some, ends_of_rest, ends_of_stop, stop_first, stop_second}
 use Rattle.pull_messages.proofs.Quotes.{quoted_free, quoted_some}
 use Rattle.pull_messages.proofs.Words.{word_free}

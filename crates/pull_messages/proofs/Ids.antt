@@ -1,8 +1,8 @@
 -- Identifiers come back from their texts.
-use Rattle.std.proofs.Common.{◌≡◌, ◌<◌, ◌^◌, ◌/◌, ◌%◌, ℕ, zero, suc, List, length, All, Some, option_map, refl, sym, ◌∙◌, ap, inl, arith}
+use Rattle.std.proofs.Common.{◌≡◌, ◌<◌, ◌^◌, ◌/◌, ◌%◌, ℕ, zero, suc, length, All, Some, option_map, refl, sym, ◌∙◌, ap, inl, arith}
 use Rattle.std.specs.Int.{w128, to_be_bytes, from_be_bytes, bytes_high_first, byte_at}
 use Rattle.std.proofs.lemmas.List.Elements.{All-nil, All-cons}
-use Rattle.uuid.specs.Text.{hyphenated_text, lower, parsed, parsed_hyphenated}
+use Rattle.uuid.specs.Text.{lower}
 use Rattle.uuid.proofs.OrderLemmas.{from_be_bytes-to_be_bytes_16}
 use Rattle.uuid.proofs.RoundTrips.{parses_hyphenated, parses_hyphenated_text}
 use Rattle.pull_messages.specs.Members.{id_of}

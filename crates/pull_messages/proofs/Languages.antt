@@ -1,5 +1,5 @@
 -- Languages no text of which begins another.
-use Rattle.std.proofs.Common.{◌≡◌, ◌⊎◌, inl, inr, ℕ, ◌+◌, ◌<◌, ◌≤◌, List, [], ◌∷◌, ◌++◌, length, min, true, refl, sym, ◌∙◌, ap, subst, arith, append_assoc, append-nil, length-append}
+use Rattle.std.proofs.Common.{◌≡◌, ◌⊎◌, inl, inr, ℕ, ◌≤◌, List, [], ◌∷◌, ◌++◌, length, min, true, refl, sym, ◌∙◌, ap, subst, arith, append_assoc, append-nil, length-append}
 use Rattle.std.specs.Str.{all_scalars}
 use Rattle.pull_messages.specs.Stops.{Begins, StopsAt, EndsAt, Then}
 use Rattle.pull_messages.proofs.Scalars.{scalars_front, scalars_join}

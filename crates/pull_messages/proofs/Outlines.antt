@@ -1,14 +1,12 @@
 -- Written values have no floats and are flat.
-use Rattle.std.proofs.Common.{◌≡◌, ◌≤◌, ℕ, List, [], ◌∷◌, Bool, false, map, max, refl, arith}
-use Rattle.serde_json.specs.Data.{Data, string, depth, items_depth}
+use Rattle.std.proofs.Common.{◌≡◌, ◌≤◌, ℕ, List, [], ◌∷◌, false, map, refl, arith}
+use Rattle.serde_json.specs.Data.{Data, depth, items_depth}
 use Rattle.serde_json.specs.Read.{max_depth}
 use Rattle.serde_json.specs.View.{items_of}
 use Rattle.serde_json.specs.Written.{has_float, items_have_float}
 use Rattle.pull_messages.specs.declared.registration.Registration.{Registration}
 use Rattle.pull_messages.specs.declared.query.ActionQuery.{ActionQuery}
-use Rattle.pull_messages.specs.declared.query.Client.{Client}
 use Rattle.pull_messages.specs.declared.action.ActionAnswer.{ActionAnswer}
-use Rattle.pull_messages.specs.declared.action.Detail.{Detail}
 use Rattle.pull_messages.specs.declared.report.ReportMessage.{ReportMessage}
 use Rattle.pull_messages.specs.Writing.{text_data, client_data, detail_data, registration_data, query_data, action_data, report_data}
 

@@ -1,9 +1,9 @@
 -- Texts in quotes at the front of characters.
-use Rattle.std.proofs.Common.{◌≡◌, ◌≢◌, ◌⊎◌, ◌<◌, ◌≤◌, ◌+◌, ◌-◌, ◌==◌, inl, inr, ℕ, suc, List, [], ◌∷◌, ◌++◌, length, Bool, true, false, true≢false, refl, sym, ◌∙◌, ap, subst, arith, append_assoc, append-nil, length-append}
+use Rattle.std.proofs.Common.{◌≡◌, ◌≢◌, ◌⊎◌, ◌≤◌, ◌+◌, ◌-◌, ◌==◌, inl, inr, ℕ, List, [], ◌∷◌, ◌++◌, length, Bool, true, false, true≢false, refl, sym, ◌∙◌, ap, subst, arith, append_assoc, append-nil, length-append}
 use Rattle.std.proofs.lemmas.Bool.{eqb-true}
 use Rattle.std.specs.Prelude.{encode_utf8, encode_utf8_all}
 use Rattle.std.specs.Str.{all_scalars}
-use Rattle.std.proofs.lemmas.Str.{encodes-append, length-le-encodes, length-encode, len_utf8_bounds, encode_ascii}
+use Rattle.std.proofs.lemmas.Str.{encodes-append, length-le-encodes, encode_ascii}
 use Rattle.pull_messages.specs.Stops.{Begins, StopsAt, IsAnyQuoted, IsEnd, IsValueChar}
 use Rattle.pull_messages.specs.Targets.{doubled, IsValue, IsQuoted}
 use Rattle.pull_messages.proofs.Languages.{fronts, PrefixFree}

@@ -1,9 +1,9 @@
 -- What was written is what the tables say of it.
-use Rattle.std.proofs.Common.{◌≡◌, ◌≤◌, ◌<◌, ◌^◌, ℕ, suc, List, [], ◌∷◌, length, Bool, true, false, map, Some, Result, Ok, Err, refl, sym, ◌∙◌, ap, arith}
+use Rattle.std.proofs.Common.{◌≡◌, ◌≤◌, ℕ, suc, List, [], ◌∷◌, length, map, Result, Ok, refl, ◌∙◌, ap}
 use Rattle.std.specs.Str.{encode_utf8_all}
 use Rattle.std.specs.List.{zip, AllByRecursion}
 use Rattle.std.proofs.lemmas.Bool.{le-leb}
-use Rattle.serde_json.specs.Data.{Data, string, array}
+use Rattle.serde_json.specs.Data.{Data}
 use Rattle.serde_json.specs.Events.{items_len}
 use Rattle.serde_json.specs.View.{items_of}
 use Rattle.pull_messages.specs.declared.error.MessageError.{MessageError}
@@ -16,11 +16,10 @@ use Rattle.pull_messages.specs.declared.report.ReportMessage.{ReportMessage}
 use Rattle.pull_messages.specs.declared.field.Field.{Field}
 use Rattle.pull_messages.specs.declared.field.Field.TheVariants as field
 use Rattle.pull_messages.specs.declared.limit.Limit.TheVariants as limit
-use Rattle.pull_messages.specs.Members.{optional, required, a_text, sha256, each, an_object, objects, within}
+use Rattle.pull_messages.specs.Members.{optional, required, a_text, sha256, each, an_object, within}
 use Rattle.pull_messages.specs.Recoding.{recoded, recoded_client, recoded_detail, IsRecodedReport}
 use Rattle.pull_messages.specs.Sizes.{IsShort, IsName, IsSized}
 use Rattle.pull_messages.proofs.Ids.{id_back}
-use Rattle.pull_messages.specs.Results.{◌>>=◌}
 use Rattle.pull_messages.specs.Tables.{registration_of, query_of, action_of, report_of, client, detail}
 use Rattle.pull_messages.specs.Writing.{text_data, client_data, detail_data, registration_data, query_data, action_data, report_data}
 

@@ -1,5 +1,5 @@
 -- The sizes of what the tables give.
-use Rattle.std.proofs.Common.{◌≡◌, ◌≤◌, ◌&&◌, ℕ, suc, List, [], ◌∷◌, length, Bool, true, false, cond, map, min, Option, Some, None, Result, Ok, Err, IfOk, refl, sym, ◌∙◌, ap, subst, arith}
+use Rattle.std.proofs.Common.{◌≡◌, ◌≤◌, ◌&&◌, ℕ, suc, List, [], ◌∷◌, length, Bool, true, false, cond, map, Option, Some, None, Result, Ok, Err, IfOk, refl, ap, subst, arith}
 use Rattle.std.proofs.lemmas.List.{length-map}
 use Rattle.std.specs.Option.{option_map_or}
 use Rattle.std.specs.Str.{encode_utf8_all}

@@ -1,5 +1,5 @@
 -- From characters to the bytes of a target.
-use Rattle.std.proofs.Common.{◌≡◌, ◌≢◌, ◌⊎◌, ◌≤◌, ◌<◌, ◌+◌, ◌-◌, ◌*◌, ◌==◌, ◌&&◌, ℕ, List, [], ◌∷◌, ◌++◌, length, take, nat_lt, Bool, true, false, Some, inl, inr, refl, sym, ◌∙◌, ap, subst, arith, append_assoc, append-nil, length-append, length-take, drop}
+use Rattle.std.proofs.Common.{◌≡◌, ◌≢◌, ◌⊎◌, ◌≤◌, ◌<◌, ◌+◌, ◌-◌, ◌*◌, ◌==◌, ℕ, List, [], ◌∷◌, ◌++◌, length, take, nat_lt, Bool, true, false, Some, inl, inr, refl, sym, ◌∙◌, ap, subst, arith, append_assoc, append-nil, length-append, length-take, drop}
 use Rattle.std.proofs.lemmas.List.{take-append-drop}
 use Rattle.std.specs.Str.{all_scalars, chars, encode_utf8_all, IsUtf8, IsValidUpTo}
 use Rattle.std.specs.Prelude.{encode_utf8}
@@ -7,9 +7,9 @@ use Rattle.std.proofs.lemmas.Str.{encodes-append, encode_same, length-encode, le
 use Rattle.std.proofs.lemmas.Bool.{eqb-true, ltb-true, ltb-false}
 use Rattle.pull_messages.specs.declared.target_kinds.Target.{Target}
 use Rattle.pull_messages.specs.Decoding.{IsDecoded}
-use Rattle.pull_messages.specs.Escapes.{IsWritten, IsEscape, AreChars, HasNoByte, IsUnescaped, IsFrontOf, digit_of}
+use Rattle.pull_messages.specs.Escapes.{IsWritten, AreChars, HasNoByte, IsUnescaped, IsFrontOf, digit_of}
 use Rattle.pull_messages.specs.Spelling.{Spells}
-use Rattle.pull_messages.specs.Stops.{Begins, EndsAt, IsAnyTarget}
+use Rattle.pull_messages.specs.Stops.{Begins, IsAnyTarget}
 use Rattle.pull_messages.specs.Targets.{IsTarget, BeginsTarget, IsLongestFront, SpellsTarget}
 use Rattle.pull_messages.proofs.FormLaws.{spells_append}
 use Rattle.pull_messages.proofs.Languages.{fronts, same_front}

@@ -1,13 +1,12 @@
 -- Words at the front of characters.
-use Rattle.std.proofs.Common.{◌≡◌, ◌<◌, ◌≤◌, ◌-◌, ◌+◌, ◌^◌, inl, inr, ℕ, suc, List, [], ◌∷◌, ◌++◌, length, map, take, drop, get_or, Bool, true, false, ◌&&◌, refl, sym, ◌∙◌, ap, subst, arith, append_assoc, append-nil, length-append}
-use Rattle.std.proofs.lemmas.List.{length-map, map-append}
+use Rattle.std.proofs.Common.{◌≡◌, ◌<◌, ◌≤◌, ◌-◌, inl, inr, ℕ, suc, List, [], ◌∷◌, ◌++◌, length, take, drop, get_or, true, refl, sym, ◌∙◌, ap, arith, append_assoc, length-append}
+use Rattle.std.proofs.lemmas.List.{length-map}
 use Rattle.std.proofs.Math.Seq.{take_all}
-use Rattle.std.proofs.Math.Utf8.{scalar, low_scalar}
+use Rattle.std.proofs.Math.Utf8.{low_scalar}
 use Rattle.std.specs.Char.{to_ascii_lowercase}
 use Rattle.std.specs.Str.{all_scalars}
 use Rattle.mof_values.specs.Fold.{fold_case}
 use Rattle.pull_messages.specs.Stops.{Begins, StopsAt, IsWord}
-use Rattle.pull_messages.proofs.Scalars.{both}
 use Rattle.pull_messages.proofs.Languages.{fronts, same_front, PrefixFree}
 
 pub bytes_scalars : (bytes : List ℕ) → ((i : ℕ) → get_or bytes i 0 < 256) → all_scalars bytes ≡ true

@@ -1,5 +1,5 @@
 -- Written targets are their targets.
-use Rattle.std.proofs.Common.{◌≡◌, ◌≢◌, ◌<◌, ◌+◌, ◌*◌, ◌/◌, ◌%◌, ◌^◌, ◌==◌, ◌&&◌, ℕ, zero, suc, List, [], ◌∷◌, ◌++◌, length, get_or, Bool, true, false, cond, true≢false, nat_lt, All, Some, codes, inl, inr, refl, sym, ◌∙◌, ap, subst, arith, append_assoc, append-nil}
+use Rattle.std.proofs.Common.{◌≡◌, ◌≢◌, ◌<◌, ◌+◌, ◌/◌, ◌%◌, ◌^◌, ◌==◌, ◌&&◌, ℕ, suc, List, [], ◌∷◌, ◌++◌, length, get_or, Bool, true, false, cond, true≢false, nat_lt, All, Some, codes, inl, inr, refl, sym, ◌∙◌, ap, subst, arith, append_assoc, append-nil}
 use Rattle.std.specs.Char.{IsScalar}
 use Rattle.std.specs.List.{AllByRecursion, list_all}
 use Rattle.std.specs.Str.{all_scalars, encode_utf8_all}
@@ -9,7 +9,7 @@ use Rattle.std.proofs.lemmas.List.Elements.{All-head, All-tail}
 use Rattle.std.proofs.lemmas.Str.{encodes-append, encode_ascii}
 use Rattle.pull_messages.specs.declared.target_kinds.Target.{Target}
 use Rattle.pull_messages.specs.declared.target_kinds.Target.TheVariants.{Node, Action, Content, Module, SendReport}
-use Rattle.pull_messages.specs.Cells.{is_cell, AreAllCells}
+use Rattle.pull_messages.specs.Cells.{is_cell}
 use Rattle.pull_messages.specs.Escapes.{IsWritten, AreChars, digit_of}
 use Rattle.pull_messages.specs.Spelling.{Spells}
 use Rattle.pull_messages.specs.Targets.{agent_parts, doubled, HasValues, IsPart, IsTarget, IsValue, quoted, SpellsTarget, word}

@@ -1,7 +1,7 @@
 -- Targets of requests: paths (RFC 3986, section 3.3) of five forms.
-use Rattle.std.specs.Prelude.{◌≡◌, ℕ, ◌≤◌, List, [], ◌∷◌, ◌++◌, length, true, Some, option_map, Option, codes, ◌==◌, if◌then◌else◌, ⊤}
+use Rattle.std.specs.Prelude.{◌≡◌, ℕ, ◌≤◌, List, [], ◌∷◌, ◌++◌, length, Some, option_map, Option, codes, ◌==◌, if◌then◌else◌, ⊤}
 use Rattle.std.specs.Int.{w128, from_be_bytes}
-use Rattle.std.specs.Str.{all_scalars, encode_utf8_all}
+use Rattle.std.specs.Str.{encode_utf8_all}
 use Rattle.uuid.specs.Text.{parsed_hyphenated}
 use Rattle.mof_values.specs.Fold.{SameName}
 use Rattle.pull_messages.specs.declared.target_kinds.Target.{Target}

@@ -1,8 +1,8 @@
 -- The messages as they are written: compact JSON (RFC 8259), each object's members in byte order of their names.
-use Rattle.std.specs.Prelude.{ℕ, List, [], ◌∷◌, map, codes, encode_utf8_all}
+use Rattle.std.specs.Prelude.{ℕ, List, map, codes, encode_utf8_all}
 use Rattle.std.specs.Int.{w128, to_be_bytes}
 use Rattle.uuid.specs.Text.{hyphenated_text, lower}
-use Rattle.serde_json.specs.Data.{Data, string, array, object, Members, no_members, member}
+use Rattle.serde_json.specs.Data.{Data, string, array, object, no_members, member}
 use Rattle.serde_json.specs.View.{items_of}
 use Rattle.serde_json.specs.Written.{compact_text}
 use Rattle.pull_messages.specs.declared.registration.Registration.{Registration}

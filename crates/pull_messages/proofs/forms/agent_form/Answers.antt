@@ -1,5 +1,4 @@
-use Rattle.std.proofs.Common.{◌≡◌, ℕ, List, codes, arith, refl, true}
-use Rattle.std.specs.Str.{all_scalars}
+use Rattle.std.proofs.Common.{ℕ, List, codes, arith}
 use Rattle.std.proofs.lemmas.Result.{err_from_is_err_and}
 use Rattle.pull_messages.specs.Stops.{StopsAt, IsWord, IsAgent, IsAgentForm, Then}
 use Rattle.pull_messages.proofs.Agents.{agent_free, agent_some}

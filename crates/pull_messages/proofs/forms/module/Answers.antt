@@ -1,4 +1,4 @@
-use Rattle.std.proofs.Common.{ℕ, List, ◌++◌, codes, refl}
+use Rattle.std.proofs.Common.{◌++◌, codes, refl}
 use Rattle.std.proofs.lemmas.Result.{err_from_is_err_and}
 use Rattle.pull_messages.specs.declared.target_kinds.Target.TheVariants.{Module}
 use Rattle.pull_messages.specs.Stops.{StopsAt, EndsAt, IsWord, IsAnyQuoted, IsModuleForm}

@@ -1,7 +1,7 @@
-use Rattle.std.proofs.Common.{◌≡◌, ℕ, List, codes, Result, sym, ◌∙◌, ap, subst}
+use Rattle.std.proofs.Common.{codes, Result, sym, subst}
 use Rattle.pull_messages.specs.declared.parts.Stop.{Stop}
 use Rattle.pull_messages.specs.declared.target_kinds.Target.{Target}
-use Rattle.pull_messages.specs.Stops.{EndsAt, IfLeft, IsAgentForm, IsContentForm, IsModuleForm, IsAnyTarget, better_of}
+use Rattle.pull_messages.specs.Stops.{EndsAt, IfLeft, IsAgentForm, IsContentForm, IsModuleForm, IsAnyTarget}
 use Rattle.pull_messages.proofs.FormLaws.{better_bad, if_left, AnyForm, any_in, any_out}
 use Rattle.pull_messages.proofs.Languages.{Either, ends_same}
 use Rattle.pull_messages.proofs.forms.spelled_target.Goals as goal

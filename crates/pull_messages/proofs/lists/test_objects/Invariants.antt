@@ -1,6 +1,6 @@
-use Rattle.std.proofs.Common.{[], length}
+use Rattle.std.proofs.Common.{length}
 use Rattle.serde_json.specs.View.{items_view}
-use Rattle.pull_messages.specs.Members.{optional, an_object, sha256, each}
+use Rattle.pull_messages.specs.Members.{an_object, each}
 use Rattle.pull_messages.proofs.Fronts.{SameTest}
 use Rattle.pull_messages.proofs.lists.test_objects.Given as goal
 

@@ -1,8 +1,6 @@
-use Rattle.std.proofs.Common.{◌≡◌, true, false, length, refl, sym, ◌∙◌, ap}
+use Rattle.std.proofs.Common.{◌≡◌, true, false, length, refl, ◌∙◌}
 use Rattle.std.specs.Str.{chars}
-use Rattle.std.specs.Prelude.{encode_utf8_all}
 use Rattle.std.proofs.lemmas.Str.{encodes-chars}
-use Rattle.std.proofs.lemmas.Result.{IfOk-at_ok}
 use Rattle.pull_messages.specs.Limits.{is_within}
 use Rattle.pull_messages.specs.Members.{within}
 use Rattle.pull_messages.proofs.members.text_within.Goals as goal

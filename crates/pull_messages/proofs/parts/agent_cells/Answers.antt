@@ -1,4 +1,4 @@
-use Rattle.std.proofs.Common.{ℕ, List, ◌≡◌, ◌∷◌, [], ◌++◌, length, refl, sym, ap, subst, arith, length-append, true}
+use Rattle.std.proofs.Common.{ℕ, List, ◌≡◌, ◌∷◌, [], ◌++◌, refl, sym, subst, arith, length-append, true}
 use Rattle.pull_messages.specs.Cells.{is_cell}
 use Rattle.pull_messages.proofs.Agents.{agent_stops, cells_more, no_cells}
 use Rattle.pull_messages.proofs.Escaped.{more_front}

@@ -1,5 +1,4 @@
-use Rattle.std.proofs.Common.{ℕ, List, ◌≡◌, ◌∙◌, sym, ap, Some, IfSome}
-use Rattle.std.specs.Int.{w128, from_be_bytes}
+use Rattle.std.proofs.Common.{◌∙◌, sym, ap, Some}
 use Rattle.std.proofs.lemmas.Str.{encodes-IsAscii}
 use Rattle.uuid.specs.Text.{parsed_hyphenated}
 use Rattle.pull_messages.proofs.Agents.{cells_parsed, cells_ascii, parsed_agent}

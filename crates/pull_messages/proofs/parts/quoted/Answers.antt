@@ -1,5 +1,5 @@
-use Rattle.std.proofs.Common.{ℕ, List, ◌≡◌, ◌+◌, ◌-◌, ◌∷◌, [], ◌++◌, length, refl, sym, ◌∙◌, ap, subst, arith, append_assoc, append-nil, length-append}
-use Rattle.std.specs.Prelude.{encode_utf8_all, encode_utf8}
+use Rattle.std.proofs.Common.{ℕ, List, ◌≡◌, ◌+◌, ◌-◌, ◌∷◌, ◌++◌, length, sym, ◌∙◌, subst, arith}
+use Rattle.std.specs.Prelude.{encode_utf8_all}
 use Rattle.pull_messages.specs.Targets.{doubled, IsQuoted}
 use Rattle.pull_messages.proofs.Quotes.{no_open, no_close, no_end, value_more, room_more, quoted_taken, no_chars, some_chars}
 use Rattle.std.proofs.lemmas.Bool.{eqb-true}

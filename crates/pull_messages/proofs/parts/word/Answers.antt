@@ -1,4 +1,4 @@
-use Rattle.std.proofs.Common.{ℕ, List, [], ◌∷◌, ◌++◌, ◌-◌, length, take, drop, get_or, refl, sym, ap, subst, ◌≡◌, true, arith}
+use Rattle.std.proofs.Common.{ℕ, List, [], ◌∷◌, ◌++◌, ◌-◌, length, take, drop, get_or, refl, sym, subst, ◌≡◌, true, arith}
 use Rattle.std.specs.Str.{all_scalars}
 use Rattle.pull_messages.proofs.Escaped.{more_front}
 use Rattle.pull_messages.proofs.Words.{bytes_scalars, word_stops, word_more, name_more}

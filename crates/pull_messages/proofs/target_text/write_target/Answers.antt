@@ -1,4 +1,4 @@
-use Rattle.std.proofs.Common.{◌≡◌, List, ℕ, sym, ◌∙◌, ap, subst}
+use Rattle.std.proofs.Common.{List, ℕ, sym, ◌∙◌, ap, subst}
 use Rattle.pull_messages.specs.Targets.{IsTarget}
 use Rattle.pull_messages.specs.TargetText.{target_text}
 use Rattle.pull_messages.proofs.WrittenTargets.{written_target}

@@ -1,6 +1,6 @@
-use Rattle.std.proofs.Common.{◌≡◌, ℕ, List, take, sym, subst, Vec, Global}
+use Rattle.std.proofs.Common.{sym, subst}
 use Rattle.std.proofs.lemmas.Result.{IfOk-weaker}
-use Rattle.std.specs.Str.{chars, IsUtf8, IsValidUpTo, valid_up_to}
+use Rattle.std.specs.Str.{IsValidUpTo}
 use Rattle.pull_messages.specs.Decoding.{IsDecoded}
 use Rattle.pull_messages.proofs.TargetLaws.{decoded_all, decoded_front}
 use Rattle.pull_messages.proofs.targets.decoded.Goals as goal

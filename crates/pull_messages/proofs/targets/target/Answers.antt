@@ -1,9 +1,9 @@
-use Rattle.std.proofs.Common.{◌≡◌, ◌<◌, ◌≤◌, ◌-◌, ◌+◌, ◌++◌, ℕ, List, [], length, take, refl, sym, ◌∙◌, ap, subst, arith, append-nil, length-append, rules, ◌^◌}
+use Rattle.std.proofs.Common.{◌<◌, ◌-◌, ℕ, List, [], length, take, refl, sym, ◌∙◌, ap, subst, arith, append-nil, rules, ◌^◌}
 use Rattle.std.specs.Prelude.{encode_utf8_all}
 use Rattle.pull_messages.specs.Decoding.{IsDecoded}
-use Rattle.pull_messages.specs.Escapes.{IsUnescaped, IsFrontOf}
-use Rattle.pull_messages.specs.Stops.{EndsAt, Begins, IsAnyTarget}
-use Rattle.pull_messages.specs.Targets.{IsTarget, SpellsTarget, IsLongestFront}
+use Rattle.pull_messages.specs.Escapes.{IsFrontOf}
+use Rattle.pull_messages.specs.Stops.{EndsAt, IsAnyTarget}
+use Rattle.pull_messages.specs.Targets.{SpellsTarget}
 use Rattle.pull_messages.proofs.OneTarget.{one_target}
 use Rattle.pull_messages.proofs.TargetLaws.{is_target, longest_front, no_target, whole_target, front_taken, small_front}
 use Rattle.pull_messages.proofs.targets.target.Goals as goal
