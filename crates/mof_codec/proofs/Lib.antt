@@ -35,7 +35,6 @@ pub mod DeclarationsRead
 pub mod IntegerFronts
 pub mod NumberSearch
 pub mod RefusalFound
-pub mod DecodesOnce
 pub mod OneRefusal
 pub mod Writing
 pub mod CanonicalTokens

@@ -13,12 +13,12 @@ use Rattle.mof_syntax.specs.Limits.{Spells, document_limit}
 use Rattle.mof_syntax.specs.Profile as profile
 use Rattle.mof_syntax.specs.Refusals.{Reads, Refuses, RefusesText, Wins, WinsOver, Applies, place_of, rank_of}
 use Rattle.mof_syntax.proofs.UniqueRules.{spells_same}
-use Rattle.mof_codec.proofs.DecodesOnce.{chars_once, fault_once, no_fault}
+use Rattle.mof_syntax.proofs.Decoded.{one_text, one_fault, no_fault}
 
 pub reads_once : (bytes : List ℕ) (is js : List Instance) → Reads bytes is → Reads bytes js → is ≡ js
 reads_once bytes is js a b =
     spells_same a.text is js a.spelled.wide
-    (subst (λ (t : List ℕ). Spells t js) (sym (chars_once bytes a.text b.text a.decoded b.decoded)) b.spelled).wide
+    (subst (λ (t : List ℕ). Spells t js) (sym (one_text bytes a.text b.text a.decoded b.decoded)) b.spelled).wide
 
 -- the characters at the front of the forms
 
@@ -118,10 +118,10 @@ pub text_refused : (bytes : List ℕ) (e : MofError) → length bytes ≤ docume
 text_refused bytes TooLong fits text chars some r = absurd (omega (arith, fits, r))
 text_refused bytes (Text at) fits text chars some r = absurd (no_fault bytes text at chars r.1)
 text_refused bytes Memory fits text chars some r = absurd (some refl)
-text_refused bytes (OutOfProfile at what) fits text chars some r = subst (λ (t : List ℕ). Wins t (OutOfProfile at what)) (chars_once bytes r.text text r.decoded chars) r.wins
-text_refused bytes (NumberRange at) fits text chars some r = subst (λ (t : List ℕ). Wins t (NumberRange at)) (chars_once bytes r.text text r.decoded chars) r.wins
-text_refused bytes (TooMany at) fits text chars some r = subst (λ (t : List ℕ). Wins t (TooMany at)) (chars_once bytes r.text text r.decoded chars) r.wins
-text_refused bytes (Syntax at) fits text chars some r = subst (λ (t : List ℕ). Wins t (Syntax at)) (chars_once bytes r.text text r.decoded chars) r.wins
+text_refused bytes (OutOfProfile at what) fits text chars some r = subst (λ (t : List ℕ). Wins t (OutOfProfile at what)) (one_text bytes r.text text r.decoded chars) r.wins
+text_refused bytes (NumberRange at) fits text chars some r = subst (λ (t : List ℕ). Wins t (NumberRange at)) (one_text bytes r.text text r.decoded chars) r.wins
+text_refused bytes (TooMany at) fits text chars some r = subst (λ (t : List ℕ). Wins t (TooMany at)) (one_text bytes r.text text r.decoded chars) r.wins
+text_refused bytes (Syntax at) fits text chars some r = subst (λ (t : List ℕ). Wins t (Syntax at)) (one_text bytes r.text text r.decoded chars) r.wins
 
 -- where a text is refused for its characters, no other refusal is that of its bytes
 behind_text : (bytes : List ℕ) (one other : MofError) → RefusesText bytes one → other ≢ Memory → Refuses bytes other → one ≡ other
@@ -142,4 +142,4 @@ refuses_once bytes one (Syntax at) m n a b = sym (behind_text bytes (Syntax at) 
 refuses_once bytes TooLong TooLong m n a b = refl
 refuses_once bytes TooLong (Text at) m n a b = absurd (omega (arith, a, b.0))
 refuses_once bytes (Text at) TooLong m n a b = absurd (omega (arith, a.0, b))
-refuses_once bytes (Text at) (Text to) m n a b = ap (λ (k : ℕ). Text k) (fault_once bytes at to a.1 b.1)
+refuses_once bytes (Text at) (Text to) m n a b = ap (λ (k : ℕ). Text k) (one_fault bytes at to a.1 b.1)

@@ -19,7 +19,6 @@ pub fn read(alloc: Global, bytes: &[u8]) -> Result<Vec<Instance>, MofError>
     ensures ok { IfOk result (λ instances. Reads bytes.now instances.items) }
     ensures refused { IfErr result (λ e. Refuses bytes.now e) }
     ensures only { IfErr result (λ e. e ≢ Memory → (is : List Instance) → Reads bytes.now is → ⊥) }
-    ensures none { IfErr result (λ e. e ≢ MofError.Memory → (instances : List Instance) → Reads bytes.now instances → ⊥) }
 {
     if bytes.len() > LIMIT {
         return Err(MofError::TooLong);

@@ -9,10 +9,4 @@ pub mod Absent
 pub mod FrontLaws
 pub mod UniqueTokens
 pub mod UniqueRules
-pub mod FirstRuns
-pub mod FirstFormTokens
-pub mod FirstParts
-pub mod FirstLists
-pub mod FirstBody
-pub mod FirstText
 pub mod Decoded

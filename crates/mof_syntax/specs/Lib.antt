@@ -15,6 +15,3 @@ pub mod Fronts
 pub mod Profile
 pub mod Counts
 pub mod Refusals
-pub mod FirstForm
-pub mod FirstReading
-pub mod FirstParts

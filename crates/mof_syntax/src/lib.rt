@@ -2,14 +2,12 @@
 //!
 //! A layer above may rely on this: `decode_text` gives exactly the characters that the bytes encode, or the first byte
 //! that is none; `tokens` gives each token where it stands, as long as the syntax allows, and where the walk ended;
-//! `read_first` gives exactly the instances that a text of the plain first form spells, and refuses every other text.
 //! specs/ states the syntax as relations between bytes, characters, tokens and instances, with the limits, the
 //! canonical text and every reason to refuse a text.
 #![tactic(auto)]
 
 mod decoding;
 mod encoding;
-mod first;
 mod lead;
 mod mof_error;
 pub mod scan;
@@ -20,7 +18,6 @@ mod walk;
 
 pub use decoding::decode_text;
 pub use encoding::{ByteOrder, Encoding};
-pub use first::read_first;
 pub use mof_error::{Form, MofError};
 pub use text_error::TextError;
 pub use token::{Token, TokenKind};
