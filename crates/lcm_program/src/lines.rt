@@ -7,8 +7,8 @@ ghost use Rattle.lcm_program.specs.Trace.{place_of, entry_is_yes, last_entry, ha
 ghost use Rattle.lcm_program.specs.Lines.{failure_name, test_words, set_words, id_at, line_of, verdict, summary, run_lines};
 
 use crate::entry::{Entry, Failure, SetAnswer, TestAnswer};
-use crate::literal::push_literal;
 use dsc_document::Document;
+use mof_codec::push_literal;
 use std::alloc::{AllocError, Global};
 
 /// The lines of a run; `places` are those of all resources, in order.

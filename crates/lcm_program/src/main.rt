@@ -11,7 +11,6 @@ mod entry;
 mod input;
 mod kinds;
 mod lines;
-mod literal;
 mod program;
 mod refusal;
 mod resources;

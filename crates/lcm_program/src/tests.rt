@@ -17,6 +17,13 @@ const ONE: &str =
 const SPELLED: &str =
     "INSTANCE of MSFT_EnvironmentResource\n{ // one\n ResourceID = \"[Environment]\" \"A\"; Name = \"\\x56\"; Value = \"1\";\n};\ninstance of OMI_ConfigurationDocument { Version = 2; };\n";
 
+/// A resource whose id has characters that are escaped in literals.
+const ESCAPED: &str =
+    "instance of MSFT_EnvironmentResource{ResourceID=\"[Environment]\\\"\\\\\\b\\t\\n\\f\\r\\x1\\x1F\\x7F\\x20AC\\'\";Name=\"V\";Value=\"1\";};instance of OMI_ConfigurationDocument{Version=\"2.0.0\";};";
+
+const ESCAPES: &str =
+    "test \"[Environment]\\\"\\\\\\b\\t\\n\\f\\r\\x0001\\x001F\u{7f}\u{20ac}'\" no\nresources 1 succeeded 0\nnot compliant 1\n";
+
 /// A resource whose Value is a number.
 const NUMBER: &str =
     "instance of MSFT_EnvironmentResource{ResourceID=\"[Environment]A\";Name=\"V\";Value=1;};instance of OMI_ConfigurationDocument{Version=\"2.0.0\";};";
@@ -241,11 +248,24 @@ fn test_prints_the_answers_and_ends_with_the_verdict(rt: HostRuntime) -> Result<
         (TWO, Some(b"1".as_slice()), Some(0), BEHIND_FAULT, 1),
         (HEADER, None, None, NOTHING, 0),
         ("", None, None, "refused NotYet\n", 3),
-        ("instance of A { X = 1; };", None, None, "refused NotYet\n", 3),
+        (
+            "instance of A { X = 1; };",
+            None,
+            None,
+            "refused NotYet\n",
+            3,
+        ),
         (NUMBER, None, None, "refused NotYet\n", 3),
         (SPELLED, None, None, NO, 1),
+        (ESCAPED, None, None, ESCAPES, 1),
         ("x", None, None, "refused Syntax 0\n", 3),
-        ("instance of A { X = 1.5; };", None, None, "refused OutOfProfile 20 real\n", 3),
+        (
+            "instance of A { X = 1.5; };",
+            None,
+            None,
+            "refused OutOfProfile 20 real\n",
+            3,
+        ),
     ] {
         let words: &'static [&'static str] = &["test"];
         let case = Case {
@@ -312,17 +332,5 @@ fn an_output_that_fails_is_told_but_for_a_refusal(rt: HostRuntime) -> Result<(),
         assert_eq!(rt; got, status, "{input}");
         assert!(rt; output.bytes().is_empty(), "{input}");
     }
-    Ok(())
-}
-
-#[test]
-fn ids_are_printed_as_literals(rt: HostRuntime) -> Result<(), Fail> {
-    let mut out = String::new(rt.alloc());
-    for text in ["a\"\\", "\u{8}\t\n\u{c}\r", "\u{1}\u{1f}\u{7f}\u{20ac}"] {
-        let chars: Vec<char> = text.chars().collect(rt.alloc())?;
-        literal::push_literal(&mut out, &chars)?;
-    }
-    let wanted = "\"a\\\"\\\\\"\"\\b\\t\\n\\f\\r\"\"\\x0001\\x001F\u{7f}\u{20ac}\"";
-    assert_eq!(rt; out.as_str(), wanted);
     Ok(())
 }

@@ -35,9 +35,7 @@ fn canon_prints_the_canonical_text_and_nothing_else(rt: HostRuntime) -> Result<(
 }
 
 #[test]
-fn a_text_that_spells_no_instances_is_refused_with_its_place(
-    rt: HostRuntime,
-) -> Result<(), Fail> {
+fn a_text_that_spells_no_instances_is_refused_with_its_place(rt: HostRuntime) -> Result<(), Fail> {
     for (input, lines) in [
         (
             b"instance of A { X = 1.5; };".as_slice(),
@@ -69,10 +67,7 @@ fn a_text_that_spells_no_instances_is_refused_with_its_place(
 
 #[test]
 fn an_input_past_a_limit_is_refused(rt: HostRuntime) -> Result<(), Fail> {
-    for (count, lines, status) in [
-        (2_097_152, "", 0),
-        (2_097_153, "refused TooLong\n", 3),
-    ] {
+    for (count, lines, status) in [(2_097_152, "", 0), (2_097_153, "refused TooLong\n", 3)] {
         let case = reading(WORDS, None, lines, status);
         let mut source = MemorySource::new(spaces(&rt, count)?, Vec::new(rt.alloc()));
         let mut output = MemorySink::new(rt.alloc(), Vec::new(rt.alloc()));

@@ -9,12 +9,12 @@ pub returns-in-Err-Refused-clause-each : goal.returns-in-Err-Refused-clause-each
 returns-in-Err-Refused-clause-each g c =
     let left = g.S.Ends.left c.args.input.now in
     let tells : TellsAnswer AnswersCanon g.K.Ends.held g.K.Ends.faults left (g.S.Ends.faults c.args.input.now)
-        (g.S.Ends.faults c.read_canonical.new.input) c.refuse.result c.args.output.now c.refuse.new.output = search rules in
+    (g.S.Ends.faults c.read_canonical.new.input) c.refuse.result c.args.output.now c.refuse.new.output = search rules in
     each_text g.K.Ends.held g.K.Ends.faults left _ _ c.refuse.result c.args.output.now c.refuse.new.output tells
 
 pub returns-clause-each : goal.returns-clause-each
 returns-clause-each g c =
     let left = g.S.Ends.left c.args.input.now in
     let tells : TellsAnswer AnswersCanon g.K.Ends.held g.K.Ends.faults left (g.S.Ends.faults c.args.input.now)
-        (g.S.Ends.faults c.read_canonical.new.input) c.print.result c.args.output.now c.print.new.output = search (rules, text_tells) in
+    (g.S.Ends.faults c.read_canonical.new.input) c.print.result c.args.output.now c.print.new.output = search (rules, text_tells) in
     each_text g.K.Ends.held g.K.Ends.faults left _ _ c.print.result c.args.output.now c.print.new.output tells
