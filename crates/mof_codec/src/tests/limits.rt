@@ -20,6 +20,13 @@ fn all(rt: &impl AllocGlobal, pieces: &[&str]) -> Result<String, Fail> {
     Ok(text)
 }
 
+fn followed(rt: &impl AllocGlobal, text: &str, behind: &str) -> Result<String, Fail> {
+    let mut whole = String::new(rt.alloc());
+    whole.push_str(text)?;
+    whole.push_str(behind)?;
+    Ok(whole)
+}
+
 #[test]
 fn integers_past_the_range_are_refused_where_they_begin(rt: HostRuntime) -> Result<(), Fail> {
     let zeros = repeated(&rt, "0", 64)?;
@@ -84,15 +91,16 @@ fn identifiers_have_at_most_255_characters(rt: HostRuntime) -> Result<(), Fail> 
         ("instance of A{X={1, $", "};};"),
     ] {
         let at = places(before);
-        let whole = all(&rt, &[before, &name, behind])?;
+        let named = followed(&rt, before, &name)?;
+        let whole = followed(&rt, &named, behind)?;
         assert_eq!(rt; refusal(&rt, &whole), None, "{before}");
-        let long = all(&rt, &[before, &name, "1", behind])?;
+        let long = followed(&rt, &followed(&rt, &named, "1")?, behind)?;
         assert_eq!(rt;
             refusal(&rt, &long),
             Some(MofError::TooMany { at }),
             "{before}"
         );
-        let torn = all(&rt, &[before, &name, "n"])?;
+        let torn = followed(&rt, &named, "n")?;
         assert_eq!(rt;
             refusal(&rt, &torn),
             Some(MofError::TooMany { at }),
@@ -124,7 +132,7 @@ fn an_instance_has_at_most_256_properties(rt: HostRuntime) -> Result<(), Fail> {
     let at = places(&full);
     for behind in ["P=1;};", "P", "x"] {
         assert_eq!(rt;
-            refusal(&rt, &all(&rt, &[&full, behind])?),
+            refusal(&rt, &followed(&rt, &full, behind)?),
             Some(MofError::TooMany { at }),
             "{behind}"
         );
@@ -145,7 +153,7 @@ fn an_array_has_at_most_4096_elements(rt: HostRuntime) -> Result<(), Fail> {
     let at = places(&next);
     for behind in ["1};};", "\"", "$A", "-"] {
         assert_eq!(rt;
-            refusal(&rt, &all(&rt, &[&next, behind])?),
+            refusal(&rt, &followed(&rt, &next, behind)?),
             Some(MofError::TooMany { at }),
             "{behind}"
         );
@@ -172,7 +180,7 @@ fn a_text_has_at_most_4097_instances(rt: HostRuntime) -> Result<(), Fail> {
     let at = places(&full);
     for behind in ["instance of B{};", "i", "Ix"] {
         assert_eq!(rt;
-            refusal(&rt, &all(&rt, &[&full, behind])?),
+            refusal(&rt, &followed(&rt, &full, behind)?),
             Some(MofError::TooMany { at }),
             "{behind}"
         );

@@ -218,7 +218,7 @@ fn values_nest_127_deep(rt: HostRuntime) -> Result<(), Fail> {
 }
 
 #[test]
-fn messages_are_written_compact_with_members_in_byte_order(rt: HostRuntime) -> Result<(), Fail> {
+fn a_registration_is_written_compact_with_members_in_byte_order(rt: HostRuntime) -> Result<(), Fail> {
     let registration = Registration {
         lcm_version: text(&rt, "2.0")?,
         node_name: text(&rt, "a\"\\/\n\u{1}\u{E9}")?,
@@ -234,7 +234,11 @@ fn messages_are_written_compact_with_members_in_byte_order(rt: HostRuntime) -> R
     );
     assert_eq!(rt; body.as_slice(), expected.as_bytes());
     assert_eq!(rt; read_registration(rt.alloc(), &body)?, registration);
+    Ok(())
+}
 
+#[test]
+fn a_query_is_written_with_its_clients(rt: HostRuntime) -> Result<(), Fail> {
     let query = ActionQuery {
         clients: Items::of(vec![in rt.alloc();
             Client {
@@ -247,7 +251,11 @@ fn messages_are_written_compact_with_members_in_byte_order(rt: HostRuntime) -> R
     let expected =
         r#"{"ClientStatus":[{"Checksum":"","ChecksumAlgorithm":"SHA-256","ConfigurationName":"Web"}]}"#;
     assert_eq!(rt; body.as_slice(), expected.as_bytes());
+    Ok(())
+}
 
+#[test]
+fn an_answer_is_written_with_its_details(rt: HostRuntime) -> Result<(), Fail> {
     let action = ActionAnswer {
         node: text(&rt, "GetConfiguration")?,
         details: Items::of(vec![in rt.alloc();
