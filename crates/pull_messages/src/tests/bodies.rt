@@ -218,7 +218,9 @@ fn values_nest_127_deep(rt: HostRuntime) -> Result<(), Fail> {
 }
 
 #[test]
-fn a_registration_is_written_compact_with_members_in_byte_order(rt: HostRuntime) -> Result<(), Fail> {
+fn a_registration_is_written_compact_with_members_in_byte_order(
+    rt: HostRuntime,
+) -> Result<(), Fail> {
     let registration = Registration {
         lcm_version: text(&rt, "2.0")?,
         node_name: text(&rt, "a\"\\/\n\u{1}\u{E9}")?,
