@@ -5,14 +5,14 @@ use Rattle.dsc_terms.specs.Lists.{IsOnce}
 use Rattle.dsc_terms.proofs.Places.{length-places_below, all_below, once_places}
 use Rattle.dsc_outside.specs.Host.{HostState}
 use Rattle.dsc_document.specs.declared.document.Document.{Document}
-use Rattle.lcm_program.specs.declared.entry.Entry.{Entry}
-use Rattle.lcm_program.specs.declared.kinds.Kinds.{Kinds}
+use Rattle.resource_kinds.specs.declared.entry.Entry.{Entry}
+use Rattle.resource_kinds.specs.declared.kinds.Kinds.{Kinds}
 use Rattle.lcm_program.specs.declared.runs.RunMode.TheVariants.{Monitor}
-use Rattle.lcm_program.specs.Trace.{Chain, host_failures}
+use Rattle.resource_kinds.specs.Trace.{Chain, host_failures}
 use Rattle.lcm_program.specs.Legal.{Legal}
 use Rattle.lcm_program.specs.Whole.{Whole}
-use Rattle.lcm_program.specs.Kinds.{host_of}
-use Rattle.lcm_program.specs.True.{TellsEntry}
+use Rattle.resource_kinds.specs.Kinds.{host_of}
+use Rattle.resource_kinds.specs.True.{TellsEntry}
 use Rattle.lcm_program.specs.Ran.{Ran, run_order}
 use Rattle.lcm_program.proofs.Traces.{tells_true, chain_map}
 

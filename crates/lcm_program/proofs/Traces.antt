@@ -8,14 +8,14 @@ use Rattle.dsc_terms.specs.Lists.{IsOnce}
 use Rattle.dsc_document.specs.declared.document.Document.{Document}
 use Rattle.lcm_program.specs.declared.runs.RunMode.{RunMode}
 use Rattle.lcm_program.specs.declared.runs.RunMode.TheVariants.{Monitor}
-use Rattle.lcm_program.specs.declared.entry.Entry.{Entry}
-use Rattle.lcm_program.specs.declared.entry.Entry.TheVariants.{Tested, Set}
-use Rattle.lcm_program.specs.declared.entry.TestAnswer.{TestAnswer}
-use Rattle.lcm_program.specs.declared.entry.TestAnswer.TheVariants as tests
-use Rattle.lcm_program.specs.Trace.{Chain, place_of, entry_failures, host_failures, EndsWith}
+use Rattle.resource_kinds.specs.declared.entry.Entry.{Entry}
+use Rattle.resource_kinds.specs.declared.entry.Entry.TheVariants.{Tested, Set}
+use Rattle.resource_kinds.specs.declared.entry.TestAnswer.{TestAnswer}
+use Rattle.resource_kinds.specs.declared.entry.TestAnswer.TheVariants as tests
+use Rattle.resource_kinds.specs.Trace.{Chain, place_of, entry_failures, host_failures, EndsWith}
 use Rattle.lcm_program.specs.Legal.{Legal, MayTest, MayFollow, GoesOn}
 use Rattle.dsc_outside.specs.Host.{HostState}
-use Rattle.lcm_program.specs.True.{True, TellsTrue, TellsEntry}
+use Rattle.resource_kinds.specs.True.{True, TellsTrue, TellsEntry}
 use Rattle.lcm_program.specs.Whole.{Whole}
 use Rattle.dsc_terms.proofs.Splits.{split_push, split_at, contains_front, precedes, precedes_front}
 

@@ -5,11 +5,11 @@ use Rattle.dsc_document.specs.declared.document.Document.{Document}
 use Rattle.dsc_document.specs.Dependencies.{IsDependency}
 use Rattle.lcm_program.specs.declared.runs.RunMode.{RunMode}
 use Rattle.lcm_program.specs.declared.runs.RunMode.TheVariants.{Repair}
-use Rattle.lcm_program.specs.declared.entry.TestAnswer.TheVariants as tests
-use Rattle.lcm_program.specs.declared.entry.SetAnswer.TheVariants as sets
-use Rattle.lcm_program.specs.declared.entry.Entry.{Entry}
-use Rattle.lcm_program.specs.declared.entry.Entry.TheVariants.{Tested, Set}
-use Rattle.lcm_program.specs.Trace.{HasEntry, EndsWith, IsFinal, Succeeded}
+use Rattle.resource_kinds.specs.declared.entry.TestAnswer.TheVariants as tests
+use Rattle.resource_kinds.specs.declared.entry.SetAnswer.TheVariants as sets
+use Rattle.resource_kinds.specs.declared.entry.Entry.{Entry}
+use Rattle.resource_kinds.specs.declared.entry.Entry.TheVariants.{Tested, Set}
+use Rattle.resource_kinds.specs.Trace.{HasEntry, EndsWith, IsFinal, Succeeded}
 
 -- a repair waits for the dependencies: the last entry of each is a test that answered yes
 abbrev pub IsReady : Document → RunMode → List Entry → ℕ → Type 0

@@ -1,8 +1,6 @@
 pub mod Canon
 pub mod Checksum
-pub mod Holds
 pub mod Input
-pub mod Kinds
 pub mod Legal
 pub mod Lines
 pub mod Printed
@@ -12,8 +10,6 @@ pub mod Refusal
 pub mod Status
 pub mod Streams
 pub mod Tool
-pub mod Trace
-pub mod True
 pub mod Unread
 pub mod Whole
 pub mod Words

@@ -5,23 +5,18 @@ use Rattle.std.specs.Fmt.{decimal}
 use Rattle.mof_syntax.specs.Canonical.{canonical_literal}
 use Rattle.dsc_document.specs.declared.document.Document.{Document}
 use Rattle.dsc_document.specs.declared.document.Resource.{Resource}
-use Rattle.lcm_program.specs.declared.entry.Failure.{Failure}
-use Rattle.lcm_program.specs.declared.entry.Failure.TheVariants.{NoSuchResource, HostFailed}
-use Rattle.lcm_program.specs.declared.entry.TestAnswer.{TestAnswer}
-use Rattle.lcm_program.specs.declared.entry.TestAnswer.TheVariants as tests
-use Rattle.lcm_program.specs.declared.entry.SetAnswer.{SetAnswer}
-use Rattle.lcm_program.specs.declared.entry.SetAnswer.TheVariants as sets
-use Rattle.lcm_program.specs.declared.entry.Entry.{Entry}
-use Rattle.lcm_program.specs.declared.entry.Entry.TheVariants.{Tested, Set}
-use Rattle.lcm_program.specs.Trace.{succeeded_count}
+use Rattle.resource_kinds.specs.declared.entry.TestAnswer.{TestAnswer}
+use Rattle.resource_kinds.specs.declared.entry.TestAnswer.TheVariants as tests
+use Rattle.resource_kinds.specs.declared.entry.SetAnswer.{SetAnswer}
+use Rattle.resource_kinds.specs.declared.entry.SetAnswer.TheVariants as sets
+use Rattle.resource_kinds.specs.declared.entry.Entry.{Entry}
+use Rattle.resource_kinds.specs.declared.entry.Entry.TheVariants.{Tested, Set}
+use Rattle.resource_kinds.specs.Names.{failure_name}
+use Rattle.resource_kinds.specs.Trace.{succeeded_count}
 
 -- an id or a name, as one literal of the instance syntax
 abbrev pub quoted : List ℕ → List ℕ
 quoted text = encode_utf8_all (canonical_literal text)
-
-abbrev pub failure_name : Failure → List ℕ
-failure_name NoSuchResource = codes "NoSuchResource"
-failure_name HostFailed = codes "HostFailed"
 
 abbrev pub test_words : TestAnswer → List ℕ
 test_words tests.Yes = codes " yes"

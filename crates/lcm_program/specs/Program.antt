@@ -5,15 +5,15 @@ use Rattle.dsc_terms.specs.Counts.{Rose}
 use Rattle.dsc_outside.specs.Host.{HostState}
 use Rattle.mof_syntax.specs.declared.mof_error.MofError.{MofError}
 use Rattle.dsc_document.specs.declared.document.Document.{Document}
-use Rattle.lcm_program.specs.declared.kinds.Kinds.{Kinds}
+use Rattle.resource_kinds.specs.declared.kinds.Kinds.{Kinds}
 use Rattle.lcm_program.specs.declared.status.Status.{Status}
 use Rattle.lcm_program.specs.declared.status.Status.TheVariants.{Done, NotCompliant, Usage, InputRefused, ReadFault, WriteFault, Memory}
 use Rattle.lcm_program.specs.declared.status.InputError.{InputError}
 use Rattle.lcm_program.specs.declared.status.InputError.TheVariants.{TooLong, Mof, NotYet}
 use Rattle.lcm_program.specs.Unread.{IsNoDocument}
-use Rattle.lcm_program.specs.Kinds.{calls_of, host_of}
+use Rattle.resource_kinds.specs.Kinds.{calls_of, host_of}
 use Rattle.lcm_program.specs.Printed.{IsCutShort}
-use Rattle.lcm_program.specs.Trace.{missed_count}
+use Rattle.resource_kinds.specs.Trace.{missed_count}
 use Rattle.lcm_program.specs.Legal.{GoesOn}
 use Rattle.lcm_program.specs.Lines.{run_lines}
 use Rattle.lcm_program.specs.Input.{Reads, IsRefusedFor, input_limit}

@@ -5,11 +5,11 @@ use Rattle.dsc_terms.specs.Lists.{places_below}
 use Rattle.dsc_outside.specs.Host.{HostState}
 use Rattle.dsc_document.specs.declared.document.Document.{Document}
 use Rattle.lcm_program.specs.declared.runs.RunMode.TheVariants.{Monitor}
-use Rattle.lcm_program.specs.declared.entry.Entry.{Entry}
-use Rattle.lcm_program.specs.Trace.{host_failures}
+use Rattle.resource_kinds.specs.declared.entry.Entry.{Entry}
+use Rattle.resource_kinds.specs.Trace.{host_failures}
 use Rattle.lcm_program.specs.Legal.{Legal}
 use Rattle.lcm_program.specs.Whole.{Whole}
-use Rattle.lcm_program.specs.True.{TellsTrue}
+use Rattle.resource_kinds.specs.True.{TellsTrue}
 
 -- the order of a run: that of the document
 abbrev pub run_order : Document → List ℕ

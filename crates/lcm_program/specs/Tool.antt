@@ -2,7 +2,7 @@
 use Rattle.std.specs.Prelude.{◌≡◌, ◌<◌, ℕ, List, length, Option, Result, Ok, Err, IfSome, ⊤}
 use Rattle.std.specs.Io.KnownBytes.{Appends}
 use Rattle.dsc_terms.specs.Counts.{Rose}
-use Rattle.lcm_program.specs.declared.kinds.Kinds.{Kinds}
+use Rattle.resource_kinds.specs.declared.kinds.Kinds.{Kinds}
 use Rattle.lcm_program.specs.declared.refusal.Refusal.{Refusal}
 use Rattle.lcm_program.specs.declared.refusal.Refusal.TheVariants as refusals
 use Rattle.lcm_program.specs.declared.status.InputError.{InputError}

@@ -4,11 +4,11 @@ use Rattle.dsc_terms.specs.Lists.{Precedes}
 use Rattle.dsc_document.specs.declared.document.Document.{Document}
 use Rattle.lcm_program.specs.declared.runs.RunMode.{RunMode}
 use Rattle.lcm_program.specs.declared.runs.RunMode.TheVariants.{Repair}
-use Rattle.lcm_program.specs.declared.entry.TestAnswer.TheVariants as tests
-use Rattle.lcm_program.specs.declared.entry.SetAnswer.TheVariants as sets
-use Rattle.lcm_program.specs.declared.entry.Entry.{Entry}
-use Rattle.lcm_program.specs.declared.entry.Entry.TheVariants.{Tested, Set}
-use Rattle.lcm_program.specs.Trace.{HasEntry, EndsWith, IsFinal, place_of}
+use Rattle.resource_kinds.specs.declared.entry.TestAnswer.TheVariants as tests
+use Rattle.resource_kinds.specs.declared.entry.SetAnswer.TheVariants as sets
+use Rattle.resource_kinds.specs.declared.entry.Entry.{Entry}
+use Rattle.resource_kinds.specs.declared.entry.Entry.TheVariants.{Tested, Set}
+use Rattle.resource_kinds.specs.Trace.{HasEntry, EndsWith, IsFinal, place_of}
 use Rattle.lcm_program.specs.Legal.{IsReady}
 
 -- where the trace ends with a reboot asked for, or with memory refused, only the resources before that one are asked of it

@@ -3,10 +3,11 @@ ghost use Rattle.std.specs.Prelude.{◌≡◌, ◌<◌, ◌≤◌, ◌++◌, len
 ghost use Rattle.std.specs.Option.{option_copied};
 ghost use Rattle.std.specs.List.{flat_map};
 ghost use Rattle.dsc_terms.specs.Lists.{places_below};
-ghost use Rattle.lcm_program.specs.Trace.{place_of, entry_is_yes, last_entry, has_succeeded};
-ghost use Rattle.lcm_program.specs.Lines.{failure_name, test_words, set_words, id_at, line_of, verdict, summary, run_lines};
+ghost use Rattle.resource_kinds.specs.Trace.{place_of, entry_is_yes, last_entry, has_succeeded};
+ghost use Rattle.resource_kinds.specs.Names.{failure_name};
+ghost use Rattle.lcm_program.specs.Lines.{test_words, set_words, id_at, line_of, verdict, summary, run_lines};
 
-use crate::entry::{Entry, Failure, SetAnswer, TestAnswer};
+use resource_kinds::{Entry, Failure, SetAnswer, TestAnswer};
 use dsc_document::Document;
 use mof_codec::push_literal;
 use std::alloc::{AllocError, Global};

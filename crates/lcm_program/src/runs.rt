@@ -2,12 +2,12 @@
 ghost use Rattle.std.specs.Prelude.{◌≡◌, ◌<◌, ◌≤◌, [], length, All};
 ghost use Rattle.dsc_terms.specs.Counts.{RoseBy};
 ghost use Rattle.dsc_terms.specs.Lists.{IsOnce};
-ghost use Rattle.lcm_program.specs.Trace.{Chain, EndsInMemory, host_failures};
+ghost use Rattle.resource_kinds.specs.Trace.{Chain, EndsInMemory, host_failures};
 ghost use Rattle.lcm_program.specs.Legal.{Legal, GoesOn};
 ghost use Rattle.lcm_program.specs.Whole.{Whole};
 
-use crate::entry::TestAnswer;
-use crate::resources::Resources;
+use resource_kinds::TestAnswer;
+use resource_kinds::Resources;
 use dsc_document::Document;
 
 /// What a run may do with a resource that does not hold.

@@ -3,15 +3,15 @@ ghost use Rattle.std.specs.Prelude.{◌≡◌, ◌≢◌, ◌⊎◌, ◌<◌, �
 ghost use Rattle.dsc_terms.specs.Counts.{Rose};
 ghost use Rattle.dsc_terms.specs.Lists.{IsOnce, places_below};
 ghost use Rattle.dsc_document.specs.declared.document.Document.{Document};
-ghost use Rattle.lcm_program.specs.Trace.{missed_count, place_of};
+ghost use Rattle.resource_kinds.specs.Trace.{missed_count, place_of};
 ghost use Rattle.lcm_program.specs.Legal.{GoesOn};
 ghost use Rattle.lcm_program.specs.Lines.{run_lines};
-ghost use Rattle.lcm_program.specs.Kinds.{calls_of, host_of};
+ghost use Rattle.resource_kinds.specs.Kinds.{calls_of, host_of};
 ghost use Rattle.lcm_program.specs.Ran.{Ran, run_order};
 
-use crate::kinds::Kinds;
+use resource_kinds::Kinds;
 use crate::lines::{count_succeeded, lines_of};
-use crate::resources::Resources;
+use resource_kinds::Resources;
 use crate::runs::{RunEnd, monitor};
 use dsc_document::Document;
 use dsc_outside::Host;

@@ -1,11 +1,11 @@
 use Rattle.std.proofs.Common.{◌≡◌, rules, length-append, ◌∷◌, [], ◌++◌, List, arith, sym, ◌∙◌, ap, subst, length, get_or}
-use Rattle.lcm_program.specs.declared.entry.Entry.TheVariants.{Tested}
-use Rattle.lcm_program.specs.declared.entry.TestAnswer.TheVariants as tests
+use Rattle.resource_kinds.specs.declared.entry.Entry.TheVariants.{Tested}
+use Rattle.resource_kinds.specs.declared.entry.TestAnswer.TheVariants as tests
 use Rattle.lcm_program.specs.declared.runs.RunMode.TheVariants.{Monitor}
-use Rattle.lcm_program.specs.declared.entry.Entry.{Entry}
-use Rattle.lcm_program.specs.declared.entry.TestAnswer.{TestAnswer}
+use Rattle.resource_kinds.specs.declared.entry.Entry.{Entry}
+use Rattle.resource_kinds.specs.declared.entry.TestAnswer.{TestAnswer}
 use Rattle.lcm_program.specs.Legal.{Legal}
-use Rattle.lcm_program.specs.Trace.{IsFinal}
+use Rattle.resource_kinds.specs.Trace.{IsFinal}
 use Rattle.lcm_program.proofs.Traces.{legal_push, chain_push, ends_with_push, may_test, places_push, host_failures_push, whole_at_memory}
 use Rattle.lcm_program.proofs.runs.monitor.Goals as goal
 

@@ -12,7 +12,7 @@ pub enum Failure {
 }
 
 impl Failure {
-    ghost use Rattle.lcm_program.specs.Lines.{failure_name};
+    ghost use Rattle.resource_kinds.specs.Names.{failure_name};
 
     pub fn name(self) -> &'static str
         ensures { result.now ≡ failure_name self }
@@ -52,7 +52,7 @@ pub enum Entry {
 }
 
 impl Entry {
-    ghost use Rattle.lcm_program.specs.Trace.{place_of};
+    ghost use Rattle.resource_kinds.specs.Trace.{place_of};
 
     pub fn place(&self) -> u32
         ensures { result ≡ place_of self.now }

@@ -1,6 +1,6 @@
 use Rattle.std.proofs.Common.{◌≡◌, length}
-use Rattle.lcm_program.specs.Holds.{text_named}
-use Rattle.lcm_program.proofs.kinds.find_text.Given as goal
+use Rattle.resource_kinds.specs.Holds.{text_named}
+use Rattle.resource_kinds.proofs.kinds.find_text.Given as goal
 
 abbrev pub invariant-loop-left : goal.invariant-loop-left
 invariant-loop-left l = text_named l.name l.properties ≡ text_named l.name l.left

@@ -2,9 +2,9 @@
 ghost use Rattle.std.specs.Prelude.{◌≡◌, ◌<◌, ◌≤◌, ◌+◌, ◌++◌, ◌∷◌, [], List, ℕ, length, OnOk};
 ghost use Rattle.dsc_terms.specs.Counts.{RoseBy};
 ghost use Rattle.dsc_document.specs.declared.document.Document.{Document};
-ghost use Rattle.lcm_program.specs.declared.entry.Entry.{Entry};
-ghost use Rattle.lcm_program.specs.declared.entry.Entry.TheVariants.{Tested};
-ghost use Rattle.lcm_program.specs.Trace.{entry_failures};
+ghost use Rattle.resource_kinds.specs.declared.entry.Entry.{Entry};
+ghost use Rattle.resource_kinds.specs.declared.entry.Entry.TheVariants.{Tested};
+ghost use Rattle.resource_kinds.specs.Trace.{entry_failures};
 
 use crate::entry::{Entry, TestAnswer};
 use dsc_document::Document;

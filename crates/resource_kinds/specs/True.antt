@@ -2,13 +2,13 @@
 use Rattle.std.specs.Prelude.{◌≡◌, List, Option, Some, None, ⊤, IfSome, slice_get}
 use Rattle.dsc_outside.specs.Host.{HostState}
 use Rattle.dsc_document.specs.declared.document.Document.{Document}
-use Rattle.lcm_program.specs.declared.entry.Failure.TheVariants.{NoSuchResource, HostFailed}
-use Rattle.lcm_program.specs.declared.entry.TestAnswer.{TestAnswer}
-use Rattle.lcm_program.specs.declared.entry.TestAnswer.TheVariants as tests
-use Rattle.lcm_program.specs.declared.entry.Entry.{Entry}
-use Rattle.lcm_program.specs.declared.entry.Entry.TheVariants.{Tested, Set}
-use Rattle.lcm_program.specs.Holds.{Variable, variable_of, Holds}
-use Rattle.lcm_program.specs.Trace.{Chain}
+use Rattle.resource_kinds.specs.declared.entry.Failure.TheVariants.{NoSuchResource, HostFailed}
+use Rattle.resource_kinds.specs.declared.entry.TestAnswer.{TestAnswer}
+use Rattle.resource_kinds.specs.declared.entry.TestAnswer.TheVariants as tests
+use Rattle.resource_kinds.specs.declared.entry.Entry.{Entry}
+use Rattle.resource_kinds.specs.declared.entry.Entry.TheVariants.{Tested, Set}
+use Rattle.resource_kinds.specs.Holds.{Variable, variable_of, Holds}
+use Rattle.resource_kinds.specs.Trace.{Chain}
 
 -- the Test of a resource of a known kind
 abbrev pub AnswersKnown : HostState → Variable → TestAnswer → Type 0

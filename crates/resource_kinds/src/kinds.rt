@@ -4,12 +4,12 @@ ghost use Rattle.std.specs.Option.{option_map};
 ghost use Rattle.mof_values.specs.Fold.{fold_case};
 ghost use Rattle.dsc_terms.specs.Counts.{RoseBy};
 ghost use Rattle.dsc_outside.specs.Causes.{HasCauseOf};
-ghost use Rattle.lcm_program.specs.declared.entry.Entry.TheVariants.{Tested};
-ghost use Rattle.lcm_program.specs.Holds as Holds;
-ghost use Rattle.lcm_program.specs.Holds.{variable_of, text_named, text_of, Variable};
+ghost use Rattle.resource_kinds.specs.declared.entry.Entry.TheVariants.{Tested};
+ghost use Rattle.resource_kinds.specs.Holds as Holds;
+ghost use Rattle.resource_kinds.specs.Holds.{variable_of, text_named, text_of, Variable};
 ghost use Rattle.std.specs.Str.{bytes_eq};
-ghost use Rattle.lcm_program.specs.True.{AnswersTrue, TellsEntry};
-ghost use Rattle.lcm_program.specs.Trace.{test_failures};
+ghost use Rattle.resource_kinds.specs.True.{AnswersTrue, TellsEntry};
+ghost use Rattle.resource_kinds.specs.Trace.{test_failures};
 
 use crate::entry::{Entry, Failure, TestAnswer};
 use crate::resources::Resources;
@@ -27,7 +27,7 @@ pub struct Kinds<H: Host> {
 }
 
 impl<H: Host> Kinds<H> {
-    ghost use Rattle.lcm_program.specs.Kinds.{calls_of, host_of};
+    ghost use Rattle.resource_kinds.specs.Kinds.{calls_of, host_of};
 
     pub fn new(alloc: Global, host: H) -> Kinds<H>
         ensures calls { calls_of result ≡ [] }
@@ -48,7 +48,7 @@ impl<H: Host> Kinds<H> {
 }
 
 impl<H: Host + Drop> Kinds<H> {
-    ghost use Rattle.lcm_program.specs.Kinds.{host_of};
+    ghost use Rattle.resource_kinds.specs.Kinds.{host_of};
 
     pub fn into_host(self) -> H
         ensures { result ≡ host_of self }
@@ -61,8 +61,8 @@ impl<H: Host> Resources for Kinds<H> {
     ghost use Rattle.std.specs.Prelude.{◌≡◌, ◌-◌, ◌≤◌, vec_capacity, vec_len, OnOk};
     ghost use Rattle.std.proofs.Common.{refl, subst, sym, Option};
     ghost use Rattle.dsc_outside.specs.Host.{HostState};
-    ghost use Rattle.lcm_program.specs.Kinds.{calls_of, host_of, spare_of};
-    ghost use Rattle.lcm_program.specs.True.{TellsEntry};
+    ghost use Rattle.resource_kinds.specs.Kinds.{calls_of, host_of, spare_of};
+    ghost use Rattle.resource_kinds.specs.True.{TellsEntry};
 
     ghost kept = { calls_of };
 

@@ -1,7 +1,7 @@
 -- What the kinds of resources over a host show of it.
 use Rattle.std.specs.Prelude.{ℕ, ◌-◌, List, vec_capacity, vec_len}
-use Rattle.lcm_program.specs.declared.entry.Entry.{Entry}
-use Rattle.lcm_program.specs.declared.kinds.Kinds.{Kinds}
+use Rattle.resource_kinds.specs.declared.entry.Entry.{Entry}
+use Rattle.resource_kinds.specs.declared.kinds.Kinds.{Kinds}
 
 -- the entries of its calls
 abbrev pub calls_of : {H : Type 0} → Kinds H → List Entry

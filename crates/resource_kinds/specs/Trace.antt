@@ -2,14 +2,14 @@
 use Rattle.std.specs.Prelude.{◌≡◌, ◌==◌, ◌-◌, ℕ, Bool, true, false, IsTrue, List, [], ◌∷◌, ◌++◌, length, Option, Some, None, map, sum_by, count_by, Contains, find, reverse}
 use Rattle.dsc_terms.specs.Lists.{places_below}
 use Rattle.dsc_document.specs.declared.document.Document.{Document}
-use Rattle.lcm_program.specs.declared.entry.Failure.{Failure}
-use Rattle.lcm_program.specs.declared.entry.Failure.TheVariants.{NoSuchResource, HostFailed}
-use Rattle.lcm_program.specs.declared.entry.TestAnswer.{TestAnswer}
-use Rattle.lcm_program.specs.declared.entry.TestAnswer.TheVariants as tests
-use Rattle.lcm_program.specs.declared.entry.SetAnswer.{SetAnswer}
-use Rattle.lcm_program.specs.declared.entry.SetAnswer.TheVariants as sets
-use Rattle.lcm_program.specs.declared.entry.Entry.{Entry}
-use Rattle.lcm_program.specs.declared.entry.Entry.TheVariants.{Tested, Set}
+use Rattle.resource_kinds.specs.declared.entry.Failure.{Failure}
+use Rattle.resource_kinds.specs.declared.entry.Failure.TheVariants.{NoSuchResource, HostFailed}
+use Rattle.resource_kinds.specs.declared.entry.TestAnswer.{TestAnswer}
+use Rattle.resource_kinds.specs.declared.entry.TestAnswer.TheVariants as tests
+use Rattle.resource_kinds.specs.declared.entry.SetAnswer.{SetAnswer}
+use Rattle.resource_kinds.specs.declared.entry.SetAnswer.TheVariants as sets
+use Rattle.resource_kinds.specs.declared.entry.Entry.{Entry}
+use Rattle.resource_kinds.specs.declared.entry.Entry.TheVariants.{Tested, Set}
 
 -- the resource that an entry is of, by its place in the document
 abbrev pub place_of : Entry → ℕ

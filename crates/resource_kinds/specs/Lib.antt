@@ -1,0 +1,5 @@
+pub mod Holds
+pub mod Kinds
+pub mod Names
+pub mod Trace
+pub mod True

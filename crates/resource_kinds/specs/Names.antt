@@ -1,0 +1,8 @@
+-- The names of faults.
+use Rattle.std.specs.Prelude.{ℕ, List, codes}
+use Rattle.resource_kinds.specs.declared.entry.Failure.{Failure}
+use Rattle.resource_kinds.specs.declared.entry.Failure.TheVariants.{NoSuchResource, HostFailed}
+
+abbrev pub failure_name : Failure → List ℕ
+failure_name NoSuchResource = codes "NoSuchResource"
+failure_name HostFailed = codes "HostFailed"
