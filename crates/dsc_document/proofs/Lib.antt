@@ -1,7 +1,6 @@
 pub mod Declared
 pub mod FoldKeys
 pub mod Indexes
-pub mod NamedApart
 pub mod OneCondition
 pub mod Passing
 pub mod Placed

@@ -1,7 +1,6 @@
 pub mod Conditions
 pub mod Declarations
 pub mod Dependencies
-pub mod First
 pub mod Names
 pub mod Places
 pub mod Rules

@@ -5,8 +5,6 @@
 //! one header, aliases that are there, ids of their form that differ by fold, lists of texts to depend on, in a
 //! whole document each the id of a resource; and on the resources and the other instances in the order of the
 //! list. A refusal is the first rule that is broken, at its least index.
-//!
-//! `first` reads a plain first form: Environment resources, each spelled in one way, and last the header.
 #![tactic(auto)]
 
 mod aliases;
@@ -15,7 +13,6 @@ mod declarations;
 mod depends;
 mod document;
 mod error;
-mod first_form;
 mod headers;
 mod ids;
 mod places;
@@ -26,7 +23,6 @@ mod unknown;
 
 pub use document::{Document, Resource};
 pub use error::DocError;
-pub use first_form::first;
 pub use rules::{check, check_part, one_refusal_wins};
 pub use spot::Spot;
 pub use unknown::{UnknownId, unknown_id};

@@ -1,5 +1,5 @@
 use super::*;
-use mof_values::{FirstError, Ident, Instance, Items, Property, Scalar, Text, Value};
+use mof_values::{Ident, Instance, Items, Property, Scalar, Text, Value};
 use std::test::Fail;
 
 fn text(rt: &impl AllocGlobal, chars: &str) -> Result<Text, Fail> {
@@ -155,182 +155,13 @@ fn checked(rt: &impl AllocGlobal, declarations: &str, as_part: bool) -> Result<S
     shown(rt, &answer)
 }
 
-fn read_first(
-    rt: &impl AllocGlobal,
-    declarations: &str,
-) -> Result<Result<Document, FirstError>, Fail> {
+// the document that `check` makes
+fn whole(rt: &impl AllocGlobal, declarations: &str) -> Result<Result<Document, DocError>, Fail> {
     let made = instances(rt, declarations)?;
     if made.len() > 9 {
         return Err("too many instances".into());
     }
-    Ok(first(rt.alloc(), made))
-}
-
-#[test]
-fn environment_resources_and_a_header_are_a_document(rt: HostRuntime) -> Result<(), Fail> {
-    let document = read_first(
-        &rt,
-        "MSFT_EnvironmentResource ResourceID=[Environment]A Name=V Value=v;
-        MSFT_EnvironmentResource ResourceID=[Environment]] Name=W Value=w;
-        OMI_ConfigurationDocument Version=2.0.0",
-    )??;
-    assert!(rt; document.version == text(&rt, "2.0.0")?);
-    let resources = document.resources.as_slice();
-    assert_eq!(rt; resources.len(), 2);
-    for (resource, (index, id)) in resources
-        .iter()
-        .zip([(0, "[Environment]A"), (1, "[Environment]]")])
-    {
-        assert!(rt; resource.id == text(&rt, id)?, "{id}");
-        assert_eq!(rt; (resource.part, resource.index), (0, index));
-        assert!(rt; resource.depends.as_slice().is_empty());
-    }
-    assert!(rt; document.others.as_slice().is_empty());
-    assert_eq!(rt; document.parts.as_slice().len(), 1);
-    Ok(())
-}
-
-#[test]
-fn lists_of_another_form_are_refused(rt: HostRuntime) -> Result<(), Fail> {
-    let long = "a".repeat(rt.alloc(), 240)?;
-    for (declarations, taken) in [
-        (
-            "MSFT_EnvironmentResource ResourceID=[Environment]abc@ Name=n Value=v; OMI_ConfigurationDocument Version=2",
-            true,
-        ),
-        (
-            "MSFT_EnvironmentResource ResourceID=[Environment]ab\u{e4}@ Name=n Value=v; OMI_ConfigurationDocument Version=2",
-            false,
-        ),
-        ("OMI_ConfigurationDocument Version=null", true),
-        ("OMI_ConfigurationDocument Version={}", true),
-        ("OMI_ConfigurationDocument", false),
-        ("OMI_ConfigurationDocument version=2", false),
-        ("OMI_ConfigurationDocument Version=2 Author=a", false),
-        ("OMI_configurationDocument Version=2", false),
-        ("OMI_ConfigurationDocument a Version=2", false),
-        (
-            "OMI_ConfigurationDocument Version=2; OMI_ConfigurationDocument Version=2",
-            false,
-        ),
-        (
-            "OMI_ConfigurationDocument Version=2; MSFT_EnvironmentResource ResourceID=[Environment]A Name=n Value=v",
-            false,
-        ),
-        (
-            "MSFT_EnvironmentResource ResourceID=[Environment]A Name=n Value=v",
-            false,
-        ),
-    ] {
-        let mut filled = String::new(rt.alloc());
-        for piece in declarations.split('@') {
-            if !filled.is_empty() {
-                filled.push_str(long.as_str())?;
-            }
-            filled.push_str(piece)?;
-        }
-        assert_eq!(rt;
-            read_first(&rt, filled.as_str())?.is_ok(),
-            taken,
-            "{declarations}"
-        );
-    }
-    Ok(())
-}
-
-#[test]
-fn resources_of_another_form_are_refused(rt: HostRuntime) -> Result<(), Fail> {
-    for (declaration, taken) in [
-        (
-            "MSFT_EnvironmentResource ResourceID=[Environment]C Name=c Value=v",
-            true,
-        ),
-        (
-            "MSFT_EnvironmentResource ResourceID=[Environment]\u{e4} Name=\u{e4} Value=",
-            true,
-        ),
-        (
-            "MSFT_EnvironmentResource ResourceID=[Environment] Name=c Value=v",
-            false,
-        ),
-        (
-            "MSFT_EnvironmentResource ResourceID=[environment]C Name=c Value=v",
-            false,
-        ),
-        (
-            "MSFT_EnvironmentResource ResourceID=[File]C Name=c Value=v",
-            false,
-        ),
-        (
-            "MSFT_EnvironmentResource ResourceID=C Name=c Value=v",
-            false,
-        ),
-        ("MSFT_EnvironmentResource ResourceID= Name=c Value=v", false),
-        (
-            "MSFT_EnvironmentResource ResourceID=[Environment]C Name= Value=v",
-            false,
-        ),
-        (
-            "MSFT_EnvironmentResource ResourceID=[Environment]a Name=c Value=v",
-            false,
-        ),
-        (
-            "MSFT_EnvironmentResource ResourceID=[Environment]C Name=path Value=v",
-            false,
-        ),
-        (
-            "MSFT_EnvironmentResource ResourceID=null Name=c Value=v",
-            false,
-        ),
-        (
-            "MSFT_EnvironmentResource ResourceID={[Environment]C} Name=c Value=v",
-            false,
-        ),
-        (
-            "MSFT_EnvironmentResource ResourceID=[Environment]C Name=7 Value=v",
-            false,
-        ),
-        (
-            "MSFT_EnvironmentResource ResourceID=[Environment]C Name=c Value=$a",
-            false,
-        ),
-        (
-            "MSFT_EnvironmentResource a ResourceID=[Environment]C Name=c Value=v",
-            false,
-        ),
-        (
-            "MSFT_EnvironmentResource ResourceID=[Environment]C Name=c",
-            false,
-        ),
-        (
-            "MSFT_EnvironmentResource ResourceID=[Environment]C Name=c Value=v Ensure=Present",
-            false,
-        ),
-        (
-            "MSFT_EnvironmentResource Name=c ResourceID=[Environment]C Value=v",
-            false,
-        ),
-        (
-            "MSFT_EnvironmentResource ResourceID=[Environment]C name=c Value=v",
-            false,
-        ),
-        (
-            "MSFT_environmentResource ResourceID=[Environment]C Name=c Value=v",
-            false,
-        ),
-    ] {
-        let declarations = format!(in rt.alloc();
-            "MSFT_EnvironmentResource ResourceID=[Environment]A Name=PATH Value=v;
-            MSFT_EnvironmentResource ResourceID=[Environment]B Name=\u{c4} Value=v;
-            {declaration}; OMI_ConfigurationDocument Version=2"
-        )?;
-        assert_eq!(rt;
-            read_first(&rt, declarations.as_str())?.is_ok(),
-            taken,
-            "{declaration}"
-        );
-    }
-    Ok(())
+    Ok(check(rt.alloc(), made))
 }
 
 #[test]
@@ -338,7 +169,7 @@ fn the_version_is_cut_behind_64_characters(rt: HostRuntime) -> Result<(), Fail> 
     for (count, kept) in [(1, 1), (63, 63), (64, 64), (65, 64)] {
         let version = "\u{e4}".repeat(rt.alloc(), count)?;
         let declaration = format!(in rt.alloc(); "OMI_ConfigurationDocument Version={version}")?;
-        let document = read_first(&rt, declaration.as_str())??;
+        let document = whole(&rt, declaration.as_str())??;
         assert_eq!(rt; document.version.as_slice().len(), kept);
     }
     Ok(())

@@ -6,7 +6,6 @@
 #![tactic(auto)]
 
 mod bytes;
-mod first_error;
 mod fold;
 mod ident;
 mod instance;
@@ -16,7 +15,6 @@ mod text;
 mod value;
 
 pub use bytes::Bytes;
-pub use first_error::FirstError;
 pub use fold::{is_named, is_spelled, same_name, same_text};
 pub use ident::{Ident, IdentError};
 pub use instance::{Instance, Property};
