@@ -1,76 +1,111 @@
--- What is answered of each input, from the causes of the refusals.
-use Rattle.std.proofs.Common.{ℕ, ◌≤◌, length, List, Option, Some, None, refl, ap, subst, arith}
+-- What is answered of each input that is read as a document, from what was told of it.
+use Rattle.std.proofs.Common.{◌≡◌, ℕ, ◌<◌, ◌≤◌, length, List, [], ◌∷◌, Option, Some, None, Ok, Err, refl, ap, arith}
 use Rattle.std.specs.Prelude.{IfSome}
+use Rattle.std.specs.List.{AllZip}
 use Rattle.dsc_document.specs.declared.document.Document.{Document}
-use Rattle.mof_syntax.specs.declared.mof_error.MofError.{MofError}
-use Rattle.dsc_document.specs.First.{IsFirstForm}
-use Rattle.mof_codec.proofs.OneRefusal.{reads_once, refuses_once}
+use Rattle.partial_merge.specs.declared.error.MergeError.{MergeError}
+use Rattle.partial_merge.specs.Parts.{IsWhole}
+use Rattle.partial_merge.proofs.OneMerge.{never_both, one_refusal}
 use Rattle.lcm_program.specs.declared.refusal.Refusal.{Refusal}
 use Rattle.lcm_program.specs.declared.refusal.Refusal.TheVariants as refusals
-use Rattle.lcm_program.specs.declared.status.InputError.TheVariants.{TooLong, Mof, NotYet}
+use Rattle.lcm_program.specs.declared.status.InputError.TheVariants.{TooLong, Mof, Merge}
 use Rattle.lcm_program.specs.declared.status.Status.{Status}
 use Rattle.lcm_program.specs.declared.status.Status.TheVariants.{Done, NotCompliant, Usage, InputRefused, ReadFault, WriteFault, Memory}
 use Rattle.lcm_program.specs.Refusal.{status_of}
-use Rattle.lcm_program.specs.Input.{Reads, IsRefusedFor, input_limit}
-use Rattle.lcm_program.specs.Unread.{IsRefused, IsNoDocument}
-use Rattle.lcm_program.specs.Program.{IsRun, IsInput, AnswersEach}
+use Rattle.lcm_program.specs.Input.{IsDocument, IsUnmerged, input_limit, parts_of}
+use Rattle.lcm_program.specs.Documents.{AnswersOf}
+use Rattle.lcm_program.specs.Tool.{Answered, IsRefusalFor, TellsAnswer}
+use Rattle.lcm_program.specs.Unread.{AnswersEach, IsRefusedInput}
+use Rattle.lcm_program.specs.Program.{IsRun}
+use Rattle.lcm_program.proofs.Inputs.{told}
+
+-- a document is within the limit
+document_fits : (all : List ℕ) (d : Document) → IsDocument all d → length all ≤ input_limit
+document_fits all d merged = go merged.parts_are.documents merged.parts_are.whole
+  where
+    go : (documents : List Document) → AllZip IsWhole (parts_of all) documents → length all ≤ input_limit
+    go [] whole = absurd whole
+    go (first ∷ rest) whole = whole.0.spelled.within
+
+-- and is not refused
+not_unmerged : (all : List ℕ) (d : Document) (error : MergeError) → IsDocument all d → IsUnmerged all error → ⊥
+not_unmerged all d error merged refused = never_both (parts_of all) d error refused.cause merged refused.wins
 
 module _ (all : List ℕ) (before now : ℕ) where
-  -- what spells instances is not refused for its text
-  read_not_refused : (d : Document) (error : MofError) → Reads all d → IsRefusedFor all error → ⊥
-  read_not_refused d error reads refused = refused.none reads.instances reads.spelled
-
-  -- and is a document or none
-  document_or_none : (d : Document) → Reads all d → IsNoDocument all → ⊥
-  document_or_none d reads none = none.no_form (subst IsFirstForm (reads_once all reads.instances none.instances reads.spelled none.spelled) reads.form)
-
-  -- each refusal has its cause in this input, and a run is of a document that it is
-  run_each : (status : Status) (d : Document) → IsRun status → IsInput d all → AnswersEach status before now all
-  run_each Done d is input = record { document = λ e i. tt; too_long = λ lt. absurd (omega (arith, input.fits)); refused = λ e r. absurd (read_not_refused d e input.reads r); not_yet = λ no. absurd (document_or_none d input.reads no) }
-  run_each (NotCompliant count) d is input = record { document = λ e i. tt; too_long = λ lt. absurd (omega (arith, input.fits)); refused = λ e r. absurd (read_not_refused d e input.reads r); not_yet = λ no. absurd (document_or_none d input.reads no) }
-  run_each WriteFault d is input = record { document = λ e i. tt; too_long = λ lt. absurd (omega (arith, input.fits)); refused = λ e r. absurd (read_not_refused d e input.reads r); not_yet = λ no. absurd (document_or_none d input.reads no) }
-  run_each (Usage word) d is input = absurd is
-  run_each (InputRefused error) d is input = absurd is
-  run_each ReadFault d is input = absurd is
-  run_each Memory d is input = absurd is
-
-  refused_each : (refusal : Refusal) → IsRefused refusal (Some all) before now → AnswersEach (status_of refusal) before now all
-  refused_each (refusals.Usage word) cause = absurd cause
-  refused_each (refusals.Input TooLong) cause = record {
-    document = λ d input. absurd (omega (arith, input.fits, cause));
-    too_long = λ lt. refl;
-    refused = λ e r. absurd (omega (arith, r.fits, cause));
-    not_yet = λ no. absurd (omega (arith, no.spelled.within, cause));
+  used_each : (status : Status) (d : Document) → IsRun status → IsDocument all d → AnswersEach status before now all
+  used_each Done d is merged = record {
+    document = λ e m. tt;
+    too_long = λ above. absurd (omega (arith, above, document_fits all d merged));
+    refused = λ e r. absurd (not_unmerged all d e merged r);
   }
-  refused_each (refusals.Input (Mof error)) cause = record {
-    document = λ d input. absurd (read_not_refused d error input.reads cause);
-    too_long = λ lt. absurd (omega (arith, lt, cause.fits));
-    refused = λ e r. ap (λ (x : MofError). Mof x) (refuses_once all error e cause.cause r.cause cause.wins r.wins);
-    not_yet = λ no. absurd (cause.none no.instances no.spelled);
+  used_each (NotCompliant count) d is merged = record {
+    document = λ e m. tt;
+    too_long = λ above. absurd (omega (arith, above, document_fits all d merged));
+    refused = λ e r. absurd (not_unmerged all d e merged r);
   }
-  refused_each (refusals.Input NotYet) cause = record {
-    document = λ d input. absurd (document_or_none d input.reads cause);
-    too_long = λ lt. absurd (omega (arith, lt, cause.spelled.within));
-    refused = λ e r. absurd (r.none cause.instances cause.spelled);
-    not_yet = λ no. refl;
+  used_each WriteFault d is merged = record {
+    document = λ e m. tt;
+    too_long = λ above. absurd (omega (arith, above, document_fits all d merged));
+    refused = λ e r. absurd (not_unmerged all d e merged r);
   }
-  refused_each refusals.ReadFault cause = record { document = λ d i. cause; too_long = λ lt. cause; refused = λ e r. cause; not_yet = λ no. cause }
+  used_each (Usage word) d is merged = absurd is
+  used_each (InputRefused error) d is merged = absurd is
+  used_each ReadFault d is merged = absurd is
+  used_each Memory d is merged = absurd is
 
-  pub memory_each : AnswersEach Memory before now all
-  memory_each = record { document = λ d i. tt; too_long = λ lt. tt; refused = λ e r. tt; not_yet = λ no. tt }
+  too_long_each : input_limit < length all → AnswersEach (InputRefused TooLong) before now all
+  too_long_each above = record {
+    document = λ d merged. absurd (omega (arith, above, document_fits all d merged));
+    too_long = λ a. refl;
+    refused = λ e r. absurd (omega (arith, above, r.fits));
+  }
 
-pub each_refused : (left : Option (List ℕ)) (before now : ℕ) (refusal : Refusal) → IsRefused refusal left before now → IfSome left (AnswersEach (status_of refusal) before now)
+  unmerged_each : (error : MergeError) → IsUnmerged all error → AnswersEach (InputRefused (Merge error)) before now all
+  unmerged_each error cause = record {
+    document = λ d merged. absurd (not_unmerged all d error merged cause);
+    too_long = λ above. absurd (omega (arith, above, cause.fits));
+    refused = λ e r. ap (λ (x : MergeError). Merge x) (one_refusal (parts_of all) error e cause.cause r.cause cause.wins r.wins);
+  }
+
+  memory_each : AnswersEach Memory before now all
+  memory_each = record { document = λ d m. tt; too_long = λ a. tt; refused = λ e r. tt }
+
+-- each input has its answer: where it was refused for its cause
+pub each_refused : (left : Option (List ℕ)) (before now : ℕ) (refusal : Refusal) → IsRefusalFor IsRefusedInput refusal left before now
+    → IfSome left (AnswersEach (status_of refusal) before now)
 each_refused None before now refusal cause = tt
-each_refused (Some all) before now refusal cause = refused_each all before now refusal cause
+each_refused (Some all) before now (refusals.Usage word) cause = absurd cause
+each_refused (Some all) before now (refusals.Input TooLong) cause =
+    told IsRefusedInput TooLong (Some all) (AnswersEach (InputRefused TooLong) before now) (λ given a. too_long_each given before now a) cause
+each_refused (Some all) before now (refusals.Input (Mof error)) cause = absurd cause.is_answer
+each_refused (Some all) before now (refusals.Input (Merge error)) cause =
+    told IsRefusedInput (Merge error) (Some all) (AnswersEach (InputRefused (Merge error)) before now) (λ given a. unmerged_each given before now error a) cause
+each_refused (Some all) before now refusals.ReadFault cause = record { document = λ d m. cause; too_long = λ a. cause; refused = λ e r. cause }
 
+-- where memory was refused
 pub each_memory : (left : Option (List ℕ)) (before now : ℕ) → IfSome left (AnswersEach Memory before now)
 each_memory None before now = tt
 each_memory (Some all) before now = memory_each all before now
 
-pub is_input : (left : Option (List ℕ)) (d : Document) → IfSome left (λ all. Reads all d) → IfSome left (λ all. length all ≤ input_limit) → IfSome left (IsInput d)
-is_input None d reads fits = tt
-is_input (Some all) d reads fits = record { fits = fits; reads = reads }
+-- where its document was run
+pub each_run : (left : Option (List ℕ)) (before now : ℕ) (status : Status) (d : Document) → IsRun status → Answered IsDocument left d
+    → IfSome left (AnswersEach status before now)
+each_run left before now status d is input = told IsDocument d left (AnswersEach status before now) (λ all merged. used_each all before now status d is merged) input
 
-pub each_run : (left : Option (List ℕ)) (before now : ℕ) (status : Status) (d : Document) → IsRun status → IfSome left (IsInput d) → IfSome left (AnswersEach status before now)
-each_run None before now status d is input = tt
-each_run (Some all) before now status d is input = run_each all before now status d is input
+-- where it was told of its document
+pub each_told : {K : Type 0} (Tells : Document → List ℕ → Type 0) (held : K → Option (List ℕ)) (faults : K → ℕ) (left : Option (List ℕ)) (before now : ℕ)
+    (status : Status) (old new : K) → TellsAnswer (AnswersOf Tells) held faults left before now status old new → IfSome left (AnswersEach status before now)
+each_told Tells held faults left before now Done old new t =
+    told (AnswersOf Tells) (Ok t.0) left (AnswersEach Done before now) (λ all a. used_each all before now Done a.0 tt a.1) t.1
+each_told Tells held faults left before now (NotCompliant count) old new t = absurd t
+each_told Tells held faults left before now (Usage word) old new t = absurd t
+each_told Tells held faults left before now (InputRefused TooLong) old new t =
+    told (AnswersOf Tells) (Err TooLong) left (AnswersEach (InputRefused TooLong) before now) (λ all a. too_long_each all before now a) t
+each_told Tells held faults left before now (InputRefused (Mof error)) old new t = absurd t.is_answer
+each_told Tells held faults left before now (InputRefused (Merge error)) old new t =
+    told (AnswersOf Tells) (Err (Merge error)) left (AnswersEach (InputRefused (Merge error)) before now) (λ all a. unmerged_each all before now error a) t
+each_told Tells held faults None before now ReadFault old new t = tt
+each_told Tells held faults (Some all) before now ReadFault old new t = record { document = λ d m. t; too_long = λ a. t; refused = λ e r. t }
+each_told Tells held faults left before now WriteFault old new t =
+    told (AnswersOf Tells) (Ok t.0) left (AnswersEach WriteFault before now) (λ all a. used_each all before now WriteFault a.0 tt a.1) t.1
+each_told Tells held faults left before now Memory old new t = each_memory left before now

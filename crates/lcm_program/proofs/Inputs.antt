@@ -1,22 +1,29 @@
 -- What is known of an input that was read, and of one that was not.
-use Rattle.std.proofs.Common.{◌≡◌, ◌≢◌, ◌∙◌, ◌⊎◌, inl, inr, ◌<◌, ◌≤◌, ℕ, List, Option, Some, None, Ok, Err, length, refl, sym, ap, subst, arith}
+use Rattle.std.proofs.Common.{◌≡◌, ◌≢◌, ◌∙◌, ◌⊎◌, inl, inr, ◌<◌, ◌≤◌, ℕ, List, [], ◌∷◌, Option, Some, None, Ok, Err, length, refl, sym, ap, subst, arith}
 use Rattle.std.specs.Prelude.{IfSome}
 use Rattle.mof_values.specs.declared.instance.Instance.{Instance}
 use Rattle.mof_syntax.specs.declared.mof_error.MofError.{MofError}
 use Rattle.mof_syntax.specs.declared.mof_error.MofError.TheVariants as faults
 use Rattle.mof_syntax.specs.Refusals as syntax
 use Rattle.mof_codec.proofs.OneRefusal.{refuses_once}
+use Rattle.dsc_document.specs.declared.document.Document.{Document}
+use Rattle.partial_merge.specs.declared.part.Part.{Part}
+use Rattle.partial_merge.specs.declared.error.MergeError.{MergeError}
+use Rattle.partial_merge.specs.declared.error.MergeError.TheVariants as merge
+use Rattle.partial_merge.specs.Merged.{Merged}
+use Rattle.partial_merge.specs.Refused.{Refused}
 use Rattle.lcm_program.specs.declared.input.Unread.{Unread}
 use Rattle.lcm_program.specs.declared.input.Unread.TheVariants as unread
 use Rattle.lcm_program.specs.declared.refusal.Refusal.{Refusal}
 use Rattle.lcm_program.specs.declared.refusal.Refusal.TheVariants as refusals
-use Rattle.lcm_program.specs.declared.status.InputError.TheVariants.{TooLong, Mof, NotYet}
+use Rattle.lcm_program.specs.declared.status.InputError.{InputError}
+use Rattle.lcm_program.specs.declared.status.InputError.TheVariants.{TooLong, Mof, Merge}
 use Rattle.lcm_program.specs.declared.status.Status.{Status}
 use Rattle.lcm_program.specs.declared.status.Status.TheVariants.{Done, NotCompliant, Usage, InputRefused, ReadFault, WriteFault, Memory}
 use Rattle.lcm_program.specs.Canon.{AnswersCanon, AnswersEachText, IsUnspelled}
-use Rattle.lcm_program.specs.Input.{IsRefusedFor, input_limit}
-use Rattle.lcm_program.specs.Tool.{Answered, IsRefusalOf, TellsAnswer}
-use Rattle.lcm_program.specs.Unread.{IsRefused, IsUnread}
+use Rattle.lcm_program.specs.Input.{IsDocument, IsRefusedFor, input_limit, parts_of}
+use Rattle.lcm_program.specs.Tool.{Answered, IsRefusalFor, TellsAnswer}
+use Rattle.lcm_program.specs.Unread.{IsRefusedInput, IsTooLong, IsUnread, IsUntaken}
 use Rattle.lcm_program.proofs.Results.{if_some_weaker}
 
 -- what holds of each input that has the answer holds of the source's
@@ -25,18 +32,48 @@ pub told : {A : Type 0} (answers : List ℕ → A → Type 0) (answer : A) (left
 told answers answer None Q f a = tt
 told answers answer (Some all) Q f a = subst Q (sym a.input_is) (f a.all a.is_answer)
 
-module _ (left : Option (List ℕ)) (before now : ℕ) where
-  unread_refusal : (refusal : Refusal) → IsRefusalOf AnswersCanon refusal left before now → IsRefused refusal left before now
-  unread_refusal (refusals.Usage word) cause = cause
-  unread_refusal (refusals.Input TooLong) cause = told AnswersCanon (Err TooLong) left (λ all. input_limit < length all) (λ all above. above) cause
-  unread_refusal (refusals.Input (Mof error)) cause = told AnswersCanon (Err (Mof error)) left (λ all. IsRefusedFor all error) (λ all r. r) cause
-  unread_refusal (refusals.Input NotYet) cause = absurd cause.is_answer
-  unread_refusal refusals.ReadFault cause = cause
+-- what holds of each input in place of a cause
+weaker : (P Q : List ℕ → InputError → Type 0) → ((all : List ℕ) (error : InputError) → P all error → Q all error)
+    → (refusal : Refusal) (left : Option (List ℕ)) (before now : ℕ) → IsRefusalFor P refusal left before now → IsRefusalFor Q refusal left before now
+weaker P Q f (refusals.Usage word) left before now cause = cause
+weaker P Q f (refusals.Input error) left before now cause =
+    record { all = cause.all; input_is = cause.input_is; is_answer = f cause.all error cause.is_answer }
+weaker P Q f refusals.ReadFault left before now cause = cause
 
-  -- what has no instances is no document
-  pub unread_unspelled : (e : Unread) → IsUnspelled e left before now → IsUnread e left before now
-  unread_unspelled (unread.Refused refusal) cause = unread_refusal refusal cause
-  unread_unspelled unread.Memory cause = tt
+module _ (left : Option (List ℕ)) (before now : ℕ) where
+  -- what is too long is no document, and spells no instances
+  pub untaken_unread : (e : Unread) → IsUntaken e left before now → IsUnread e left before now
+  untaken_unread (unread.Refused refusal) cause =
+      weaker IsTooLong IsRefusedInput (λ all error long. subst (IsRefusedInput all) (sym long.0) long.1) refusal left before now cause
+  untaken_unread unread.Memory cause = tt
+
+  pub untaken_unspelled : (e : Unread) → IsUntaken e left before now → IsUnspelled e left before now
+  untaken_unspelled (unread.Refused refusal) cause =
+      weaker IsTooLong (λ all error. AnswersCanon all (Err error)) (λ all error long. subst (λ (x : InputError). AnswersCanon all (Err x)) (sym long.0) long.1)
+      refusal left before now cause
+  untaken_unspelled unread.Memory cause = tt
+
+  -- bytes within the limit that are not merged are refused so
+  pub unmerged_unread : (bytes : List ℕ) (parts : List Part) (error : MergeError) → IfSome left (λ all. bytes ≡ all) → parts ≡ parts_of bytes
+      → length bytes ≤ input_limit → error ≢ merge.Memory → Refused parts error → IsUnread (unread.Refused (refusals.Input (Merge error))) left before now
+  unmerged_unread bytes parts error input same fits cause wins = record {
+    all = bytes;
+    input_is = if_some_weaker left (λ all. bytes ≡ all) (λ all. all ≡ bytes) (λ all b. sym b) input;
+    is_answer = record { fits = fits; wins = subst (λ (ps : List Part). Refused ps error) same wins; cause = cause };
+  }
+
+-- bytes that are merged are the document's
+pub merged_input : (left : Option (List ℕ)) (bytes : List ℕ) (parts : List Part) (d : Document) → IfSome left (λ all. bytes ≡ all) → parts ≡ parts_of bytes
+    → Merged parts d → Answered IsDocument left d
+merged_input left bytes parts d input same merged = record {
+  all = bytes;
+  input_is = if_some_weaker left (λ all. bytes ≡ all) (λ all. all ≡ bytes) (λ all b. sym b) input;
+  is_answer = subst (λ (ps : List Part). Merged ps d) same merged;
+}
+
+-- the part of bytes without a name
+pub part_is : (part : Part) (name bytes : List ℕ) → name ≡ [] → part.name ≡ name → part.bytes ≡ bytes → part ∷ [] ≡ parts_of bytes
+part_is part name bytes none named of = cc
 
 -- bytes that spell no instances are refused so, or memory was
 pub mof_unspelled : (left : Option (List ℕ)) (before now : ℕ) (bytes taken : List ℕ) (error : MofError) (e : Unread)
@@ -96,7 +133,7 @@ each_text held faults (Some all) before now status old new tells = each status t
     each (Usage word) t = absurd t
     each (InputRefused TooLong) t = told AnswersCanon (Err TooLong) (Some all) (AnswersEachText (InputRefused TooLong) before now) (λ given a. too_long_each given before now a) t
     each (InputRefused (Mof error)) t = told AnswersCanon (Err (Mof error)) (Some all) (AnswersEachText (InputRefused (Mof error)) before now) (λ given a. refused_each given before now error a) t
-    each (InputRefused NotYet) t = absurd t.is_answer
+    each (InputRefused (Merge error)) t = absurd t.is_answer
     each ReadFault t = record { text = λ is r. t; too_long = λ a. t; refused = λ e r. t }
     each WriteFault t = told AnswersCanon (Ok t.0) (Some all) (AnswersEachText WriteFault before now) (λ given a. text_each_cut given before now a.0 a.1) t.1
     each Memory t = record { text = λ is r. tt; too_long = λ a. tt; refused = λ e r. tt }

@@ -1,10 +1,9 @@
 -- What a run over the kinds shows.
-use Rattle.std.proofs.Common.{◌≡◌, ◌<◌, ℕ, List, Option, length, All, ap, sym, subst, arith}
+use Rattle.std.proofs.Common.{◌≡◌, ℕ, List, Option, ap, subst, arith}
 use Rattle.dsc_terms.specs.Counts.{RoseBy}
-use Rattle.dsc_terms.specs.Lists.{IsOnce}
-use Rattle.dsc_terms.proofs.Places.{length-places_below, all_below, once_places}
 use Rattle.dsc_outside.specs.Host.{HostState}
 use Rattle.dsc_document.specs.declared.document.Document.{Document}
+use Rattle.depend_order.specs.Documents.{IsOrderOfDocument}
 use Rattle.resource_kinds.specs.declared.entry.Entry.{Entry}
 use Rattle.resource_kinds.specs.declared.kinds.Kinds.{Kinds}
 use Rattle.lcm_program.specs.declared.runs.RunMode.TheVariants.{Monitor}
@@ -13,33 +12,25 @@ use Rattle.lcm_program.specs.Legal.{Legal}
 use Rattle.lcm_program.specs.Whole.{Whole}
 use Rattle.resource_kinds.specs.Kinds.{host_of}
 use Rattle.resource_kinds.specs.True.{TellsEntry}
-use Rattle.lcm_program.specs.Ran.{Ran, run_order}
+use Rattle.lcm_program.specs.Ran.{Ran}
 use Rattle.lcm_program.proofs.Traces.{tells_true, chain_map}
-
--- the places of the order are places of the document
-pub order_below : (document : Document) (order : List ℕ) → order ≡ run_order document → All (λ r. r < length document.resources) order
-order_below document order is = subst (λ (o : List ℕ). All (λ r. r < length document.resources) o) (sym is) (all_below (length document.resources))
-
-pub order_once : (document : Document) (order : List ℕ) → order ≡ run_order document → IsOnce order
-order_once document order is = subst IsOnce (sym is) (once_places (length document.resources))
-
-pub length-order : (document : Document) (order : List ℕ) → order ≡ run_order document → length order ≡ length document.resources
-length-order document order is = omega (arith, ap length is, length-places_below (length document.resources))
 
 module _ {H : Type 0} (told : H → Option HostState) (faults : H → ℕ) where
   told_by : Kinds H → Option HostState
   told_by k = told (host_of k)
 
   -- a run behind a call that kept the host
-  pub ran : (document : Document) (order : List ℕ) (trace : List Entry) (before ready after : Kinds H) → order ≡ run_order document → host_of ready ≡ host_of before
+  pub ran : (document : Document) (order : List ℕ) (trace : List Entry) (before ready after : Kinds H) → IsOrderOfDocument document order → host_of ready ≡ host_of before
       → Legal document Monitor order trace → Whole document Monitor order trace
       → Chain (λ a d e b. TellsEntry (told (host_of a)) d e (told (host_of b))) (λ a b. told (host_of a) ≡ told (host_of b)) document ready trace after
       → RoseBy (host_failures trace) (faults (host_of ready)) (faults (host_of after))
       → Ran document trace (told (host_of before)) (told (host_of after)) (faults (host_of before)) (faults (host_of after))
   unfolding told_by
   ran document order trace before ready after ordered kept legal whole chain rose = record {
-    legal = subst (λ (o : List ℕ). Legal document Monitor o trace) ordered legal;
-    whole = subst (λ (o : List ℕ). Whole document Monitor o trace) ordered whole;
+    order = order;
+    is_order = ordered;
+    legal = legal;
+    whole = whole;
     is_true = tells_true document trace (told (host_of before)) (told (host_of after))
         (subst (λ (h : H). Chain TellsEntry (λ x y. x ≡ y) document (told h) trace (told (host_of after))) kept (chain_map told_by TellsEntry (λ x y. x ≡ y) document ready trace after chain));
     failures = omega (arith, rose, ap faults kept);

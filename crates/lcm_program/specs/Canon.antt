@@ -6,7 +6,7 @@ use Rattle.mof_syntax.specs.Canonical.{canonical_bytes}
 use Rattle.mof_syntax.specs.Refusals as syntax
 use Rattle.lcm_program.specs.declared.input.Unread.{Unread}
 use Rattle.lcm_program.specs.declared.input.Unread.TheVariants as unread
-use Rattle.lcm_program.specs.declared.status.InputError.TheVariants.{TooLong, Mof, NotYet}
+use Rattle.lcm_program.specs.declared.status.InputError.TheVariants.{TooLong, Mof, Merge}
 use Rattle.lcm_program.specs.declared.status.Status.{Status}
 use Rattle.lcm_program.specs.Input.{IsRefusedFor, input_limit}
 use Rattle.lcm_program.specs.Program.{AnswersDocument, AnswersRefused}
@@ -17,7 +17,7 @@ abbrev pub AnswersCanon : List ℕ → Answer → Type 0
 AnswersCanon all (Ok text) = (instances : List Instance) × syntax.Reads all instances × (text ≡ canonical_bytes instances)
 AnswersCanon all (Err TooLong) = input_limit < length all
 AnswersCanon all (Err (Mof error)) = IsRefusedFor all error
-AnswersCanon all (Err NotYet) = ⊥
+AnswersCanon all (Err (Merge error)) = ⊥
 
 -- each input has its answer: its text is printed, or it is refused so
 pub record AnswersEachText (status : Status) (before now : ℕ) (all : List ℕ) : Type 0 where

@@ -1,26 +1,42 @@
--- What an input is: instances, and of those some are a document; or why it is refused.
-use Rattle.std.specs.Prelude.{◌≡◌, ◌≢◌, ℕ, ◌≤◌, List, length}
+-- What an input is: instances, and the document that they declare; or why it is refused.
+use Rattle.std.specs.Prelude.{◌≡◌, ◌≢◌, ℕ, ◌≤◌, List, [], ◌∷◌, length}
+use Rattle.std.proofs.Common.{refl}
+use Rattle.sha2.specs.Sha256.{sha256}
 use Rattle.mof_values.specs.declared.instance.Instance.{Instance}
 use Rattle.mof_syntax.specs.declared.mof_error.MofError.{MofError}
-use Rattle.mof_syntax.specs.declared.mof_error.MofError.TheVariants.{Memory}
+use Rattle.mof_syntax.specs.declared.mof_error.MofError.TheVariants as mof
 use Rattle.mof_syntax.specs.Refusals as syntax
 use Rattle.dsc_document.specs.declared.document.Document.{Document}
-use Rattle.dsc_document.specs.First.{IsFirstForm, first_document}
+use Rattle.partial_merge.specs.declared.part.Part.{Part}
+use Rattle.partial_merge.specs.declared.error.MergeError.{MergeError}
+use Rattle.partial_merge.specs.declared.error.MergeError.TheVariants as merge
+use Rattle.partial_merge.specs.Merged.{Merged}
+use Rattle.partial_merge.specs.Refused.{Refused}
 
 -- the most bytes of an input
 abbrev pub input_limit : ℕ
 input_limit = 2097152
 
--- the bytes spell the instances of the document
-pub record Reads (bytes : List ℕ) (document : Document) : Type 0 where
-  pub instances : List Instance
-  pub spelled : syntax.Reads bytes instances
-  pub form : IsFirstForm instances
-  pub same : document ≡ first_document instances
+-- the part that an input is, which has no name
+abbrev pub input_part : List ℕ → Part
+input_part all = record { name = []; digest = sha256 all; bytes = all; whole = refl }
+
+abbrev pub parts_of : List ℕ → List Part
+parts_of all = input_part all ∷ []
+
+-- the document that the bytes declare
+abbrev pub IsDocument : List ℕ → Document → Type 0
+IsDocument all document = Merged (parts_of all) document
+
+-- the bytes are within the limit and declare no document, and of the refusals that apply to them this one wins
+pub record IsUnmerged (all : List ℕ) (error : MergeError) : Type 0 where
+  pub fits : length all ≤ input_limit
+  pub wins : Refused (parts_of all) error
+  pub cause : error ≢ merge.Memory
 
 -- the bytes are within the limit and spell no instances, and of the refusals that apply to them this one wins
 pub record IsRefusedFor (bytes : List ℕ) (error : MofError) : Type 0 where
   pub fits : length bytes ≤ input_limit
   pub none : (instances : List Instance) → syntax.Reads bytes instances → ⊥
   pub wins : syntax.Refuses bytes error
-  pub cause : error ≢ Memory
+  pub cause : error ≢ mof.Memory

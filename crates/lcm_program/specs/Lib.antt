@@ -1,10 +1,12 @@
 pub mod Canon
 pub mod Checksum
+pub mod Documents
 pub mod Input
 pub mod Legal
 pub mod Lines
 pub mod Printed
 pub mod Program
+pub mod Quoted
 pub mod Ran
 pub mod Refusal
 pub mod Status

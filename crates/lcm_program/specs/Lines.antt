@@ -1,8 +1,8 @@
 -- The printed lines of a run.
-use Rattle.std.specs.Prelude.{◌==◌, ℕ, ◌-◌, List, [], ◌++◌, length, Option, Some, None, codes, slice_get, encode_utf8_all, if◌then◌else◌}
+use Rattle.std.specs.Prelude.{◌≡◌, ◌==◌, ℕ, Bool, true, false, ◌-◌, List, [], ◌++◌, length, Option, Some, None, codes, slice_get, encode_utf8_all, if◌then◌else◌}
 use Rattle.std.specs.List.{flat_map}
 use Rattle.std.specs.Fmt.{decimal}
-use Rattle.mof_syntax.specs.Canonical.{canonical_literal}
+use Rattle.lcm_program.specs.Quoted.{quoted}
 use Rattle.dsc_document.specs.declared.document.Document.{Document}
 use Rattle.dsc_document.specs.declared.document.Resource.{Resource}
 use Rattle.resource_kinds.specs.declared.entry.TestAnswer.{TestAnswer}
@@ -11,12 +11,9 @@ use Rattle.resource_kinds.specs.declared.entry.SetAnswer.{SetAnswer}
 use Rattle.resource_kinds.specs.declared.entry.SetAnswer.TheVariants as sets
 use Rattle.resource_kinds.specs.declared.entry.Entry.{Entry}
 use Rattle.resource_kinds.specs.declared.entry.Entry.TheVariants.{Tested, Set}
+use Rattle.resource_kinds.specs.Apart.{Apart}
 use Rattle.resource_kinds.specs.Names.{failure_name}
 use Rattle.resource_kinds.specs.Trace.{succeeded_count}
-
--- an id or a name, as one literal of the instance syntax
-abbrev pub quoted : List ℕ → List ℕ
-quoted text = encode_utf8_all (canonical_literal text)
 
 abbrev pub test_words : TestAnswer → List ℕ
 test_words tests.Yes = codes " yes"
@@ -48,6 +45,18 @@ verdict total succeeded = if total == succeeded then codes "compliant\n" else co
 abbrev pub summary : ℕ → ℕ → List ℕ
 summary total succeeded = codes "resources " ++ decimal total ++ codes " succeeded " ++ decimal succeeded ++ codes "\n" ++ verdict total succeeded
 
--- a line for each entry, how many resources succeeded, and the verdict
-abbrev pub run_lines : Document → List Entry → List ℕ
-run_lines document trace = flat_map (line_of document) trace ++ summary (length document.resources) (succeeded_count document trace)
+abbrev pub overlap_line : Bool → List ℕ
+overlap_line true = codes "overlapping\n"
+overlap_line false = []
+
+-- a line for each entry, how many resources succeeded, the verdict, and whether resources overlap
+abbrev pub run_lines : Document → List Entry → Bool → List ℕ
+run_lines document trace overlaps =
+    flat_map (line_of document) trace ++ summary (length document.resources) (succeeded_count document trace) ++ overlap_line overlaps
+
+-- the text of a run: it says `overlapping` exactly where the document is not apart
+pub record TellsRun (document : Document) (trace : List Entry) (text : List ℕ) : Type 0 where
+  pub overlaps : Bool
+  pub apart : overlaps ≡ false → Apart document
+  pub overlapping : overlaps ≡ true → Apart document → ⊥
+  pub lines : text ≡ run_lines document trace overlaps

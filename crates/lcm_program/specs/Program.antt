@@ -1,22 +1,20 @@
 -- What the program did, and what it printed.
-use Rattle.std.specs.Prelude.{◌≡◌, ◌⊎◌, ℕ, ◌<◌, ◌≤◌, List, [], length, Option, IfSome}
+use Rattle.std.specs.Prelude.{◌≡◌, ◌⊎◌, ℕ, ◌<◌, List, [], Option}
 use Rattle.std.specs.Io.KnownBytes.{Appends}
 use Rattle.dsc_terms.specs.Counts.{Rose}
 use Rattle.dsc_outside.specs.Host.{HostState}
-use Rattle.mof_syntax.specs.declared.mof_error.MofError.{MofError}
 use Rattle.dsc_document.specs.declared.document.Document.{Document}
 use Rattle.resource_kinds.specs.declared.kinds.Kinds.{Kinds}
 use Rattle.lcm_program.specs.declared.status.Status.{Status}
 use Rattle.lcm_program.specs.declared.status.Status.TheVariants.{Done, NotCompliant, Usage, InputRefused, ReadFault, WriteFault, Memory}
 use Rattle.lcm_program.specs.declared.status.InputError.{InputError}
-use Rattle.lcm_program.specs.declared.status.InputError.TheVariants.{TooLong, Mof, NotYet}
-use Rattle.lcm_program.specs.Unread.{IsNoDocument}
 use Rattle.resource_kinds.specs.Kinds.{calls_of, host_of}
 use Rattle.lcm_program.specs.Printed.{IsCutShort}
 use Rattle.resource_kinds.specs.Trace.{missed_count}
 use Rattle.lcm_program.specs.Legal.{GoesOn}
-use Rattle.lcm_program.specs.Lines.{run_lines}
-use Rattle.lcm_program.specs.Input.{Reads, IsRefusedFor, input_limit}
+use Rattle.lcm_program.specs.Lines.{TellsRun}
+use Rattle.lcm_program.specs.Input.{IsDocument}
+use Rattle.lcm_program.specs.Tool.{Answered}
 use Rattle.lcm_program.specs.Ran.{Ran}
 
 -- a run came to its end
@@ -59,11 +57,6 @@ AnswersRefused error ReadFault before now = Rose before now
 AnswersRefused error WriteFault before now = ⊥
 AnswersRefused error Memory before now = Unit {0}
 
--- the input, where it is told, is the document, and within the limit
-pub record IsInput (document : Document) (all : List ℕ) : Type 0 where
-  pub fits : length all ≤ input_limit
-  pub reads : Reads all document
-
 -- how a run in which so many resources did not succeed ends, and what it prints
 abbrev pub Tells : {K : Type 0} → (K → Option (List ℕ)) → (K → ℕ) → Status → ℕ → List ℕ → K → K → Type 0
 Tells held faults Done missed text old new = (missed ≡ 0) × Appends (held old) (held new) text
@@ -74,13 +67,6 @@ Tells held faults ReadFault missed text old new = ⊥
 Tells held faults WriteFault missed text old new = IsCutShort held faults old new text
 Tells held faults Memory missed text old new = ⊥
 
--- each input has its answer: a document is run, and what is too long, spells no instances, or no document, is refused so
-pub record AnswersEach (status : Status) (before now : ℕ) (all : List ℕ) : Type 0 where
-  pub document : (d : Document) → IsInput d all → AnswersDocument status before now
-  pub too_long : input_limit < length all → AnswersRefused TooLong status before now
-  pub refused : (error : MofError) → IsRefusedFor all error → AnswersRefused (Mof error) status before now
-  pub not_yet : IsNoDocument all → AnswersRefused NotYet status before now
-
 -- a run over the kinds
 abbrev pub RanOver : {H : Type 0} → (H → Option HostState) → (H → ℕ) → Document → Kinds H → Kinds H → Type 0
 RanOver told faults document before after = Ran document (calls_of after) (told (host_of before)) (told (host_of after)) (faults (host_of before)) (faults (host_of after))
@@ -89,15 +75,17 @@ RanOver told faults document before after = Ran document (calls_of after) (told 
 pub record RanToEnd {K H : Type 0} (held : K → Option (List ℕ)) (output_faults : K → ℕ) (told : H → Option HostState) (faults : H → ℕ)
     (input : Option (List ℕ)) (before after : Kinds H) (status : Status) (old new : K) : Type 0 where
   pub document : Document
-  pub input_is : IfSome input (IsInput document)
+  pub input_is : Answered IsDocument input document
   pub run : RanOver told faults document before after
   pub finished : GoesOn (calls_of after)
-  pub tells : Tells held output_faults status (missed_count document (calls_of after)) (run_lines document (calls_of after)) old new
+  pub text : List ℕ
+  pub told : TellsRun document (calls_of after) text
+  pub tells : Tells held output_faults status (missed_count document (calls_of after)) text old new
 
 -- the document of the input was run as far as memory went
 pub record Began {H : Type 0} (told : H → Option HostState) (faults : H → ℕ) (input : Option (List ℕ)) (before after : Kinds H) : Type 0 where
   pub document : Document
-  pub input_is : IfSome input (IsInput document)
+  pub input_is : Answered IsDocument input document
   pub run : RanOver told faults document before after
 
 -- nothing was tested, or the document of the input was, as far as memory went

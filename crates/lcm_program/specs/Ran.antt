@@ -1,9 +1,9 @@
 -- A run that monitors a document, from one value of the kinds to another.
-use Rattle.std.specs.Prelude.{ℕ, List, length, Option}
+use Rattle.std.specs.Prelude.{ℕ, List, Option}
 use Rattle.dsc_terms.specs.Counts.{RoseBy}
-use Rattle.dsc_terms.specs.Lists.{places_below}
 use Rattle.dsc_outside.specs.Host.{HostState}
 use Rattle.dsc_document.specs.declared.document.Document.{Document}
+use Rattle.depend_order.specs.Documents.{IsOrderOfDocument}
 use Rattle.lcm_program.specs.declared.runs.RunMode.TheVariants.{Monitor}
 use Rattle.resource_kinds.specs.declared.entry.Entry.{Entry}
 use Rattle.resource_kinds.specs.Trace.{host_failures}
@@ -11,13 +11,11 @@ use Rattle.lcm_program.specs.Legal.{Legal}
 use Rattle.lcm_program.specs.Whole.{Whole}
 use Rattle.resource_kinds.specs.True.{TellsTrue}
 
--- the order of a run: that of the document
-abbrev pub run_order : Document → List ℕ
-run_order document = places_below (length document.resources)
-
--- the trace may be left by such a run, leaves nothing out, is true of the machine, and blames it no more often than its count of faults rose
+-- the trace may be left by such a run in the order of dependencies, leaves nothing out, is true of the machine, and blames it no more often than its count of faults rose
 pub record Ran (document : Document) (trace : List Entry) (before after : Option HostState) (faults_before faults_after : ℕ) : Type 0 where
-  pub legal : Legal document Monitor (run_order document) trace
-  pub whole : Whole document Monitor (run_order document) trace
+  pub order : List ℕ
+  pub is_order : IsOrderOfDocument document order
+  pub legal : Legal document Monitor order trace
+  pub whole : Whole document Monitor order trace
   pub is_true : TellsTrue document before trace after
   pub failures : RoseBy (host_failures trace) faults_before faults_after

@@ -1,13 +1,23 @@
 -- Refusals: the statuses and the lines.
-use Rattle.std.specs.Prelude.{ℕ, List, ◌++◌, codes}
+use Rattle.std.specs.Prelude.{ℕ, List, ◌++◌, codes, encode_utf8_all}
+use Rattle.std.specs.List.{flat_map}
 use Rattle.std.specs.Fmt.{decimal}
 use Rattle.mof_syntax.specs.declared.mof_error.MofError.{MofError}
 use Rattle.mof_syntax.specs.declared.mof_error.MofError.TheVariants as faults
 use Rattle.mof_syntax.specs.declared.mof_error.Form.{Form}
 use Rattle.mof_syntax.specs.declared.mof_error.Form.TheVariants as forms
+use Rattle.dsc_document.specs.declared.error.DocError.{DocError}
+use Rattle.dsc_document.specs.declared.error.DocError.TheVariants as rules
+use Rattle.dsc_document.specs.declared.spot.Spot.{Spot}
+use Rattle.partial_merge.specs.declared.error.PartFault.{PartFault}
+use Rattle.partial_merge.specs.declared.error.PartFault.TheVariants as parts
+use Rattle.partial_merge.specs.declared.error.MergeError.{MergeError}
+use Rattle.partial_merge.specs.declared.error.MergeError.TheVariants as merge
+use Rattle.lcm_program.specs.Quoted.{quoted}
 use Rattle.lcm_program.specs.declared.refusal.Refusal.{Refusal}
 use Rattle.lcm_program.specs.declared.refusal.Refusal.TheVariants.{Usage, Input, ReadFault}
-use Rattle.lcm_program.specs.declared.status.InputError.TheVariants.{TooLong, Mof, NotYet}
+use Rattle.lcm_program.specs.declared.status.InputError.{InputError}
+use Rattle.lcm_program.specs.declared.status.InputError.TheVariants.{TooLong, Mof, Merge}
 use Rattle.lcm_program.specs.declared.status.Status.{Status}
 use Rattle.lcm_program.specs.declared.status.Status.TheVariants as statuses
 
@@ -34,9 +44,51 @@ mof_words (faults.NumberRange at) = codes "NumberRange " ++ decimal at
 mof_words (faults.TooMany at) = codes "TooMany " ++ decimal at
 mof_words faults.Memory = codes "Memory"
 
+-- a name and the places of two instances
+abbrev pub pair_words : List ℕ → ℕ → ℕ → List ℕ
+pair_words name first second = name ++ codes " " ++ decimal first ++ codes " " ++ decimal second
+
+-- the name of a broken rule, and its values
+abbrev pub rule_words : DocError → List ℕ
+rule_words (rules.DuplicateProperty index name) = codes "DuplicateProperty " ++ decimal index ++ codes " " ++ encode_utf8_all name
+rule_words (rules.TwoAliases first second) = pair_words (codes "TwoAliases") first second
+rule_words (rules.AliasUnknown index) = codes "AliasUnknown " ++ decimal index
+rule_words rules.NoHeader = codes "NoHeader"
+rule_words (rules.TwoHeaders first second) = pair_words (codes "TwoHeaders") first second
+rule_words (rules.BadResourceId index) = codes "BadResourceId " ++ decimal index
+rule_words (rules.DuplicateId first second) = pair_words (codes "DuplicateId") first second
+rule_words (rules.BadDependsOn index) = codes "BadDependsOn " ++ decimal index
+rule_words (rules.DependsUnknown index name) = codes "DependsUnknown " ++ decimal index ++ codes " " ++ quoted name
+rule_words rules.Memory = codes "Memory"
+
+abbrev pub part_words : PartFault → List ℕ
+part_words (parts.Mof error) = mof_words error
+part_words (parts.Doc error) = rule_words error
+
+-- an instance by its part and its place in it
+abbrev pub spot_words : Spot → List ℕ
+spot_words spot = decimal spot.part ++ codes "." ++ decimal spot.index
+
+abbrev pub place_words : ℕ → List ℕ
+place_words place = codes " " ++ decimal place
+
+-- the name of a merge's refusal, and its values
+abbrev pub merge_words : MergeError → List ℕ
+merge_words (merge.Part index fault) = codes "Part " ++ decimal index ++ codes " " ++ part_words fault
+merge_words (merge.DependsUnknown spot name) = codes "DependsUnknown " ++ spot_words spot ++ codes " " ++ quoted name
+merge_words (merge.Cycle walk) = codes "Cycle" ++ flat_map place_words walk
+merge_words merge.Memory = codes "Memory"
+
+-- the name of an input's error, and its values
+abbrev pub error_words : InputError → List ℕ
+error_words TooLong = codes "TooLong"
+error_words (Mof error) = mof_words error
+error_words (Merge error) = merge_words error
+
+abbrev pub reason_words : Refusal → List ℕ
+reason_words (Usage word) = codes "Usage " ++ decimal word
+reason_words (Input error) = error_words error
+reason_words ReadFault = codes "ReadFault"
+
 abbrev pub refusal_line : Refusal → List ℕ
-refusal_line (Usage word) = codes "refused Usage " ++ decimal word ++ codes "\n"
-refusal_line (Input TooLong) = codes "refused TooLong\n"
-refusal_line (Input (Mof error)) = codes "refused " ++ mof_words error ++ codes "\n"
-refusal_line (Input NotYet) = codes "refused NotYet\n"
-refusal_line ReadFault = codes "refused ReadFault\n"
+refusal_line refusal = codes "refused " ++ reason_words refusal ++ codes "\n"

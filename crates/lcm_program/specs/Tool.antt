@@ -25,11 +25,15 @@ pub record Answered {A : Type 0} (answers : List ℕ → A → Type 0) (input : 
 abbrev pub IsLonger : List ℕ → ℕ → Type 0
 IsLonger all most = most < length all
 
+-- why an input is refused: for an error that it has, or because a read failed
+abbrev pub IsRefusalFor : (List ℕ → InputError → Type 0) → Refusal → Option (List ℕ) → ℕ → ℕ → Type 0
+IsRefusalFor HasError (refusals.Usage word) input before now = ⊥
+IsRefusalFor HasError (refusals.Input error) input before now = Answered HasError input error
+IsRefusalFor HasError refusals.ReadFault input before now = Rose before now
+
 -- why a tool refuses: that is the answer of its input, or a read failed
 abbrev pub IsRefusalOf : (List ℕ → Answer → Type 0) → Refusal → Option (List ℕ) → ℕ → ℕ → Type 0
-IsRefusalOf answers (refusals.Usage word) input before now = ⊥
-IsRefusalOf answers (refusals.Input error) input before now = Answered answers input (Err error)
-IsRefusalOf answers refusals.ReadFault input before now = Rose before now
+IsRefusalOf answers refusal input before now = IsRefusalFor (λ all error. answers all (Err error)) refusal input before now
 
 -- a text is printed, or a part from its front where the output failed
 abbrev pub TellsText : {K : Type 0} → (K → Option (List ℕ)) → (K → ℕ) → List ℕ → Status → K → K → Type 0

@@ -1,30 +1,38 @@
 -- Why an input is no document.
-use Rattle.std.specs.Prelude.{ℕ, ◌<◌, List, length, Option, IfSome, ⊤}
-use Rattle.dsc_terms.specs.Counts.{Rose}
-use Rattle.mof_values.specs.declared.instance.Instance.{Instance}
-use Rattle.mof_syntax.specs.Refusals as syntax
-use Rattle.dsc_document.specs.First.{IsFirstForm}
+use Rattle.std.specs.Prelude.{◌≡◌, ℕ, ◌<◌, List, length, Option, ⊤}
+use Rattle.dsc_document.specs.declared.document.Document.{Document}
+use Rattle.partial_merge.specs.declared.error.MergeError.{MergeError}
 use Rattle.lcm_program.specs.declared.input.Unread.{Unread}
-use Rattle.lcm_program.specs.declared.input.Unread.TheVariants.{Refused, Memory}
-use Rattle.lcm_program.specs.declared.refusal.Refusal.{Refusal}
-use Rattle.lcm_program.specs.declared.refusal.Refusal.TheVariants.{Usage, Input, ReadFault}
-use Rattle.lcm_program.specs.declared.status.InputError.TheVariants.{TooLong, Mof, NotYet}
-use Rattle.lcm_program.specs.Input.{IsRefusedFor, input_limit}
+use Rattle.lcm_program.specs.declared.input.Unread.TheVariants as unread
+use Rattle.lcm_program.specs.declared.status.InputError.{InputError}
+use Rattle.lcm_program.specs.declared.status.InputError.TheVariants.{TooLong, Mof, Merge}
+use Rattle.lcm_program.specs.declared.status.Status.{Status}
+use Rattle.lcm_program.specs.Input.{IsDocument, IsUnmerged, input_limit}
+use Rattle.lcm_program.specs.Program.{AnswersDocument, AnswersRefused}
+use Rattle.lcm_program.specs.Tool.{IsRefusalFor}
 
--- the input spells instances that are no document
-pub record IsNoDocument (all : List ℕ) : Type 0 where
-  pub instances : List Instance
-  pub spelled : syntax.Reads all instances
-  pub no_form : IsFirstForm instances → ⊥
+-- bytes that are too long are not taken
+abbrev pub IsTooLong : List ℕ → InputError → Type 0
+IsTooLong all error = (error ≡ TooLong) × (input_limit < length all)
 
--- what a refusal shows, where the source tells what it has left: of its count of faults, or of the whole input
-abbrev pub IsRefused : Refusal → Option (List ℕ) → ℕ → ℕ → Type 0
-IsRefused (Usage word) input before now = ⊥
-IsRefused (Input TooLong) input before now = IfSome input (λ all. input_limit < length all)
-IsRefused (Input (Mof error)) input before now = IfSome input (λ all. IsRefusedFor all error)
-IsRefused (Input NotYet) input before now = IfSome input IsNoDocument
-IsRefused ReadFault input before now = Rose before now
+-- why an input was not taken
+abbrev pub IsUntaken : Unread → Option (List ℕ) → ℕ → ℕ → Type 0
+IsUntaken (unread.Refused refusal) input before now = IsRefusalFor IsTooLong refusal input before now
+IsUntaken unread.Memory input before now = ⊤
 
+-- the error for which bytes are refused as a document
+abbrev pub IsRefusedInput : List ℕ → InputError → Type 0
+IsRefusedInput all TooLong = input_limit < length all
+IsRefusedInput all (Mof error) = ⊥
+IsRefusedInput all (Merge error) = IsUnmerged all error
+
+-- why there is no document of an input
 abbrev pub IsUnread : Unread → Option (List ℕ) → ℕ → ℕ → Type 0
-IsUnread (Refused refusal) input before now = IsRefused refusal input before now
-IsUnread Memory input before now = ⊤
+IsUnread (unread.Refused refusal) input before now = IsRefusalFor IsRefusedInput refusal input before now
+IsUnread unread.Memory input before now = ⊤
+
+-- each input has its answer: a document is used, and what is too long or no document is refused so
+pub record AnswersEach (status : Status) (before now : ℕ) (all : List ℕ) : Type 0 where
+  pub document : (d : Document) → IsDocument all d → AnswersDocument status before now
+  pub too_long : input_limit < length all → AnswersRefused TooLong status before now
+  pub refused : (error : MergeError) → IsUnmerged all error → AnswersRefused (Merge error) status before now

@@ -1,11 +1,13 @@
 -- The forms of the command line.
 use Rattle.std.specs.Prelude.{◌≡◌, ℕ, ◌+◌, ◌<◌, ◌≤◌, List, [], ◌∷◌, ◌++◌, length, take, codes}
 use Rattle.lcm_program.specs.declared.words.Command.{Command}
-use Rattle.lcm_program.specs.declared.words.Command.TheVariants.{Test, Canon, Checksum}
+use Rattle.lcm_program.specs.declared.words.Command.TheVariants.{Test, Check, Order, Canon, Checksum}
 
 -- the word that a command begins with
 abbrev pub word_of : Command → List ℕ
 word_of Test = codes "test"
+word_of Check = codes "check"
+word_of Order = codes "order"
 word_of Canon = codes "canon"
 word_of Checksum = codes "checksum"
 

@@ -1,45 +1,62 @@
-//! What the input is: instances, and the document that they are.
-ghost use Rattle.std.specs.Prelude.{◌≡◌, ◌≢◌, ◌⊎◌, ◌<◌, ◌≤◌, length, IfOk, IfErr, IfSome};
+//! What the input is: bytes, instances, and the document that they declare.
+ghost use Rattle.std.specs.Prelude.{◌≡◌, ◌≢◌, ◌⊎◌, ◌≤◌, length, IfOk, IfErr, IfSome};
 ghost use Rattle.mof_syntax.specs.Refusals as syntax;
+ghost use Rattle.lcm_program.specs.declared.input.Unread.TheVariants.{Memory};
 ghost use Rattle.lcm_program.specs.Canon.{IsUnspelled};
-ghost use Rattle.lcm_program.specs.Input.{Reads, input_limit};
+ghost use Rattle.lcm_program.specs.Input.{IsDocument, input_limit};
 ghost use Rattle.lcm_program.specs.Tool.{Answered};
-ghost use Rattle.lcm_program.specs.Unread.{IsUnread};
+ghost use Rattle.lcm_program.specs.Unread.{IsUnread, IsUntaken};
 
 use crate::refusal::Refusal;
 use crate::status::InputError;
 use crate::streams::{ReadError, read_all};
-use dsc_document::{Document, first};
+use dsc_document::Document;
 use dsc_outside::Source;
 use mof_codec::{MofError, read};
-use mof_values::{FirstError, Instance};
-use std::alloc::Global;
+use mof_values::{Instance, Text};
+use partial_merge::{MergeError, merge, part_of};
+use std::alloc::{AllocError, AllocFailed, Global};
 
 /// The most bytes of a document.
 const LIMIT: usize = 2_097_152;
 
 /// Why there is no document, or why there are no instances.
-#[derive(Clone, Copy, Debug, PartialEq, Eq)]
+#[derive(Debug, Drop, PartialEq)]
 pub enum Unread {
     Refused(Refusal),
     Memory,
 }
 
-/// Reads the input to its end, and the document that it is.
-pub fn read_input<S: Source>(alloc: Global, input: &mut S) -> Result<Document, Unread>
-    ensures ok { IfOk result (λ d. IfSome (S.left input.old) (λ all. Reads all d)) }
-    ensures fits { IfOk result (λ _. IfSome (S.left input.old) (λ all. length all ≤ input_limit)) }
-    ensures few { IfOk result (λ d. length d.resources ≤ 4096) }
+impl From<AllocError> for Unread {
+    ghost from_gives = { λ _ e. e ≡ Memory };
+
+    fn from(_: AllocError) -> Self {
+        Unread::Memory
+    }
+}
+
+impl<T: Drop> From<AllocFailed<T>> for Unread {
+    ghost from_gives = { λ _ e. e ≡ Memory };
+
+    fn from(_: AllocFailed<T>) -> Self {
+        Unread::Memory
+    }
+}
+
+/// Reads the input to its end, and the document that it declares, as one part without a name.
+pub fn read_document<S: Source>(alloc: Global, input: &mut S) -> Result<Document, Unread>
+    ensures ok { IfOk result (λ document. Answered IsDocument (S.left input.old) document) }
     ensures err { IfErr result (λ e. IsUnread e (S.left input.old) (S.faults input.old) (S.faults input.new)) }
 {
-    let instances = match read_instances(alloc, input) {
-        Ok(instances) => instances,
+    let bytes = match read_bytes(alloc, input) {
+        Ok(bytes) => bytes,
         Err(unread) => return Err(unread),
     };
-    match first(alloc, instances) {
+    let part = part_of(Text::of(Vec::new(alloc)), bytes);
+    match merge(alloc, &[part]) {
         Ok(document) => Ok(document),
-        Err(FirstError::NotYet) => Err(Unread::Refused(Refusal::Input(InputError::NotYet))),
-        Err(FirstError::Memory) => Err(Unread::Memory),
+        Err(MergeError::Memory) => Err(Unread::Memory),
+        Err(error) => Err(Unread::Refused(Refusal::Input(InputError::Merge(error)))),
     }
 }
 
@@ -48,15 +65,27 @@ pub fn read_instances<S: Source>(alloc: Global, input: &mut S) -> Result<Vec<Ins
     ensures ok { IfOk result (λ instances. Answered (λ all is. syntax.Reads all is) (S.left input.old) instances.items) }
     ensures err { IfErr result (λ e. IsUnspelled e (S.left input.old) (S.faults input.old) (S.faults input.new)) }
 {
-    let bytes = match read_all(alloc, input, LIMIT) {
+    let bytes = match read_bytes(alloc, input) {
         Ok(bytes) => bytes,
-        Err(ReadError::Failed) => return Err(Unread::Refused(Refusal::ReadFault)),
-        Err(ReadError::TooLong) => return Err(Unread::Refused(Refusal::Input(InputError::TooLong))),
-        Err(ReadError::Memory) => return Err(Unread::Memory),
+        Err(unread) => return Err(unread),
     };
     match read(alloc, &bytes) {
         Ok(instances) => Ok(instances),
         Err(error) => Err(unspelled(error)),
+    }
+}
+
+// Reads the input to its end.
+fn read_bytes<S: Source>(alloc: Global, input: &mut S) -> Result<Vec<u8>, Unread>
+    ensures ok { IfOk result (λ bytes. IfSome (S.left input.old) (λ all. bytes.items ≡ all)) }
+    ensures fits { IfOk result (λ bytes. length bytes.items ≤ input_limit) }
+    ensures err { IfErr result (λ e. IsUntaken e (S.left input.old) (S.faults input.old) (S.faults input.new)) }
+{
+    match read_all(alloc, input, LIMIT) {
+        Ok(bytes) => Ok(bytes),
+        Err(ReadError::Failed) => Err(Unread::Refused(Refusal::ReadFault)),
+        Err(ReadError::TooLong) => Err(Unread::Refused(Refusal::Input(InputError::TooLong))),
+        Err(ReadError::Memory) => Err(Unread::Memory),
     }
 }
 

@@ -5,23 +5,24 @@ ghost use Rattle.std.specs.List.{flat_map};
 ghost use Rattle.dsc_terms.specs.Lists.{places_below};
 ghost use Rattle.resource_kinds.specs.Trace.{place_of, entry_is_yes, last_entry, has_succeeded};
 ghost use Rattle.resource_kinds.specs.Names.{failure_name};
-ghost use Rattle.lcm_program.specs.Lines.{test_words, set_words, id_at, line_of, verdict, summary, run_lines};
+ghost use Rattle.lcm_program.specs.Lines.{test_words, set_words, id_at, line_of, overlap_line, verdict, summary, run_lines};
 
 use resource_kinds::{Entry, Failure, SetAnswer, TestAnswer};
 use dsc_document::Document;
 use mof_codec::push_literal;
 use std::alloc::{AllocError, Global};
 
-/// The lines of a run; `places` are those of all resources, in order.
+/// The lines of a run; `places` are those of all resources, in order, and `overlaps` tells whether some of them do.
 pub fn lines_of(
     alloc: Global,
     document: &Document,
     places: &[u32],
     calls: &[Entry],
+    overlaps: bool,
 ) -> Result<String, AllocError>
     requires places { places.now ≡ places_below (length document.now.resources) }
     requires known { All (λ e. place_of e < length document.now.resources) calls.now }
-    ensures { IfOk result (λ s. string_bytes s ≡ run_lines document.now calls.now) }
+    ensures { IfOk result (λ s. string_bytes s ≡ run_lines document.now calls.now overlaps) }
 {
     let mut out = String::new(alloc);
     for entry in calls {
@@ -30,6 +31,7 @@ pub fn lines_of(
     let total = document.resources.as_slice().len();
     let good = count_succeeded(places, calls);
     push_summary(&mut out, total, good)?;
+    push_overlap(&mut out, overlaps)?;
     Ok(out)
 }
 
@@ -74,27 +76,28 @@ fn push_line(out: &mut String, document: &Document, entry: &Entry) -> Result<(),
         Entry::Tested { place, answer } => {
             out.push_str("test ")?;
             push_literal(out, id(document, *place))?;
-            push_test(out, *answer)?;
+            push_test(out, answer)?;
         }
         Entry::Set { place, answer } => {
             out.push_str("set ")?;
             push_literal(out, id(document, *place))?;
-            push_set(out, *answer)?;
+            push_set(out, answer)?;
         }
     }
     out.push_str("\n")?;
     Ok(())
 }
 
-fn id(document: &Document, place: u32) -> &[char]
+/// The id of the resource at that place.
+pub fn id(document: &Document, place: u32) -> &[char]
     requires { place < length document.now.resources }
     ensures { result.now ≡ id_at document.now place }
 {
     document.resources.as_slice()[place as usize].id.as_slice()
 }
 
-fn push_test(out: &mut String, answer: TestAnswer) -> Result<(), AllocError>
-    ensures { OnOk result (string_bytes out.new ≡ string_bytes out.old ++ test_words answer) }
+fn push_test(out: &mut String, answer: &TestAnswer) -> Result<(), AllocError>
+    ensures { OnOk result (string_bytes out.new ≡ string_bytes out.old ++ test_words answer.now) }
 {
     match answer {
         TestAnswer::Yes => out.push_str(" yes"),
@@ -104,8 +107,8 @@ fn push_test(out: &mut String, answer: TestAnswer) -> Result<(), AllocError>
     }
 }
 
-fn push_set(out: &mut String, answer: SetAnswer) -> Result<(), AllocError>
-    ensures { OnOk result (string_bytes out.new ≡ string_bytes out.old ++ set_words answer) }
+fn push_set(out: &mut String, answer: &SetAnswer) -> Result<(), AllocError>
+    ensures { OnOk result (string_bytes out.new ≡ string_bytes out.old ++ set_words answer.now) }
 {
     match answer {
         SetAnswer::Done => out.push_str(" done"),
@@ -115,11 +118,20 @@ fn push_set(out: &mut String, answer: SetAnswer) -> Result<(), AllocError>
     }
 }
 
-fn push_fault(out: &mut String, failure: Failure) -> Result<(), AllocError>
-    ensures { OnOk result (string_bytes out.new ≡ string_bytes out.old ++ codes " fault " ++ failure_name failure) }
+fn push_fault(out: &mut String, failure: &Failure) -> Result<(), AllocError>
+    ensures { OnOk result (string_bytes out.new ≡ string_bytes out.old ++ codes " fault " ++ failure_name failure.now) }
 {
     out.push_str(" fault ")?;
     out.push_str(failure.name())?;
+    Ok(())
+}
+
+fn push_overlap(out: &mut String, overlaps: bool) -> Result<(), AllocError>
+    ensures { OnOk result (string_bytes out.new ≡ string_bytes out.old ++ overlap_line overlaps) }
+{
+    if overlaps {
+        return out.push_str("overlapping\n");
+    }
     Ok(())
 }
 

@@ -5,10 +5,14 @@
 #![tactic(auto)]
 
 mod canon;
+mod check;
 mod checksum;
 mod command_line;
 mod input;
 mod lines;
+mod merge_words;
+mod mof_words;
+mod order;
 mod program;
 mod refusal;
 mod runs;
@@ -18,13 +22,15 @@ mod test;
 mod words;
 
 pub use canon::read_canonical;
+pub use check::read_count;
 pub use checksum::{checksum_line, read_digest};
 use command_line::CommandLine;
 use dsc_outside::Absent;
 use dsc_outside::real::{FolderHost, InSource, OutSink};
 pub use resource_kinds::{Entry, Failure, Kinds, Resources, SetAnswer, TestAnswer};
-pub use input::{Unread, read_input, read_instances};
-pub use lines::{lines_of, succeeded};
+pub use input::{Unread, read_document, read_instances};
+pub use lines::{id, lines_of, succeeded};
+pub use order::{order_of_merged, read_order};
 pub use program::node;
 pub use refusal::Refusal;
 pub use runs::{RunEnd, RunMode, monitor};

@@ -6,23 +6,26 @@ ghost use Rattle.lcm_program.specs.declared.refusal.Refusal.{Refusal};
 ghost use Rattle.lcm_program.specs.Words.{IsForm, IsUsage};
 ghost use Rattle.resource_kinds.specs.Kinds.{calls_of, host_of};
 ghost use Rattle.lcm_program.specs.Refusal.{status_of, refusal_line};
-ghost use Rattle.lcm_program.specs.Unread.{IsRefused};
+ghost use Rattle.lcm_program.specs.Unread.{AnswersEach, IsRefusedInput};
 ghost use Rattle.lcm_program.specs.Printed.{Printed};
-ghost use Rattle.lcm_program.specs.Program.{IsRun, RanToEnd, Stopped, IsUsageOrMemory, AnswersEach};
-ghost use Rattle.lcm_program.specs.Tool.{RanTool, TellsText, TellsAnswer, OnlyForRefusal};
+ghost use Rattle.lcm_program.specs.Program.{IsRun, RanToEnd, Stopped, IsUsageOrMemory};
+ghost use Rattle.lcm_program.specs.Tool.{IsRefusalFor, RanTool, TellsText, TellsAnswer, OnlyForRefusal};
 ghost use Rattle.lcm_program.specs.Canon.{AnswersCanon, AnswersEachText};
 ghost use Rattle.lcm_program.specs.Checksum.{AnswersChecksum};
+ghost use Rattle.lcm_program.specs.Documents.{AnswersOf, TellsCount, TellsOrder};
 
 use crate::canon::read_canonical;
+use crate::check::read_count;
 use crate::checksum::{checksum_line, read_digest};
-use crate::input::{Unread, read_input};
-use resource_kinds::Kinds;
+use crate::input::{Unread, read_document};
+use crate::order::read_order;
 use crate::refusal::Refusal;
 use crate::status::Status;
 use crate::streams::write_all;
 use crate::test::monitor_document;
 use crate::words::{Command, UsageError, read_words};
 use dsc_outside::{Clock, Disk, Failed, Host, Link, Sink, Source};
+use resource_kinds::Kinds;
 use std::alloc::Global;
 
 /// Does what the words ask for, and tells how it ended.
@@ -52,12 +55,28 @@ pub fn node<S: Source, K: Sink, D: Disk, H: Host, L: Link, C: Clock>(
     ensures no_form { ((command : Command) → IsForm command (map string_bytes words.now) → ⊥) → IsUsageOrMemory result × (input.new ≡ input.old) × (kinds.new ≡ kinds.old) }
 
     // The word `test`: what may be answered of each input.
-    ensures unread { (refusal : Refusal) → result ≡ status_of refusal → IsForm Command.Test (map string_bytes words.now) → IsRefused refusal (S.left input.old) (S.faults input.old) (S.faults input.new) }
-    ensures each { IsForm Command.Test (map string_bytes words.now) → IfSome (S.left input.old) (AnswersEach result (S.faults input.old) (S.faults input.new)) }
+    ensures unread { (refusal : Refusal) → result ≡ status_of refusal → IsForm Command.Test (map string_bytes words.now)
+        → IsRefusalFor IsRefusedInput refusal (S.left input.old) (S.faults input.old) (S.faults input.new) }
+    ensures each { IsForm Command.Test (map string_bytes words.now)
+        → IfSome (S.left input.old) (AnswersEach result (S.faults input.old) (S.faults input.new)) }
 
     // The word `test`: a run is told whole.
     ensures tested { IsForm Command.Test (map string_bytes words.now) → IsRun result
         → RanToEnd K.held K.faults H.told H.faults (S.left input.old) kinds.old kinds.new result output.old output.new }
+
+    // The word `check`: it changes nothing and prints how many resources there are; what is answered of each input.
+    ensures check { IsForm Command.Check (map string_bytes words.now)
+        → RanTool (AnswersOf TellsCount) K.held K.faults (S.left input.old) (S.faults input.old) (S.faults input.new)
+        kinds.old kinds.new result output.old output.new }
+    ensures check_each { IsForm Command.Check (map string_bytes words.now)
+        → IfSome (S.left input.old) (AnswersEach result (S.faults input.old) (S.faults input.new)) }
+
+    // The word `order`: it changes nothing and prints the ids in their order; what is answered of each input.
+    ensures order { IsForm Command.Order (map string_bytes words.now)
+        → RanTool (AnswersOf TellsOrder) K.held K.faults (S.left input.old) (S.faults input.old) (S.faults input.new)
+        kinds.old kinds.new result output.old output.new }
+    ensures order_each { IsForm Command.Order (map string_bytes words.now)
+        → IfSome (S.left input.old) (AnswersEach result (S.faults input.old) (S.faults input.new)) }
 
     // The word `canon`: it changes nothing and prints the canonical text of the input; what is answered of each input.
     ensures canon { IsForm Command.Canon (map string_bytes words.now)
@@ -78,6 +97,8 @@ pub fn node<S: Source, K: Sink, D: Disk, H: Host, L: Link, C: Clock>(
 {
     match read_words(words) {
         Ok(Command::Test) => test(alloc, input, output, kinds),
+        Ok(Command::Check) => check(alloc, input, output),
+        Ok(Command::Order) => order(alloc, input, output),
         Ok(Command::Canon) => canon(alloc, input, output),
         Ok(Command::Checksum) => checksum(alloc, input, output),
         Err(UsageError { word }) => refuse(alloc, output, Refusal::Usage { word }),
@@ -93,12 +114,12 @@ fn test<S: Source, K: Sink, H: Host>(
 ) -> Status
     requires fresh { calls_of kinds.old ≡ [] }
     ensures host { H.told (host_of kinds.new) ≡ H.told (host_of kinds.old) }
-    ensures refused { (refusal : Refusal) → result ≡ status_of refusal → Printed K.held K.faults output.old output.new (refusal_line refusal) × (kinds.new ≡ kinds.old) × IsRefused refusal (S.left input.old) (S.faults input.old) (S.faults input.new) }
+    ensures refused { (refusal : Refusal) → result ≡ status_of refusal → Printed K.held K.faults output.old output.new (refusal_line refusal) × (kinds.new ≡ kinds.old) × IsRefusalFor IsRefusedInput refusal (S.left input.old) (S.faults input.old) (S.faults input.new) }
     ensures each { IfSome (S.left input.old) (AnswersEach result (S.faults input.old) (S.faults input.new)) }
     ensures tested { IsRun result → RanToEnd K.held K.faults H.told H.faults (S.left input.old) kinds.old kinds.new result output.old output.new }
     ensures memory { result ≡ Status.Memory → Stopped H.told H.faults (S.left input.old) kinds.old kinds.new × (output.new ≡ output.old) }
 {
-    let document = match read_input(alloc, input) {
+    let document = match read_document(alloc, input) {
         Ok(document) => document,
         Err(Unread::Refused(refusal)) => return refuse(alloc, output, refusal),
         Err(Unread::Memory) => return Status::Memory,
@@ -115,6 +136,40 @@ fn test<S: Source, K: Sink, H: Host>(
     Status::NotCompliant {
         count: outcome.missed,
     }
+}
+
+// The word `check`.
+fn check<S: Source, K: Sink>(alloc: Global, input: &mut S, output: &mut K) -> Status
+    ensures refused { (refusal : Refusal) → result ≡ status_of refusal
+        → Printed K.held K.faults output.old output.new (refusal_line refusal) }
+    ensures tells { TellsAnswer (AnswersOf TellsCount) K.held K.faults (S.left input.old)
+        (S.faults input.old) (S.faults input.new) result output.old output.new }
+    ensures each { IfSome (S.left input.old) (AnswersEach result (S.faults input.old) (S.faults input.new)) }
+    ensures silent { result ≡ Status.Memory → output.new ≡ output.old }
+{
+    let text = match read_count(alloc, input) {
+        Ok(text) => text,
+        Err(Unread::Refused(refusal)) => return refuse(alloc, output, refusal),
+        Err(Unread::Memory) => return Status::Memory,
+    };
+    print(output, text.as_bytes())
+}
+
+// The word `order`.
+fn order<S: Source, K: Sink>(alloc: Global, input: &mut S, output: &mut K) -> Status
+    ensures refused { (refusal : Refusal) → result ≡ status_of refusal
+        → Printed K.held K.faults output.old output.new (refusal_line refusal) }
+    ensures tells { TellsAnswer (AnswersOf TellsOrder) K.held K.faults (S.left input.old)
+        (S.faults input.old) (S.faults input.new) result output.old output.new }
+    ensures each { IfSome (S.left input.old) (AnswersEach result (S.faults input.old) (S.faults input.new)) }
+    ensures silent { result ≡ Status.Memory → output.new ≡ output.old }
+{
+    let text = match read_order(alloc, input) {
+        Ok(text) => text,
+        Err(Unread::Refused(refusal)) => return refuse(alloc, output, refusal),
+        Err(Unread::Memory) => return Status::Memory,
+    };
+    print(output, text.as_bytes())
 }
 
 // The word `canon`.

@@ -3,9 +3,10 @@ ghost use Rattle.std.specs.Prelude.{◌≡◌};
 ghost use Rattle.lcm_program.specs.Status.{number_of};
 
 use mof_codec::MofError;
+use partial_merge::MergeError;
 
 /// Why the input was refused.
-#[derive(Clone, Copy, Debug, PartialEq, Eq)]
+#[derive(Debug, Drop, PartialEq)]
 pub enum InputError {
     /// It is longer than the command takes: 2,097,152 bytes of a document, 67,108,864 bytes for a checksum.
     TooLong,
@@ -13,12 +14,12 @@ pub enum InputError {
     /// It spells no instances. `MofError::TooLong` and `MofError::Memory` are never told so.
     Mof(MofError),
 
-    /// Its instances are no document of the form that is read so far.
-    NotYet,
+    /// It declares no document. `MergeError::Memory` is never told so.
+    Merge(MergeError),
 }
 
 /// How the program ended.
-#[derive(Clone, Copy, Debug, PartialEq, Eq)]
+#[derive(Debug, Drop, PartialEq)]
 pub enum Status {
     Done,
 
@@ -42,8 +43,8 @@ pub enum Status {
 
 impl Status {
     /// The exit status of the program.
-    pub fn number(self) -> u8
-        ensures { result ≡ number_of self }
+    pub fn number(&self) -> u8
+        ensures { result ≡ number_of self.now }
     {
         match self {
             Status::Done => 0,

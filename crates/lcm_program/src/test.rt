@@ -1,21 +1,24 @@
-//! The word `test`: a run that monitors the document that the input is.
-ghost use Rattle.std.specs.Prelude.{◌≡◌, ◌≢◌, ◌⊎◌, ◌<◌, ◌≤◌, ◌^◌, ℕ, [], length, All, IfOk, OnOk, string_bytes};
+//! The word `test`: a run that monitors the document that the input declares.
+ghost use Rattle.std.specs.Prelude.{◌≡◌, ◌⊎◌, ◌<◌, ◌≤◌, ◌^◌, ℕ, List, [], length, All, IfOk, OnOk, string_bytes};
 ghost use Rattle.dsc_terms.specs.Counts.{Rose};
 ghost use Rattle.dsc_terms.specs.Lists.{IsOnce, places_below};
 ghost use Rattle.dsc_document.specs.declared.document.Document.{Document};
+ghost use Rattle.depend_order.specs.Documents.{IsOrderOfDocument};
+ghost use Rattle.partial_merge.specs.declared.part.Part.{Part};
+ghost use Rattle.partial_merge.specs.Merged.{Merged};
+ghost use Rattle.resource_kinds.specs.Kinds.{calls_of, host_of};
 ghost use Rattle.resource_kinds.specs.Trace.{missed_count, place_of};
 ghost use Rattle.lcm_program.specs.Legal.{GoesOn};
-ghost use Rattle.lcm_program.specs.Lines.{run_lines};
-ghost use Rattle.resource_kinds.specs.Kinds.{calls_of, host_of};
-ghost use Rattle.lcm_program.specs.Ran.{Ran, run_order};
+ghost use Rattle.lcm_program.specs.Lines.{TellsRun};
+ghost use Rattle.lcm_program.specs.Ran.{Ran};
 
-use resource_kinds::Kinds;
 use crate::lines::{count_succeeded, lines_of};
-use resource_kinds::Resources;
+use crate::order::order_of_merged;
 use crate::runs::{RunEnd, monitor};
 use dsc_document::Document;
 use dsc_outside::Host;
 use mof_values::Memory;
+use resource_kinds::{Kinds, Resources, overlaps};
 use std::alloc::{AllocError, Global};
 
 /// What a run comes to.
@@ -28,32 +31,34 @@ pub struct Outcome {
     pub missed: u32,
 }
 
-/// Tests each resource of the document, in its order.
+/// Tests each resource of a merged document, in the order of dependencies.
 pub fn monitor_document<H: Host>(
     alloc: Global,
     document: &Document,
     kinds: &mut Kinds<H>,
 ) -> Result<Outcome, Memory>
     requires fresh { calls_of kinds.old ≡ [] }
-    requires count { length document.now.resources < 2 ^ 32 }
+    requires merged { (parts : List Part) × Merged parts document.now }
 
     ensures run { (calls_of kinds.new ≡ []) ⊎ Ran document.now (calls_of kinds.new) (H.told (host_of kinds.old)) (H.told (host_of kinds.new)) (H.faults (host_of kinds.old)) (H.faults (host_of kinds.new)) }
     ensures host { H.told (host_of kinds.new) ≡ H.told (host_of kinds.old) }
     ensures ok { OnOk result (Ran document.now (calls_of kinds.new) (H.told (host_of kinds.old)) (H.told (host_of kinds.new)) (H.faults (host_of kinds.old)) (H.faults (host_of kinds.new))) }
     ensures finished { OnOk result (GoesOn (calls_of kinds.new)) }
-    ensures lines { IfOk result (λ outcome. string_bytes outcome.lines ≡ run_lines document.now (calls_of kinds.new)) }
+    ensures lines { IfOk result (λ outcome. TellsRun document.now (calls_of kinds.new) (string_bytes outcome.lines)) }
     ensures missed { IfOk result (λ outcome. outcome.missed ≡ missed_count document.now (calls_of kinds.new)) }
 {
+    let overlap = overlaps(alloc, document)?;
+    let order = order_of_merged(alloc, document)?;
     let count = document.resources.as_slice().len() as u32;
     let places = places(alloc, count)?;
-    run_in_order(document, &places, kinds)?;
+    run_in_order(document, &order, kinds)?;
     let calls = kinds.calls();
-    let lines = lines_of(alloc, document, &places, calls)?;
+    let lines = lines_of(alloc, document, &places, calls, overlap)?;
     let missed = count - count_succeeded(&places, calls) as u32;
     Ok(Outcome { lines, missed })
 }
 
-// Tests each resource in the order of the document.
+// Tests each resource in the order of dependencies.
 fn run_in_order<H: Host>(
     document: &Document,
     order: &[u32],
@@ -61,7 +66,7 @@ fn run_in_order<H: Host>(
 ) -> Result<(), Memory>
     requires fresh { calls_of kinds.old ≡ [] }
     requires count { length document.now.resources < 2 ^ 32 }
-    requires order { order.now ≡ run_order document.now }
+    requires order { IsOrderOfDocument document.now order.now }
 
     ensures run { (calls_of kinds.new ≡ []) ⊎ Ran document.now (calls_of kinds.new) (H.told (host_of kinds.old)) (H.told (host_of kinds.new)) (H.faults (host_of kinds.old)) (H.faults (host_of kinds.new)) }
     ensures host { H.told (host_of kinds.new) ≡ H.told (host_of kinds.old) }

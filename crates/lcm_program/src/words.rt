@@ -8,6 +8,12 @@ pub enum Command {
     /// Tests the document that the input is.
     Test,
 
+    /// Prints how many resources the document of the input has.
+    Check,
+
+    /// Prints the ids of the resources in the order of their dependencies.
+    Order,
+
     /// Prints the canonical text of the instances that the input spells.
     Canon,
 
@@ -45,6 +51,8 @@ fn command_of(word: &str) -> Option<Command>
 {
     match word {
         "test" => Some(Command::Test),
+        "check" => Some(Command::Check),
+        "order" => Some(Command::Order),
         "canon" => Some(Command::Canon),
         "checksum" => Some(Command::Checksum),
         _ => None,

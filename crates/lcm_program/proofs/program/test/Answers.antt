@@ -1,6 +1,6 @@
 use Rattle.std.proofs.Common.{inl, inr}
 use Rattle.lcm_program.specs.declared.status.Status.TheVariants.{Done, NotCompliant, WriteFault}
-use Rattle.lcm_program.proofs.Answered.{each_refused, each_memory, each_run, is_input}
+use Rattle.lcm_program.proofs.Answered.{each_refused, each_memory, each_run}
 use Rattle.lcm_program.proofs.program.test.Goals as goal
 
 pub returns-in-Err-Refused-clause-each : goal.returns-in-Err-Refused-clause-each
@@ -13,15 +13,12 @@ returns-in-Err-Refused-clause-each g c =
 
 pub returns-in-Err-clause-each : goal.returns-in-Err-clause-each
 returns-in-Err-clause-each g c =
-    let left = g.S.Ends.left c.args.input.now in
-    each_run left _ _ WriteFault c.in-Ok.document tt (is_input left c.in-Ok.document c.in-Ok.ensures.ok c.in-Ok.ensures.fits)
+    each_run (g.S.Ends.left c.args.input.now) _ _ WriteFault c.in-Ok.document tt c.in-Ok.ensures.ok
 
 pub returns-then-outcome-eq0-clause-each : goal.returns-then-outcome-eq0-clause-each
 returns-then-outcome-eq0-clause-each g c =
-    let left = g.S.Ends.left c.args.input.now in
-    each_run left _ _ Done c.in-Ok.document tt (is_input left c.in-Ok.document c.in-Ok.ensures.ok c.in-Ok.ensures.fits)
+    each_run (g.S.Ends.left c.args.input.now) _ _ Done c.in-Ok.document tt c.in-Ok.ensures.ok
 
 pub returns-clause-each : goal.returns-clause-each
 returns-clause-each g c =
-    let left = g.S.Ends.left c.args.input.now in
-    each_run left _ _ (NotCompliant c.in-Ok-monitor_document.outcome.missed) c.in-Ok.document tt (is_input left c.in-Ok.document c.in-Ok.ensures.ok c.in-Ok.ensures.fits)
+    each_run (g.S.Ends.left c.args.input.now) _ _ (NotCompliant c.in-Ok-monitor_document.outcome.missed) c.in-Ok.document tt c.in-Ok.ensures.ok

@@ -1,16 +1,17 @@
 use Rattle.std.proofs.Common.{inr, arith}
 use Rattle.lcm_program.proofs.Traces.{tells_true_keeps, legal_places}
-use Rattle.lcm_program.proofs.Monitored.{ran, order_below, order_once, length-order}
+use Rattle.lcm_program.proofs.Monitored.{ran}
+use Rattle.lcm_program.proofs.Orders.{order_below, order_count}
 use Rattle.lcm_program.proofs.test.run_in_order.Goals as goal
 
 pub overflow_cast-order : goal.overflow_cast-order
-overflow_cast-order g c = omega (arith, length-order c.args.document.now c.args.order.now c.requires.order, c.requires.count)
+overflow_cast-order g c = omega (arith, order_count c.args.document.now c.args.order.now c.requires.order, c.requires.count)
 
 pub monitor-requires-clause-places : goal.monitor-requires-clause-places
 monitor-requires-clause-places g c = order_below c.args.document.now c.args.order.now c.requires.order
 
 pub monitor-requires-clause-distinct : goal.monitor-requires-clause-distinct
-monitor-requires-clause-distinct g c = order_once c.args.document.now c.args.order.now c.requires.order
+monitor-requires-clause-distinct g c = c.requires.order.once
 
 pub returns-in-Finished-clause-ok : goal.returns-in-Finished-clause-ok
 returns-in-Finished-clause-ok g c =

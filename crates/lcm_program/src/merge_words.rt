@@ -1,0 +1,109 @@
+//! The words for why an input declares no document.
+ghost use Rattle.std.specs.Prelude.{◌≡◌, ◌++◌, codes, encode_utf8_all, OnOk, string_bytes};
+ghost use Rattle.std.specs.List.{flat_map};
+ghost use Rattle.std.specs.Fmt.{decimal};
+ghost use Rattle.lcm_program.specs.Quoted.{quoted};
+ghost use Rattle.lcm_program.specs.Refusal.{merge_words, part_words, pair_words, place_words, rule_words, spot_words};
+
+use crate::mof_words::push_mof_error;
+use dsc_document::{DocError, Spot};
+use mof_codec::push_literal;
+use mof_values::{Ident, Text};
+use partial_merge::{MergeError, PartFault};
+use std::alloc::AllocError;
+
+/// Appends the name of a merge's refusal, and its values.
+pub fn push_merge_error(out: &mut String, error: &MergeError) -> Result<(), AllocError>
+    ensures { OnOk result (string_bytes out.new ≡ string_bytes out.old ++ merge_words error.now) }
+{
+    match error {
+        MergeError::Part { index, fault } => {
+            write!(out, "Part {index} ")?;
+            push_part_fault(out, fault)
+        }
+        MergeError::DependsUnknown { spot, name } => {
+            out.push_str("DependsUnknown ")?;
+            push_spot(out, *spot)?;
+            push_text(out, name)
+        }
+        MergeError::Cycle(walk) => {
+            out.push_str("Cycle")?;
+            push_places(out, walk.as_slice())
+        }
+        MergeError::Memory => out.push_str("Memory"),
+    }
+}
+
+fn push_part_fault(out: &mut String, fault: &PartFault) -> Result<(), AllocError>
+    ensures { OnOk result (string_bytes out.new ≡ string_bytes out.old ++ part_words fault.now) }
+{
+    match fault {
+        PartFault::Mof(error) => push_mof_error(out, *error),
+        PartFault::Doc(error) => push_rule(out, error),
+    }
+}
+
+fn push_rule(out: &mut String, error: &DocError) -> Result<(), AllocError>
+    ensures { OnOk result (string_bytes out.new ≡ string_bytes out.old ++ rule_words error.now) }
+{
+    match error {
+        DocError::DuplicateProperty { index, name } => {
+            write!(out, "DuplicateProperty {index} ")?;
+            push_ident(out, name)
+        }
+        DocError::TwoAliases { first, second } => push_pair(out, "TwoAliases", *first, *second),
+        DocError::AliasUnknown { index } => write!(out, "AliasUnknown {index}"),
+        DocError::NoHeader => out.push_str("NoHeader"),
+        DocError::TwoHeaders { first, second } => push_pair(out, "TwoHeaders", *first, *second),
+        DocError::BadResourceId { index } => write!(out, "BadResourceId {index}"),
+        DocError::DuplicateId { first, second } => push_pair(out, "DuplicateId", *first, *second),
+        DocError::BadDependsOn { index } => write!(out, "BadDependsOn {index}"),
+        DocError::DependsUnknown { index, name } => {
+            write!(out, "DependsUnknown {index}")?;
+            push_text(out, name)
+        }
+        DocError::Memory => out.push_str("Memory"),
+    }
+}
+
+// A name and the places of two instances.
+fn push_pair(out: &mut String, name: &str, first: u32, second: u32) -> Result<(), AllocError>
+    ensures { OnOk result (string_bytes out.new ≡ string_bytes out.old ++ pair_words name.now first second) }
+{
+    out.push_str(name)?;
+    write!(out, " {first} {second}")
+}
+
+// A space and a text as a literal.
+fn push_text(out: &mut String, text: &Text) -> Result<(), AllocError>
+    ensures { OnOk result (string_bytes out.new ≡ string_bytes out.old ++ codes " " ++ quoted text.now) }
+{
+    out.push_str(" ")?;
+    push_literal(out, text.as_slice())
+}
+
+fn push_ident(out: &mut String, name: &Ident) -> Result<(), AllocError>
+    ensures { OnOk result (string_bytes out.new ≡ string_bytes out.old ++ encode_utf8_all name.now) }
+{
+    for c in name.as_slice() {
+        out.push(*c)?;
+    }
+    Ok(())
+}
+
+fn push_spot(out: &mut String, spot: Spot) -> Result<(), AllocError>
+    ensures { OnOk result (string_bytes out.new ≡ string_bytes out.old ++ spot_words spot) }
+{
+    let Spot { part, index } = spot;
+    write!(out, "{part}.{index}")
+}
+
+// The places of a walk, a space before each.
+fn push_places(out: &mut String, places: &[u32]) -> Result<(), AllocError>
+    ensures { OnOk result (string_bytes out.new ≡ string_bytes out.old ++ flat_map place_words places.now) }
+{
+    for place in places {
+        write!(out, " {place}")?;
+    }
+    Ok(())
+}
