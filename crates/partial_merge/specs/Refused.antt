@@ -2,6 +2,7 @@
 use Rattle.std.specs.Prelude.{◌≡◌, ◌≢◌, ℕ, ◌<◌, List, IsSomeAnd, slice_get, ⊤}
 use Rattle.mof_values.specs.declared.instance.Instance.{Instance}
 use Rattle.mof_syntax.specs.Refusals.{Reads, Refuses}
+use Rattle.mof_syntax.specs.declared.mof_error.MofError.{MofError}
 use Rattle.mof_syntax.specs.declared.mof_error.MofError.TheVariants as mof
 use Rattle.dsc_document.specs.declared.document.Document.{Document}
 use Rattle.dsc_document.specs.declared.spot.Spot.{Spot}
@@ -15,9 +16,15 @@ use Rattle.partial_merge.specs.declared.error.MergeError.{MergeError}
 use Rattle.partial_merge.specs.declared.error.MergeError.TheVariants as refusals
 use Rattle.partial_merge.specs.Parts.{AreParts, IsWhole}
 
--- the bytes are refused so, or the instances that they spell break this rule of parts; never for want of memory
+-- the bytes spell no instances and are refused so; never for want of memory
+pub record IsUnspelled (bytes : List ℕ) (refusal : MofError) : Type 0 where
+  pub caused : refusal ≢ mof.Memory
+  pub unspelled : (instances : List Instance) → Reads bytes instances → ⊥
+  pub refused : Refuses bytes refusal
+
+-- the bytes spell no instances, or the instances that they spell break this rule of parts
 abbrev pub HasFault : Part → PartFault → Type 0
-HasFault part (Mof refusal) = (refusal ≢ mof.Memory) × Refuses part.bytes refusal
+HasFault part (Mof refusal) = IsUnspelled part.bytes refusal
 HasFault part (Doc refusal) =
     (instances : List Instance) × Reads part.bytes instances × IsRefusal instances refusal × (condition_of refusal < 9)
 

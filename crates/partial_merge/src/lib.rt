@@ -6,11 +6,13 @@
 #![tactic(auto)]
 
 mod error;
+mod laws;
 mod merge_one;
 mod part;
 
 pub use dsc_document::Spot;
 pub use error::{MergeError, PartFault};
+pub use laws::merge_laws;
 pub use merge_one::merge;
 pub use part::{Part, part_of};
 
