@@ -26,5 +26,5 @@ module _ (document : Document) (order : List ℕ) (is : IsOrderOfDocument docume
       length-le_from_distinct_below order (length document.resources)
       (IsDistinct-from_AllPairs (λ a b. (eqb-true a b, eq-eqb a b)) order apart)
       (λ q found.
-          let has = Contains-from_any eqb-true q order found in
-          subst (λ (r : ℕ). r < length document.resources) has.2 (order_below has.0 q has.1))
+      let has = Contains-from_any eqb-true q order found in
+      subst (λ (r : ℕ). r < length document.resources) has.2 (order_below has.0 q has.1))

@@ -11,7 +11,7 @@ use Rattle.resource_kinds.specs.declared.entry.SetAnswer.{SetAnswer}
 use Rattle.resource_kinds.specs.declared.entry.SetAnswer.TheVariants as sets
 use Rattle.resource_kinds.specs.declared.entry.Entry.{Entry}
 use Rattle.resource_kinds.specs.declared.entry.Entry.TheVariants.{Tested, Set}
-use Rattle.resource_kinds.specs.Apart.{Apart}
+use Rattle.resource_kinds.specs.Apart.{Apart, Overlap}
 use Rattle.resource_kinds.specs.Names.{failure_name}
 use Rattle.resource_kinds.specs.Trace.{succeeded_count}
 
@@ -54,9 +54,9 @@ abbrev pub run_lines : Document → List Entry → Bool → List ℕ
 run_lines document trace overlaps =
     flat_map (line_of document) trace ++ summary (length document.resources) (succeeded_count document trace) ++ overlap_line overlaps
 
--- the text of a run: it says `overlapping` exactly where the document is not apart
+-- the text of a run: it says `overlapping` exactly where resources of the document overlap
 pub record TellsRun (document : Document) (trace : List Entry) (text : List ℕ) : Type 0 where
   pub overlaps : Bool
   pub apart : overlaps ≡ false → Apart document
-  pub overlapping : overlaps ≡ true → Apart document → ⊥
+  pub overlapping : overlaps ≡ true → Overlap document
   pub lines : text ≡ run_lines document trace overlaps

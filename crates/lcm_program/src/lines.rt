@@ -7,9 +7,9 @@ ghost use Rattle.resource_kinds.specs.Trace.{place_of, entry_is_yes, last_entry,
 ghost use Rattle.resource_kinds.specs.Names.{failure_name};
 ghost use Rattle.lcm_program.specs.Lines.{test_words, set_words, id_at, line_of, overlap_line, verdict, summary, run_lines};
 
-use resource_kinds::{Entry, Failure, SetAnswer, TestAnswer};
 use dsc_document::Document;
 use mof_codec::push_literal;
+use resource_kinds::{Entry, Failure, SetAnswer, TestAnswer};
 use std::alloc::{AllocError, Global};
 
 /// The lines of a run; `places` are those of all resources, in order, and `overlaps` tells whether some of them do.

@@ -6,9 +6,8 @@ ghost use Rattle.resource_kinds.specs.Trace.{Chain, EndsInMemory, host_failures}
 ghost use Rattle.lcm_program.specs.Legal.{Legal, GoesOn};
 ghost use Rattle.lcm_program.specs.Whole.{Whole};
 
-use resource_kinds::TestAnswer;
-use resource_kinds::Resources;
 use dsc_document::Document;
+use resource_kinds::{Resources, TestAnswer};
 
 /// What a run may do with a resource that does not hold.
 #[derive(Clone, Copy, Debug, PartialEq, Eq)]

@@ -1,5 +1,7 @@
 mod canon;
 mod checksum;
+mod documents;
+mod kinds;
 
 use super::*;
 use dsc_outside::{Ends, Failed, MemoryHost, MemorySink, MemorySource, Sink, Source, Variable};
@@ -23,10 +25,6 @@ const ESCAPED: &str =
 
 const ESCAPES: &str =
     "test \"[Environment]\\\"\\\\\\b\\t\\n\\f\\r\\x0001\\x001F\u{7f}\u{20ac}'\" no\nresources 1 succeeded 0\nnot compliant 1\n";
-
-/// A resource whose Value is a number.
-const NUMBER: &str =
-    "instance of MSFT_EnvironmentResource{ResourceID=\"[Environment]A\";Name=\"V\";Value=1;};instance of OMI_ConfigurationDocument{Version=\"2.0.0\";};";
 
 const TWO: &str =
     "instance of MSFT_EnvironmentResource{ResourceID=\"[Environment]A\";Name=\"V\";Value=\"1\";};instance of MSFT_EnvironmentResource{ResourceID=\"[Environment]B\";Name=\"W\";Value=\"2\";};instance of OMI_ConfigurationDocument{Version=\"2.0.0\";};";
@@ -247,23 +245,15 @@ fn test_prints_the_answers_and_ends_with_the_verdict(rt: HostRuntime) -> Result<
         (ONE, Some(b"1".as_slice()), Some(0), FAULT, 1),
         (TWO, Some(b"1".as_slice()), Some(0), BEHIND_FAULT, 1),
         (HEADER, None, None, NOTHING, 0),
-        ("", None, None, "refused NotYet\n", 3),
-        (
-            "instance of A { X = 1; };",
-            None,
-            None,
-            "refused NotYet\n",
-            3,
-        ),
-        (NUMBER, None, None, "refused NotYet\n", 3),
+        ("", None, None, "refused Part 0 NoHeader\n", 3),
         (SPELLED, None, None, NO, 1),
         (ESCAPED, None, None, ESCAPES, 1),
-        ("x", None, None, "refused Syntax 0\n", 3),
+        ("x", None, None, "refused Part 0 Syntax 0\n", 3),
         (
             "instance of A { X = 1.5; };",
             None,
             None,
-            "refused OutOfProfile 20 real\n",
+            "refused Part 0 OutOfProfile 20 real\n",
             3,
         ),
     ] {
@@ -296,6 +286,9 @@ fn words_in_no_form_are_refused_with_the_first_that_does_not_fit(
         (&["Checksum"], "refused Usage 0\n"),
         (&["checksum "], "refused Usage 0\n"),
         (&["canon", "x"], "refused Usage 1\n"),
+        (&["check", "x"], "refused Usage 1\n"),
+        (&["order", "order"], "refused Usage 1\n"),
+        (&["Order"], "refused Usage 0\n"),
         (&["Canon"], "refused Usage 0\n"),
     ] {
         expect(&rt, &reading(words, None, lines, 2), ONE.as_bytes())?;
@@ -310,7 +303,7 @@ fn an_input_that_fails_or_is_too_long_is_refused(rt: HostRuntime) -> Result<(), 
         (10, Some(0), "refused ReadFault\n", 4),
         (10, Some(1), "refused ReadFault\n", 4),
         (2_097_153, None, "refused TooLong\n", 3),
-        (2_097_152, None, "refused NotYet\n", 3),
+        (2_097_152, None, "refused Part 0 NoHeader\n", 3),
     ] {
         let case = reading(words, failing_read, lines, status);
         expect(&rt, &case, &spaces(&rt, count)?)?;
@@ -321,15 +314,12 @@ fn an_input_that_fails_or_is_too_long_is_refused(rt: HostRuntime) -> Result<(), 
 #[test]
 fn an_output_that_fails_is_told_but_for_a_refusal(rt: HostRuntime) -> Result<(), Fail> {
     let case = reading(&["test"], None, "", 0);
-    for (input, status) in [
-        (ONE, Status::WriteFault),
-        ("", Status::InputRefused(InputError::NotYet)),
-    ] {
+    for (input, status) in [(ONE, 4), ("", 3)] {
         let bytes = input.as_bytes().to_vec(rt.alloc())?;
         let mut source = MemorySource::new(bytes, Vec::new(rt.alloc()));
         let mut output = MemorySink::new(rt.alloc(), one_if(&rt, Some(0))?);
         let got = run(&rt, &case, &mut source, &mut output)?;
-        assert_eq!(rt; got, status, "{input}");
+        assert_eq!(rt; got.number(), status, "{input}");
         assert!(rt; output.bytes().is_empty(), "{input}");
     }
     Ok(())
