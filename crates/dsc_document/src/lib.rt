@@ -7,6 +7,8 @@
 //! list. A refusal is the first rule that is broken, at its least index.
 //!
 //! `first` reads a plain first form: Environment resources, each spelled in one way, and last the header.
+//!
+//! `Places` keeps a place for each of some names that compare by fold, for layers above that look for names too.
 #![tactic(auto)]
 
 mod aliases;
@@ -27,6 +29,7 @@ mod unknown;
 pub use document::{Document, Resource};
 pub use error::DocError;
 pub use first_form::first;
+pub use places::Places;
 pub use rules::{check, check_part, one_refusal_wins};
 pub use spot::Spot;
 pub use unknown::{UnknownId, unknown_id};
