@@ -10,7 +10,7 @@ use std::alloc::{AllocError, Global};
 ///
 /// Each name is looked up once among those before it, so 4,096 resources cost as many look-ups.
 pub fn overlaps(alloc: Global, document: &Document) -> Result<bool, AllocError>
-    requires { length document.now.resources < 2 ^ 32 }
+    requires few { length document.now.resources < 2 ^ 32 }
     ensures apart { IfOk result (λ yes. yes ≡ false → Apart document.now) }
     ensures overlap { IfOk result (λ yes. yes ≡ true → Overlap document.now) }
 {

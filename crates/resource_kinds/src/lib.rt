@@ -14,3 +14,6 @@ pub use apart::overlaps;
 pub use entry::{Entry, Failure, SetAnswer, TestAnswer};
 pub use kinds::Kinds;
 pub use resources::Resources;
+
+#[cfg(test)]
+mod tests;
