@@ -5,6 +5,8 @@
 //! one header, aliases that are there, ids of their form that differ by fold, lists of texts to depend on, in a
 //! whole document each the id of a resource; and on the resources and the other instances in the order of the
 //! list. A refusal is the first rule that is broken, at its least index.
+//!
+//! `Places` keeps a place for each of some names that compare by fold, for layers above that look for names too.
 #![tactic(auto)]
 
 mod aliases;
@@ -23,6 +25,8 @@ mod unknown;
 
 pub use document::{Document, Resource};
 pub use error::DocError;
+pub use first_form::first;
+pub use places::Places;
 pub use rules::{check, check_part, one_refusal_wins};
 pub use spot::Spot;
 pub use unknown::{UnknownId, unknown_id};

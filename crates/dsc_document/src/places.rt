@@ -14,6 +14,7 @@ pub struct Places {
 }
 
 impl Places {
+    /// No name has a place.
     pub fn new(alloc: Global) -> Places
         ensures { (name : List ℕ) → place_of result name ≡ None }
     {

@@ -1,5 +1,8 @@
+pub mod Apart
+pub mod Faults
 pub mod Holds
 pub mod Kinds
 pub mod Names
 pub mod Trace
 pub mod True
+pub mod Wanted

@@ -3,7 +3,7 @@ use Rattle.std.specs.Prelude.{◌≡◌, ◌==◌, ◌-◌, ℕ, Bool, true, fal
 use Rattle.dsc_terms.specs.Lists.{places_below}
 use Rattle.dsc_document.specs.declared.document.Document.{Document}
 use Rattle.resource_kinds.specs.declared.entry.Failure.{Failure}
-use Rattle.resource_kinds.specs.declared.entry.Failure.TheVariants.{NoSuchResource, HostFailed}
+use Rattle.resource_kinds.specs.declared.entry.Failure.TheVariants.{NoSuchResource, OutOfProfile, HostFailed}
 use Rattle.resource_kinds.specs.declared.entry.TestAnswer.{TestAnswer}
 use Rattle.resource_kinds.specs.declared.entry.TestAnswer.TheVariants as tests
 use Rattle.resource_kinds.specs.declared.entry.SetAnswer.{SetAnswer}
@@ -71,6 +71,7 @@ IsFinal (Set place sets.Memory) = Unit {0}
 -- 1 where the failure is the host's
 abbrev pub host_failure : Failure → ℕ
 host_failure NoSuchResource = 0
+host_failure (OutOfProfile name) = 0
 host_failure HostFailed = 1
 
 abbrev pub test_failures : TestAnswer → ℕ

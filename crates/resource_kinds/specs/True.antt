@@ -1,31 +1,42 @@
 -- Which answers are true of a machine.
-use Rattle.std.specs.Prelude.{◌≡◌, List, Option, Some, None, ⊤, IfSome, slice_get}
+use Rattle.std.specs.Prelude.{◌≡◌, ◌⊎◌, List, Option, Some, None, Result, Ok, Err, ⊤, IfSome, slice_get}
 use Rattle.dsc_outside.specs.Host.{HostState}
 use Rattle.dsc_document.specs.declared.document.Document.{Document}
-use Rattle.resource_kinds.specs.declared.entry.Failure.TheVariants.{NoSuchResource, HostFailed}
+use Rattle.resource_kinds.specs.declared.entry.Failure.{Failure}
+use Rattle.resource_kinds.specs.declared.entry.Failure.TheVariants.{OutOfProfile, HostFailed}
 use Rattle.resource_kinds.specs.declared.entry.TestAnswer.{TestAnswer}
 use Rattle.resource_kinds.specs.declared.entry.TestAnswer.TheVariants as tests
 use Rattle.resource_kinds.specs.declared.entry.Entry.{Entry}
 use Rattle.resource_kinds.specs.declared.entry.Entry.TheVariants.{Tested, Set}
-use Rattle.resource_kinds.specs.Holds.{Variable, variable_of, Holds}
+use Rattle.resource_kinds.specs.Holds.{Variable, Holds}
+use Rattle.resource_kinds.specs.Wanted.{wanted_of}
 use Rattle.resource_kinds.specs.Trace.{Chain}
 
--- the Test of a resource of a known kind
+-- the Test of a resource that asks for a variable: its one fault is the host's
 abbrev pub AnswersKnown : HostState → Variable → TestAnswer → Type 0
 AnswersKnown host variable tests.Yes = Holds host variable
 AnswersKnown host variable tests.No = Holds host variable → ⊥
 AnswersKnown host variable (tests.Fault failure) = failure ≡ HostFailed
 AnswersKnown host variable tests.Memory = ⊤
 
--- yes where the resource is known and holds, no where it is known and does not hold, else the fault of its kind
-abbrev pub AnswersTrue : HostState → Option Variable → TestAnswer → Type 0
-AnswersTrue host None answer = answer ≡ tests.Fault NoSuchResource
-AnswersTrue host (Some variable) answer = AnswersKnown host variable answer
+-- the answer holds the name of a property
+abbrev pub HoldsName : TestAnswer → Type 0
+HoldsName (tests.Fault (OutOfProfile name)) = ⊤
+HoldsName _ = ⊥
+
+-- an answer as it was told: itself, or `Memory` where it holds a name, which is copied
+abbrev pub IsTold : TestAnswer → TestAnswer → Type 0
+IsTold answer told = (told ≡ answer) ⊎ (HoldsName answer × (told ≡ tests.Memory))
+
+-- yes where what the resource asks for holds, no where it does not; of a resource that asks for nothing, its fault
+abbrev pub AnswersTrue : HostState → Result Variable Failure → TestAnswer → Type 0
+AnswersTrue host (Ok variable) answer = AnswersKnown host variable answer
+AnswersTrue host (Err failure) answer = IsTold (tests.Fault failure) answer
 
 -- an entry over what a host tells: the answer is true, and a Test leaves the host as it was
 abbrev pub IsTrueEntry : HostState → Document → Entry → HostState → Type 0
 IsTrueEntry before document (Tested place answer) after =
-    (after ≡ before) × IfSome (slice_get document.resources place) (λ resource. AnswersTrue before (variable_of resource.instance) answer)
+    (after ≡ before) × IfSome (slice_get document.resources place) (λ resource. AnswersTrue before (wanted_of resource.instance) answer)
 IsTrueEntry before document (Set place answer) after = ⊥  -- no resource is set yet
 
 -- the answers along a trace are true, from a host to a host

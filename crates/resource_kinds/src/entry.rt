@@ -1,11 +1,17 @@
 //! What a run keeps of each call: which resource was tested or set, and with which answer.
 ghost use Rattle.std.specs.Prelude.{◌≡◌};
 
+use mof_values::Ident;
+
 /// Why a resource could not be tested or set.
-#[derive(Clone, Copy, Debug, PartialEq, Eq)]
+#[derive(Clone, Debug, Drop, PartialEq)]
 pub enum Failure {
     /// Its kind is not known.
     NoSuchResource,
+
+    /// The property of this name, as it is spelled, is none of its kind, or its value may not stand there; or a key of
+    /// this name is missing.
+    OutOfProfile(Ident),
 
     /// A call of the host failed.
     HostFailed,
@@ -14,18 +20,19 @@ pub enum Failure {
 impl Failure {
     ghost use Rattle.resource_kinds.specs.Names.{failure_name};
 
-    pub fn name(self) -> &'static str
-        ensures { result.now ≡ failure_name self }
+    pub fn name(&self) -> &'static str
+        ensures { result.now ≡ failure_name self.now }
     {
         match self {
             Failure::NoSuchResource => "NoSuchResource",
+            Failure::OutOfProfile(_) => "OutOfProfile",
             Failure::HostFailed => "HostFailed",
         }
     }
 }
 
 /// What the Test of a resource answers.
-#[derive(Clone, Copy, Debug, PartialEq, Eq)]
+#[derive(Clone, Debug, Drop, PartialEq)]
 pub enum TestAnswer {
     Yes,
     No,
@@ -34,7 +41,7 @@ pub enum TestAnswer {
 }
 
 /// What the Set of a resource answers.
-#[derive(Clone, Copy, Debug, PartialEq, Eq)]
+#[derive(Clone, Debug, Drop, PartialEq)]
 pub enum SetAnswer {
     Done,
 
@@ -45,7 +52,7 @@ pub enum SetAnswer {
 }
 
 /// One call of a run; `place` is the resource's place in the document, counted from 0.
-#[derive(Clone, Copy, Debug, PartialEq, Eq)]
+#[derive(Clone, Debug, Drop, PartialEq)]
 pub enum Entry {
     Tested { place: u32, answer: TestAnswer },
     Set { place: u32, answer: SetAnswer },

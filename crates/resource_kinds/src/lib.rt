@@ -4,10 +4,16 @@
 //! `Kinds` is that over any host: where the host tells what it holds, each answer is true of it.
 #![tactic(auto)]
 
+mod apart;
 mod entry;
 mod kinds;
 mod resources;
+mod wanted;
 
+pub use apart::overlaps;
 pub use entry::{Entry, Failure, SetAnswer, TestAnswer};
 pub use kinds::Kinds;
 pub use resources::Resources;
+
+#[cfg(test)]
+mod tests;
