@@ -25,7 +25,6 @@ mod unknown;
 
 pub use document::{Document, Resource};
 pub use error::DocError;
-pub use first_form::first;
 pub use places::Places;
 pub use rules::{check, check_part, one_refusal_wins};
 pub use spot::Spot;
