@@ -1,4 +1,4 @@
--- Of the refusals of instances one wins.
+-- Of the refusals of instances one wins. `one_refusal_wins` of `dsc_document` ensures it, which no lemma can cite.
 use Rattle.std.proofs.Common.{◌≡◌, ℕ, List, Option, Some, None, IsSomeAnd, slice_get, refl, sym, ap, subst, ◌∙◌, inl, inr, ⊎_elim, arith}
 use Rattle.std.proofs.lemmas.Bool.{cases_order}
 use Rattle.mof_values.specs.declared.instance.Instance.{Instance}
