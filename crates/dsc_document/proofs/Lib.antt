@@ -1,6 +1,9 @@
 pub mod Declared
+pub mod FirstUnknown
+pub mod Firsts
 pub mod FoldKeys
 pub mod Indexes
 pub mod OneCondition
+pub mod OneRule
 pub mod Passing
 pub mod Placed

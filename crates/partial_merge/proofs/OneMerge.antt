@@ -20,8 +20,8 @@ use Rattle.partial_merge.specs.declared.error.MergeError.TheVariants as refusals
 use Rattle.partial_merge.specs.Laws.{AtMostOneDocument, AtMostOneRefusal, NeverBoth}
 use Rattle.partial_merge.specs.Parts.{AreParts, IsWhole, joined}
 use Rattle.partial_merge.specs.Refused.{HasFault, HasUnknown, HasCycle, IsFirstFault}
-use Rattle.partial_merge.proofs.FirstUnknown.{one_spot, one_unknown, unknown_unknown}
-use Rattle.partial_merge.proofs.OneRule.{one_wins}
+use Rattle.dsc_document.proofs.FirstUnknown.{one_spot, one_unknown, unknown_unknown}
+use Rattle.dsc_document.proofs.OneRule.{one_wins}
 
 -- ---- one part
 

@@ -2,7 +2,8 @@
 //!
 //! A `Part` is a named text with its SHA-256 digest, which its type keeps true. `merge` gives the document that one
 //! part declares: a layer above may rely on it that its ids differ, that each dependency is a resource, and that its
-//! resources have an order. A refusal is the first of these that fails, with its place.
+//! resources have an order. A refusal is the first of these that fails, with its place. By `merge_laws` there is one
+//! answer at most, want of memory aside.
 #![tactic(auto)]
 
 mod error;

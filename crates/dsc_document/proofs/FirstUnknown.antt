@@ -4,7 +4,7 @@ use Rattle.dsc_document.specs.declared.document.Document.{Document}
 use Rattle.dsc_document.specs.declared.document.Resource.{Resource}
 use Rattle.dsc_document.specs.declared.spot.Spot.{Spot}
 use Rattle.dsc_document.specs.Dependencies.{DependsOnUnknown, IsFirstUnknownId, IsId, NamesResources}
-use Rattle.partial_merge.proofs.Firsts.{at_split, first_once}
+use Rattle.dsc_document.proofs.Firsts.{at_split, first_once}
 
 module _ (resources : List Resource) where
   -- a resource that depends on what is unknown does not depend on ids alone

@@ -8,7 +8,7 @@ use Rattle.dsc_document.specs.Names.{IsName}
 use Rattle.dsc_document.specs.Rules.{Applies, HasAt, IsFirstUnknown, IsRefusal, RepeatsName, condition_of, id_at, indexes_of, property_name_at}
 use Rattle.dsc_document.specs.declared.error.DocError.{DocError}
 use Rattle.dsc_document.specs.declared.error.DocError.TheVariants.{DuplicateProperty, TwoAliases, AliasUnknown, NoHeader, TwoHeaders, BadResourceId, DuplicateId, BadDependsOn, DependsUnknown, Memory}
-use Rattle.partial_merge.proofs.Firsts.{first_once}
+use Rattle.dsc_document.proofs.Firsts.{first_once}
 
 -- a name that is told is fixed by the properties or by the names
 
