@@ -14,7 +14,7 @@ use Rattle.lcm_program.specs.declared.status.Status.TheVariants.{Done, NotCompli
 use Rattle.lcm_program.specs.Refusal.{status_of}
 use Rattle.lcm_program.specs.Input.{IsDocument, IsUnmerged, input_limit, parts_of}
 use Rattle.lcm_program.specs.Documents.{AnswersOf}
-use Rattle.lcm_program.specs.Tool.{Answered, IsRefusalFor, TellsAnswer}
+use Rattle.lcm_program.specs.Tool.{Answered, IsRefusalFor, Refuses, TellsAnswer}
 use Rattle.lcm_program.specs.Unread.{AnswersEach, IsRefusedInput}
 use Rattle.lcm_program.specs.Program.{IsRun}
 use Rattle.lcm_program.proofs.Inputs.{told}
@@ -100,10 +100,10 @@ each_told Tells held faults left before now Done old new t =
 each_told Tells held faults left before now (NotCompliant count) old new t = absurd t
 each_told Tells held faults left before now (Usage word) old new t = absurd t
 each_told Tells held faults left before now (InputRefused TooLong) old new t =
-    told (AnswersOf Tells) (Err TooLong) left (AnswersEach (InputRefused TooLong) before now) (λ all a. too_long_each all before now a) t
+    told (Refuses (AnswersOf Tells)) TooLong left (AnswersEach (InputRefused TooLong) before now) (λ all a. too_long_each all before now a) t
 each_told Tells held faults left before now (InputRefused (Mof error)) old new t = absurd t.is_answer
 each_told Tells held faults left before now (InputRefused (Merge error)) old new t =
-    told (AnswersOf Tells) (Err (Merge error)) left (AnswersEach (InputRefused (Merge error)) before now) (λ all a. unmerged_each all before now error a) t
+    told (Refuses (AnswersOf Tells)) (Merge error) left (AnswersEach (InputRefused (Merge error)) before now) (λ all a. unmerged_each all before now error a) t
 each_told Tells held faults None before now ReadFault old new t = tt
 each_told Tells held faults (Some all) before now ReadFault old new t = record { document = λ d m. t; too_long = λ a. t; refused = λ e r. t }
 each_told Tells held faults left before now WriteFault old new t =

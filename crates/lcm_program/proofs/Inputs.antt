@@ -12,6 +12,7 @@ use Rattle.partial_merge.specs.declared.error.MergeError.{MergeError}
 use Rattle.partial_merge.specs.declared.error.MergeError.TheVariants as merge
 use Rattle.partial_merge.specs.Merged.{Merged}
 use Rattle.partial_merge.specs.Refused.{Refused}
+use Rattle.partial_merge.proofs.SameParts.{merged_same, refused_same}
 use Rattle.lcm_program.specs.declared.input.Unread.{Unread}
 use Rattle.lcm_program.specs.declared.input.Unread.TheVariants as unread
 use Rattle.lcm_program.specs.declared.refusal.Refusal.{Refusal}
@@ -21,8 +22,8 @@ use Rattle.lcm_program.specs.declared.status.InputError.TheVariants.{TooLong, Mo
 use Rattle.lcm_program.specs.declared.status.Status.{Status}
 use Rattle.lcm_program.specs.declared.status.Status.TheVariants.{Done, NotCompliant, Usage, InputRefused, ReadFault, WriteFault, Memory}
 use Rattle.lcm_program.specs.Canon.{AnswersCanon, AnswersEachText, IsUnspelled}
-use Rattle.lcm_program.specs.Input.{IsDocument, IsRefusedFor, input_limit, parts_of}
-use Rattle.lcm_program.specs.Tool.{Answered, IsRefusalFor, TellsAnswer}
+use Rattle.lcm_program.specs.Input.{IsDocument, IsRefusedFor, input_limit, input_part}
+use Rattle.lcm_program.specs.Tool.{Answered, IsRefusalFor, Refuses, TellsAnswer}
 use Rattle.lcm_program.specs.Unread.{IsRefusedInput, IsTooLong, IsUnread, IsUntaken}
 use Rattle.lcm_program.proofs.Results.{if_some_weaker}
 
@@ -49,31 +50,27 @@ module _ (left : Option (List ℕ)) (before now : ℕ) where
 
   pub untaken_unspelled : (e : Unread) → IsUntaken e left before now → IsUnspelled e left before now
   untaken_unspelled (unread.Refused refusal) cause =
-      weaker IsTooLong (λ all error. AnswersCanon all (Err error)) (λ all error long. subst (λ (x : InputError). AnswersCanon all (Err x)) (sym long.0) long.1)
+      weaker IsTooLong (Refuses AnswersCanon) (λ all error long. subst (λ (x : InputError). AnswersCanon all (Err x)) (sym long.0) long.1)
       refusal left before now cause
   untaken_unspelled unread.Memory cause = tt
 
-  -- bytes within the limit that are not merged are refused so
-  pub unmerged_unread : (bytes : List ℕ) (parts : List Part) (error : MergeError) → IfSome left (λ all. bytes ≡ all) → parts ≡ parts_of bytes
-      → length bytes ≤ input_limit → error ≢ merge.Memory → Refused parts error → IsUnread (unread.Refused (refusals.Input (Merge error))) left before now
-  unmerged_unread bytes parts error input same fits cause wins = record {
+  -- bytes within the limit that are not merged, as a part without a name, are refused so
+  pub unmerged_unread : (bytes : List ℕ) (part : Part) (error : MergeError) → IfSome left (λ all. bytes ≡ all) → part.name ≡ [] → part.bytes ≡ bytes
+      → length bytes ≤ input_limit → error ≢ merge.Memory → Refused (part ∷ []) error → IsUnread (unread.Refused (refusals.Input (Merge error))) left before now
+  unmerged_unread bytes part error input unnamed of fits cause wins = record {
     all = bytes;
     input_is = if_some_weaker left (λ all. bytes ≡ all) (λ all. all ≡ bytes) (λ all b. sym b) input;
-    is_answer = record { fits = fits; wins = subst (λ (ps : List Part). Refused ps error) same wins; cause = cause };
+    is_answer = record { fits = fits; wins = refused_same part (input_part bytes) unnamed of error wins; cause = cause };
   }
 
--- bytes that are merged are the document's
-pub merged_input : (left : Option (List ℕ)) (bytes : List ℕ) (parts : List Part) (d : Document) → IfSome left (λ all. bytes ≡ all) → parts ≡ parts_of bytes
-    → Merged parts d → Answered IsDocument left d
-merged_input left bytes parts d input same merged = record {
+-- bytes that are merged so are the document's
+pub merged_input : (left : Option (List ℕ)) (bytes : List ℕ) (part : Part) (d : Document) → IfSome left (λ all. bytes ≡ all) → part.name ≡ [] → part.bytes ≡ bytes
+    → Merged (part ∷ []) d → Answered IsDocument left d
+merged_input left bytes part d input unnamed of merged = record {
   all = bytes;
   input_is = if_some_weaker left (λ all. bytes ≡ all) (λ all. all ≡ bytes) (λ all b. sym b) input;
-  is_answer = subst (λ (ps : List Part). Merged ps d) same merged;
+  is_answer = merged_same part (input_part bytes) unnamed of d merged;
 }
-
--- the part of bytes without a name
-pub part_is : (part : Part) (name bytes : List ℕ) → name ≡ [] → part.name ≡ name → part.bytes ≡ bytes → part ∷ [] ≡ parts_of bytes
-part_is part name bytes none named of = cc
 
 -- bytes that spell no instances are refused so, or memory was
 pub mof_unspelled : (left : Option (List ℕ)) (before now : ℕ) (bytes taken : List ℕ) (error : MofError) (e : Unread)
@@ -131,8 +128,8 @@ each_text held faults (Some all) before now status old new tells = each status t
     each Done t = told AnswersCanon (Ok t.0) (Some all) (AnswersEachText Done before now) (λ given a. text_each given before now a.0 a.1) t.1
     each (NotCompliant count) t = absurd t
     each (Usage word) t = absurd t
-    each (InputRefused TooLong) t = told AnswersCanon (Err TooLong) (Some all) (AnswersEachText (InputRefused TooLong) before now) (λ given a. too_long_each given before now a) t
-    each (InputRefused (Mof error)) t = told AnswersCanon (Err (Mof error)) (Some all) (AnswersEachText (InputRefused (Mof error)) before now) (λ given a. refused_each given before now error a) t
+    each (InputRefused TooLong) t = told (Refuses AnswersCanon) TooLong (Some all) (AnswersEachText (InputRefused TooLong) before now) (λ given a. too_long_each given before now a) t
+    each (InputRefused (Mof error)) t = told (Refuses AnswersCanon) (Mof error) (Some all) (AnswersEachText (InputRefused (Mof error)) before now) (λ given a. refused_each given before now error a) t
     each (InputRefused (Merge error)) t = absurd t.is_answer
     each ReadFault t = record { text = λ is r. t; too_long = λ a. t; refused = λ e r. t }
     each WriteFault t = told AnswersCanon (Ok t.0) (Some all) (AnswersEachText WriteFault before now) (λ given a. text_each_cut given before now a.0 a.1) t.1

@@ -7,7 +7,7 @@ use Rattle.std.specs.Io.KnownBytes.{Consumes}
 use Rattle.lcm_program.specs.declared.status.InputError.{InputError}
 use Rattle.lcm_program.specs.declared.status.InputError.TheVariants.{TooLong}
 use Rattle.lcm_program.specs.Checksum.{AnswersChecksum, checksum_limit, checksum_line}
-use Rattle.lcm_program.specs.Tool.{Answer, Answered, IsLonger}
+use Rattle.lcm_program.specs.Tool.{Answer, Answered, IsLonger, Refuses}
 
 -- an input is too long where its front is
 pub longer_front : (limit : ℕ) (left now : Option (List ℕ)) (taken : List ℕ) → Consumes left now taken → limit < length taken
@@ -19,7 +19,7 @@ longer_front limit (Some all) (Some rest) taken p above =
     record { all = all; input_is = refl; is_answer = longer_too }
 
 pub longer : (left now : Option (List ℕ)) (taken : List ℕ) → Consumes left now taken → checksum_limit < length taken
-    → Answered AnswersChecksum left (Err TooLong)
+    → Answered (Refuses AnswersChecksum) left TooLong
 longer left now taken p above =
     let found = longer_front checksum_limit left now taken p above in
     record { all = found.all; input_is = found.input_is; is_answer = (refl, found.is_answer) }

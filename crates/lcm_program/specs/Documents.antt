@@ -5,7 +5,8 @@ use Rattle.std.specs.Fmt.{decimal}
 use Rattle.dsc_document.specs.declared.document.Document.{Document}
 use Rattle.depend_order.specs.Documents.{IsOrderOfDocument}
 use Rattle.lcm_program.specs.Input.{IsDocument}
-use Rattle.lcm_program.specs.Lines.{id_at, quoted}
+use Rattle.lcm_program.specs.Lines.{id_at}
+use Rattle.lcm_program.specs.Quoted.{quoted}
 use Rattle.lcm_program.specs.Tool.{Answer}
 use Rattle.lcm_program.specs.Unread.{IsRefusedInput}
 

@@ -79,7 +79,7 @@ pub record RanToEnd {K H : Type 0} (held : K → Option (List ℕ)) (output_faul
   pub run : RanOver told faults document before after
   pub finished : GoesOn (calls_of after)
   pub text : List ℕ
-  pub told : TellsRun document (calls_of after) text
+  pub shows : TellsRun document (calls_of after) text
   pub tells : Tells held output_faults status (missed_count document (calls_of after)) text old new
 
 -- the document of the input was run as far as memory went

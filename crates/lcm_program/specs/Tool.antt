@@ -31,9 +31,13 @@ IsRefusalFor HasError (refusals.Usage word) input before now = ⊥
 IsRefusalFor HasError (refusals.Input error) input before now = Answered HasError input error
 IsRefusalFor HasError refusals.ReadFault input before now = Rose before now
 
+-- the error for which a tool refuses an input
+abbrev pub Refuses : (List ℕ → Answer → Type 0) → List ℕ → InputError → Type 0
+Refuses answers = λ all error. answers all (Err error)
+
 -- why a tool refuses: that is the answer of its input, or a read failed
 abbrev pub IsRefusalOf : (List ℕ → Answer → Type 0) → Refusal → Option (List ℕ) → ℕ → ℕ → Type 0
-IsRefusalOf answers refusal input before now = IsRefusalFor (λ all error. answers all (Err error)) refusal input before now
+IsRefusalOf answers refusal input before now = IsRefusalFor (Refuses answers) refusal input before now
 
 -- a text is printed, or a part from its front where the output failed
 abbrev pub TellsText : {K : Type 0} → (K → Option (List ℕ)) → (K → ℕ) → List ℕ → Status → K → K → Type 0
@@ -53,7 +57,7 @@ TellsAnswer answers held faults input before now Done old new =
     (text : List ℕ) × Answered answers input (Ok text) × Appends (held old) (held new) text
 TellsAnswer answers held faults input before now (NotCompliant count) old new = ⊥
 TellsAnswer answers held faults input before now (Usage word) old new = ⊥
-TellsAnswer answers held faults input before now (InputRefused error) old new = Answered answers input (Err error)
+TellsAnswer answers held faults input before now (InputRefused error) old new = Answered (Refuses answers) input error
 TellsAnswer answers held faults input before now ReadFault old new = Rose before now
 TellsAnswer answers held faults input before now WriteFault old new =
     (text : List ℕ) × Answered answers input (Ok text) × IsCutShort held faults old new text

@@ -85,10 +85,8 @@ fn push_text(out: &mut String, text: &Text) -> Result<(), AllocError>
 fn push_ident(out: &mut String, name: &Ident) -> Result<(), AllocError>
     ensures { OnOk result (string_bytes out.new ≡ string_bytes out.old ++ encode_utf8_all name.now) }
 {
-    for c in name.as_slice() {
-        out.push(*c)?;
-    }
-    Ok(())
+    let text: String = name.as_slice().iter().copied().collect(*out.allocator())?;
+    out.push_str(text.as_str())
 }
 
 fn push_spot(out: &mut String, spot: Spot) -> Result<(), AllocError>

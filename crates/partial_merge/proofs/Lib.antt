@@ -1,2 +1,3 @@
 pub mod OneMerge
 pub mod OnePart
+pub mod SameParts

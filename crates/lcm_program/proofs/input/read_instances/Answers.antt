@@ -3,5 +3,5 @@ use Rattle.lcm_program.proofs.input.read_instances.Goals as goal
 
 pub returns-clause-err : goal.returns-clause-err
 returns-clause-err g c =
-    mof_unspelled (g.S.Ends.left c.args.input.now) _ _ c.in-Ok.bytes.items _ c.in-Err.error c.unspelled.result
-    c.in-Ok.ensures.ok c.deref.ensures.value c.in-Ok.ensures.fits c.in-Err.ensures.only c.in-Err.ensures.refused c.unspelled.ensures
+    mof_unspelled (g.S.Ends.left c.args.input.now) _ _ c.in-Ok.bytes.items _ c.in-Err-read.error c.unspelled.result
+    c.in-Ok.ensures.ok c.deref.ensures.value c.in-Ok.ensures.fits c.in-Err-read.ensures.only c.in-Err-read.ensures.refused c.unspelled.ensures

@@ -1,0 +1,65 @@
+-- What one part is merged to, or refused for, is a matter of its name and its bytes.
+use Rattle.std.proofs.Common.{◌≡◌, ℕ, zero, suc, ◌<◌, List, [], ◌∷◌, Option, Some, None, IsSomeAnd, slice_get, length, ap, subst, ◌∙◌, arith}
+use Rattle.std.specs.List.{AllZip}
+use Rattle.mof_syntax.specs.Refusals.{Reads}
+use Rattle.dsc_document.specs.declared.document.Document.{Document}
+use Rattle.partial_merge.specs.declared.part.Part.{Part}
+use Rattle.partial_merge.specs.declared.error.PartFault.{PartFault}
+use Rattle.partial_merge.specs.declared.error.PartFault.TheVariants.{Mof, Doc}
+use Rattle.partial_merge.specs.declared.error.MergeError.{MergeError}
+use Rattle.partial_merge.specs.declared.error.MergeError.TheVariants as refusals
+use Rattle.partial_merge.specs.Parts.{AreParts, IsWhole, joined}
+use Rattle.partial_merge.specs.Merged.{Merged}
+use Rattle.partial_merge.specs.Refused.{HasFault, IsFirstFault, IsUnspelled, Refused}
+
+module _ (part other : Part) (named : part.name ≡ other.name) (of : part.bytes ≡ other.bytes) where
+  whole_same : (document : Document) → IsWhole part document → IsWhole other document
+  whole_same document whole = record {
+    instances = whole.instances;
+    spelled = subst (λ (bytes : List ℕ). Reads bytes whole.instances) of whole.spelled;
+    rules = whole.rules;
+  }
+
+  fault_same : (fault : PartFault) → HasFault part fault → HasFault other fault
+  fault_same (Mof refusal) has = subst (λ (bytes : List ℕ). IsUnspelled bytes refusal) of has
+  fault_same (Doc refusal) has = (has.0, subst (λ (bytes : List ℕ). Reads bytes has.0) of has.1, has.2, has.3)
+
+  joined_same : (documents : List Document) → joined (part ∷ []) documents ≡ joined (other ∷ []) documents
+  joined_same documents =
+      ap (λ (name : List ℕ).
+      let merged : Document = joined (part ∷ []) documents in
+      record { version = merged.version; resources = merged.resources; others = merged.others; parts = name ∷ [] }) named
+
+  all_same : (documents : List Document) → AllZip IsWhole (part ∷ []) documents → AllZip IsWhole (other ∷ []) documents
+  all_same [] whole = absurd whole
+  all_same (document ∷ []) whole = (whole_same document whole.0, tt)
+  all_same (document ∷ more ∷ rest) whole = absurd whole.1
+
+  are_same : (document : Document) → AreParts (part ∷ []) document → AreParts (other ∷ []) document
+  are_same document are = record {
+    names = λ i j d before within. absurd (omega (arith, before, within));
+    documents = are.documents;
+    whole = all_same are.documents are.whole;
+    joined = are.joined ∙ joined_same are.documents;
+    few = are.few;
+    ids = are.ids;
+  }
+
+  pub merged_same : (document : Document) → Merged (part ∷ []) document → Merged (other ∷ []) document
+  merged_same document merged = record { parts_are = are_same document merged.parts_are; known = merged.known; ordered = merged.ordered }
+
+  first_same : (index : ℕ) (fault : PartFault) → IsFirstFault (part ∷ []) index fault → IsFirstFault (other ∷ []) index fault
+  first_same zero fault first = record { here = fault_same fault first.here; before = λ k before. absurd (omega (arith, before)) }
+  first_same (suc index) fault first = absurd first.here
+
+  pub refused_same : (refusal : MergeError) → Refused (part ∷ []) refusal → Refused (other ∷ []) refusal
+  refused_same (refusals.Part index fault) refused = first_same index fault refused
+  refused_same (refusals.DependsUnknown spot name) refused =
+      record { document = refused.document; parts_are = are_same refused.document refused.parts_are; unknown = refused.unknown }
+  refused_same (refusals.Cycle cycle) refused = record {
+    document = refused.document;
+    parts_are = are_same refused.document refused.parts_are;
+    known = refused.known;
+    leads_round = refused.leads_round;
+  }
+  refused_same refusals.Memory refused = tt
