@@ -21,7 +21,7 @@ use Rattle.lcm_program.specs.declared.status.InputError.{InputError}
 use Rattle.lcm_program.specs.declared.status.InputError.TheVariants.{TooLong, Mof, Merge}
 use Rattle.lcm_program.specs.declared.status.Status.{Status}
 use Rattle.lcm_program.specs.declared.status.Status.TheVariants.{Done, NotCompliant, Usage, InputRefused, ReadFault, WriteFault, Memory}
-use Rattle.lcm_program.specs.Canon.{AnswersCanon, AnswersEachText, IsUnspelled}
+use Rattle.lcm_program.specs.Canon.{AnswersCanon, AnswersEachText, IsNotTold}
 use Rattle.lcm_program.specs.Input.{IsDocument, IsRefusedFor, input_limit, input_part}
 use Rattle.lcm_program.specs.Tool.{Answered, IsRefusalFor, Refuses, TellsAnswer}
 use Rattle.lcm_program.specs.Unread.{IsRefusedInput, IsTooLong, IsUnread, IsUntaken}
@@ -48,20 +48,25 @@ module _ (left : Option (List ℕ)) (before now : ℕ) where
       weaker IsTooLong IsRefusedInput (λ all error long. subst (IsRefusedInput all) (sym long.0) long.1) refusal left before now cause
   untaken_unread unread.Memory cause = tt
 
-  pub untaken_unspelled : (e : Unread) → IsUntaken e left before now → IsUnspelled e left before now
+  pub untaken_unspelled : (e : Unread) → IsUntaken e left before now → IsNotTold e left before now
   untaken_unspelled (unread.Refused refusal) cause =
       weaker IsTooLong (Refuses AnswersCanon) (λ all error long. subst (λ (x : InputError). AnswersCanon all (Err x)) (sym long.0) long.1)
       refusal left before now cause
   untaken_unspelled unread.Memory cause = tt
 
   -- bytes within the limit that are not merged, as a part without a name, are refused so
-  pub unmerged_unread : (bytes : List ℕ) (part : Part) (error : MergeError) → IfSome left (λ all. bytes ≡ all) → part.name ≡ [] → part.bytes ≡ bytes
-      → length bytes ≤ input_limit → error ≢ merge.Memory → Refused (part ∷ []) error → IsUnread (unread.Refused (refusals.Input (Merge error))) left before now
-  unmerged_unread bytes part error input unnamed of fits cause wins = record {
-    all = bytes;
-    input_is = if_some_weaker left (λ all. bytes ≡ all) (λ all. all ≡ bytes) (λ all b. sym b) input;
-    is_answer = record { fits = fits; wins = refused_same part (input_part bytes) unnamed of error wins; cause = cause };
-  }
+  pub unmerged_unread : (bytes : List ℕ) (part : Part) (error : MergeError) (e : Unread) → IfSome left (λ all. bytes ≡ all)
+      → part.name ≡ [] → part.bytes ≡ bytes → length bytes ≤ input_limit → Refused (part ∷ []) error
+      → ((error ≡ merge.Memory) × (e ≡ unread.Memory)) ⊎ ((error ≢ merge.Memory) × (e ≡ unread.Refused (refusals.Input (Merge error))))
+      → IsUnread e left before now
+  unmerged_unread bytes part error e input unnamed of fits wins (inl memory) =
+      subst (λ (u : Unread). IsUnread u left before now) (sym memory.1) tt
+  unmerged_unread bytes part error e input unnamed of fits wins (inr refused) =
+      subst (λ (u : Unread). IsUnread u left before now) (sym refused.1) (record {
+        all = bytes;
+        input_is = if_some_weaker left (λ all. bytes ≡ all) (λ all. all ≡ bytes) (λ all b. sym b) input;
+        is_answer = record { fits = fits; wins = refused_same part (input_part bytes) unnamed of error wins; cause = refused.0 };
+      })
 
 -- bytes that are merged so are the document's
 pub merged_input : (left : Option (List ℕ)) (bytes : List ℕ) (part : Part) (d : Document) → IfSome left (λ all. bytes ≡ all) → part.name ≡ [] → part.bytes ≡ bytes
@@ -77,14 +82,17 @@ pub mof_unspelled : (left : Option (List ℕ)) (before now : ℕ) (bytes taken :
     → IfSome left (λ all. bytes ≡ all) → taken ≡ bytes → length bytes ≤ input_limit
     → (error ≢ faults.Memory → (instances : List Instance) → syntax.Reads taken instances → ⊥) → syntax.Refuses taken error
     → ((error ≡ faults.Memory) × (e ≡ unread.Memory)) ⊎ ((error ≢ faults.Memory) × (e ≡ unread.Refused (refusals.Input (Mof error))))
-    → IsUnspelled e left before now
+    → IsNotTold e left before now
 mof_unspelled left before now bytes taken error e input same fits none wins (inl memory) =
-    subst (λ (u : Unread). IsUnspelled u left before now) (sym memory.1) tt
+    subst (λ (u : Unread). IsNotTold u left before now) (sym memory.1) tt
 mof_unspelled left before now bytes taken error e input same fits none wins (inr refused) =
-    subst (λ (u : Unread). IsUnspelled u left before now) (sym refused.1) (record {
+    subst (λ (u : Unread). IsNotTold u left before now) (sym refused.1) (record {
       all = taken;
       input_is = if_some_weaker left (λ all. bytes ≡ all) (λ all. all ≡ taken) (λ all b. sym b ∙ sym same) input;
-      is_answer = record { fits = omega (arith, fits, ap length same); none = none refused.0; wins = wins; cause = refused.0 };
+      is_answer = record {
+        fits = omega (arith, fits, ap length same);
+        why = record { caused = refused.0; unspelled = none refused.0; refused = wins };
+      };
     })
 
 -- what an input that spells instances is not
@@ -93,14 +101,14 @@ module _ (all : List ℕ) (before now : ℕ) (instances : List Instance) (reads 
   text_each = record {
     text = λ is r. tt;
     too_long = λ above. absurd (omega (arith, above, reads.within));
-    refused = λ e r. absurd (r.none instances reads);
+    refused = λ e r. absurd (r.why.unspelled instances reads);
   }
 
   text_each_cut : AnswersEachText WriteFault before now all
   text_each_cut = record {
     text = λ is r. tt;
     too_long = λ above. absurd (omega (arith, above, reads.within));
-    refused = λ e r. absurd (r.none instances reads);
+    refused = λ e r. absurd (r.why.unspelled instances reads);
   }
 
 module _ (all : List ℕ) (before now : ℕ) where
@@ -113,9 +121,9 @@ module _ (all : List ℕ) (before now : ℕ) where
 
   refused_each : (error : MofError) → IsRefusedFor all error → AnswersEachText (InputRefused (Mof error)) before now all
   refused_each error cause = record {
-    text = λ is r. absurd (cause.none is r);
+    text = λ is r. absurd (cause.why.unspelled is r);
     too_long = λ above. absurd (omega (arith, above, cause.fits));
-    refused = λ e r. ap (λ (x : MofError). Mof x) (refuses_once all error e cause.cause r.cause cause.wins r.wins);
+    refused = λ e r. ap (λ (x : MofError). Mof x) (refuses_once all error e cause.why.caused r.why.caused cause.why.refused r.why.refused);
   }
 
 -- each input has its answer where the answer that was told has its cause

@@ -1,5 +1,5 @@
 -- What a run over the kinds shows.
-use Rattle.std.proofs.Common.{◌≡◌, ℕ, List, Option, ap, subst, arith}
+use Rattle.std.proofs.Common.{◌≡◌, ◌∙◌, ◌++◌, ℕ, Bool, true, false, List, Option, inl, inr, refl, ap, subst, arith, append-nil}
 use Rattle.dsc_terms.specs.Counts.{RoseBy}
 use Rattle.dsc_outside.specs.Host.{HostState}
 use Rattle.dsc_document.specs.declared.document.Document.{Document}
@@ -12,6 +12,8 @@ use Rattle.lcm_program.specs.Legal.{Legal}
 use Rattle.lcm_program.specs.Whole.{Whole}
 use Rattle.resource_kinds.specs.Kinds.{host_of}
 use Rattle.resource_kinds.specs.True.{TellsEntry}
+use Rattle.resource_kinds.specs.Apart.{Apart, Overlap}
+use Rattle.lcm_program.specs.Lines.{TellsRun, overlap_line, run_lines}
 use Rattle.lcm_program.specs.Ran.{Ran}
 use Rattle.lcm_program.proofs.Traces.{tells_true, chain_map}
 
@@ -35,3 +37,9 @@ module _ {H : Type 0} (told : H → Option HostState) (faults : H → ℕ) where
         (subst (λ (h : H). Chain TellsEntry (λ x y. x ≡ y) document (told h) trace (told (host_of after))) kept (chain_map told_by TellsEntry (λ x y. x ≡ y) document ready trace after chain));
     failures = omega (arith, rose, ap faults kept);
   }
+
+-- the lines of a run tell it, with what was found of overlaps
+pub tells_run : (document : Document) (trace : List Entry) (text : List ℕ) (overlaps : Bool) → (overlaps ≡ false → Apart document) → (overlaps ≡ true → Overlap document)
+    → text ≡ run_lines document trace ++ overlap_line overlaps → TellsRun document trace text
+tells_run document trace text true apart overlap lines = inr (overlap refl, lines)
+tells_run document trace text false apart overlap lines = inl (apart refl, lines ∙ append-nil (run_lines document trace))

@@ -26,6 +26,6 @@ pub record AnswersEachText (status : Status) (before now : ℕ) (all : List ℕ)
   pub refused : (error : MofError) → IsRefusedFor all error → AnswersRefused (Mof error) status before now
 
 -- why there are no instances of an input
-abbrev pub IsUnspelled : Unread → Option (List ℕ) → ℕ → ℕ → Type 0
-IsUnspelled (unread.Refused refusal) input before now = IsRefusalOf AnswersCanon refusal input before now
-IsUnspelled unread.Memory input before now = ⊤
+abbrev pub IsNotTold : Unread → Option (List ℕ) → ℕ → ℕ → Type 0
+IsNotTold (unread.Refused refusal) input before now = IsRefusalOf AnswersCanon refusal input before now
+IsNotTold unread.Memory input before now = ⊤

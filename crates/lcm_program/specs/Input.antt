@@ -2,20 +2,18 @@
 use Rattle.std.specs.Prelude.{◌≡◌, ◌≢◌, ℕ, ◌≤◌, List, [], ◌∷◌, length}
 use Rattle.std.proofs.Common.{refl}
 use Rattle.sha2.specs.Sha256.{sha256}
-use Rattle.mof_values.specs.declared.instance.Instance.{Instance}
 use Rattle.mof_syntax.specs.declared.mof_error.MofError.{MofError}
-use Rattle.mof_syntax.specs.declared.mof_error.MofError.TheVariants as mof
-use Rattle.mof_syntax.specs.Refusals as syntax
+use Rattle.mof_syntax.specs.Limits.{document_limit}
 use Rattle.dsc_document.specs.declared.document.Document.{Document}
 use Rattle.partial_merge.specs.declared.part.Part.{Part}
 use Rattle.partial_merge.specs.declared.error.MergeError.{MergeError}
 use Rattle.partial_merge.specs.declared.error.MergeError.TheVariants as merge
 use Rattle.partial_merge.specs.Merged.{Merged}
-use Rattle.partial_merge.specs.Refused.{Refused}
+use Rattle.partial_merge.specs.Refused.{IsUnspelled, Refused}
 
--- the most bytes of an input
+-- the most bytes of an input: those of a document
 abbrev pub input_limit : ℕ
-input_limit = 2097152
+input_limit = document_limit
 
 -- the part that an input is, which has no name
 abbrev pub input_part : List ℕ → Part
@@ -37,6 +35,4 @@ pub record IsUnmerged (all : List ℕ) (error : MergeError) : Type 0 where
 -- the bytes are within the limit and spell no instances, and of the refusals that apply to them this one wins
 pub record IsRefusedFor (bytes : List ℕ) (error : MofError) : Type 0 where
   pub fits : length bytes ≤ input_limit
-  pub none : (instances : List Instance) → syntax.Reads bytes instances → ⊥
-  pub wins : syntax.Refuses bytes error
-  pub cause : error ≢ mof.Memory
+  pub why : IsUnspelled bytes error

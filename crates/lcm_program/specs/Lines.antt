@@ -1,5 +1,5 @@
 -- The printed lines of a run.
-use Rattle.std.specs.Prelude.{◌≡◌, ◌==◌, ℕ, Bool, true, false, ◌-◌, List, [], ◌++◌, length, Option, Some, None, codes, slice_get, encode_utf8_all, if◌then◌else◌}
+use Rattle.std.specs.Prelude.{◌≡◌, ◌⊎◌, ◌==◌, ℕ, Bool, true, false, List, [], ◌++◌, length, Option, Some, None, codes, slice_get, encode_utf8_all, if◌then◌else◌}
 use Rattle.std.specs.List.{flat_map}
 use Rattle.std.specs.Fmt.{decimal}
 use Rattle.lcm_program.specs.Quoted.{quoted}
@@ -13,7 +13,7 @@ use Rattle.resource_kinds.specs.declared.entry.Entry.{Entry}
 use Rattle.resource_kinds.specs.declared.entry.Entry.TheVariants.{Tested, Set}
 use Rattle.resource_kinds.specs.Apart.{Apart, Overlap}
 use Rattle.resource_kinds.specs.Names.{failure_name}
-use Rattle.resource_kinds.specs.Trace.{succeeded_count}
+use Rattle.resource_kinds.specs.Trace.{missed_count, succeeded_count}
 
 abbrev pub test_words : TestAnswer → List ℕ
 test_words tests.Yes = codes " yes"
@@ -39,24 +39,24 @@ abbrev pub line_of : Document → Entry → List ℕ
 line_of document (Tested place answer) = codes "test " ++ quoted (id_at document place) ++ test_words answer ++ codes "\n"
 line_of document (Set place answer) = codes "set " ++ quoted (id_at document place) ++ set_words answer ++ codes "\n"
 
-abbrev pub verdict : ℕ → ℕ → List ℕ
-verdict total succeeded = if total == succeeded then codes "compliant\n" else codes "not compliant " ++ decimal (total - succeeded) ++ codes "\n"
+-- by how many resources did not succeed
+abbrev pub verdict : ℕ → List ℕ
+verdict missed = if missed == 0 then codes "compliant\n" else codes "not compliant " ++ decimal missed ++ codes "\n"
 
-abbrev pub summary : ℕ → ℕ → List ℕ
-summary total succeeded = codes "resources " ++ decimal total ++ codes " succeeded " ++ decimal succeeded ++ codes "\n" ++ verdict total succeeded
+-- by how many resources there are, how many succeeded, and how many did not
+abbrev pub summary : ℕ → ℕ → ℕ → List ℕ
+summary total succeeded missed = codes "resources " ++ decimal total ++ codes " succeeded " ++ decimal succeeded ++ codes "\n" ++ verdict missed
 
 abbrev pub overlap_line : Bool → List ℕ
 overlap_line true = codes "overlapping\n"
 overlap_line false = []
 
--- a line for each entry, how many resources succeeded, the verdict, and whether resources overlap
-abbrev pub run_lines : Document → List Entry → Bool → List ℕ
-run_lines document trace overlaps =
-    flat_map (line_of document) trace ++ summary (length document.resources) (succeeded_count document trace) ++ overlap_line overlaps
+-- a line for each entry, how many resources succeeded, and the verdict
+abbrev pub run_lines : Document → List Entry → List ℕ
+run_lines document trace =
+    flat_map (line_of document) trace ++ summary (length document.resources) (succeeded_count document trace) (missed_count document trace)
 
--- the text of a run: it says `overlapping` exactly where resources of the document overlap
-pub record TellsRun (document : Document) (trace : List Entry) (text : List ℕ) : Type 0 where
-  pub overlaps : Bool
-  pub apart : overlaps ≡ false → Apart document
-  pub overlapping : overlaps ≡ true → Overlap document
-  pub lines : text ≡ run_lines document trace overlaps
+-- the text of a run: its lines, and `overlapping` behind them exactly where resources of the document overlap
+abbrev pub TellsRun : Document → List Entry → List ℕ → Type 0
+TellsRun document trace text =
+    (Apart document × (text ≡ run_lines document trace)) ⊎ (Overlap document × (text ≡ run_lines document trace ++ codes "overlapping\n"))

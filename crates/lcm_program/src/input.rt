@@ -2,7 +2,7 @@
 ghost use Rattle.std.specs.Prelude.{◌≡◌, ◌≢◌, ◌⊎◌, ◌≤◌, length, IfOk, IfErr, IfSome};
 ghost use Rattle.mof_syntax.specs.Refusals as syntax;
 ghost use Rattle.lcm_program.specs.declared.input.Unread.TheVariants.{Memory};
-ghost use Rattle.lcm_program.specs.Canon.{IsUnspelled};
+ghost use Rattle.lcm_program.specs.Canon.{IsNotTold};
 ghost use Rattle.lcm_program.specs.Input.{IsDocument, input_limit};
 ghost use Rattle.lcm_program.specs.Tool.{Answered};
 ghost use Rattle.lcm_program.specs.Unread.{IsUnread, IsUntaken};
@@ -55,15 +55,25 @@ pub fn read_document<S: Source>(alloc: Global, input: &mut S) -> Result<Document
     let part = part_of(Text::of(Vec::new(alloc)), bytes);
     match merge(alloc, &[part]) {
         Ok(document) => Ok(document),
-        Err(MergeError::Memory) => Err(Unread::Memory),
-        Err(error) => Err(Unread::Refused(Refusal::Input(InputError::Merge(error)))),
+        Err(error) => Err(unmerged(error)),
+    }
+}
+
+// What a refusal of the merge is here.
+fn unmerged(error: MergeError) -> Unread
+    ensures { ((error ≡ MergeError.Memory) × (result ≡ Unread.Memory))
+        ⊎ ((error ≢ MergeError.Memory) × (result ≡ Unread.Refused (Refusal.Input (InputError.Merge error)))) }
+{
+    match error {
+        MergeError::Memory => Unread::Memory,
+        _ => Unread::Refused(Refusal::Input(InputError::Merge(error))),
     }
 }
 
 /// Reads the input to its end, and the instances that it spells.
 pub fn read_instances<S: Source>(alloc: Global, input: &mut S) -> Result<Vec<Instance>, Unread>
     ensures ok { IfOk result (λ instances. Answered (λ all is. syntax.Reads all is) (S.left input.old) instances.items) }
-    ensures err { IfErr result (λ e. IsUnspelled e (S.left input.old) (S.faults input.old) (S.faults input.new)) }
+    ensures err { IfErr result (λ e. IsNotTold e (S.left input.old) (S.faults input.old) (S.faults input.new)) }
 {
     let bytes = match read_bytes(alloc, input) {
         Ok(bytes) => bytes,

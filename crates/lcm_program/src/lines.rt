@@ -22,7 +22,7 @@ pub fn lines_of(
 ) -> Result<String, AllocError>
     requires places { places.now ≡ places_below (length document.now.resources) }
     requires known { All (λ e. place_of e < length document.now.resources) calls.now }
-    ensures { IfOk result (λ s. string_bytes s ≡ run_lines document.now calls.now overlaps) }
+    ensures { IfOk result (λ s. string_bytes s ≡ run_lines document.now calls.now ++ overlap_line overlaps) }
 {
     let mut out = String::new(alloc);
     for entry in calls {
@@ -137,19 +137,18 @@ fn push_overlap(out: &mut String, overlaps: bool) -> Result<(), AllocError>
 
 fn push_summary(out: &mut String, total: usize, good: usize) -> Result<(), AllocError>
     requires { good ≤ total }
-    ensures { OnOk result (string_bytes out.new ≡ string_bytes out.old ++ summary total good) }
+    ensures { OnOk result (string_bytes out.new ≡ string_bytes out.old ++ summary total good (total - good)) }
 {
     write!(out, "resources {total} succeeded {good}\n")?;
-    push_verdict(out, total, good)
+    let missed = total - good;
+    push_verdict(out, missed)
 }
 
-fn push_verdict(out: &mut String, total: usize, good: usize) -> Result<(), AllocError>
-    requires { good ≤ total }
-    ensures { OnOk result (string_bytes out.new ≡ string_bytes out.old ++ verdict total good) }
+fn push_verdict(out: &mut String, missed: usize) -> Result<(), AllocError>
+    ensures { OnOk result (string_bytes out.new ≡ string_bytes out.old ++ verdict missed) }
 {
-    if total == good {
+    if missed == 0 {
         return out.push_str("compliant\n");
     }
-    let missed = total - good;
     write!(out, "not compliant {missed}\n")
 }

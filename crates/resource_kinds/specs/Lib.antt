@@ -1,5 +1,5 @@
 pub mod Apart
-pub mod Faults
+pub mod Borrowed
 pub mod Holds
 pub mod Kinds
 pub mod Names

@@ -1,12 +1,12 @@
 //! The kinds of resources, over a host.
-ghost use Rattle.std.specs.Prelude.{◌≡◌, ◌⊎◌, ◌<◌, ◌≤◌, ◌+◌, ◌-◌, ◌++◌, ◌∷◌, [], ◌↔◌, List, IfOk, IfSome, IsTrue, OnOk, OnErr, vec_capacity, vec_len, string_bytes, encode_utf8_all};
+ghost use Rattle.std.specs.Prelude.{◌≡◌, ◌<◌, ◌≤◌, ◌+◌, ◌-◌, ◌++◌, ◌∷◌, [], ◌↔◌, IfOk, IfSome, IsTrue, OnOk, OnErr, vec_capacity, vec_len, string_bytes, encode_utf8_all};
 ghost use Rattle.std.specs.Result.{IfErr};
 ghost use Rattle.mof_values.specs.Fold.{fold_case};
 ghost use Rattle.dsc_terms.specs.Counts.{RoseBy};
 ghost use Rattle.dsc_outside.specs.Causes.{HasCauseOf};
 ghost use Rattle.resource_kinds.specs.declared.entry.Entry.TheVariants.{Tested};
 ghost use Rattle.resource_kinds.specs.declared.entry.TestAnswer.TheVariants as tests;
-ghost use Rattle.resource_kinds.specs.Faults.{failure_of};
+ghost use Rattle.resource_kinds.specs.Borrowed.{failure_of, variable_of};
 ghost use Rattle.resource_kinds.specs.Holds.{Holds};
 ghost use Rattle.resource_kinds.specs.Wanted.{wanted_of};
 ghost use Rattle.resource_kinds.specs.True.{AnswersKnown, AnswersTrue, HoldsName, IsTold, TellsEntry};
@@ -173,7 +173,7 @@ fn fault_of(alloc: Global, wrong: &Wrong) -> TestAnswer
 // The Test of a resource that asks for a variable.
 fn looked<H: Host>(alloc: Global, host: &mut H, variable: &Wanted) -> TestAnswer
     ensures told { H.told host.new ≡ H.told host.old }
-    ensures answer { IfSome (H.told host.old) (λ state. AnswersKnown state (record { name = variable.now.name.now; value = variable.now.value.now }) result) }
+    ensures answer { IfSome (H.told host.old) (λ state. AnswersKnown state (variable_of variable.now) result) }
     ensures cause { RoseBy (test_failures result) (H.faults host.old) (H.faults host.new) }
 {
     match holds(alloc, host, variable) {
@@ -187,7 +187,7 @@ fn looked<H: Host>(alloc: Global, host: &mut H, variable: &Wanted) -> TestAnswer
 // Tells whether the variable is there and has the value.
 fn holds<H: Host>(alloc: Global, host: &mut H, variable: &Wanted) -> Result<bool, HostError>
     ensures told { H.told host.new ≡ H.told host.old }
-    ensures answer { IfSome (H.told host.old) (λ state. IfOk result (λ yes. IsTrue yes ↔ Holds state (record { name = variable.now.name.now; value = variable.now.value.now }))) }
+    ensures answer { IfSome (H.told host.old) (λ state. IfOk result (λ yes. IsTrue yes ↔ Holds state (variable_of variable.now))) }
     ensures cause { HasCauseOf HostError.Failed (H.faults host.old) (H.faults host.new) result }
 {
     let name = folded(alloc, variable.name)?;

@@ -116,6 +116,7 @@ fn answer(
     failing: &[u64],
 ) -> Result<String, Fail> {
     let document = document(rt, declaration)?;
+    assert!(rt; document.resources.as_slice().len() == 1);
     let mut kinds = kinds(rt, failing)?;
     kinds.reserve(1)?;
     let answer = kinds.test(&document, 0);
@@ -258,6 +259,7 @@ fn resources_that_ask_for_one_variable_overlap(rt: HostRuntime) -> Result<(), Fa
         ),
     ] {
         let document = document(&rt, declarations)?;
+        assert!(rt; document.resources.as_slice().len() < 4);
         assert_eq!(rt; overlaps(rt.alloc(), &document)?, wanted, "{declarations}");
     }
     Ok(())

@@ -1,11 +1,12 @@
 //! What an instance asks for, by the tables of the kinds of resources.
-ghost use Rattle.std.specs.Prelude.{◌≡◌, Ok, Err, MatchResult, IfOk, OnErr, not, find, unwrap_or, []};
+ghost use Rattle.std.specs.Prelude.{◌≡◌, IfOk, OnErr, unwrap_or, []};
+ghost use Rattle.std.specs.Result.{result_map_both};
 ghost use Rattle.std.specs.List.{list_any};
 ghost use Rattle.std.specs.Option.{option_copied};
 ghost use Rattle.dsc_document.specs.Names.{same_name};
 ghost use Rattle.dsc_document.specs.Declarations.{text_of};
 ghost use Rattle.resource_kinds.specs.Wanted.{wanted_of, first_wrong, rows_of, may_stand, fits_row, common, is_null, is_text, is_filled_text, text_named};
-ghost use Rattle.resource_kinds.specs.Faults.{failure_of};
+ghost use Rattle.resource_kinds.specs.Borrowed.{failure_of, variable_of};
 ghost use Rattle.resource_kinds.specs.True.{HoldsName};
 ghost use Rattle.resource_kinds.specs.declared.entry.TestAnswer.TheVariants as tests;
 
@@ -43,13 +44,13 @@ pub enum Wrong<'a> {
     /// The first property that may not stand there.
     Property(&'a Ident),
 
-    /// No property may not stand there, and this one is missing.
+    /// Each property may stand there, but this one is missing.
     Missing(Key),
 }
 
 /// What an instance asks for, or what is wrong with it; takes no memory.
 pub fn wanted_of<'a>(instance: &'a Instance) -> Result<Wanted<'a>, Wrong<'a>>
-    ensures { MatchResult result (λ w. wanted_of instance.now ≡ Ok (record { name = w.name.now; value = w.value.now })) (λ wrong. wanted_of instance.now ≡ Err (failure_of wrong)) }
+    ensures { result_map_both variable_of failure_of result ≡ wanted_of instance.now }
 {
     if !is_named(instance.class.as_slice(), "MSFT_EnvironmentResource") {
         return Err(Wrong::Kind);

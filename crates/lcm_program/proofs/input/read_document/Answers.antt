@@ -7,11 +7,8 @@ returns-in-Ok-merge-clause-ok g c =
     merged_input (g.S.Ends.left c.args.input.now) c.in-Ok.bytes.items c.part_of-part.result c.in-Ok-merge.document
     c.in-Ok.ensures.ok (c.part_of-part.ensures.name ∙ c.of.ensures ∙ c.new.ensures.items) c.part_of-part.ensures.bytes c.in-Ok-merge.ensures.merged
 
-pub returns : goal.returns
-returns g c = record {
-  ok = tt;
-  err =
-      unmerged_unread (g.S.Ends.left c.args.input.now) _ _ c.in-Ok.bytes.items c.part_of-part.result c.in-Err-merge.error
-      c.in-Ok.ensures.ok (c.part_of-part.ensures.name ∙ c.of.ensures ∙ c.new.ensures.items) c.part_of-part.ensures.bytes
-      c.in-Ok.ensures.fits c.in-Err-merge.error-is c.in-Err-merge.ensures.refused;
-}
+pub returns-clause-err : goal.returns-clause-err
+returns-clause-err g c =
+    unmerged_unread (g.S.Ends.left c.args.input.now) _ _ c.in-Ok.bytes.items c.part_of-part.result c.in-Err-merge.error c.unmerged.result
+    c.in-Ok.ensures.ok (c.part_of-part.ensures.name ∙ c.of.ensures ∙ c.new.ensures.items) c.part_of-part.ensures.bytes
+    c.in-Ok.ensures.fits c.in-Err-merge.ensures.refused c.unmerged.ensures
