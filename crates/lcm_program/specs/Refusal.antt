@@ -48,9 +48,13 @@ mof_words faults.Memory = codes "Memory"
 abbrev pub pair_words : List ℕ → ℕ → ℕ → List ℕ
 pair_words name first second = name ++ codes " " ++ decimal first ++ codes " " ++ decimal second
 
+-- a name that an instance repeats
+abbrev pub repeated_words : ℕ → List ℕ → List ℕ
+repeated_words index name = codes "DuplicateProperty " ++ decimal index ++ codes " " ++ encode_utf8_all name
+
 -- the name of a broken rule, and its values
 abbrev pub rule_words : DocError → List ℕ
-rule_words (rules.DuplicateProperty index name) = codes "DuplicateProperty " ++ decimal index ++ codes " " ++ encode_utf8_all name
+rule_words (rules.DuplicateProperty index name) = repeated_words index name
 rule_words (rules.TwoAliases first second) = pair_words (codes "TwoAliases") first second
 rule_words (rules.AliasUnknown index) = codes "AliasUnknown " ++ decimal index
 rule_words rules.NoHeader = codes "NoHeader"

@@ -3,7 +3,7 @@ ghost use Rattle.std.specs.Prelude.{◌≡◌, ◌++◌, codes, encode_utf8_all,
 ghost use Rattle.std.specs.List.{flat_map};
 ghost use Rattle.std.specs.Fmt.{decimal};
 ghost use Rattle.lcm_program.specs.Quoted.{quoted};
-ghost use Rattle.lcm_program.specs.Refusal.{merge_words, part_words, pair_words, place_words, rule_words, spot_words};
+ghost use Rattle.lcm_program.specs.Refusal.{merge_words, part_words, pair_words, place_words, repeated_words, rule_words, spot_words};
 
 use crate::mof_words::push_mof_error;
 use dsc_document::{DocError, Spot};
@@ -47,10 +47,7 @@ fn push_rule(out: &mut String, error: &DocError) -> Result<(), AllocError>
     ensures { OnOk result (string_bytes out.new ≡ string_bytes out.old ++ rule_words error.now) }
 {
     match error {
-        DocError::DuplicateProperty { index, name } => {
-            write!(out, "DuplicateProperty {index} ")?;
-            push_ident(out, name)
-        }
+        DocError::DuplicateProperty { index, name } => push_repeated(out, *index, name),
         DocError::TwoAliases { first, second } => push_pair(out, "TwoAliases", *first, *second),
         DocError::AliasUnknown { index } => write!(out, "AliasUnknown {index}"),
         DocError::NoHeader => out.push_str("NoHeader"),
@@ -64,6 +61,14 @@ fn push_rule(out: &mut String, error: &DocError) -> Result<(), AllocError>
         }
         DocError::Memory => out.push_str("Memory"),
     }
+}
+
+// A name that an instance repeats.
+fn push_repeated(out: &mut String, index: u32, name: &Ident) -> Result<(), AllocError>
+    ensures { OnOk result (string_bytes out.new ≡ string_bytes out.old ++ repeated_words index name.now) }
+{
+    write!(out, "DuplicateProperty {index}")?;
+    push_ident(out, name)
 }
 
 // A name and the places of two instances.
@@ -82,9 +87,11 @@ fn push_text(out: &mut String, text: &Text) -> Result<(), AllocError>
     push_literal(out, text.as_slice())
 }
 
+// A space and an identifier.
 fn push_ident(out: &mut String, name: &Ident) -> Result<(), AllocError>
-    ensures { OnOk result (string_bytes out.new ≡ string_bytes out.old ++ encode_utf8_all name.now) }
+    ensures { OnOk result (string_bytes out.new ≡ string_bytes out.old ++ codes " " ++ encode_utf8_all name.now) }
 {
+    out.push_str(" ")?;
     let text: String = name.as_slice().iter().copied().collect(*out.allocator())?;
     out.push_str(text.as_str())
 }

@@ -1,8 +1,8 @@
-use Rattle.std.proofs.Common.{rules, append_assoc}
+use Rattle.std.proofs.Common.{rules}
 use Rattle.lcm_program.proofs.merge_words.push_rule.Goals as goal
 
-pub returns-in_ok-write-in-DuplicateProperty : goal.returns-in_ok-write-in-DuplicateProperty
-returns-in_ok-write-in-DuplicateProperty c = rw c.in-DuplicateProperty.is (search (rules, append_assoc))
+pub returns-in-DuplicateProperty : goal.returns-in-DuplicateProperty
+returns-in-DuplicateProperty c = rw c.in-DuplicateProperty.is (search rules)
 
 pub returns-in-AliasUnknown : goal.returns-in-AliasUnknown
 returns-in-AliasUnknown c = rw c.in-AliasUnknown.is (search rules)
