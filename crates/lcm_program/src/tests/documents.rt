@@ -154,7 +154,7 @@ fn a_document_that_is_too_long_is_refused(rt: HostRuntime) -> Result<(), Fail> {
     let mut input = MemorySource::new(spaces(&rt, 2_097_153)?, Vec::new(rt.alloc()));
     let mut output = MemorySink::new(rt.alloc(), Vec::new(rt.alloc()));
     let status = run(&rt, &case, &mut input, &mut output)?;
-    assert_eq!(rt; output.bytes(), b"refused TooLong\n");
+    assert_eq!(rt; output.bytes(), b"refused TooLong\n".as_slice());
     assert_eq!(rt; status.number(), 3);
     Ok(())
 }
