@@ -2,7 +2,7 @@
 use Rattle.std.proofs.Common.{Option, Some, None, ◌≡◌, inl, inr, ℕ, ◌+◌, ◌<◌, List, [], ◌∷◌, ◌++◌, length, take, drop, get_or, map, refl, sym, ◌∙◌, ap, subst, arith, length-append, All}
 use Rattle.std.specs.Prelude.{Contains}
 use Rattle.std.proofs.lemmas.List.{take_more, map_push}
-use Rattle.std.proofs.lemmas.List.Elements.{Contains-append_left}
+use Rattle.std.proofs.lemmas.List.Elements.{All-cons, All-nil, Contains-append_left}
 use Rattle.std.proofs.lemmas.List.Sums.{sum_by-append}
 use Rattle.dsc_terms.specs.Lists.{IsOnce}
 use Rattle.dsc_document.specs.declared.document.Document.{Document}
@@ -15,7 +15,7 @@ use Rattle.resource_kinds.specs.declared.entry.TestAnswer.TheVariants as tests
 use Rattle.resource_kinds.specs.Trace.{Chain, place_of, entry_failures, host_failures, EndsWith}
 use Rattle.lcm_program.specs.Legal.{Legal, MayTest, MayFollow, GoesOn}
 use Rattle.dsc_outside.specs.Host.{HostState}
-use Rattle.resource_kinds.specs.True.{True, TellsTrue, TellsEntry}
+use Rattle.resource_kinds.specs.True.{EntryKeepsTable, True, TellsTrue, TellsEntry}
 use Rattle.lcm_program.specs.Whole.{Whole}
 use Rattle.dsc_terms.proofs.Splits.{split_push, split_at, contains_front, precedes, precedes_front}
 
@@ -107,10 +107,11 @@ chain_map f does still document a (e ∷ t) b chain = (f chain.0, chain.1, chain
 
 -- what a chain of values over a host tells is true, where the host tells
 pub tells_true : (document : Document) (t : List Entry) (a b : Option HostState) → Chain TellsEntry (λ x y. x ≡ y) document a t b → TellsTrue document a t b
-tells_true document [] None b chain = sym chain
+tells_true document [] None b chain = (sym chain, All-nil (EntryKeepsTable document))
 tells_true document [] (Some s) b chain = (s, sym chain, refl)
 tells_true document (e ∷ t) None b chain =
-    tells_true document t None b (subst (λ (m : Option HostState). Chain TellsEntry (λ x y. x ≡ y) document m t b) chain.1 chain.2)
+    let rest = tells_true document t None b (subst (λ (m : Option HostState). Chain TellsEntry (λ x y. x ≡ y) document m t b) chain.1.0 chain.2) in
+    (rest.0, All-cons (EntryKeepsTable document) e t chain.1.1 rest.1)
 tells_true document (e ∷ t) (Some s) b chain =
     let step = chain.1 in
     let rest = tells_true document t (Some step.0) b (subst (λ (m : Option HostState). Chain TellsEntry (λ x y. x ≡ y) document m t b) step.1 chain.2) in
@@ -123,5 +124,5 @@ true_keeps document (Tested place answer ∷ t) a b chain = true_keeps document 
 true_keeps document (Set place answer ∷ t) a b chain = absurd chain.1
 
 pub tells_true_keeps : (document : Document) (t : List Entry) (a b : Option HostState) → TellsTrue document a t b → b ≡ a
-tells_true_keeps document t None b tells = tells
+tells_true_keeps document t None b tells = tells.0
 tells_true_keeps document t (Some s) b tells = tells.1 ∙ ap (λ (x : HostState). Some x) (true_keeps document t s tells.0 tells.2)

@@ -1,5 +1,5 @@
 -- Which answers are true of a machine.
-use Rattle.std.specs.Prelude.{◌≡◌, ◌⊎◌, List, Option, Some, None, Result, Ok, Err, ⊤, IfSome, slice_get}
+use Rattle.std.specs.Prelude.{◌≡◌, ◌⊎◌, List, Option, Some, None, Result, Ok, Err, ⊤, All, IfSome, slice_get}
 use Rattle.dsc_outside.specs.Host.{HostState}
 use Rattle.dsc_document.specs.declared.document.Document.{Document}
 use Rattle.resource_kinds.specs.declared.entry.Failure.{Failure}
@@ -28,6 +28,23 @@ HoldsName _ = ⊥
 abbrev pub IsTold : TestAnswer → TestAnswer → Type 0
 IsTold answer told = (told ≡ answer) ⊎ (HoldsName answer × (told ≡ tests.Memory))
 
+-- no fault is answered but the host's
+abbrev pub IsHostsFault : TestAnswer → Type 0
+IsHostsFault (tests.Fault failure) = failure ≡ HostFailed
+IsHostsFault _ = ⊤
+
+-- what an answer tells of the resource alone, whatever the machine holds: one with a fault is answered with it, any
+-- other with no fault but the host's
+abbrev pub KeepsTable : Result Variable Failure → TestAnswer → Type 0
+KeepsTable (Err failure) answer = IsTold (tests.Fault failure) answer
+KeepsTable (Ok variable) answer = IsHostsFault answer
+
+-- the same of an entry
+abbrev pub EntryKeepsTable : Document → Entry → Type 0
+EntryKeepsTable document (Tested place answer) =
+    IfSome (slice_get document.resources place) (λ resource. KeepsTable (wanted_of resource.instance) answer)
+EntryKeepsTable document (Set place answer) = ⊥
+
 -- yes where what the resource asks for holds, no where it does not; of a resource that asks for nothing, its fault
 abbrev pub AnswersTrue : HostState → Result Variable Failure → TestAnswer → Type 0
 AnswersTrue host (Ok variable) answer = AnswersKnown host variable answer
@@ -43,12 +60,12 @@ IsTrueEntry before document (Set place answer) after = ⊥  -- no resource is se
 abbrev pub True : Document → HostState → List Entry → HostState → Type 0
 True document before trace after = Chain (λ a d e b. IsTrueEntry a d e b) (λ a b. a ≡ b) document before trace after
 
--- one entry where the host tells what it holds
+-- one entry where the host tells what it holds; where it does not, the fault is still the resource's own
 abbrev pub TellsEntry : Option HostState → Document → Entry → Option HostState → Type 0
-TellsEntry None document e after = after ≡ None
+TellsEntry None document e after = (after ≡ None) × EntryKeepsTable document e
 TellsEntry (Some before) document e after = (state : HostState) × (after ≡ Some state) × IsTrueEntry before document e state
 
--- a trace where the host tells what it holds
+-- a trace where the host tells what it holds; where it does not, the faults are still the resources' own
 abbrev pub TellsTrue : Document → Option HostState → List Entry → Option HostState → Type 0
-TellsTrue document None trace after = after ≡ None
+TellsTrue document None trace after = (after ≡ None) × All (EntryKeepsTable document) trace
 TellsTrue document (Some before) trace after = (state : HostState) × (after ≡ Some state) × True document before trace state

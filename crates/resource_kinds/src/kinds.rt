@@ -9,7 +9,7 @@ ghost use Rattle.resource_kinds.specs.declared.entry.TestAnswer.TheVariants as t
 ghost use Rattle.resource_kinds.specs.Borrowed.{failure_of, variable_of};
 ghost use Rattle.resource_kinds.specs.Holds.{Holds};
 ghost use Rattle.resource_kinds.specs.Wanted.{wanted_of};
-ghost use Rattle.resource_kinds.specs.True.{AnswersKnown, AnswersTrue, HoldsName, IsTold, TellsEntry};
+ghost use Rattle.resource_kinds.specs.True.{AnswersKnown, AnswersTrue, HoldsName, IsHostsFault, IsTold, KeepsTable, TellsEntry};
 ghost use Rattle.resource_kinds.specs.Trace.{test_failures};
 
 use crate::entry::{Entry, Failure, TestAnswer};
@@ -151,6 +151,7 @@ fn copy_of(answer: &TestAnswer) -> Result<TestAnswer, AllocError>
 fn tested<H: Host>(alloc: Global, host: &mut H, instance: &Instance) -> TestAnswer
     ensures told { H.told host.new ≡ H.told host.old }
     ensures answer { IfSome (H.told host.old) (λ state. AnswersTrue state (wanted_of instance.now) result) }
+    ensures table { KeepsTable (wanted_of instance.now) result }
     ensures unseen { IfErr (wanted_of instance.now) (λ _. host.new ≡ host.old) }
     ensures cause { RoseBy (test_failures result) (H.faults host.old) (H.faults host.new) }
 {
@@ -174,6 +175,7 @@ fn fault_of(alloc: Global, wrong: &Wrong) -> TestAnswer
 fn looked<H: Host>(alloc: Global, host: &mut H, variable: &Wanted) -> TestAnswer
     ensures told { H.told host.new ≡ H.told host.old }
     ensures answer { IfSome (H.told host.old) (λ state. AnswersKnown state (variable_of variable.now) result) }
+    ensures table { IsHostsFault result }
     ensures cause { RoseBy (test_failures result) (H.faults host.old) (H.faults host.new) }
 {
     match holds(alloc, host, variable) {
