@@ -28,7 +28,7 @@ pub record HostInMemory : Type 0 where
   pub short : Bool
   pub calls : CallCount
 
--- a host of these contents, before its first call
+-- before the first call: a host of these contents
 abbrev pub host_with : HostContents → List ℕ → Option Stop → HostInMemory
 host_with contents failing stop = record {
   paths = contents.paths.items;
@@ -40,6 +40,7 @@ host_with contents failing stop = record {
   calls = unstarted failing stop;
 }
 
+-- a host of these variables alone
 abbrev pub host_of_variables : List Variable → List ℕ → HostInMemory
 host_of_variables variables failing = record { paths = []; variables = variables; log = []; packages = []; wanting = []; short = false; calls = unstarted failing None }
 
@@ -106,6 +107,13 @@ IsAsBefore old new = (told_of new ≡ told_of old) × (new.short ≡ old.short)
 abbrev pub IsChanged : (HostState → HostState) → HostInMemory → HostInMemory → Type 0
 IsChanged change old new = (told_of new ≡ change (told_of old)) × (new.short ≡ old.short)
 
+-- the bytes of a file that a change puts
+abbrev pub part_put : Course → List ℕ → List ℕ
+part_put courses.Runs bytes = bytes
+part_put courses.Fails bytes = bytes
+part_put courses.StopsHalf bytes = take (length bytes / 2) bytes
+part_put courses.StopsWhole bytes = bytes
+
 -- a stopped call leaves its part, or nothing for want of memory, which is then told
 abbrev pub LeavesPart : (HostState → HostState) → HostInMemory → HostInMemory → Type 0
 LeavesPart part old new = IsChanged part old new ⊎ ((told_of new ≡ told_of old) × (new.short ≡ true))
@@ -126,13 +134,6 @@ TakesBy courses.Fails whole old new result = (result ≡ Err errors.Failed) × I
 TakesBy courses.StopsHalf whole old new result = (result ≡ Err errors.Failed) × IsChanged whole old new
 TakesBy courses.StopsWhole whole old new result = (result ≡ Err errors.Failed) × IsChanged whole old new
 
--- the bytes of a file that a change puts
-abbrev pub part_put : Course → List ℕ → List ℕ
-part_put courses.Runs bytes = bytes
-part_put courses.Fails bytes = bytes
-part_put courses.StopsHalf bytes = take (length bytes / 2) bytes
-part_put courses.StopsWhole bytes = bytes
-
 -- the answer of a change that was tried, and whether want of memory is told: a stopped call fails, and tells it
 abbrev pub Settles : {E : Type 0} → Course → Result (Unit {0}) E → Bool → Bool → Result (Unit {0}) HostError → Type 0
 Settles courses.Runs (Ok done) old new result = IsOk result × (new ≡ old)
@@ -144,7 +145,7 @@ Settles courses.StopsHalf (Err error) old new result = (result ≡ Err errors.Fa
 Settles courses.StopsWhole (Ok done) old new result = (result ≡ Err errors.Failed) × (new ≡ old)
 Settles courses.StopsWhole (Err error) old new result = (result ≡ Err errors.Failed) × (new ≡ true)
 
--- a change that needs no memory
+-- the answer of a change that takes no memory
 abbrev pub answer_of : Course → Result (Unit {0}) HostError
 answer_of courses.Runs = Ok tt
 answer_of courses.Fails = Err errors.Failed

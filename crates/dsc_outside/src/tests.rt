@@ -1,3 +1,4 @@
+mod host_calls;
 mod memory_forms;
 mod memory_host;
 mod real_things;

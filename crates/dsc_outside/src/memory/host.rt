@@ -53,7 +53,8 @@ impl MemoryHost {
         MemoryHost::of(contents, failing, None)
     }
 
-    /// A host of these contents, whose calls of these numbers, counted from 0, are to fail, and that stops there.
+    /// A host of these contents, whose calls of these numbers, counted from 0, are to fail, and that stops where the
+    /// stop says it.
     pub fn of(contents: HostContents, failing: Vec<u64>, stop: Option<Stop>) -> MemoryHost
         ensures { result ≡ host_with contents failing.items stop }
     {
@@ -64,13 +65,14 @@ impl MemoryHost {
         }
     }
 
-    /// What it holds.
+    /// What it holds now.
     pub fn contents(&self) -> &HostContents
         ensures { IsContents result.now self.now }
     {
         &self.contents
     }
 
+    /// What it held last, as after a stop: a host that starts again is made of it.
     pub fn into_contents(self) -> HostContents
         ensures { IsContents result self }
     {

@@ -1,6 +1,7 @@
 //! Stops in the middle of a call.
 
-/// A stop: nothing more is done from a call on, and each call fails.
+/// A stop: from a call on each call fails, and nothing more is done but the stated part of that first one. It leaves
+/// its part also where it is in the list of those that are to fail.
 #[derive(Clone, Copy, Debug, PartialEq, Eq)]
 pub struct Stop {
     /// The number of the call that it comes in, counted from 0.

@@ -1,7 +1,8 @@
 use super::expect_variable;
+use super::host_calls::{Change, Look, expect_changes, expect_failures, expect_looks};
 use crate::{
-    Absent, Done, Host, HostContents, HostError, LogEntry, MemoryHost, Package, PathEntry,
-    PathState, Standing, Stop,
+    Absent, Done, HostContents, HostError, LogEntry, MemoryHost, Package, PathEntry, PathState,
+    Standing, Stop,
 };
 use mof_values::Bytes;
 use std::alloc::{AllocError, Global};
@@ -30,257 +31,245 @@ fn empty_host(
     Ok(MemoryHost::of(empty(alloc), failing.to_vec(alloc)?, stop))
 }
 
-fn expect_states<R: Abort, H: Host>(rt: &R, host: &mut H, states: &[(&str, PathState)]) {
-    for (path, state) in states {
-        assert!(rt; host.path_state(path) == Ok(*state), "{path}");
-    }
-}
-
-fn expect_files<R: Abort, H: Host>(rt: &R, host: &mut H, files: &[(&str, &str, bool)]) {
-    for (path, held, same) in files {
-        assert!(rt;
-            host.file_equals(path, held.as_bytes()) == Ok(*same),
-            "{path} {held}"
-        );
-    }
+// Expects that changes to an empty host succeed, and what looks then find.
+fn expect_made<R: Abort + AllocGlobal>(
+    rt: &R,
+    changes: &[Change<'_>],
+    looks: &[Look<'_>],
+) -> Result<(), Fail> {
+    let mut host = empty_host(rt.alloc(), &[], None)?;
+    expect_changes(rt, &mut host, changes);
+    expect_looks(rt, &mut host, looks)
 }
 
 #[test]
 fn a_file_is_put_with_the_folders_above_it(rt: HostRuntime) -> Result<(), Fail> {
-    let mut host = empty_host(rt.alloc(), &[], None)?;
-    assert!(rt; host.put_file("a/b/c", b"hi") == Ok(()));
-    expect_states(
+    expect_made(
         &rt,
-        &mut host,
+        &[Change::File("a/b/c", "hi")],
         &[
-            ("a", PathState::Folder),
-            ("a/b", PathState::Folder),
-            ("a/b/c", PathState::File),
-            ("a/b/c/d", PathState::Nothing),
-            ("a/bb", PathState::Nothing),
-            ("b", PathState::Nothing),
+            Look::State("a", PathState::Folder),
+            Look::State("a/b", PathState::Folder),
+            Look::State("a/b/c", PathState::File),
+            Look::State("a/b/c/d", PathState::Nothing),
+            Look::State("a/bb", PathState::Nothing),
+            Look::State("b", PathState::Nothing),
+            Look::Same("a/b/c", "hi", true),
+            Look::Same("a/b/c", "h", false),
+            Look::Same("a/b", "", false),
+            Look::Same("c", "hi", false),
         ],
-    );
-    expect_files(
-        &rt,
-        &mut host,
-        &[
-            ("a/b/c", "hi", true),
-            ("a/b/c", "h", false),
-            ("a/b", "", false),
-            ("c", "hi", false),
-        ],
-    );
-    Ok(())
+    )
 }
 
 #[test]
 fn a_file_takes_the_place_of_what_was_at_its_path(rt: HostRuntime) -> Result<(), Fail> {
-    let mut host = empty_host(rt.alloc(), &[], None)?;
-    assert!(rt; host.put_file("a/b/c", b"one") == Ok(()));
-    assert!(rt; host.put_file("a/b/c", b"two") == Ok(()));
-    expect_files(&rt, &mut host, &[("a/b/c", "two", true)]);
-    assert!(rt; host.put_file("a/b", b"three") == Ok(()));
-    expect_states(
+    expect_made(
         &rt,
-        &mut host,
         &[
-            ("a", PathState::Folder),
-            ("a/b", PathState::File),
-            ("a/b/c", PathState::Nothing),
+            Change::File("a/b/c", "one"),
+            Change::File("a/d", "two"),
+            Change::File("a/d", "three"),
+            Change::File("a/b", "four"),
         ],
-    );
-    Ok(())
+        &[
+            Look::State("a", PathState::Folder),
+            Look::Same("a/d", "three", true),
+            Look::Same("a/b", "four", true),
+            Look::State("a/b/c", PathState::Nothing),
+        ],
+    )
 }
 
 #[test]
 fn a_folder_is_made_with_what_is_in_it(rt: HostRuntime) -> Result<(), Fail> {
-    let mut host = empty_host(rt.alloc(), &[], None)?;
-    assert!(rt; host.make_dir("a/b") == Ok(()));
-    expect_states(
+    expect_made(
         &rt,
-        &mut host,
-        &[("a", PathState::Folder), ("a/b", PathState::EmptyFolder)],
-    );
-    assert!(rt; host.put_file("a/bc", b"") == Ok(()));
-    assert!(rt; host.make_dir("a") == Ok(()));
-    expect_states(
-        &rt,
-        &mut host,
         &[
-            ("a", PathState::Folder),
-            ("a/b", PathState::EmptyFolder),
-            ("a/bc", PathState::File),
+            Change::Folder("a/b"),
+            Change::File("a/bc", ""),
+            Change::Folder("a"),
         ],
-    );
-    Ok(())
+        &[
+            Look::State("a", PathState::Folder),
+            Look::State("a/b", PathState::EmptyFolder),
+            Look::State("a/bc", PathState::File),
+        ],
+    )
 }
 
 #[test]
 fn a_path_is_removed_with_what_is_below_it(rt: HostRuntime) -> Result<(), Fail> {
+    expect_made(
+        &rt,
+        &[
+            Change::File("a/b/c", "hi"),
+            Change::File("a/bb", ""),
+            Change::File("d/e", ""),
+            Change::Remove("a/b"),
+            Change::Remove("z"),
+            Change::Remove("d/e"),
+        ],
+        &[
+            Look::State("a", PathState::Folder),
+            Look::State("a/b", PathState::Nothing),
+            Look::State("a/b/c", PathState::Nothing),
+            Look::State("a/bb", PathState::File),
+            Look::State("d", PathState::EmptyFolder),
+        ],
+    )
+}
+
+#[test]
+fn a_variable_has_the_value_that_was_put_last(rt: HostRuntime) -> Result<(), Fail> {
+    expect_made(
+        &rt,
+        &[
+            Change::Variable("path", "/a"),
+            Change::Variable("editor", "ed"),
+            Change::Variable("path", "/b"),
+            Change::Variable("gone", "x"),
+            Change::NoVariable("gone"),
+            Change::NoVariable("none"),
+        ],
+        &[
+            Look::Variable("path", Some("/b")),
+            Look::Variable("editor", Some("ed")),
+            Look::Variable("gone", None),
+        ],
+    )
+}
+
+#[test]
+fn entries_and_packages_are_found_by_all_their_names(rt: HostRuntime) -> Result<(), Fail> {
+    expect_made(
+        &rt,
+        &[
+            Change::Entry("[log]a", "one"),
+            Change::Package("xWeb", "1.0", "zip"),
+        ],
+        &[
+            Look::Entry("[log]a", "one", true),
+            Look::Entry("[log]a", "two", false),
+            Look::Entry("[log]b", "one", false),
+            Look::Package("xWeb", "1.0", true),
+            Look::Package("xWeb", "1.1", false),
+            Look::Package("xweb", "1.0", false),
+            Look::Wanting("[log]a", false),
+        ],
+    )
+}
+
+#[test]
+fn entries_and_packages_are_added_once(rt: HostRuntime) -> Result<(), Fail> {
     let mut host = empty_host(rt.alloc(), &[], None)?;
-    assert!(rt; host.put_file("a/b/c", b"hi") == Ok(()));
-    assert!(rt; host.put_file("a/bb", b"") == Ok(()));
-    assert!(rt; host.remove("a/b") == Ok(()));
-    assert!(rt; host.remove("z") == Ok(()));
-    expect_states(
+    expect_changes(
         &rt,
         &mut host,
         &[
-            ("a", PathState::Folder),
-            ("a/b", PathState::Nothing),
-            ("a/b/c", PathState::Nothing),
-            ("a/bb", PathState::File),
+            Change::Entry("[log]a", "one"),
+            Change::Package("xWeb", "1.0", "zip"),
         ],
     );
-    assert!(rt; host.remove("a/bb") == Ok(()));
-    expect_states(&rt, &mut host, &[("a", PathState::EmptyFolder)]);
+    let entry = LogEntry {
+        id: bytes(rt.alloc(), "[log]a")?,
+        message: bytes(rt.alloc(), "one")?,
+    };
+    let package = Package {
+        name: bytes(rt.alloc(), "xWeb")?,
+        version: bytes(rt.alloc(), "1.0")?,
+        bytes: bytes(rt.alloc(), "zip")?,
+    };
+    assert!(rt; host.contents().log.as_slice() == [entry].as_slice());
+    assert!(rt; host.into_contents().packages.as_slice() == [package].as_slice());
     Ok(())
 }
 
 #[test]
-fn what_is_in_the_way_stays_above_a_file(rt: HostRuntime) -> Result<(), Fail> {
+fn a_host_holds_the_contents_that_it_is_made_of(rt: HostRuntime) -> Result<(), Fail> {
     let mut contents = empty(rt.alloc());
+    contents.wanting.push(bytes(rt.alloc(), "[log]a")?)?;
     contents.paths.push(PathEntry {
         path: bytes(rt.alloc(), "link")?,
         stands: Standing::Other,
     })?;
     let mut host = MemoryHost::of(contents, Vec::new(rt.alloc()), None);
-    assert!(rt; host.put_file("link/a", b"hi") == Ok(()));
-    expect_states(
+    expect_changes(&rt, &mut host, &[Change::File("link/a", "hi")]);
+    expect_looks(
         &rt,
         &mut host,
-        &[("link", PathState::Other), ("link/a", PathState::File)],
+        &[
+            Look::Wanting("[log]a", true),
+            Look::Wanting("[log]b", false),
+            Look::State("link", PathState::Other),
+            Look::State("link/a", PathState::File),
+        ],
+    )
+}
+
+#[test]
+fn a_host_fails_in_the_calls_of_its_list(rt: HostRuntime) -> Result<(), Fail> {
+    let mut host = empty_host(rt.alloc(), &[1, 2], None)?;
+    expect_changes(&rt, &mut host, &[Change::Variable("v", "1")]);
+    expect_failures(
+        &rt,
+        &mut host,
+        &[Change::Variable("v", "2"), Change::File("a", "")],
     );
-    Ok(())
+    expect_looks(
+        &rt,
+        &mut host,
+        &[
+            Look::Variable("v", Some("1")),
+            Look::State("a", PathState::Nothing),
+        ],
+    )
 }
 
-#[test]
-fn a_variable_has_the_value_that_was_put_last(rt: HostRuntime) -> Result<(), Fail> {
-    let mut host = empty_host(rt.alloc(), &[], None)?;
-    assert!(rt; host.env_put("path", b"/a") == Ok(()));
-    assert!(rt; host.env_put("editor", b"ed") == Ok(()));
-    assert!(rt; host.env_put("path", b"/b") == Ok(()));
-    expect_variable(&rt, &mut host, "path", Ok(true), b"/b")?;
-    assert!(rt; host.env_remove("path") == Ok(()));
-    assert!(rt; host.env_remove("none") == Ok(()));
-    expect_variable(&rt, &mut host, "path", Ok(false), b"")?;
-    expect_variable(&rt, &mut host, "editor", Ok(true), b"ed")?;
-    Ok(())
-}
-
-#[test]
-fn a_log_has_the_entries_that_were_added(rt: HostRuntime) -> Result<(), Fail> {
-    let mut host = empty_host(rt.alloc(), &[1], None)?;
-    assert!(rt; host.log_add("[log]a", "one") == Ok(()));
-    assert!(rt; host.log_add("[log]a", "two") == Err(HostError::Failed));
-    for (id, message, there) in [
-        ("[log]a", "one", true),
-        ("[log]a", "two", false),
-        ("[log]b", "one", false),
-    ] {
-        assert!(rt; host.log_has(id, message) == Ok(there), "{id} {message}");
-    }
-    let want = LogEntry {
-        id: bytes(rt.alloc(), "[log]a")?,
-        message: bytes(rt.alloc(), "one")?,
-    };
-    assert!(rt; host.contents().log.as_slice() == [want].as_slice());
-    Ok(())
-}
-
-#[test]
-fn a_package_is_there_by_its_name_and_version(rt: HostRuntime) -> Result<(), Fail> {
-    let mut host = empty_host(rt.alloc(), &[], None)?;
-    assert!(rt; host.package_put("xWeb", "1.0", b"zip") == Ok(()));
-    for (name, version, there) in [
-        ("xWeb", "1.0", true),
-        ("xWeb", "1.1", false),
-        ("xweb", "1.0", false),
-    ] {
-        assert!(rt;
-            host.package_has(name, version) == Ok(there),
-            "{name} {version}"
-        );
-    }
-    let want = Package {
-        name: bytes(rt.alloc(), "xWeb")?,
-        version: bytes(rt.alloc(), "1.0")?,
-        bytes: bytes(rt.alloc(), "zip")?,
-    };
-    assert!(rt; host.into_contents().packages.as_slice() == [want].as_slice());
-    Ok(())
-}
-
-#[test]
-fn a_reboot_is_wanted_for_the_ids_of_the_list(rt: HostRuntime) -> Result<(), Fail> {
-    let mut contents = empty(rt.alloc());
-    contents.wanting.push(bytes(rt.alloc(), "[environment]e")?)?;
-    let mut host = MemoryHost::of(contents, Vec::new(rt.alloc()), None);
-    for (id, wanted) in [("[environment]e", true), ("[environment]f", false)] {
-        assert!(rt; host.reboot_wanted(id) == Ok(wanted), "{id}");
-    }
-    Ok(())
-}
-
-// Expects of a host that stops in its call 1, which puts a file of `abcde`, what that file is then, and that each
-// call from there on fails.
-fn expect_stopped_file<R: Abort + AllocGlobal>(
+// Expects what looks find after a host stopped in its call 1, and that each call from there on failed.
+fn expect_stopped<R: Abort + AllocGlobal>(
     rt: &R,
     done: Done,
-    state: PathState,
-    held: &str,
+    stopped: Change<'_>,
+    looks: &[Look<'_>],
 ) -> Result<(), Fail> {
-    let stop = Some(Stop { call: 1, done });
-    let mut host = empty_host(rt.alloc(), &[], stop)?;
-    assert!(rt; host.env_put("v", b"1") == Ok(()));
-    assert!(rt; host.put_file("a", b"abcde") == Err(HostError::Failed));
-    assert!(rt; host.path_state("a") == Err(HostError::Failed));
-    assert!(rt; host.put_file("b", b"") == Err(HostError::Failed));
-    assert!(rt; host.env_remove("v") == Err(HostError::Failed));
+    let mut host = empty_host(rt.alloc(), &[], Some(Stop { call: 1, done }))?;
+    expect_changes(rt, &mut host, &[Change::Variable("v", "1")]);
+    let later = [Change::NoVariable("v"), Change::File("b", "")];
+    expect_failures(rt, &mut host, &[stopped]);
+    expect_failures(rt, &mut host, &later);
+    expect_variable(rt, &mut host, "v", Err(HostError::Failed), b"")?;
     assert!(rt; !host.short());
-    let mut later = MemoryHost::of(host.into_contents(), Vec::new(rt.alloc()), None);
-    expect_states(rt, &mut later, &[("a", state), ("b", PathState::Nothing)]);
-    assert!(rt; later.file_equals("a", held.as_bytes()) == Ok(state == PathState::File));
-    expect_variable(rt, &mut later, "v", Ok(true), b"1")?;
-    Ok(())
+    let mut started = MemoryHost::of(host.into_contents(), Vec::new(rt.alloc()), None);
+    expect_looks(rt, &mut started, looks)?;
+    expect_looks(rt, &mut started, &[Look::State("b", PathState::Nothing)])
 }
 
 #[test]
-fn a_stop_leaves_its_part_of_a_file_and_nothing_after_it(rt: HostRuntime) -> Result<(), Fail> {
-    for (done, state, held) in [
-        (Done::Nothing, PathState::Nothing, ""),
-        (Done::Half, PathState::File, "ab"),
-        (Done::All, PathState::File, "abcde"),
+fn a_stop_leaves_its_part_of_a_file(rt: HostRuntime) -> Result<(), Fail> {
+    for (done, look) in [
+        (Done::Nothing, Look::State("a", PathState::Nothing)),
+        (Done::Half, Look::Same("a", "ab", true)),
+        (Done::All, Look::Same("a", "abcde", true)),
     ] {
-        expect_stopped_file(&rt, done, state, held)?;
+        expect_stopped(&rt, done, Change::File("a", "abcde"), &[look])?;
     }
-    Ok(())
-}
-
-// Expects of a host that stops in its first call, a change of a variable, whether it is done.
-fn expect_stopped_change<R: Abort + AllocGlobal>(
-    rt: &R,
-    done: Done,
-    there: bool,
-) -> Result<(), Fail> {
-    let stop = Some(Stop { call: 0, done });
-    let mut host = empty_host(rt.alloc(), &[], stop)?;
-    assert!(rt; host.env_put("v", b"1") == Err(HostError::Failed));
-    let mut later = MemoryHost::of(host.into_contents(), Vec::new(rt.alloc()), None);
-    let value = if there { b"1".as_slice() } else { &[] };
-    expect_variable(rt, &mut later, "v", Ok(there), value)?;
     Ok(())
 }
 
 #[test]
 fn a_stop_leaves_another_change_whole_or_undone(rt: HostRuntime) -> Result<(), Fail> {
-    for (done, there) in [
-        (Done::Nothing, false),
-        (Done::Half, true),
-        (Done::All, true),
+    for (done, value) in [
+        (Done::Nothing, Some("1")),
+        (Done::Half, None),
+        (Done::All, None),
     ] {
-        expect_stopped_change(&rt, done, there)?;
+        expect_stopped(
+            &rt,
+            done,
+            Change::NoVariable("v"),
+            &[Look::Variable("v", value)],
+        )?;
     }
     Ok(())
 }
@@ -288,18 +277,18 @@ fn a_stop_leaves_another_change_whole_or_undone(rt: HostRuntime) -> Result<(), F
 #[test]
 fn a_host_that_is_not_there_fails(rt: HostRuntime) -> Result<(), Fail> {
     let mut absent = Absent::new();
-    assert!(rt; absent.path_state("a") == Err(HostError::Failed));
-    assert!(rt; absent.file_equals("a", b"") == Err(HostError::Failed));
-    assert!(rt; absent.put_file("a", b"") == Err(HostError::Failed));
-    assert!(rt; absent.make_dir("a") == Err(HostError::Failed));
-    assert!(rt; absent.remove("a") == Err(HostError::Failed));
-    assert!(rt; absent.env_put("v", b"") == Err(HostError::Failed));
-    assert!(rt; absent.env_remove("v") == Err(HostError::Failed));
-    assert!(rt; absent.log_has("i", "m") == Err(HostError::Failed));
-    assert!(rt; absent.log_add("i", "m") == Err(HostError::Failed));
-    assert!(rt; absent.package_has("n", "1") == Err(HostError::Failed));
-    assert!(rt; absent.package_put("n", "1", b"") == Err(HostError::Failed));
-    assert!(rt; absent.reboot_wanted("i") == Err(HostError::Failed));
-    expect_variable(&rt, &mut absent, "v", Err(HostError::Failed), b"")?;
-    Ok(())
+    expect_failures(
+        &rt,
+        &mut absent,
+        &[
+            Change::File("a", ""),
+            Change::Folder("a"),
+            Change::Remove("a"),
+            Change::Variable("v", ""),
+            Change::NoVariable("v"),
+            Change::Entry("i", "m"),
+            Change::Package("n", "1", ""),
+        ],
+    );
+    expect_variable(&rt, &mut absent, "v", Err(HostError::Failed), b"")
 }
