@@ -1,7 +1,10 @@
 pub mod Causes
+pub mod Changes
 pub mod Clock
 pub mod Disk
 pub mod Host
 pub mod Link
 pub mod Memory
+pub mod MemoryHost
+pub mod Paths
 pub mod Real

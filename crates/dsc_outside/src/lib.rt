@@ -6,14 +6,16 @@
 //! know which of the two it was given.
 //!
 //! `MemorySource`, `MemorySink` and `MemoryHost` are exact: they fail in the calls that they were told to fail in,
-//! and in no other but where they find no memory for what they keep. `Absent` fails in each call. The module `real`
-//! has standard input and output and the folder that stands for the machine; it is the edge that is trusted.
+//! the host also from its stop on, and in no other but where they find no memory for what they keep. `Absent` fails in
+//! each call. The module `real` has standard input and output and the folder that stands for the machine; it is the
+//! edge that is trusted.
 #![tactic(auto)]
 
 mod absent;
 mod clock;
 mod disk;
 mod ends;
+mod entries;
 mod failed;
 mod host;
 mod link;
@@ -26,10 +28,13 @@ pub use absent::Absent;
 pub use clock::Clock;
 pub use disk::Disk;
 pub use ends::Ends;
+pub use entries::{LogEntry, Package};
 pub use failed::Failed;
-pub use host::{Host, HostError};
+pub use host::{Host, HostError, PathState};
 pub use link::{Link, LinkError, Peer};
-pub use memory::{MemoryHost, MemorySink, MemorySource, Variable};
+pub use memory::{
+    Done, HostContents, MemoryHost, MemorySink, MemorySource, PathEntry, Standing, Stop, Variable,
+};
 pub use mof_values::Memory;
 pub use sink::Sink;
 pub use source::Source;

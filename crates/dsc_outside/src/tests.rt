@@ -1,4 +1,6 @@
+mod host_calls;
 mod memory_forms;
+mod memory_host;
 mod real_things;
 
 use crate::{Host, HostError};
