@@ -1,5 +1,8 @@
+mod folder_lists;
+mod folder_paths;
 mod memory_forms;
 mod real_things;
+mod scratch;
 
 use crate::{Host, HostError};
 use std::process::Abort;
