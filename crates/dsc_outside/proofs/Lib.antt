@@ -1,5 +1,6 @@
 pub mod Below
 mod Bounds
+mod Compared
 mod Fronts
 mod Named
 mod PathEntries

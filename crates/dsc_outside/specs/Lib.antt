@@ -2,6 +2,7 @@ pub mod Causes
 pub mod Changes
 pub mod Clock
 pub mod Disk
+pub mod Folders
 pub mod Host
 pub mod Link
 pub mod Memory

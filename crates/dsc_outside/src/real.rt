@@ -3,10 +3,19 @@
 //! They tell nothing of what they hold, and each counts its failures. This is the edge that is trusted: no clause
 //! can say what the system gives or takes.
 
+mod comparing;
+mod errors;
 mod folder_host;
 mod in_source;
+mod lists;
+mod machine_folder;
 mod out_sink;
+mod paths;
+mod places;
+mod plain_files;
 mod reading;
+mod tree;
+mod walking;
 
 pub use folder_host::FolderHost;
 pub use in_source::InSource;

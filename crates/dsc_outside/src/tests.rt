@@ -1,7 +1,10 @@
 mod host_calls;
+mod folder_lists;
+mod folder_paths;
 mod memory_forms;
 mod memory_host;
 mod real_things;
+mod scratch;
 
 use crate::{Host, HostError};
 use std::process::Abort;

@@ -1,28 +1,32 @@
-//! A folder that stands for the machine.
-ghost use Rattle.std.specs.Prelude.{◌≡◌, IfOk, None, codes};
-ghost use Rattle.std.specs.Path.{path_buf_bytes, path_join};
-ghost use Rattle.hex.specs.Hex.{encode_upper};
+//! The machine that a folder stands for.
+ghost use Rattle.std.specs.Prelude.{◌≡◌, Err, None, false};
 ghost use Rattle.dsc_outside.specs.Causes.{HasCauseOf};
+ghost use Rattle.dsc_outside.specs.Folders.{is_plain_path};
 ghost use Rattle.dsc_outside.specs.Host.{LeavesBuffer, count_after};
+ghost use Rattle.dsc_outside.specs.declared.host.HostError.TheVariants as errors;
 
-use super::reading::read_rest;
+use super::machine_folder::MachineFolder;
 use crate::{Host, HostError, PathState};
-use std::alloc::{AllocError, Global};
-use std::fs;
-use std::io::ErrorKind;
 use std::marker::Model;
-use std::path::{Path, PathBuf};
 use std::rt::Files;
 
-/// A host that keeps its environment in a folder: the variable of a name is the plain file `env/HEX` in it, where
-/// HEX is the upper-case hexadecimal digits of the name's bytes. A file or a folder that is missing means that the
-/// variable is not there; every other failure counts, and so does a link, a folder or anything else in the file's
-/// place. It touches nothing before its first call, and changes nothing: its other calls fail. A clause sees it as the
-/// number of its calls that failed.
+/// A host that keeps what it holds in a folder, HOST:
+///
+/// - `root` is the root of its paths;
+/// - `env` has a plain file for each variable, named by the upper-case hexadecimal digits of its name's bytes;
+/// - `log` has a plain file for each entry, named by the digits of the SHA-256 of id, LF, message, which it holds;
+/// - `packages` has a plain file with each package's bytes, named by the digits of the SHA-256 of name, LF, version;
+/// - `reboot` is a text of the folded ids that want a reboot, one a line;
+/// - `staged` is a file that is being written.
+///
+/// A file or a folder that is missing means that what it would hold is not there; a change makes the folders that it
+/// needs, HOST too. Every other failure counts, and so does a link, a folder or anything else in the place of one of
+/// these files or folders. HOST itself may be a link; those under the root are `Other` and never followed: a look
+/// finds nothing below them, and a change there fails. A file is placed whole or not at all. Nothing is touched before
+/// the first call. A clause sees a host as the number of its calls that failed.
 #[derive(Drop)]
 pub struct FolderHost<R: Files> {
-    rt: R,
-    folder: String,
+    machine: MachineFolder<R>,
     faults: u64,
 }
 
@@ -40,10 +44,21 @@ impl<R: Files> FolderHost<R> {
         ensures { result ≡ 0 }
     {
         FolderHost {
-            rt,
-            folder,
+            machine: MachineFolder { rt, host: folder },
             faults: 0,
         }
+    }
+
+    // Counts the call where it failed, and hands its outcome on.
+    fn counted<T>(&mut self, outcome: Result<T, HostError>) -> Result<T, HostError>
+        ensures same { result ≡ outcome }
+        ensures cause { HasCauseOf HostError.Failed self.old self.new outcome }
+        ensures count { self.new ≡ count_after self.old outcome }
+    {
+        if matches!(outcome, Err(HostError::Failed)) {
+            self.faults = self.faults.saturating_add(1);
+        }
+        outcome
     }
 }
 
@@ -52,152 +67,113 @@ impl<R: Files> Host for FolderHost<R> {
 
     ghost faults = { λ h. h };
 
+    fn path_state(&mut self, path: &str) -> Result<PathState, HostError>
+        ensures refused { is_plain_path path.now ≡ false → result ≡ Err errors.Failed }
+        ensures cause { HasCauseOf HostError.Failed self.old self.new result }
+        ensures count { self.new ≡ count_after self.old result }
+    {
+        let outcome = self.machine.path_state(path);
+        self.counted(outcome)
+    }
+
+    fn file_equals(&mut self, path: &str, bytes: &[u8]) -> Result<bool, HostError>
+        ensures refused { is_plain_path path.now ≡ false → result ≡ Err errors.Failed }
+        ensures cause { HasCauseOf HostError.Failed self.old self.new result }
+        ensures count { self.new ≡ count_after self.old result }
+    {
+        let outcome = self.machine.file_equals(path, bytes);
+        self.counted(outcome)
+    }
+
+    fn put_file(&mut self, path: &str, bytes: &[u8]) -> Result<(), HostError>
+        ensures refused { is_plain_path path.now ≡ false → result ≡ Err errors.Failed }
+        ensures cause { HasCauseOf HostError.Failed self.old self.new result }
+        ensures count { self.new ≡ count_after self.old result }
+    {
+        let outcome = self.machine.put_file(path, bytes);
+        self.counted(outcome)
+    }
+
+    fn make_dir(&mut self, path: &str) -> Result<(), HostError>
+        ensures refused { is_plain_path path.now ≡ false → result ≡ Err errors.Failed }
+        ensures cause { HasCauseOf HostError.Failed self.old self.new result }
+        ensures count { self.new ≡ count_after self.old result }
+    {
+        let outcome = self.machine.make_dir(path);
+        self.counted(outcome)
+    }
+
+    fn remove(&mut self, path: &str) -> Result<(), HostError>
+        ensures refused { is_plain_path path.now ≡ false → result ≡ Err errors.Failed }
+        ensures cause { HasCauseOf HostError.Failed self.old self.new result }
+        ensures count { self.new ≡ count_after self.old result }
+    {
+        let outcome = self.machine.remove(path);
+        self.counted(outcome)
+    }
+
     fn env_state(&mut self, name: &str, into: &mut Vec<u8>) -> Result<bool, HostError>
         ensures buffer { LeavesBuffer result into.old.items into.new.items }
         ensures cause { HasCauseOf HostError.Failed self.old self.new result }
         ensures count { self.new ≡ count_after self.old result }
     {
-        let path = variable_path(*self.folder.allocator(), &self.folder, name)?;
-        let outcome = append_file(&self.rt, path.as_path(), into);
-        if matches!(outcome, Err(HostError::Failed)) {
-            self.faults = self.faults.saturating_add(1);
-        }
-        outcome
+        let outcome = self.machine.env_state(name, into);
+        self.counted(outcome)
     }
 
-    fn path_state(&mut self, _path: &str) -> Result<PathState, HostError>
+    fn env_put(&mut self, name: &str, value: &[u8]) -> Result<(), HostError>
         ensures cause { HasCauseOf HostError.Failed self.old self.new result }
         ensures count { self.new ≡ count_after self.old result }
     {
-        self.faults = self.faults.saturating_add(1);
-        Err(HostError::Failed)
+        let outcome = self.machine.env_put(name, value);
+        self.counted(outcome)
     }
 
-    fn file_equals(&mut self, _path: &str, _bytes: &[u8]) -> Result<bool, HostError>
+    fn env_remove(&mut self, name: &str) -> Result<(), HostError>
         ensures cause { HasCauseOf HostError.Failed self.old self.new result }
         ensures count { self.new ≡ count_after self.old result }
     {
-        self.faults = self.faults.saturating_add(1);
-        Err(HostError::Failed)
+        let outcome = self.machine.env_remove(name);
+        self.counted(outcome)
     }
 
-    fn put_file(&mut self, _path: &str, _bytes: &[u8]) -> Result<(), HostError>
+    fn log_has(&mut self, id: &str, message: &str) -> Result<bool, HostError>
         ensures cause { HasCauseOf HostError.Failed self.old self.new result }
         ensures count { self.new ≡ count_after self.old result }
     {
-        self.faults = self.faults.saturating_add(1);
-        Err(HostError::Failed)
+        let outcome = self.machine.log_has(id, message);
+        self.counted(outcome)
     }
 
-    fn make_dir(&mut self, _path: &str) -> Result<(), HostError>
+    fn log_add(&mut self, id: &str, message: &str) -> Result<(), HostError>
         ensures cause { HasCauseOf HostError.Failed self.old self.new result }
         ensures count { self.new ≡ count_after self.old result }
     {
-        self.faults = self.faults.saturating_add(1);
-        Err(HostError::Failed)
+        let outcome = self.machine.log_add(id, message);
+        self.counted(outcome)
     }
 
-    fn remove(&mut self, _path: &str) -> Result<(), HostError>
+    fn package_has(&mut self, name: &str, version: &str) -> Result<bool, HostError>
         ensures cause { HasCauseOf HostError.Failed self.old self.new result }
         ensures count { self.new ≡ count_after self.old result }
     {
-        self.faults = self.faults.saturating_add(1);
-        Err(HostError::Failed)
+        let outcome = self.machine.package_has(name, version);
+        self.counted(outcome)
     }
 
-    fn env_put(&mut self, _name: &str, _value: &[u8]) -> Result<(), HostError>
+    fn package_put(&mut self, name: &str, version: &str, bytes: &[u8]) -> Result<(), HostError>
         ensures cause { HasCauseOf HostError.Failed self.old self.new result }
         ensures count { self.new ≡ count_after self.old result }
     {
-        self.faults = self.faults.saturating_add(1);
-        Err(HostError::Failed)
+        let outcome = self.machine.package_put(name, version, bytes);
+        self.counted(outcome)
     }
 
-    fn env_remove(&mut self, _name: &str) -> Result<(), HostError>
+    fn reboot_wanted(&mut self, id: &str) -> Result<bool, HostError>
         ensures cause { HasCauseOf HostError.Failed self.old self.new result }
         ensures count { self.new ≡ count_after self.old result }
     {
-        self.faults = self.faults.saturating_add(1);
-        Err(HostError::Failed)
-    }
-
-    fn log_has(&mut self, _id: &str, _message: &str) -> Result<bool, HostError>
-        ensures cause { HasCauseOf HostError.Failed self.old self.new result }
-        ensures count { self.new ≡ count_after self.old result }
-    {
-        self.faults = self.faults.saturating_add(1);
-        Err(HostError::Failed)
-    }
-
-    fn log_add(&mut self, _id: &str, _message: &str) -> Result<(), HostError>
-        ensures cause { HasCauseOf HostError.Failed self.old self.new result }
-        ensures count { self.new ≡ count_after self.old result }
-    {
-        self.faults = self.faults.saturating_add(1);
-        Err(HostError::Failed)
-    }
-
-    fn package_has(&mut self, _name: &str, _version: &str) -> Result<bool, HostError>
-        ensures cause { HasCauseOf HostError.Failed self.old self.new result }
-        ensures count { self.new ≡ count_after self.old result }
-    {
-        self.faults = self.faults.saturating_add(1);
-        Err(HostError::Failed)
-    }
-
-    fn package_put(&mut self, _name: &str, _version: &str, _bytes: &[u8]) -> Result<(), HostError>
-        ensures cause { HasCauseOf HostError.Failed self.old self.new result }
-        ensures count { self.new ≡ count_after self.old result }
-    {
-        self.faults = self.faults.saturating_add(1);
-        Err(HostError::Failed)
-    }
-
-    fn reboot_wanted(&mut self, _id: &str) -> Result<bool, HostError>
-        ensures cause { HasCauseOf HostError.Failed self.old self.new result }
-        ensures count { self.new ≡ count_after self.old result }
-    {
-        self.faults = self.faults.saturating_add(1);
-        Err(HostError::Failed)
-    }
-}
-
-// The path of the file that holds the variable.
-fn variable_path(alloc: Global, folder: &str, name: &str) -> Result<PathBuf, AllocError>
-    ensures { IfOk result (λ path. path_buf_bytes path ≡ path_join (path_join folder.now (codes "env")) (encode_upper name.now)) }
-{
-    let mut path = PathBuf::from_str(alloc, folder)?;
-    path.push("env")?;
-    path.push(hex::encode_upper(alloc, name)?)?;
-    Ok(path)
-}
-
-// Appends the bytes of the plain file at the path, and answers whether it is there. A link, a folder, or anything
-// else in its place is a failure.
-fn append_file<R: Files>(rt: &R, path: Path<'_>, into: &mut Vec<u8>) -> Result<bool, HostError>
-    ensures { LeavesBuffer result into.old.items into.new.items }
-{
-    let Some(mut file) = open_plain(rt, path)? else {
-        return Ok(false);
-    };
-    let kept = into.len();
-    match read_rest(&mut file, into) {
-        Ok(()) => Ok(true),
-        Err(error) => {
-            into.truncate(kept);
-            Err(error)
-        }
-    }
-}
-
-fn open_plain<R: Files>(rt: &R, path: Path<'_>) -> Result<Option<R::File>, HostError> {
-    match fs::symlink_metadata(rt, path) {
-        Ok(found) if found.is_file() => {}
-        Err(e) if e.kind() == ErrorKind::NotFound => return Ok(None),
-        _ => return Err(HostError::Failed),
-    }
-    match fs::open(rt, path) {
-        Ok(file) => Ok(Some(file)),
-        Err(_) => Err(HostError::Failed),
+        let outcome = self.machine.reboot_wanted(id);
+        self.counted(outcome)
     }
 }

@@ -6,7 +6,8 @@ ghost use Rattle.std.specs.Io.KnownBytes.{ReadConsumes};
 use crate::{Failed, HostError};
 use std::io::{ErrorKind, Read};
 
-const BUFFER_SIZE: usize = 8192;
+/// How much is read at once.
+pub const BUFFER_SIZE: usize = 8192;
 
 /// Reads once, and again where a signal came between.
 pub fn read_some<R: Read>(reader: &mut R, into: &mut [u8]) -> Result<usize, Failed>

@@ -1,0 +1,52 @@
+-- Where a folder that stands for a machine keeps what it holds. Names, folders and paths are their bytes in UTF-8.
+use Rattle.std.specs.Prelude.{ℕ, List, [], ◌∷◌, ◌++◌, Bool, not, ◌==◌, ◌&&◌, ◌||◌, codes}
+use Rattle.std.specs.List.{list_all, list_any, slice_split}
+use Rattle.std.specs.Path.{path_join}
+use Rattle.std.specs.Str.{bytes_eq}
+use Rattle.hex.specs.Hex.{encode_upper}
+use Rattle.sha2.specs.Sha256.{sha256}
+use Rattle.dsc_outside.specs.Host.{wants_reboot}
+
+-- a name that stays in the folder it is looked for in: neither empty, nor `.`, nor `..`, and without a NUL
+abbrev pub is_plain_name : List ℕ → Bool
+is_plain_name name = not (bytes_eq name []) && (not (bytes_eq name (codes ".")) && (not (bytes_eq name (codes "..")) && not (list_any (λ b. b == 0) name)))
+
+-- each name of the path is plain
+abbrev pub is_plain_path : List ℕ → Bool
+is_plain_path path = list_all is_plain_name (slice_split (λ b. b == 47) path)
+
+-- a name in one of the folders that the host's folder has
+abbrev pub file_in : List ℕ → List ℕ → List ℕ → List ℕ
+file_in host folder name = path_join (path_join host folder) name
+
+-- what stands for the path of the machine
+abbrev pub root_place : List ℕ → List ℕ → List ℕ
+root_place host path = file_in host (codes "root") path
+
+-- the file of the variable of that name
+abbrev pub variable_place : List ℕ → List ℕ → List ℕ
+variable_place host name = file_in host (codes "env") (encode_upper name)
+
+-- two texts with a line feed between
+abbrev pub two_lines : List ℕ → List ℕ → List ℕ
+two_lines first second = first ++ 10 ∷ second
+
+-- the file of an entry of the log, which holds its id, a line feed, and its message
+abbrev pub entry_place : List ℕ → List ℕ → List ℕ → List ℕ
+entry_place host id message = file_in host (codes "log") (encode_upper (sha256 (two_lines id message)))
+
+-- the file of a package
+abbrev pub package_place : List ℕ → List ℕ → List ℕ → List ℕ
+package_place host name version = file_in host (codes "packages") (encode_upper (sha256 (two_lines name version)))
+
+-- one of the lines is the id
+abbrev pub has_line : List ℕ → List ℕ → Bool
+has_line text id = wants_reboot (slice_split (λ b. b == 10) text) id
+
+-- the name of something in a folder: neither empty, nor that of the folder itself, nor that of the one above
+abbrev pub is_entry_name : List ℕ → Bool
+is_entry_name name = not ((bytes_eq name [] || bytes_eq name (codes ".")) || bytes_eq name (codes ".."))
+
+-- one of the names, each with a NUL behind it, is that of something in the folder
+abbrev pub has_entry_name : List ℕ → Bool
+has_entry_name names = list_any is_entry_name (slice_split (λ b. b == 0) names)
