@@ -1,13 +1,39 @@
--- What a machine holds.
-use Rattle.std.specs.Prelude.{◌≡◌, ℕ, List, ◌++◌, Bool, true, false, Option, Some, None, Result, Ok, Err, ⊤, IfOk}
+-- What a machine holds, and what looks at it answer.
+use Rattle.std.specs.Prelude.{◌≡◌, ℕ, List, ◌++◌, Bool, true, false, ◌&&◌, Option, Some, None, Result, Ok, Err, ⊤, IfOk}
+use Rattle.std.specs.List.{list_any}
+use Rattle.std.specs.Str.{bytes_eq}
 use Rattle.std.specs.Io.{StartsWith}
 use Rattle.dsc_outside.specs.Causes.{one_more}
+use Rattle.dsc_outside.specs.Paths.{PathKind}
+use Rattle.dsc_outside.specs.declared.entries.LogEntry.{LogEntry}
+use Rattle.dsc_outside.specs.declared.entries.Package.{Package}
 use Rattle.dsc_outside.specs.declared.host.HostError.{HostError}
 use Rattle.dsc_outside.specs.declared.host.HostError.TheVariants as errors
 
 pub record HostState : Type 0 where
+  -- what stands at a path
+  pub path : List ℕ → PathKind
   -- the bytes of the environment variable that is there, by the UTF-8 bytes of its folded name
   pub variable : List ℕ → Option (List ℕ)
+  -- the oldest first
+  pub log : List LogEntry
+  pub packages : List Package
+  -- the UTF-8 bytes of the folded ids of the resources that want a reboot
+  pub wanting : List (List ℕ)
+
+abbrev pub has_entry : List LogEntry → List ℕ → List ℕ → Bool
+has_entry log id message = list_any (λ e. bytes_eq e.id id && bytes_eq e.message message) log
+
+abbrev pub has_package : List Package → List ℕ → List ℕ → Bool
+has_package packages name version = list_any (λ p. bytes_eq p.name name && bytes_eq p.version version) packages
+
+abbrev pub wants_reboot : List (List ℕ) → List ℕ → Bool
+wants_reboot wanting id = list_any (λ w. bytes_eq w id) wanting
+
+-- where the host tells what it holds, that is what the call answers by
+abbrev pub Tells : {A E : Type 0} → Option HostState → Result A E → (HostState → A → Type 0) → Type 0
+Tells None result shows = ⊤
+Tells (Some host) result shows = IfOk result (λ answer. shows host answer)
 
 -- a look-up answers whether the value is there, and appends it
 abbrev pub Shows : Option (List ℕ) → Bool → List ℕ → List ℕ → Type 0
@@ -27,8 +53,8 @@ LeavesBuffer (Ok true) old new = StartsWith new old
 LeavesBuffer (Ok false) old new = new ≡ old
 LeavesBuffer (Err e) old new = new ≡ old
 
--- the count of faults after a look-up: one more where it failed
-abbrev pub count_after : ℕ → Result Bool HostError → ℕ
-count_after before (Ok there) = before
+-- the count of faults after a call: one more where it failed
+abbrev pub count_after : {A : Type 0} → ℕ → Result A HostError → ℕ
+count_after before (Ok answer) = before
 count_after before (Err errors.Failed) = one_more before
 count_after before (Err errors.Memory) = before

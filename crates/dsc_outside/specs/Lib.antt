@@ -1,7 +1,9 @@
 pub mod Causes
+pub mod Changes
 pub mod Clock
 pub mod Disk
 pub mod Host
 pub mod Link
 pub mod Memory
+pub mod Paths
 pub mod Real

@@ -4,6 +4,7 @@ use Rattle.std.specs.List.{list_any}
 use Rattle.std.specs.Str.{bytes_eq}
 use Rattle.dsc_outside.specs.Causes.{one_more}
 use Rattle.dsc_outside.specs.Host.{HostState}
+use Rattle.dsc_outside.specs.Paths.{Nothing}
 use Rattle.dsc_outside.specs.declared.memory.variable.Variable.{Variable}
 
 -- how the calls of a form go
@@ -60,4 +61,4 @@ value_of (v ∷ vs) name = if bytes_eq v.name name then Some v.value else value_
 
 -- what a host in memory tells
 abbrev pub told_of : HostInMemory → HostState
-told_of host = record { variable = value_of host.variables }
+told_of host = record { path = λ path. Nothing; variable = value_of host.variables; log = []; packages = []; wanting = [] }

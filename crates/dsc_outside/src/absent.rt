@@ -1,11 +1,12 @@
 //! What is not there.
 ghost use Rattle.std.specs.Prelude.{◌≡◌, ◌≤◌, Err, IsErr};
 ghost use Rattle.dsc_outside.specs.Causes.{HasCause, HasCauseOf, one_more};
+ghost use Rattle.dsc_outside.specs.declared.host.HostError.TheVariants as errors;
 
-use crate::{Clock, Disk, Failed, Link, LinkError, Peer};
+use crate::{Clock, Disk, Failed, Host, HostError, Link, LinkError, PathState, Peer};
 use std::marker::Model;
 
-/// A disk, a link and a clock that is not there: each call fails. A clause sees it as the number of its calls,
+/// A disk, a host, a link and a clock that is not there: each call fails. A clause sees it as the number of its calls,
 /// which stands still at 2^64 - 1.
 #[derive(Drop)]
 pub struct Absent {
@@ -98,6 +99,132 @@ impl Disk for Absent {
     {
         self.count_call();
         Err(Failed)
+    }
+}
+
+impl Host for Absent {
+    ghost use Rattle.std.specs.Prelude.{None};
+
+    ghost told = { λ h. None };
+
+    ghost faults = { λ h. h };
+
+    fn path_state(&mut self, _path: &str) -> Result<PathState, HostError>
+        ensures fails { result ≡ Err errors.Failed }
+        ensures count { self.new ≡ one_more self.old }
+        ensures cause { HasCauseOf HostError.Failed self.old self.new result }
+    {
+        self.count_call();
+        Err(HostError::Failed)
+    }
+
+    fn file_equals(&mut self, _path: &str, _bytes: &[u8]) -> Result<bool, HostError>
+        ensures fails { result ≡ Err errors.Failed }
+        ensures count { self.new ≡ one_more self.old }
+        ensures cause { HasCauseOf HostError.Failed self.old self.new result }
+    {
+        self.count_call();
+        Err(HostError::Failed)
+    }
+
+    fn put_file(&mut self, _path: &str, _bytes: &[u8]) -> Result<(), HostError>
+        ensures fails { result ≡ Err errors.Failed }
+        ensures count { self.new ≡ one_more self.old }
+        ensures cause { HasCauseOf HostError.Failed self.old self.new result }
+    {
+        self.count_call();
+        Err(HostError::Failed)
+    }
+
+    fn make_dir(&mut self, _path: &str) -> Result<(), HostError>
+        ensures fails { result ≡ Err errors.Failed }
+        ensures count { self.new ≡ one_more self.old }
+        ensures cause { HasCauseOf HostError.Failed self.old self.new result }
+    {
+        self.count_call();
+        Err(HostError::Failed)
+    }
+
+    fn remove(&mut self, _path: &str) -> Result<(), HostError>
+        ensures fails { result ≡ Err errors.Failed }
+        ensures count { self.new ≡ one_more self.old }
+        ensures cause { HasCauseOf HostError.Failed self.old self.new result }
+    {
+        self.count_call();
+        Err(HostError::Failed)
+    }
+
+    fn env_state(&mut self, _name: &str, into: &mut Vec<u8>) -> Result<bool, HostError>
+        ensures fails { result ≡ Err errors.Failed }
+        ensures buffer { into.new ≡ into.old }
+        ensures count { self.new ≡ one_more self.old }
+        ensures cause { HasCauseOf HostError.Failed self.old self.new result }
+    {
+        self.count_call();
+        Err(HostError::Failed)
+    }
+
+    fn env_put(&mut self, _name: &str, _value: &[u8]) -> Result<(), HostError>
+        ensures fails { result ≡ Err errors.Failed }
+        ensures count { self.new ≡ one_more self.old }
+        ensures cause { HasCauseOf HostError.Failed self.old self.new result }
+    {
+        self.count_call();
+        Err(HostError::Failed)
+    }
+
+    fn env_remove(&mut self, _name: &str) -> Result<(), HostError>
+        ensures fails { result ≡ Err errors.Failed }
+        ensures count { self.new ≡ one_more self.old }
+        ensures cause { HasCauseOf HostError.Failed self.old self.new result }
+    {
+        self.count_call();
+        Err(HostError::Failed)
+    }
+
+    fn log_has(&mut self, _id: &str, _message: &str) -> Result<bool, HostError>
+        ensures fails { result ≡ Err errors.Failed }
+        ensures count { self.new ≡ one_more self.old }
+        ensures cause { HasCauseOf HostError.Failed self.old self.new result }
+    {
+        self.count_call();
+        Err(HostError::Failed)
+    }
+
+    fn log_add(&mut self, _id: &str, _message: &str) -> Result<(), HostError>
+        ensures fails { result ≡ Err errors.Failed }
+        ensures count { self.new ≡ one_more self.old }
+        ensures cause { HasCauseOf HostError.Failed self.old self.new result }
+    {
+        self.count_call();
+        Err(HostError::Failed)
+    }
+
+    fn package_has(&mut self, _name: &str, _version: &str) -> Result<bool, HostError>
+        ensures fails { result ≡ Err errors.Failed }
+        ensures count { self.new ≡ one_more self.old }
+        ensures cause { HasCauseOf HostError.Failed self.old self.new result }
+    {
+        self.count_call();
+        Err(HostError::Failed)
+    }
+
+    fn package_put(&mut self, _name: &str, _version: &str, _bytes: &[u8]) -> Result<(), HostError>
+        ensures fails { result ≡ Err errors.Failed }
+        ensures count { self.new ≡ one_more self.old }
+        ensures cause { HasCauseOf HostError.Failed self.old self.new result }
+    {
+        self.count_call();
+        Err(HostError::Failed)
+    }
+
+    fn reboot_wanted(&mut self, _id: &str) -> Result<bool, HostError>
+        ensures fails { result ≡ Err errors.Failed }
+        ensures count { self.new ≡ one_more self.old }
+        ensures cause { HasCauseOf HostError.Failed self.old self.new result }
+    {
+        self.count_call();
+        Err(HostError::Failed)
     }
 }
 

@@ -6,7 +6,7 @@ ghost use Rattle.dsc_outside.specs.Memory.{counted, is_to_fail, told_of, uncalle
 
 use super::calls::Calls;
 use super::variable::{Variable, find_value};
-use crate::{Host, HostError};
+use crate::{Host, HostError, PathState};
 use std::marker::Model;
 
 /// A host of given environment variables.
@@ -67,5 +67,77 @@ impl Host for MemoryHost {
                 Ok(true)
             }
         }
+    }
+
+    fn path_state(&mut self, _path: &str) -> Result<PathState, HostError> {
+        self.calls.begin()?;
+        self.calls.add_fault();
+        Err(HostError::Failed)
+    }
+
+    fn file_equals(&mut self, _path: &str, _bytes: &[u8]) -> Result<bool, HostError> {
+        self.calls.begin()?;
+        self.calls.add_fault();
+        Err(HostError::Failed)
+    }
+
+    fn put_file(&mut self, _path: &str, _bytes: &[u8]) -> Result<(), HostError> {
+        self.calls.begin()?;
+        self.calls.add_fault();
+        Err(HostError::Failed)
+    }
+
+    fn make_dir(&mut self, _path: &str) -> Result<(), HostError> {
+        self.calls.begin()?;
+        self.calls.add_fault();
+        Err(HostError::Failed)
+    }
+
+    fn remove(&mut self, _path: &str) -> Result<(), HostError> {
+        self.calls.begin()?;
+        self.calls.add_fault();
+        Err(HostError::Failed)
+    }
+
+    fn env_put(&mut self, _name: &str, _value: &[u8]) -> Result<(), HostError> {
+        self.calls.begin()?;
+        self.calls.add_fault();
+        Err(HostError::Failed)
+    }
+
+    fn env_remove(&mut self, _name: &str) -> Result<(), HostError> {
+        self.calls.begin()?;
+        self.calls.add_fault();
+        Err(HostError::Failed)
+    }
+
+    fn log_has(&mut self, _id: &str, _message: &str) -> Result<bool, HostError> {
+        self.calls.begin()?;
+        self.calls.add_fault();
+        Err(HostError::Failed)
+    }
+
+    fn log_add(&mut self, _id: &str, _message: &str) -> Result<(), HostError> {
+        self.calls.begin()?;
+        self.calls.add_fault();
+        Err(HostError::Failed)
+    }
+
+    fn package_has(&mut self, _name: &str, _version: &str) -> Result<bool, HostError> {
+        self.calls.begin()?;
+        self.calls.add_fault();
+        Err(HostError::Failed)
+    }
+
+    fn package_put(&mut self, _name: &str, _version: &str, _bytes: &[u8]) -> Result<(), HostError> {
+        self.calls.begin()?;
+        self.calls.add_fault();
+        Err(HostError::Failed)
+    }
+
+    fn reboot_wanted(&mut self, _id: &str) -> Result<bool, HostError> {
+        self.calls.begin()?;
+        self.calls.add_fault();
+        Err(HostError::Failed)
     }
 }

@@ -6,7 +6,7 @@ ghost use Rattle.dsc_outside.specs.Causes.{HasCauseOf};
 ghost use Rattle.dsc_outside.specs.Host.{LeavesBuffer, count_after};
 
 use super::reading::read_rest;
-use crate::{Host, HostError};
+use crate::{Host, HostError, PathState};
 use std::alloc::{AllocError, Global};
 use std::fs;
 use std::io::ErrorKind;
@@ -17,8 +17,8 @@ use std::rt::Files;
 /// A host that keeps its environment in a folder: the variable of a name is the plain file `env/HEX` in it, where
 /// HEX is the upper-case hexadecimal digits of the name's bytes. A file or a folder that is missing means that the
 /// variable is not there; every other failure counts, and so does a link, a folder or anything else in the file's
-/// place. It touches nothing before its first call, and changes nothing. A clause sees it as the number of its calls
-/// that failed.
+/// place. It touches nothing before its first call, and changes nothing: its other calls fail. A clause sees it as the
+/// number of its calls that failed.
 #[derive(Drop)]
 pub struct FolderHost<R: Files> {
     rt: R,
@@ -63,6 +63,102 @@ impl<R: Files> Host for FolderHost<R> {
             self.faults = self.faults.saturating_add(1);
         }
         outcome
+    }
+
+    fn path_state(&mut self, _path: &str) -> Result<PathState, HostError>
+        ensures cause { HasCauseOf HostError.Failed self.old self.new result }
+        ensures count { self.new ≡ count_after self.old result }
+    {
+        self.faults = self.faults.saturating_add(1);
+        Err(HostError::Failed)
+    }
+
+    fn file_equals(&mut self, _path: &str, _bytes: &[u8]) -> Result<bool, HostError>
+        ensures cause { HasCauseOf HostError.Failed self.old self.new result }
+        ensures count { self.new ≡ count_after self.old result }
+    {
+        self.faults = self.faults.saturating_add(1);
+        Err(HostError::Failed)
+    }
+
+    fn put_file(&mut self, _path: &str, _bytes: &[u8]) -> Result<(), HostError>
+        ensures cause { HasCauseOf HostError.Failed self.old self.new result }
+        ensures count { self.new ≡ count_after self.old result }
+    {
+        self.faults = self.faults.saturating_add(1);
+        Err(HostError::Failed)
+    }
+
+    fn make_dir(&mut self, _path: &str) -> Result<(), HostError>
+        ensures cause { HasCauseOf HostError.Failed self.old self.new result }
+        ensures count { self.new ≡ count_after self.old result }
+    {
+        self.faults = self.faults.saturating_add(1);
+        Err(HostError::Failed)
+    }
+
+    fn remove(&mut self, _path: &str) -> Result<(), HostError>
+        ensures cause { HasCauseOf HostError.Failed self.old self.new result }
+        ensures count { self.new ≡ count_after self.old result }
+    {
+        self.faults = self.faults.saturating_add(1);
+        Err(HostError::Failed)
+    }
+
+    fn env_put(&mut self, _name: &str, _value: &[u8]) -> Result<(), HostError>
+        ensures cause { HasCauseOf HostError.Failed self.old self.new result }
+        ensures count { self.new ≡ count_after self.old result }
+    {
+        self.faults = self.faults.saturating_add(1);
+        Err(HostError::Failed)
+    }
+
+    fn env_remove(&mut self, _name: &str) -> Result<(), HostError>
+        ensures cause { HasCauseOf HostError.Failed self.old self.new result }
+        ensures count { self.new ≡ count_after self.old result }
+    {
+        self.faults = self.faults.saturating_add(1);
+        Err(HostError::Failed)
+    }
+
+    fn log_has(&mut self, _id: &str, _message: &str) -> Result<bool, HostError>
+        ensures cause { HasCauseOf HostError.Failed self.old self.new result }
+        ensures count { self.new ≡ count_after self.old result }
+    {
+        self.faults = self.faults.saturating_add(1);
+        Err(HostError::Failed)
+    }
+
+    fn log_add(&mut self, _id: &str, _message: &str) -> Result<(), HostError>
+        ensures cause { HasCauseOf HostError.Failed self.old self.new result }
+        ensures count { self.new ≡ count_after self.old result }
+    {
+        self.faults = self.faults.saturating_add(1);
+        Err(HostError::Failed)
+    }
+
+    fn package_has(&mut self, _name: &str, _version: &str) -> Result<bool, HostError>
+        ensures cause { HasCauseOf HostError.Failed self.old self.new result }
+        ensures count { self.new ≡ count_after self.old result }
+    {
+        self.faults = self.faults.saturating_add(1);
+        Err(HostError::Failed)
+    }
+
+    fn package_put(&mut self, _name: &str, _version: &str, _bytes: &[u8]) -> Result<(), HostError>
+        ensures cause { HasCauseOf HostError.Failed self.old self.new result }
+        ensures count { self.new ≡ count_after self.old result }
+    {
+        self.faults = self.faults.saturating_add(1);
+        Err(HostError::Failed)
+    }
+
+    fn reboot_wanted(&mut self, _id: &str) -> Result<bool, HostError>
+        ensures cause { HasCauseOf HostError.Failed self.old self.new result }
+        ensures count { self.new ≡ count_after self.old result }
+    {
+        self.faults = self.faults.saturating_add(1);
+        Err(HostError::Failed)
     }
 }
 
