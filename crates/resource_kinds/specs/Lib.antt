@@ -1,8 +1,10 @@
 pub mod Apart
-pub mod Faults
+pub mod Entries
 pub mod Holds
 pub mod Kinds
 pub mod Names
+pub mod Paths
+pub mod Tables
 pub mod Trace
 pub mod True
 pub mod Wanted
