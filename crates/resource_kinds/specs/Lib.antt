@@ -3,6 +3,7 @@ pub mod Faults
 pub mod Holds
 pub mod Kinds
 pub mod Names
+pub mod Paths
 pub mod Trace
 pub mod True
 pub mod Wanted

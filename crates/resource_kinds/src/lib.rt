@@ -7,12 +7,14 @@
 mod apart;
 mod entry;
 mod kinds;
+mod paths;
 mod resources;
 mod wanted;
 
 pub use apart::overlaps;
 pub use entry::{Entry, Failure, SetAnswer, TestAnswer};
 pub use kinds::Kinds;
+pub use paths::path_of;
 pub use resources::Resources;
 
 #[cfg(test)]
