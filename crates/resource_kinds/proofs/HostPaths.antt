@@ -1,11 +1,11 @@
 -- The path that a text means is one that a host takes.
-use Rattle.std.proofs.Common.{◌≡◌, ◌≢◌, ℕ, ◌<◌, List, [], ◌∷◌, length, get_or, Bool, true, false, ◌&&◌, cond, nat_eq, Option, Some, None, refl, sym, ap, subst, ◌∙◌, arith, Result, Ok, Err, String}
+use Rattle.std.proofs.Common.{◌≡◌, ◌≢◌, ℕ, List, [], ◌∷◌, get_or, Bool, true, false, ◌&&◌, cond, nat_eq, Option, Some, None, refl, sym, ap, subst, arith, Result, Ok, Err, String}
 use Rattle.std.specs.Char.{is_ascii_alphabetic, to_ascii_uppercase}
-use Rattle.std.specs.List.{All, filter, list_any, onto_first, slice_split}
+use Rattle.std.specs.List.{All, list_any, onto_first}
 use Rattle.std.specs.Option.{option_and_then, option_map, IfSome}
 use Rattle.std.specs.Result.{IfOk}
 use Rattle.std.specs.String.{string_bytes}
-use Rattle.std.proofs.lemmas.Bool.{and_parts, eqb-false, eq-eqb, or_parts}
+use Rattle.std.proofs.lemmas.Bool.{and_parts, eqb-false, or_parts}
 use Rattle.std.proofs.lemmas.Bool.Decides.{nat_tests}
 use Rattle.std.proofs.lemmas.List.Elements.{All-cons, All-filter, All-head, All-nil, All-tail, All-weaker, filter_passes}
 use Rattle.resource_kinds.specs.Paths.{ends_drive, if_filled, IsHostPath, IsName, is_kept, is_parent, is_separator, joined_path, kept_segments, names_of, on_drive, path_of, rooted, segments}
@@ -65,7 +65,7 @@ plain_rooted (c ∷ cs) no_nul = plain_from (nat_eq c 47) c cs (All-tail (λ x. 
 name_of : (name : List ℕ) → is_kept name ≡ true → is_parent name ≡ false → All IsPlain name → IsName name
 name_of name kept no_parent plain = record {
   filled = kept_filled name kept;
-  here = λ is. absurd (cc (kept, ap is_kept is));
+  here = λ is. absurd (cc (kept));
   up = λ is. absurd (cc (no_parent, ap is_parent is));
   whole = All-weaker IsPlain (λ c. is_separator c ≡ false) (λ c p. p.0) name plain;
   no_nul = All-weaker IsPlain (λ c. c ≢ 0) (λ c p. p.1) name plain;

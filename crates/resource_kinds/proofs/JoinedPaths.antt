@@ -1,6 +1,6 @@
 -- Names joined to a path, one after another, and names that are kept of segments.
-use Rattle.std.proofs.Common.{◌≡◌, ℕ, ◌<◌, List, [], ◌∷◌, ◌++◌, length, Bool, true, false, ◌&&◌, ◌||◌, cond, nat_eq, Option, Some, None, map, Bor, refl, sym, ap, ◌∙◌, append_assoc, arith, length-append}
-use Rattle.std.specs.List.{All, filter, join_with_byte, list_any}
+use Rattle.std.proofs.Common.{◌≡◌, ℕ, ◌<◌, List, [], ◌∷◌, ◌++◌, length, true, false, ◌||◌, cond, nat_eq, Option, Some, None, map, Bor, refl, sym, ap, ◌∙◌, append_assoc, arith, length-append}
+use Rattle.std.specs.List.{All, join_with_byte, list_any}
 use Rattle.std.specs.Option.{option_map}
 use Rattle.std.specs.Str.{encode_utf8_all}
 use Rattle.std.proofs.lemmas.Bool.{and_right}
