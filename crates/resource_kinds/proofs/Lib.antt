@@ -1,0 +1,2 @@
+pub mod HostPaths
+pub mod JoinedPaths

@@ -21,6 +21,7 @@ mod wanted;
 
 pub use entry::{Entry, Failure, SetAnswer, TestAnswer};
 pub use kinds::Kinds;
+pub use paths::path_of;
 pub use resources::Resources;
 
 #[cfg(test)]
