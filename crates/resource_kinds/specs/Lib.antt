@@ -1,4 +1,5 @@
 pub mod Apart
+pub mod Entries
 pub mod Faults
 pub mod Holds
 pub mod Kinds

@@ -5,12 +5,14 @@
 #![tactic(auto)]
 
 mod apart;
+mod entries;
 mod entry;
 mod kinds;
 mod resources;
 mod wanted;
 
 pub use apart::overlaps;
+pub use entries::entry_laws;
 pub use entry::{Entry, Failure, SetAnswer, TestAnswer};
 pub use kinds::Kinds;
 pub use resources::Resources;
