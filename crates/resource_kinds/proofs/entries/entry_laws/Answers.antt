@@ -1,5 +1,6 @@
-use Rattle.std.proofs.Common.{◌≡◌, ◌⊎◌, inl, inr, ℕ, true, not, List, [], ◌∷◌, ◌++◌, get_or, Option, Some, None, unwrap_or, refl, sym, ◌∙◌, ap, subst, arith, All, Contains}
+use Rattle.std.proofs.Common.{◌≡◌, ◌⊎◌, inl, inr, ℕ, true, not, List, [], ◌∷◌, ◌++◌, ◌<◌, length, get_or, Option, Some, None, unwrap_or, refl, sym, ◌∙◌, ap, subst, arith, All, Contains}
 use Rattle.std.proofs.lemmas.Bool.{cases_Bool, false≢true, not_from_true, not_from_false}
+use Rattle.std.proofs.lemmas.List.{append-nil}
 use Rattle.std.proofs.lemmas.List.Elements.{All-contains, All-filter, filter_passes, Contains-get_or, Contains-append_left, Contains-append_right}
 use Rattle.resource_kinds.specs.Entries.{entries, entries_of, joined, is_filled, wanted_entries, HasEntries, LacksEntries, is_among, each_once, missing_entries, appended, with_entries, kept_entries, variable_of, without_entries}
 use Rattle.resource_kinds.proofs.EntryLists.{IsPiece, entries-append, entries-pieces, entries-joined, cons_cases, Contains-filter, filter-none, among-Contains, Contains-among, Contains-each_once, All-each_once}
@@ -19,6 +20,12 @@ there_or_missing old value entry wanted = elim (cases_Bool (is_among (entries_of
   | inr other ↦ inr (Contains-each_once _ entry (Contains-filter (λ e. not (is_among (entries_of old) e)) (wanted_entries value) entry wanted (not_from_false _ other)))
 ]
 
+-- what is appended to a value that is not empty stands behind its own entries
+entries-appended : (b : ℕ) (bs : List ℕ) (more : List (List ℕ)) → All IsPiece more → entries (appended (b ∷ bs) more) ≡ entries (b ∷ bs) ++ more
+entries-appended b bs [] pieces = sym (append-nil (entries (b ∷ bs)))
+entries-appended b bs (m ∷ ms) pieces =
+    entries-append (b ∷ bs) (joined (m ∷ ms)) ∙ ap (λ (l : List (List ℕ)). entries (b ∷ bs) ++ l) (entries-joined m ms pieces)
+
 -- a filled entry of a value or of what is appended is one of both together
 appended-Contains : (value : List ℕ) (more : List (List ℕ)) (entry : List ℕ) → All IsPiece more → is_filled entry ≡ true
     → Contains (entries value) entry ⊎ Contains more entry → Contains (entries (appended value more)) entry
@@ -29,15 +36,15 @@ appended-Contains [] more entry pieces filled (inl here) = elim (cons_cases [] [
 appended-Contains [] [] entry pieces filled (inr there) = absurd (omega (arith, there.1))
 appended-Contains [] (m ∷ ms) entry pieces filled (inr there) =
     subst (λ (l : List (List ℕ)). Contains l entry) (sym (entries-joined m ms pieces)) there
-appended-Contains (b ∷ bs) [] entry pieces filled (inl here) = here
-appended-Contains (b ∷ bs) [] entry pieces filled (inr there) = absurd (omega (arith, there.1))
-appended-Contains (b ∷ bs) (m ∷ ms) entry pieces filled where_it_is =
-    let parts : entries (appended (b ∷ bs) (m ∷ ms)) ≡ entries (b ∷ bs) ++ m ∷ ms =
-    entries-append (b ∷ bs) (joined (m ∷ ms)) ∙ ap (λ (l : List (List ℕ)). entries (b ∷ bs) ++ l) (entries-joined m ms pieces) in
-    subst (λ (l : List (List ℕ)). Contains l entry) (sym parts) (elim where_it_is [
-      | inl here ↦ Contains-append_left (entries (b ∷ bs)) (m ∷ ms) entry here
-      | inr there ↦ Contains-append_right (entries (b ∷ bs)) (m ∷ ms) entry there
+appended-Contains (b ∷ bs) more entry pieces filled where_it_is =
+    subst (λ (l : List (List ℕ)). Contains l entry) (sym (entries-appended b bs more pieces)) (elim where_it_is [
+      | inl here ↦ Contains-append_left (entries (b ∷ bs)) more entry here
+      | inr there ↦ Contains-append_right (entries (b ∷ bs)) more entry there
     ])
+
+added : (old value : List ℕ) → 0 < length old → entries_of (with_entries (Some old) value) ≡ entries old ++ missing_entries (Some old) value
+added [] value some = absurd (omega arith)
+added (b ∷ bs) value some = entries-appended b bs (missing_entries (Some (b ∷ bs)) value) (missing-pieces (Some (b ∷ bs)) value)
 
 of_value : (old : Option (List ℕ)) (more : List (List ℕ)) (entry : List ℕ) → Contains (entries_of old) entry ⊎ Contains more entry
     → Contains (entries (unwrap_or old [])) entry ⊎ Contains more entry
@@ -81,4 +88,10 @@ absent (Some old) value = λ k d lt has.
     false≢true (sym (not_from_true _ wanted) ∙ passes)
 
 pub returns : goal.returns
-returns c = record { present = present; absent = absent; stays = unchanged; kept = kept }
+returns c = record {
+  present = present;
+  absent = absent;
+  added = added;
+  stays = unchanged;
+  kept = kept;
+}
