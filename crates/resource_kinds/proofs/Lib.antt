@@ -1,2 +1,3 @@
 pub mod HostPaths
 pub mod JoinedPaths
+pub mod EntryLists

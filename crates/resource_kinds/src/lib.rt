@@ -19,6 +19,7 @@ mod utf8;
 mod values;
 mod wanted;
 
+pub use entries::entry_laws;
 pub use entry::{Entry, Failure, SetAnswer, TestAnswer};
 pub use kinds::Kinds;
 pub use paths::path_of;

@@ -1,4 +1,5 @@
 mod paths;
+mod entries;
 
 use super::*;
 use dsc_document::{Document, Resource};
