@@ -13,7 +13,7 @@ use Rattle.resource_kinds.specs.declared.entry.Entry.{Entry}
 use Rattle.resource_kinds.specs.declared.entry.Entry.TheVariants.{Tested, Set}
 use Rattle.resource_kinds.specs.declared.wanted.Wanted.{Wanted}
 use Rattle.resource_kinds.specs.Holds.{ChangedTarget, Holds, InTheWay, applied}
-use Rattle.resource_kinds.specs.Wanted.{TakesMemory, folded_utf8, wanted_of}
+use Rattle.resource_kinds.specs.Wanted.{NamesProperty, folded_utf8, wanted_of}
 use Rattle.resource_kinds.specs.Trace.{Chain}
 
 -- ---- Test
@@ -25,9 +25,9 @@ AnswersKnown host wanted tests.No = Holds host wanted → ⊥
 AnswersKnown host wanted (tests.Fault failure) = failure ≡ faults.HostFailed
 AnswersKnown host wanted tests.Memory = ⊤
 
--- the fault is answered, or `Memory` where telling it takes memory
+-- the fault is answered, or `Memory` where it names a property, since the name is copied
 abbrev pub IsTold : {A : Type 0} → Failure → A → A → A → Type 0
-IsTold failure fault memory answer = (answer ≡ fault) ⊎ (TakesMemory failure × (answer ≡ memory))
+IsTold failure fault memory answer = (answer ≡ fault) ⊎ (NamesProperty failure × (answer ≡ memory))
 
 -- yes where what the resource asks for holds, no where it does not; of one with a fault, its fault
 abbrev pub AnswersTrue : HostState → Result Wanted Failure → TestAnswer → Type 0
@@ -90,14 +90,6 @@ TellsStep None after step = after ≡ None
 TellsStep (Some before) after step = (state : HostState) × (after ≡ Some state) × step before state
 
 -- ---- kept entries
-
--- to copy the failure takes memory
-abbrev pub NamesProperty : Failure → Type 0
-NamesProperty faults.NoSuchResource = ⊥
-NamesProperty (faults.OutOfProfile name) = ⊤
-NamesProperty faults.BadPath = ⊥
-NamesProperty faults.InTheWay = ⊥
-NamesProperty faults.HostFailed = ⊥
 
 abbrev pub TestNames : TestAnswer → Type 0
 TestNames tests.Yes = ⊥

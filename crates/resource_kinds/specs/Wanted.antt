@@ -73,16 +73,17 @@ wanted_of resource = of_kind (kind_of resource.instance) resource
 
 -- ---- what takes memory
 
--- to tell the fault takes memory: a name is copied, or a path is made
-abbrev pub TakesMemory : Failure → Type 0
-TakesMemory NoSuchResource = ⊥
-TakesMemory (OutOfProfile name) = ⊤
-TakesMemory BadPath = ⊤
-TakesMemory InTheWay = ⊥
-TakesMemory HostFailed = ⊥
+-- the fault names a property
+abbrev pub NamesProperty : Failure → Type 0
+NamesProperty NoSuchResource = ⊥
+NamesProperty (OutOfProfile name) = ⊤
+NamesProperty BadPath = ⊥
+NamesProperty InTheWay = ⊥
+NamesProperty HostFailed = ⊥
 
--- why there is nothing that is asked for: the fault, or that there was no memory to find out
+-- why there is nothing that is asked for: the fault, or that there was no memory to make what is asked for or to copy the
+-- name of a property
 abbrev pub IsWhy : Result Wanted Failure → WantedError → Type 0
 IsWhy wanted (errors.Fault failure) = wanted ≡ Err failure
 IsWhy (Ok wanted) errors.Memory = ⊤
-IsWhy (Err failure) errors.Memory = TakesMemory failure
+IsWhy (Err failure) errors.Memory = NamesProperty failure

@@ -1,7 +1,8 @@
 //! The entries of calls.
 ghost use Rattle.std.specs.Prelude.{◌≡◌, ◌<◌, ◌≤◌, ◌+◌, ◌-◌, ◌++◌, ◌∷◌, [], IfOk, OnErr, vec_capacity, vec_len};
 ghost use Rattle.resource_kinds.specs.declared.entry.Entry.TheVariants as entries;
-ghost use Rattle.resource_kinds.specs.True.{IsKeptSet, IsKeptTest, NamesProperty};
+ghost use Rattle.resource_kinds.specs.True.{IsKeptSet, IsKeptTest};
+ghost use Rattle.resource_kinds.specs.Wanted.{NamesProperty};
 
 use crate::entry::{Entry, Failure, SetAnswer, TestAnswer};
 use std::alloc::AllocError;

@@ -87,7 +87,10 @@ fn apply<H: Host>(alloc: Global, host: &mut H, wanted: &Wanted) -> Result<(), Ho
             path,
             contents: Some(contents),
         } => host.put_file(path.as_str(), contents.as_bytes()),
-        Wanted::File { path, .. } => host.put_file(path.as_str(), &[]),
+        Wanted::File {
+            path,
+            contents: None,
+        } => host.put_file(path.as_str(), &[]),
         Wanted::Folder { path } => host.make_dir(path.as_str()),
         Wanted::NoFile { path } | Wanted::NoFolder { path, .. } => host.remove(path.as_str()),
         Wanted::Variable { name, value } => host.env_put(name.as_str(), value.as_bytes()),

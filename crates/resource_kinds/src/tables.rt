@@ -7,9 +7,9 @@ ghost use Rattle.mof_values.specs.Ident.{IsIdent};
 ghost use Rattle.resource_kinds.specs.Tables.{common, directory_rows, environment_rows, file_rows, first_wrong, fits_row, is_directory, key_of, kind_of, log_rows, may_stand, rows_of};
 
 use crate::values::{
-    is_filled_text, is_kind_of_file, is_null, is_presence, is_text, is_truth_value, says,
+    has_name, is_filled_text, is_kind_of_file, is_null, is_presence, is_text, is_truth_value, says,
 };
-use mof_values::{Ident, IdentError, Instance, Property, is_named};
+use mof_values::{Ident, IdentError, Instance, Property};
 use std::alloc::{AllocError, Global};
 
 /// The kinds of resources, each with a table of its properties.
@@ -143,10 +143,4 @@ fn is_common(name: &Ident) -> bool
         || has_name(name, "SourceInfo")
         || has_name(name, "ConfigurationName")
         || has_name(name, "DependsOn")
-}
-
-fn has_name(name: &Ident, word: &str) -> bool
-    ensures { result ≡ same_name name.now word.now }
-{
-    is_named(name.as_slice(), word)
 }

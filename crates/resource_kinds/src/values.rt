@@ -5,7 +5,7 @@ ghost use Rattle.dsc_document.specs.Names.{same_name};
 ghost use Rattle.dsc_document.specs.Declarations.{text_of, value_named};
 ghost use Rattle.resource_kinds.specs.Tables.{is_absent, is_directory, is_either, is_filled, is_filled_text, is_kind_of_file, is_null, is_presence, is_text, is_truth_value, is_word, is_yes, says, says_yes, text_named};
 
-use mof_values::{Instance, Scalar, Text, Value, is_named};
+use mof_values::{Ident, Instance, Scalar, Text, Value, is_named};
 
 pub fn is_null(value: &Value) -> bool
     ensures { result ≡ is_null value.now }
@@ -103,7 +103,7 @@ fn value_named<'a>(instance: &'a Instance, name: &str) -> Option<&'a Value>
 {
     let mut left = instance.properties.as_slice();
     while let [property, rest @ ..] = left {
-        if is_named(property.name.as_slice(), name) {
+        if has_name(&property.name, name) {
             return Some(&property.value);
         }
         left = rest;
@@ -128,4 +128,11 @@ fn is_word(text: Option<&Text>, word: &str) -> bool
         Some(text) => is_named(text.as_slice(), word),
         None => false,
     }
+}
+
+/// Tells whether the name is this word, by fold.
+pub fn has_name(name: &Ident, word: &str) -> bool
+    ensures { result ≡ same_name name.now word.now }
+{
+    is_named(name.as_slice(), word)
 }
