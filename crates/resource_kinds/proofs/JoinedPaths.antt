@@ -1,11 +1,11 @@
 -- Names joined to a path, one after another, and names that are kept of segments.
-use Rattle.std.proofs.Common.{◌≡◌, ℕ, ◌<◌, List, [], ◌∷◌, ◌++◌, length, true, false, ◌||◌, cond, nat_eq, Option, Some, None, map, Bor, refl, sym, ap, ◌∙◌, append_assoc, arith, length-append}
+use Rattle.std.proofs.Common.{◌≡◌, ℕ, ◌<◌, List, [], ◌∷◌, ◌++◌, length, ◌≢◌, true, false, not, ◌||◌, ◌&&◌, cond, nat_eq, Option, Some, None, map, Bor, refl, sym, ap, ◌∙◌, append_assoc, arith, length-append}
 use Rattle.std.specs.List.{All, join_with_byte, list_any}
-use Rattle.std.specs.Option.{option_map}
+use Rattle.std.specs.Option.{is_some, option_map, IfSome}
 use Rattle.std.specs.Str.{encode_utf8_all}
-use Rattle.std.proofs.lemmas.Bool.{and_right}
+use Rattle.std.proofs.lemmas.Bool.{and_right, ne_eqb}
 use Rattle.std.proofs.lemmas.List.{map-append}
-use Rattle.std.proofs.lemmas.List.Elements.{All-head, filter-append, filter_passes}
+use Rattle.std.proofs.lemmas.List.Elements.{All-cons, All-head, All-nil, filter_passes}
 use Rattle.std.proofs.lemmas.Str.{encodes-append, length-le-encodes}
 use Rattle.resource_kinds.specs.Paths.{drive_segments, if_filled, is_kept, is_parent, joined_path, kept_segments, names_of, put}
 
@@ -44,17 +44,25 @@ joined_put (one ∷ more) name kept =
 
 -- ---- segments
 
-kept_more : (all : List (List ℕ)) (segment : List ℕ) → is_kept segment ≡ true → kept_segments (all ++ segment ∷ []) ≡ kept_segments all ++ segment ∷ []
-kept_more all segment kept = filter-append is_kept all (segment ∷ []) ∙ ap (λ b. kept_segments all ++ cond b (segment ∷ []) []) kept
+-- one more name is put behind the path of the drive and the names so far
+pub names_put : (path next : List ℕ) (first : List (List ℕ)) (before : List (Bor (List ℕ))) (name : Bor (List ℕ))
+    → path ≡ joined_path (first ++ map (λ s. s.now) before) → All (λ n. is_kept n ≡ true) (first ++ map (λ s. s.now) before) → next ≡ put path name.now
+    → next ≡ joined_path (first ++ map (λ s. s.now) (before ++ name ∷ []))
+names_put path next first before name so_far kept is =
+    is ∙ ap (λ p. put p name.now) so_far ∙ joined_put _ name.now kept
+    ∙ ap joined_path (append_assoc first (map (λ s. s.now) before) (name.now ∷ []) ∙ ap (λ ss. first ++ ss) (sym (map-append _ before (name ∷ []))))
 
--- a segment that is kept is put behind the path of the segments before it
-pub kept_put : (path next : List ℕ) (first : List (List ℕ)) (before : List (Bor (List ℕ))) (segment : Bor (List ℕ))
-    → path ≡ joined_path (kept_segments (first ++ map (λ s. s.now) before)) → is_kept segment.now ≡ true → next ≡ put path segment.now
-    → next ≡ joined_path (kept_segments (first ++ map (λ s. s.now) (before ++ segment ∷ [])))
-kept_put path next first before segment so_far kept is =
-    is ∙ ap (λ p. put p segment.now) so_far ∙ joined_put _ segment.now (filter_passes is_kept (first ++ map (λ s. s.now) before))
-    ∙ ap joined_path (sym (kept_more (first ++ map (λ s. s.now) before) segment.now kept))
-    ∙ ap (λ all. joined_path (kept_segments all)) (append_assoc first (map (λ s. s.now) before) (segment.now ∷ []) ∙ ap (λ ss. first ++ ss) (sym (map-append _ before (segment ∷ []))))
+letter_kept : (letter : ℕ) → letter ≢ 46 → is_kept (letter ∷ []) ≡ true
+letter_kept letter other = ap (λ b. not (b && true)) (ne_eqb letter 46 other)
+
+-- a drive is kept
+pub drive_kept : (drive : Option ℕ) → IfSome drive (λ letter. letter ≢ 46) → All (λ n. is_kept n ≡ true) (drive_segments drive)
+drive_kept None other = All-nil (λ n. is_kept n ≡ true)
+drive_kept (Some letter) other = All-cons (λ n. is_kept n ≡ true) (letter ∷ []) [] (letter_kept letter other) (All-nil (λ n. is_kept n ≡ true))
+
+pub kept_behind : (drive : Option ℕ) (rest : List (List ℕ)) → IfSome drive (λ letter. letter ≢ 46) → kept_segments (drive_segments drive ++ rest) ≡ drive_segments drive ++ kept_segments rest
+kept_behind None rest other = refl
+kept_behind (Some letter) rest other = ap (λ b. cond b ((letter ∷ []) ∷ kept_segments rest) (kept_segments rest)) (letter_kept letter other)
 
 -- a drive is no `..`
 pub drive_no_parent : (drive : Option ℕ) (rest : List (List ℕ)) → list_any is_parent (drive_segments drive ++ rest) ≡ list_any is_parent rest
@@ -81,3 +89,11 @@ path_none all path none is empty = ap (option_map joined_path) (names_left all n
 -- or else they mean it
 pub path_some : (all : List (List ℕ)) (path : List ℕ) → list_any is_parent all ≡ false → path ≡ joined_path (kept_segments all) → 0 < length path → option_map joined_path (names_of all) ≡ Some path
 path_some all path none is some = ap (option_map joined_path) (names_left all none) ∙ left_some (kept_segments all) (omega (arith, ap length is)) ∙ ap Some (sym is)
+
+filled_some : (names : List (List ℕ)) → 0 < length names → is_some (option_map joined_path (if_filled names)) ≡ true
+filled_some [] some = absurd (omega arith)
+filled_some (one ∷ more) some = refl
+
+-- where some are kept, they mean some
+pub path_there : (all : List (List ℕ)) → list_any is_parent all ≡ false → 0 < length (kept_segments all) → is_some (option_map joined_path (names_of all)) ≡ true
+path_there all none some = ap (λ names. is_some (option_map joined_path names)) (names_left all none) ∙ filled_some (kept_segments all) some

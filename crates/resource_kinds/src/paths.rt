@@ -1,5 +1,5 @@
 //! The path that a text means as the destination of a file.
-ghost use Rattle.std.specs.Prelude.{◌≡◌, ◌≢◌, ◌++◌, IfOk, IfSome, OnOk, if◌then◌else◌, option_map, string_bytes};
+ghost use Rattle.std.specs.Prelude.{◌≡◌, ◌≢◌, ◌<◌, true, length, IfOk, IfSome, OnErr, OnOk, is_some, option_map, string_bytes};
 ghost use Rattle.std.specs.List.{list_any};
 ghost use Rattle.resource_kinds.specs.Paths.{IsHostPath, all_segments, drive_segments, ends_drive, is_kept, is_parent, is_separator, joined_path, kept_segments, names_of, path_of, put, rooted, segments, separated};
 
@@ -17,10 +17,12 @@ struct PathText<'a> {
 /// none.
 ///
 /// `\` and `/` both separate. `C:\a\b` means `C/a/b`, with the letter in upper case, and `/a/b` means `a/b`. Empty
-/// segments and `.` are dropped. A segment `..`, a NUL, a text of another form or no segment left is no path.
+/// segments and `.` are dropped. A segment `..`, a NUL, a text of another form or no segment left is no path. Want of
+/// memory is answered only of a text that means one.
 pub fn path_of(alloc: Global, text: &Text) -> Result<Option<String>, AllocError>
     ensures path { IfOk result (λ path. option_map string_bytes path ≡ path_of text.now) }
     ensures host { IfOk result (λ path. IfSome path (λ path. IsHostPath (string_bytes path))) }
+    ensures memory { OnErr result (is_some (path_of text.now) ≡ true) }
 {
     let chars = text.as_slice();
     if chars.contains(&'\0') {
@@ -84,7 +86,8 @@ fn has_parent(rest: &[char]) -> bool
 // The path of the names behind a root.
 fn path_behind(alloc: Global, parts: &PathText) -> Result<Option<String>, AllocError>
     requires { IfSome parts.now.drive (λ letter. letter ≢ 46) }
-    ensures { IfOk result (λ path. option_map string_bytes path ≡ option_map joined_path (names_of (all_segments parts.now))) }
+    ensures path { IfOk result (λ path. option_map string_bytes path ≡ option_map joined_path (names_of (all_segments parts.now))) }
+    ensures memory { OnErr result (is_some (option_map joined_path (names_of (all_segments parts.now))) ≡ true) }
 {
     if has_parent(parts.rest) {
         return Ok(None);
@@ -96,19 +99,23 @@ fn path_behind(alloc: Global, parts: &PathText) -> Result<Option<String>, AllocE
 // The segments that are kept, with `/` between.
 fn joined(alloc: Global, parts: &PathText) -> Result<String, AllocError>
     requires { IfSome parts.now.drive (λ letter. letter ≢ 46) }
-    ensures { IfOk result (λ path. string_bytes path ≡ joined_path (kept_segments (all_segments parts.now))) }
+    ensures path { IfOk result (λ path. string_bytes path ≡ joined_path (kept_segments (all_segments parts.now))) }
+    ensures memory { OnErr result (0 < length (kept_segments (all_segments parts.now))) }
 {
     let mut path = begun(alloc, parts.drive)?;
-    for segment in parts.rest.split(|c| is_separator(*c)) {
-        if is_kept(segment) {
-            put(&mut path, segment)?;
-        }
+    for name in parts
+        .rest
+        .split(|c| is_separator(*c))
+        .filter(|segment| is_kept(segment))
+    {
+        put(&mut path, name)?;
     }
     Ok(path)
 }
 
 fn begun(alloc: Global, drive: Option<char>) -> Result<String, AllocError>
-    ensures { IfOk result (λ path. string_bytes path ≡ joined_path (drive_segments drive)) }
+    ensures path { IfOk result (λ path. string_bytes path ≡ joined_path (drive_segments drive)) }
+    ensures memory { OnErr result (is_some drive ≡ true) }
 {
     let mut path = String::new(alloc);
     if let Some(letter) = drive {

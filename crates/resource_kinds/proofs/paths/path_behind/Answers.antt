@@ -7,10 +7,10 @@ use Rattle.resource_kinds.proofs.JoinedPaths.{drive_no_parent, path_none, path_s
 use Rattle.resource_kinds.proofs.paths.path_behind.Goals as goal
 use Rattle.resource_kinds.proofs.paths.path_behind.Goals.{then-is_empty, else-is_empty}
 
-pub returns : goal.returns
-returns c =
+pub returns-clause-path : goal.returns-clause-path
+returns-clause-path c =
     let none = drive_no_parent c.args.parts.now.drive (segments c.args.parts.now.rest.now) ∙ sym c.has_parent.ensures ∙ c.if-has_parent.false in
-    let is : string_bytes c.in_ok-path.path ≡ joined_path (kept_segments (all_segments c.args.parts.now)) = c.in_ok-path.ensures in
+    let is : string_bytes c.in_ok-path.path ≡ joined_path (kept_segments (all_segments c.args.parts.now)) = c.in_ok-path.ensures.path in
     elim c.if-is_empty.branch [
       | then-is_empty w ↦ ap (option_map string_bytes) w.result-is
           ∙ sym (path_none (all_segments c.args.parts.now) _ none is (grind (arith, nat_tests, c.is_empty.ensures, w.if-is_empty.true)))
