@@ -1,1 +1,6 @@
+pub mod Below
+mod Bounds
 mod Fronts
+mod Named
+mod PathEntries
+mod Tried

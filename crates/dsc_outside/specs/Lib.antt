@@ -5,5 +5,6 @@ pub mod Disk
 pub mod Host
 pub mod Link
 pub mod Memory
+pub mod MemoryHost
 pub mod Paths
 pub mod Real

@@ -1,5 +1,5 @@
 -- What stands at the paths of a machine. A path is names joined by `/`, none in front; it is seen as its bytes in UTF-8.
-use Rattle.std.specs.Prelude.{◌≡◌, ℕ, List, [], ◌∷◌, ◌++◌, Bool, false, ◌==◌, ◌&&◌, ◌||◌, if◌then◌else◌}
+use Rattle.std.specs.Prelude.{◌≡◌, ℕ, List, [], ◌∷◌, ◌++◌, Bool, true, false, ◌==◌, ◌&&◌, ◌||◌, if◌then◌else◌}
 use Rattle.std.specs.Str.{bytes_eq}
 use Rattle.dsc_outside.specs.declared.host.PathState.{PathState}
 use Rattle.dsc_outside.specs.declared.host.PathState.TheVariants as states
@@ -25,6 +25,12 @@ is_below (p ∷ ps) (c ∷ cs) = (p == c) && is_below ps cs
 -- the path, or what is below it
 abbrev pub is_within : List ℕ → List ℕ → Bool
 is_within path other = bytes_eq path other || is_below path other
+
+abbrev pub is_nothing : PathKind → Bool
+is_nothing Nothing = true
+is_nothing (File bytes) = false
+is_nothing Folder = false
+is_nothing Other = false
 
 -- a folder where there was nothing
 abbrev pub filled : PathKind → PathKind

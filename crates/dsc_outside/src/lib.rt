@@ -31,7 +31,9 @@ pub use entries::{LogEntry, Package};
 pub use failed::Failed;
 pub use host::{Host, HostError, PathState};
 pub use link::{Link, LinkError, Peer};
-pub use memory::{MemoryHost, MemorySink, MemorySource, Variable};
+pub use memory::{
+    Done, HostContents, MemoryHost, MemorySink, MemorySource, PathEntry, Standing, Stop, Variable,
+};
 pub use mof_values::Memory;
 pub use sink::Sink;
 pub use source::Source;

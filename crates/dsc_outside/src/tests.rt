@@ -1,4 +1,5 @@
 mod memory_forms;
+mod memory_host;
 mod real_things;
 
 use crate::{Host, HostError};

@@ -1,46 +1,125 @@
 //! A host in memory.
-ghost use Rattle.std.specs.Prelude.{◌≡◌, ◌↔◌, IsErrOf, IsTrue, Some, false};
+ghost use Rattle.std.specs.Prelude.{◌≡◌, ◌↔◌, ◌/◌, ◌+◌, Err, IsErr, IsErrOf, IsTrue, Ok, Some, false, length, take};
 ghost use Rattle.dsc_outside.specs.Causes.{HasCauseOf};
-ghost use Rattle.dsc_outside.specs.Host.{LeavesBuffer, Shows, TellsVariable};
-ghost use Rattle.dsc_outside.specs.Memory.{counted, is_to_fail, told_of, uncalled};
+ghost use Rattle.dsc_outside.specs.Changes.{AllOrNothing, ChangedPath, ChangedVariable, Does, with_entry, with_file, with_folder, with_package, with_variable, without_path, without_variable};
+ghost use Rattle.dsc_outside.specs.Host.{LeavesBuffer, Tells, TellsVariable, has_entry, has_package, wants_reboot};
+ghost use Rattle.dsc_outside.specs.Memory.{counted, course_of, is_to_fail};
+ghost use Rattle.dsc_outside.specs.MemoryHost.{ChangesBy, IsContents, Settles, TakesBy, answer_of, host_of_variables, host_with, looked_at, part_put, told_of};
+ghost use Rattle.dsc_outside.specs.Paths.{IsStateAt, is_file_of};
 
 use super::calls::Calls;
-use super::variable::{Variable, find_value};
+use super::contents::HostContents;
+use super::lists::{add_entry, add_package, find_entry, find_package, find_wanting};
+use super::paths::{is_file, make_folder, put_file, remove, state_at};
+use super::stop::{Course, Stop};
+use super::variable::{Variable, find_value, put_value, remove_value};
 use crate::{Host, HostError, PathState};
+use std::alloc::AllocError;
 use std::marker::Model;
 
-/// A host of given environment variables.
+/// A host of given contents.
+///
+/// A call fails exactly where its number is in a list, or a stop has come: a change also succeeds where a host that
+/// is a real folder fails, as below a file.
 #[derive(Drop)]
 pub struct MemoryHost {
-    variables: Vec<Variable>,
+    contents: HostContents,
+    short: bool,
     calls: Calls,
 }
 
 impl Model for MemoryHost {
-    ghost use Rattle.dsc_outside.specs.Memory.{HostInMemory};
+    ghost use Rattle.dsc_outside.specs.MemoryHost.{HostInMemory};
 
     ghost Value = { HostInMemory };
 
-    ghost view = { λ h. record { variables = h.variables.items; calls = h.calls } };
+    ghost view = { λ h. record { paths = h.contents.paths.items; variables = h.contents.variables.items; log = h.contents.log.items; packages = h.contents.packages.items; wanting = h.contents.wanting.items; short = h.short; calls = h.calls } };
 }
 
 impl MemoryHost {
-    /// A host of these variables, whose calls of these numbers, counted from 0, are to fail. Of several variables
-    /// of one name the first counts, and the others are as if they were not there.
+    /// A host of these variables alone, whose calls of these numbers, counted from 0, are to fail. Of several
+    /// variables of one name the first counts, and the others are as if they were not there.
     pub fn new(variables: Vec<Variable>, failing: Vec<u64>) -> MemoryHost
-        ensures { result ≡ record { variables = variables.items; calls = uncalled failing.items } }
+        ensures { result ≡ host_of_variables variables.items failing.items }
+    {
+        let alloc = *variables.allocator();
+        let contents = HostContents {
+            paths: Vec::new(alloc),
+            variables,
+            log: Vec::new(alloc),
+            packages: Vec::new(alloc),
+            wanting: Vec::new(alloc),
+        };
+        MemoryHost::of(contents, failing, None)
+    }
+
+    /// A host of these contents, whose calls of these numbers, counted from 0, are to fail, and that stops there.
+    pub fn of(contents: HostContents, failing: Vec<u64>, stop: Option<Stop>) -> MemoryHost
+        ensures { result ≡ host_with contents failing.items stop }
     {
         MemoryHost {
-            variables,
-            calls: Calls::new(failing),
+            contents,
+            short: false,
+            calls: Calls::stopping(failing, stop),
         }
     }
 
-    /// Tells whether a call failed for want of memory. None does: a host answers `Memory` there.
-    pub fn short(&self) -> bool
-        ensures { result ≡ false }
+    /// What it holds.
+    pub fn contents(&self) -> &HostContents
+        ensures { IsContents result.now self.now }
     {
-        false
+        &self.contents
+    }
+
+    pub fn into_contents(self) -> HostContents
+        ensures { IsContents result self }
+    {
+        self.contents
+    }
+
+    /// Tells whether a stopped call found no memory for the part that it was to leave. Every other call that finds
+    /// no memory answers `Memory`.
+    pub fn short(&self) -> bool
+        ensures { result ≡ self.now.short }
+    {
+        self.short
+    }
+}
+
+// The bytes of a file that a change puts.
+fn part_done(course: Course, bytes: &[u8]) -> &[u8]
+    ensures { result.now ≡ part_put course bytes.now }
+{
+    match course {
+        Course::StopsHalf => &bytes[..bytes.len() / 2],
+        Course::Runs => bytes,
+        Course::Fails => bytes,
+        Course::StopsWhole => bytes,
+    }
+}
+
+// The answer of a change that was tried. One that was stopped fails, and where it found no memory, that is told.
+fn settled(course: Course, tried: Result<(), AllocError>, short: &mut bool) -> Result<(), HostError>
+    ensures { Settles course tried short.old short.new result }
+{
+    if course == Course::Runs {
+        return Ok(tried?);
+    }
+    if tried.is_err() {
+        *short = true;
+    }
+    Err(HostError::Failed)
+}
+
+// The answer of a change that needs no memory.
+fn answered(course: Course) -> Result<(), HostError>
+    ensures { result ≡ answer_of course }
+{
+    match course {
+        Course::Runs => Ok(()),
+        Course::Fails => Err(HostError::Failed),
+        Course::StopsHalf => Err(HostError::Failed),
+        Course::StopsWhole => Err(HostError::Failed),
     }
 }
 
@@ -49,18 +128,83 @@ impl Host for MemoryHost {
 
     ghost faults = { λ h. h.calls.faults };
 
+    fn path_state(&mut self, path: &str) -> Result<PathState, HostError>
+        ensures answer { Tells (Some (told_of self.old)) result (λ host state. IsStateAt host.path path.now state) }
+        ensures cause { HasCauseOf HostError.Failed self.old.calls.faults self.new.calls.faults result }
+        ensures fails { IsErr result ↔ IsTrue (is_to_fail self.old.calls) }
+        ensures looks { self.new ≡ looked_at self.old }
+    {
+        self.calls.begin()?;
+        Ok(state_at(&self.contents.paths, path.as_bytes()))
+    }
+
+    fn file_equals(&mut self, path: &str, bytes: &[u8]) -> Result<bool, HostError>
+        ensures answer { Tells (Some (told_of self.old)) result (λ host same. same ≡ is_file_of (host.path path.now) bytes.now) }
+        ensures cause { HasCauseOf HostError.Failed self.old.calls.faults self.new.calls.faults result }
+        ensures fails { IsErr result ↔ IsTrue (is_to_fail self.old.calls) }
+        ensures looks { self.new ≡ looked_at self.old }
+    {
+        self.calls.begin()?;
+        Ok(is_file(&self.contents.paths, path.as_bytes(), bytes))
+    }
+
+    fn put_file(&mut self, path: &str, bytes: &[u8]) -> Result<(), HostError>
+        ensures change { Does (Some (told_of self.old)) (Some (told_of self.new)) result (with_file path.now bytes.now) (ChangedPath path.now) }
+        ensures cause { HasCauseOf HostError.Failed self.old.calls.faults self.new.calls.faults result }
+        ensures fails { IsErrOf result HostError.Failed ↔ IsTrue (is_to_fail self.old.calls) }
+        ensures exact { ChangesBy (course_of self.old.calls) (with_file path.now bytes.now) (with_file path.now (take (length bytes.now / 2) bytes.now)) self.old self.new result }
+        ensures count { self.new.calls ≡ counted self.old.calls }
+    {
+        let course = self.calls.begin_change();
+        if course == Course::Fails {
+            return Err(HostError::Failed);
+        }
+        let part = part_done(course, bytes);
+        let tried = put_file(&mut self.contents.paths, path.as_bytes(), part);
+        settled(course, tried, &mut self.short)
+    }
+
+    fn make_dir(&mut self, path: &str) -> Result<(), HostError>
+        ensures change { Does (Some (told_of self.old)) (Some (told_of self.new)) result (with_folder path.now) (ChangedPath path.now) }
+        ensures cause { HasCauseOf HostError.Failed self.old.calls.faults self.new.calls.faults result }
+        ensures fails { IsErrOf result HostError.Failed ↔ IsTrue (is_to_fail self.old.calls) }
+        ensures exact { ChangesBy (course_of self.old.calls) (with_folder path.now) (with_folder path.now) self.old self.new result }
+        ensures count { self.new.calls ≡ counted self.old.calls }
+    {
+        let course = self.calls.begin_change();
+        if course == Course::Fails {
+            return Err(HostError::Failed);
+        }
+        let tried = make_folder(&mut self.contents.paths, path.as_bytes());
+        settled(course, tried, &mut self.short)
+    }
+
+    fn remove(&mut self, path: &str) -> Result<(), HostError>
+        ensures change { Does (Some (told_of self.old)) (Some (told_of self.new)) result (without_path path.now) (ChangedPath path.now) }
+        ensures cause { HasCauseOf HostError.Failed self.old.calls.faults self.new.calls.faults result }
+        ensures fails { IsErr result ↔ IsTrue (is_to_fail self.old.calls) }
+        ensures exact { TakesBy (course_of self.old.calls) (without_path path.now) self.old self.new result }
+        ensures count { self.new.calls ≡ counted self.old.calls }
+    {
+        let course = self.calls.begin_change();
+        if course == Course::Fails {
+            return Err(HostError::Failed);
+        }
+        remove(&mut self.contents.paths, path.as_bytes());
+        answered(course)
+    }
+
     fn env_state(&mut self, name: &str, into: &mut Vec<u8>) -> Result<bool, HostError>
         ensures answer { TellsVariable (Some (told_of self.old)) name.now result into.old.items into.new.items }
         ensures buffer { LeavesBuffer result into.old.items into.new.items }
-        ensures variables { self.new.variables ≡ self.old.variables }
         ensures cause { HasCauseOf HostError.Failed self.old.calls.faults self.new.calls.faults result }
 
         // Exactly when it fails.
         ensures fails { IsErrOf result HostError.Failed ↔ IsTrue (is_to_fail self.old.calls) }
-        ensures count { self.new.calls ≡ counted self.old.calls }
+        ensures looks { self.new ≡ looked_at self.old }
     {
         self.calls.begin()?;
-        match find_value(&self.variables, name.as_bytes()) {
+        match find_value(&self.contents.variables, name.as_bytes()) {
             None => Ok(false),
             Some(value) => {
                 into.extend_from_slice(value)?;
@@ -69,75 +213,98 @@ impl Host for MemoryHost {
         }
     }
 
-    fn path_state(&mut self, _path: &str) -> Result<PathState, HostError> {
-        self.calls.begin()?;
-        self.calls.add_fault();
-        Err(HostError::Failed)
+    fn env_put(&mut self, name: &str, value: &[u8]) -> Result<(), HostError>
+        ensures change { Does (Some (told_of self.old)) (Some (told_of self.new)) result (with_variable name.now value.now) (ChangedVariable name.now) }
+        ensures cause { HasCauseOf HostError.Failed self.old.calls.faults self.new.calls.faults result }
+        ensures fails { IsErrOf result HostError.Failed ↔ IsTrue (is_to_fail self.old.calls) }
+        ensures exact { ChangesBy (course_of self.old.calls) (with_variable name.now value.now) (with_variable name.now value.now) self.old self.new result }
+        ensures count { self.new.calls ≡ counted self.old.calls }
+    {
+        let course = self.calls.begin_change();
+        if course == Course::Fails {
+            return Err(HostError::Failed);
+        }
+        let tried = put_value(&mut self.contents.variables, name.as_bytes(), value);
+        settled(course, tried, &mut self.short)
     }
 
-    fn file_equals(&mut self, _path: &str, _bytes: &[u8]) -> Result<bool, HostError> {
-        self.calls.begin()?;
-        self.calls.add_fault();
-        Err(HostError::Failed)
+    fn env_remove(&mut self, name: &str) -> Result<(), HostError>
+        ensures change { Does (Some (told_of self.old)) (Some (told_of self.new)) result (without_variable name.now) (ChangedVariable name.now) }
+        ensures cause { HasCauseOf HostError.Failed self.old.calls.faults self.new.calls.faults result }
+        ensures fails { IsErr result ↔ IsTrue (is_to_fail self.old.calls) }
+        ensures exact { TakesBy (course_of self.old.calls) (without_variable name.now) self.old self.new result }
+        ensures count { self.new.calls ≡ counted self.old.calls }
+    {
+        let course = self.calls.begin_change();
+        if course == Course::Fails {
+            return Err(HostError::Failed);
+        }
+        remove_value(&mut self.contents.variables, name.as_bytes());
+        answered(course)
     }
 
-    fn put_file(&mut self, _path: &str, _bytes: &[u8]) -> Result<(), HostError> {
+    fn log_has(&mut self, id: &str, message: &str) -> Result<bool, HostError>
+        ensures answer { Tells (Some (told_of self.old)) result (λ host there. there ≡ has_entry host.log id.now message.now) }
+        ensures cause { HasCauseOf HostError.Failed self.old.calls.faults self.new.calls.faults result }
+        ensures fails { IsErr result ↔ IsTrue (is_to_fail self.old.calls) }
+        ensures looks { self.new ≡ looked_at self.old }
+    {
         self.calls.begin()?;
-        self.calls.add_fault();
-        Err(HostError::Failed)
+        Ok(find_entry(&self.contents.log, id.as_bytes(), message.as_bytes()))
     }
 
-    fn make_dir(&mut self, _path: &str) -> Result<(), HostError> {
-        self.calls.begin()?;
-        self.calls.add_fault();
-        Err(HostError::Failed)
+    fn log_add(&mut self, id: &str, message: &str) -> Result<(), HostError>
+        ensures change { Does (Some (told_of self.old)) (Some (told_of self.new)) result (with_entry id.now message.now) (AllOrNothing (with_entry id.now message.now)) }
+        ensures cause { HasCauseOf HostError.Failed self.old.calls.faults self.new.calls.faults result }
+        ensures fails { IsErrOf result HostError.Failed ↔ IsTrue (is_to_fail self.old.calls) }
+        ensures exact { ChangesBy (course_of self.old.calls) (with_entry id.now message.now) (with_entry id.now message.now) self.old self.new result }
+        ensures count { self.new.calls ≡ counted self.old.calls }
+    {
+        let course = self.calls.begin_change();
+        if course == Course::Fails {
+            return Err(HostError::Failed);
+        }
+        let tried = add_entry(&mut self.contents.log, id.as_bytes(), message.as_bytes());
+        settled(course, tried, &mut self.short)
     }
 
-    fn remove(&mut self, _path: &str) -> Result<(), HostError> {
+    fn package_has(&mut self, name: &str, version: &str) -> Result<bool, HostError>
+        ensures answer { Tells (Some (told_of self.old)) result (λ host there. there ≡ has_package host.packages name.now version.now) }
+        ensures cause { HasCauseOf HostError.Failed self.old.calls.faults self.new.calls.faults result }
+        ensures fails { IsErr result ↔ IsTrue (is_to_fail self.old.calls) }
+        ensures looks { self.new ≡ looked_at self.old }
+    {
         self.calls.begin()?;
-        self.calls.add_fault();
-        Err(HostError::Failed)
+        Ok(find_package(&self.contents.packages, name.as_bytes(), version.as_bytes()))
     }
 
-    fn env_put(&mut self, _name: &str, _value: &[u8]) -> Result<(), HostError> {
-        self.calls.begin()?;
-        self.calls.add_fault();
-        Err(HostError::Failed)
+    fn package_put(&mut self, name: &str, version: &str, bytes: &[u8]) -> Result<(), HostError>
+        ensures change { Does (Some (told_of self.old)) (Some (told_of self.new)) result (with_package name.now version.now bytes.now) (AllOrNothing (with_package name.now version.now bytes.now)) }
+        ensures cause { HasCauseOf HostError.Failed self.old.calls.faults self.new.calls.faults result }
+        ensures fails { IsErrOf result HostError.Failed ↔ IsTrue (is_to_fail self.old.calls) }
+        ensures exact { ChangesBy (course_of self.old.calls) (with_package name.now version.now bytes.now) (with_package name.now version.now bytes.now) self.old self.new result }
+        ensures count { self.new.calls ≡ counted self.old.calls }
+    {
+        let course = self.calls.begin_change();
+        if course == Course::Fails {
+            return Err(HostError::Failed);
+        }
+        let tried = add_package(
+            &mut self.contents.packages,
+            name.as_bytes(),
+            version.as_bytes(),
+            bytes,
+        );
+        settled(course, tried, &mut self.short)
     }
 
-    fn env_remove(&mut self, _name: &str) -> Result<(), HostError> {
+    fn reboot_wanted(&mut self, id: &str) -> Result<bool, HostError>
+        ensures answer { Tells (Some (told_of self.old)) result (λ host wanted. wanted ≡ wants_reboot host.wanting id.now) }
+        ensures cause { HasCauseOf HostError.Failed self.old.calls.faults self.new.calls.faults result }
+        ensures fails { IsErr result ↔ IsTrue (is_to_fail self.old.calls) }
+        ensures looks { self.new ≡ looked_at self.old }
+    {
         self.calls.begin()?;
-        self.calls.add_fault();
-        Err(HostError::Failed)
-    }
-
-    fn log_has(&mut self, _id: &str, _message: &str) -> Result<bool, HostError> {
-        self.calls.begin()?;
-        self.calls.add_fault();
-        Err(HostError::Failed)
-    }
-
-    fn log_add(&mut self, _id: &str, _message: &str) -> Result<(), HostError> {
-        self.calls.begin()?;
-        self.calls.add_fault();
-        Err(HostError::Failed)
-    }
-
-    fn package_has(&mut self, _name: &str, _version: &str) -> Result<bool, HostError> {
-        self.calls.begin()?;
-        self.calls.add_fault();
-        Err(HostError::Failed)
-    }
-
-    fn package_put(&mut self, _name: &str, _version: &str, _bytes: &[u8]) -> Result<(), HostError> {
-        self.calls.begin()?;
-        self.calls.add_fault();
-        Err(HostError::Failed)
-    }
-
-    fn reboot_wanted(&mut self, _id: &str) -> Result<bool, HostError> {
-        self.calls.begin()?;
-        self.calls.add_fault();
-        Err(HostError::Failed)
+        Ok(find_wanting(&self.contents.wanting, id.as_bytes()))
     }
 }

@@ -1,5 +1,5 @@
 use Rattle.std.proofs.Common.{◌≡◌, drop}
-use Rattle.dsc_outside.specs.Memory.{value_of}
+use Rattle.dsc_outside.specs.MemoryHost.{value_of}
 use Rattle.dsc_outside.proofs.memory.variable.find_value.Given as goal
 
 abbrev pub invariant-loop-variable : goal.invariant-loop-variable

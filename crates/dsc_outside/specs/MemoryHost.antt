@@ -1,0 +1,152 @@
+-- A host in memory.
+use Rattle.std.specs.Prelude.{◌≡◌, ◌⊎◌, ℕ, List, [], ◌∷◌, Bool, true, false, ◌&&◌, ◌/◌, if◌then◌else◌, Option, Some, None, Result, Ok, Err, IsOk, length, take}
+use Rattle.std.specs.Str.{bytes_eq}
+use Rattle.dsc_outside.specs.Host.{HostState}
+use Rattle.dsc_outside.specs.Memory.{CallCount, counted, unstarted}
+use Rattle.dsc_outside.specs.Paths.{PathKind, is_below}
+use Rattle.dsc_outside.specs.Paths as kinds
+use Rattle.dsc_outside.specs.declared.entries.LogEntry.{LogEntry}
+use Rattle.dsc_outside.specs.declared.entries.Package.{Package}
+use Rattle.dsc_outside.specs.declared.host.HostError.{HostError}
+use Rattle.dsc_outside.specs.declared.host.HostError.TheVariants as errors
+use Rattle.dsc_outside.specs.declared.memory.contents.HostContents.{HostContents}
+use Rattle.dsc_outside.specs.declared.memory.paths.PathEntry.{PathEntry}
+use Rattle.dsc_outside.specs.declared.memory.paths.Standing.{Standing}
+use Rattle.dsc_outside.specs.declared.memory.paths.Standing.TheVariants as standings
+use Rattle.dsc_outside.specs.declared.memory.stop.Course.{Course}
+use Rattle.dsc_outside.specs.declared.memory.stop.Course.TheVariants as courses
+use Rattle.dsc_outside.specs.declared.memory.stop.Stop.{Stop}
+use Rattle.dsc_outside.specs.declared.memory.variable.Variable.{Variable}
+
+pub record HostInMemory : Type 0 where
+  pub paths : List PathEntry
+  pub variables : List Variable
+  pub log : List LogEntry
+  pub packages : List Package
+  pub wanting : List (List ℕ)
+  -- a stopped call found no memory for the part that it was to leave
+  pub short : Bool
+  pub calls : CallCount
+
+-- a host of these contents, before its first call
+abbrev pub host_with : HostContents → List ℕ → Option Stop → HostInMemory
+host_with contents failing stop = record {
+  paths = contents.paths.items;
+  variables = contents.variables.items;
+  log = contents.log.items;
+  packages = contents.packages.items;
+  wanting = contents.wanting.items;
+  short = false;
+  calls = unstarted failing stop;
+}
+
+abbrev pub host_of_variables : List Variable → List ℕ → HostInMemory
+host_of_variables variables failing = record { paths = []; variables = variables; log = []; packages = []; wanting = []; short = false; calls = unstarted failing None }
+
+-- these are what the host holds
+pub record IsContents (contents : HostContents) (host : HostInMemory) : Type 0 where
+  pub paths : contents.paths.items ≡ host.paths
+  pub variables : contents.variables.items ≡ host.variables
+  pub log : contents.log.items ≡ host.log
+  pub packages : contents.packages.items ≡ host.packages
+  pub wanting : contents.wanting.items ≡ host.wanting
+
+-- the value of the first of that name
+abbrev pub first_named : {X Y : Type 0} → (X → List ℕ) → (X → Y) → List X → List ℕ → Option Y
+first_named name value [] key = None
+first_named name value (x ∷ xs) key = if bytes_eq (name x) key then Some (value x) else first_named name value xs key
+
+-- the value of the first variable of that name
+abbrev pub value_of : List Variable → List ℕ → Option (List ℕ)
+value_of = first_named (λ v. v.name) (λ v. v.value)
+
+-- what the first entry of that path says
+abbrev pub standing_at : List PathEntry → List ℕ → Option Standing
+standing_at = first_named (λ e. e.path) (λ e. e.stands)
+
+abbrev pub kind_of : Option Standing → PathKind
+kind_of None = kinds.Nothing
+kind_of (Some (standings.File bytes)) = kinds.File bytes
+kind_of (Some standings.Folder) = kinds.Folder
+kind_of (Some standings.Other) = kinds.Other
+
+abbrev pub kind_at : List PathEntry → List ℕ → PathKind
+kind_at paths path = kind_of (standing_at paths path)
+
+-- of what two lists of entries say, the first that says something
+abbrev pub first_kind : PathKind → PathKind → PathKind
+first_kind a b = if kinds.is_nothing a then b else a
+
+abbrev pub folder_if : Bool → PathKind
+folder_if wanted = if wanted then kinds.Folder else kinds.Nothing
+
+-- one more entry, which counts where no earlier one does
+abbrev pub IsPushed : List ℕ → PathKind → List PathEntry → List PathEntry → Type 0
+IsPushed path kind old new = (other : List ℕ) → kind_at new other ≡ first_kind (kind_at old other) (if bytes_eq path other then kind else kinds.Nothing)
+
+-- a folder for each path above that one where nothing stands
+abbrev pub AreMissing : List ℕ → List PathEntry → List PathEntry → Type 0
+AreMissing path old missing = (other : List ℕ) → kind_at missing other ≡ folder_if (is_below other path && kinds.is_nothing (kind_at old other))
+
+-- the same, and the path itself
+abbrev pub Adds : List ℕ → List PathEntry → PathKind → List PathEntry → Type 0
+Adds path old kind added = (other : List ℕ) → kind_at added other ≡ first_kind (folder_if (is_below other path && kinds.is_nothing (kind_at old other))) (if bytes_eq path other then kind else kinds.Nothing)
+
+-- what a host in memory tells
+abbrev pub told_of : HostInMemory → HostState
+told_of host = record { path = kind_at host.paths; variable = value_of host.variables; log = host.log; packages = host.packages; wanting = host.wanting }
+
+-- a look does nothing but count
+abbrev pub looked_at : HostInMemory → HostInMemory
+looked_at host = record host { calls = counted host.calls }
+
+abbrev pub IsAsBefore : HostInMemory → HostInMemory → Type 0
+IsAsBefore old new = (told_of new ≡ told_of old) × (new.short ≡ old.short)
+
+abbrev pub IsChanged : (HostState → HostState) → HostInMemory → HostInMemory → Type 0
+IsChanged change old new = (told_of new ≡ change (told_of old)) × (new.short ≡ old.short)
+
+-- a stopped call leaves its part, or nothing for want of memory, which is then told
+abbrev pub LeavesPart : (HostState → HostState) → HostInMemory → HostInMemory → Type 0
+LeavesPart part old new = IsChanged part old new ⊎ ((told_of new ≡ told_of old) × (new.short ≡ true))
+
+-- a change that takes memory: done where the call runs and there is memory, and in its part where it is stopped
+abbrev pub ChangesBy : Course → (whole half : HostState → HostState) → HostInMemory → HostInMemory → Result (Unit {0}) HostError → Type 0
+ChangesBy courses.Runs whole half old new (Ok done) = IsChanged whole old new
+ChangesBy courses.Runs whole half old new (Err errors.Failed) = ⊥
+ChangesBy courses.Runs whole half old new (Err errors.Memory) = IsAsBefore old new
+ChangesBy courses.Fails whole half old new result = (result ≡ Err errors.Failed) × IsAsBefore old new
+ChangesBy courses.StopsHalf whole half old new result = (result ≡ Err errors.Failed) × LeavesPart half old new
+ChangesBy courses.StopsWhole whole half old new result = (result ≡ Err errors.Failed) × LeavesPart whole old new
+
+-- a change that takes no memory
+abbrev pub TakesBy : Course → (whole : HostState → HostState) → HostInMemory → HostInMemory → Result (Unit {0}) HostError → Type 0
+TakesBy courses.Runs whole old new result = IsOk result × IsChanged whole old new
+TakesBy courses.Fails whole old new result = (result ≡ Err errors.Failed) × IsAsBefore old new
+TakesBy courses.StopsHalf whole old new result = (result ≡ Err errors.Failed) × IsChanged whole old new
+TakesBy courses.StopsWhole whole old new result = (result ≡ Err errors.Failed) × IsChanged whole old new
+
+-- the bytes of a file that a change puts
+abbrev pub part_put : Course → List ℕ → List ℕ
+part_put courses.Runs bytes = bytes
+part_put courses.Fails bytes = bytes
+part_put courses.StopsHalf bytes = take (length bytes / 2) bytes
+part_put courses.StopsWhole bytes = bytes
+
+-- the answer of a change that was tried, and whether want of memory is told: a stopped call fails, and tells it
+abbrev pub Settles : {E : Type 0} → Course → Result (Unit {0}) E → Bool → Bool → Result (Unit {0}) HostError → Type 0
+Settles courses.Runs (Ok done) old new result = IsOk result × (new ≡ old)
+Settles courses.Runs (Err error) old new result = (result ≡ Err errors.Memory) × (new ≡ old)
+Settles courses.Fails (Ok done) old new result = (result ≡ Err errors.Failed) × (new ≡ old)
+Settles courses.Fails (Err error) old new result = (result ≡ Err errors.Failed) × (new ≡ true)
+Settles courses.StopsHalf (Ok done) old new result = (result ≡ Err errors.Failed) × (new ≡ old)
+Settles courses.StopsHalf (Err error) old new result = (result ≡ Err errors.Failed) × (new ≡ true)
+Settles courses.StopsWhole (Ok done) old new result = (result ≡ Err errors.Failed) × (new ≡ old)
+Settles courses.StopsWhole (Err error) old new result = (result ≡ Err errors.Failed) × (new ≡ true)
+
+-- a change that needs no memory
+abbrev pub answer_of : Course → Result (Unit {0}) HostError
+answer_of courses.Runs = Ok tt
+answer_of courses.Fails = Err errors.Failed
+answer_of courses.StopsHalf = Err errors.Failed
+answer_of courses.StopsWhole = Err errors.Failed

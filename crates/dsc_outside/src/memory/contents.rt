@@ -1,0 +1,23 @@
+//! Contents of a host in memory.
+use super::paths::PathEntry;
+use super::variable::Variable;
+use crate::{LogEntry, Package};
+use mof_values::Bytes;
+
+/// What a host in memory holds. Of several entries of one path, and of several variables of one name, the first
+/// counts, and the others are as if they were not there.
+#[derive(Clone, Debug, Drop)]
+pub struct HostContents {
+    /// What stands at the paths; a path with no entry has nothing. A folder has an entry of its own.
+    pub paths: Vec<PathEntry>,
+
+    pub variables: Vec<Variable>,
+
+    /// The oldest first.
+    pub log: Vec<LogEntry>,
+
+    pub packages: Vec<Package>,
+
+    /// The UTF-8 of the folded ids of the resources that want a reboot.
+    pub wanting: Vec<Bytes>,
+}
