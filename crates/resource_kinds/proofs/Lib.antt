@@ -1,3 +1,7 @@
 pub mod HostPaths
 pub mod JoinedPaths
 pub mod EntryLists
+pub mod Barred
+pub mod Changed
+pub mod Looked
+pub mod WhyMemory

@@ -98,4 +98,3 @@ impl<H: Host> Resources for Kinds<H> {
         &self.calls
     }
 }
-

@@ -16,7 +16,8 @@ pub fn is_in_the_way<H: Host>(host: &mut H, wanted: &Wanted) -> Result<bool, Hos
     ensures cause { HasCauseOf HostError.Failed (H.faults host.old) (H.faults host.new) result }
 {
     match wanted {
-        Wanted::File { path, .. } | Wanted::NoFile { path } => bars_file(host, path),
+        Wanted::File { path, .. } => bars_file(host, path),
+        Wanted::NoFile { path } => bars_file(host, path),
         Wanted::Folder { path } => bars_folder(host, path),
         Wanted::NoFolder { path, forced } => bars_removal(host, path, *forced),
         Wanted::Variable { .. }

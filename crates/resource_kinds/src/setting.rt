@@ -13,9 +13,9 @@ ghost use Rattle.resource_kinds.specs.declared.wanted.Wanted.TheVariants as want
 
 use crate::entries::{with_entries, without_entries};
 use crate::entry::{Failure, SetAnswer};
+use crate::obstacles::is_in_the_way;
 use crate::testing::variable;
 use crate::utf8::Utf8;
-use crate::obstacles::is_in_the_way;
 use crate::wanted::{Wanted, WantedError, wanted_of};
 use dsc_document::Resource;
 use dsc_outside::{Host, HostError};

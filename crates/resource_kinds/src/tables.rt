@@ -87,9 +87,7 @@ pub fn first_wrong<'a>(kind: Kind, instance: &'a Instance) -> Option<&'a Propert
 fn may_stand(kind: Kind, instance: &Instance, property: &Property) -> bool
     ensures { result ≡ may_stand (rows_of kind instance.now) property.now }
 {
-    is_null(&property.value)
-        || is_common(&property.name)
-        || fits_a_row(kind, instance, property)
+    is_null(&property.value) || is_common(&property.name) || fits_a_row(kind, instance, property)
 }
 
 fn fits_a_row(kind: Kind, instance: &Instance, property: &Property) -> bool

@@ -139,11 +139,7 @@ fn has_all<H: Host>(
     }
 }
 
-fn has_no_variable<H: Host>(
-    alloc: Global,
-    host: &mut H,
-    name: &Utf8,
-) -> Result<bool, HostError>
+fn has_no_variable<H: Host>(alloc: Global, host: &mut H, name: &Utf8) -> Result<bool, HostError>
     ensures told { H.told host.new ≡ H.told host.old }
     ensures answer { Tells (H.told host.old) result (λ state yes. IsTrue yes ↔ Holds state (wants.NoVariable name.now)) }
     ensures cause { HasCauseOf HostError.Failed (H.faults host.old) (H.faults host.new) result }

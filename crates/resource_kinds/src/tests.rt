@@ -1,5 +1,5 @@
-mod paths;
 mod entries;
+mod paths;
 
 use super::*;
 use dsc_document::{Document, Resource};

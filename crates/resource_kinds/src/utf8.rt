@@ -39,9 +39,7 @@ impl Utf8 {
         ensures { IfOk result (λ u. u ≡ folded_utf8 name.now) }
     {
         let chars = name.as_slice();
-        Ok(Utf8::of(
-            chars.iter().map(|c| c.to_ascii_lowercase()).collect(alloc)?,
-        ))
+        Ok(Utf8::of(chars.iter().map(|c| c.to_ascii_lowercase()).collect(alloc)?))
     }
 
     pub fn as_str(&self) -> &str

@@ -92,12 +92,21 @@ fn out_of_profile(name: Result<Ident, AllocError>) -> WantedError
     }
 }
 
-fn by_key(alloc: Global, kind: Kind, resource: &Resource, text: &Text) -> Result<Wanted, WantedError>
+fn by_key(
+    alloc: Global,
+    kind: Kind,
+    resource: &Resource,
+    text: &Text,
+) -> Result<Wanted, WantedError>
     ensures { MatchResult result (λ wanted. by_key kind resource.now text.now ≡ Ok wanted) (λ error. IsWhy (by_key kind resource.now text.now) error) }
 {
     match kind {
         Kind::File => on_path(alloc, &resource.instance, text),
-        Kind::Environment => Ok(variable_of(alloc, &resource.instance, Utf8::folded(alloc, text)?)?),
+        Kind::Environment => Ok(variable_of(
+            alloc,
+            &resource.instance,
+            Utf8::folded(alloc, text)?,
+        )?),
         Kind::Log => Ok(logged(alloc, &resource.id, text)?),
     }
 }
