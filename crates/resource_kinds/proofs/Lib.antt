@@ -5,3 +5,4 @@ pub mod Barred
 pub mod Changed
 pub mod Looked
 pub mod WhyMemory
+pub mod Meets

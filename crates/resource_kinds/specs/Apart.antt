@@ -1,7 +1,8 @@
 -- Which resources of a document are apart: what one asks for is no matter of the other.
-use Rattle.std.specs.Prelude.{◌≡◌, ◌⊎◌, ◌<◌, ℕ, List, Option, Some, None, option_and_then, slice_get, Result}
+use Rattle.std.specs.Prelude.{◌≡◌, ◌⊎◌, ◌<◌, ◌&&◌, Bool, false, ℕ, List, Option, Some, None, option_and_then, slice_get, get_or}
+use Rattle.std.specs.Str.{bytes_eq}
 use Rattle.std.specs.Result.{result_ok}
-use Rattle.dsc_outside.specs.Paths.{IsBelow}
+use Rattle.dsc_outside.specs.Paths.{IsBelow, is_below}
 use Rattle.dsc_document.specs.declared.document.Document.{Document}
 use Rattle.dsc_document.specs.declared.document.Resource.{Resource}
 use Rattle.resource_kinds.specs.declared.wanted.Wanted.{Wanted}
@@ -65,3 +66,25 @@ pub record Overlap (document : Document) : Type 0 where
   pub asks_first : wanted_at document first ≡ Some a
   pub asks_second : wanted_at document second ≡ Some b
   pub meet : Meet a b
+
+-- ---- the code
+
+-- the first two as tests
+abbrev pub same_target : Target → Target → Bool
+same_target (Path a) (Path b) = bytes_eq a b
+same_target (Variable a) (Variable b) = bytes_eq a b
+same_target (LogEntry id message) (LogEntry other text) = bytes_eq id other && bytes_eq message text
+same_target _ _ = false
+
+abbrev pub is_enclosed : Option (List ℕ) → Target → Bool
+is_enclosed (Some path) (Path below) = is_below path below
+is_enclosed _ _ = false
+
+abbrev pub BothMeet : Option Wanted → Option Wanted → Type 0
+BothMeet None b = ⊥
+BothMeet (Some a) None = ⊥
+BothMeet (Some a) (Some b) = Meet a b
+
+-- of a list of what is asked for, what is asked for at a place meets something before it
+abbrev pub MeetsBefore : List (Option Wanted) → ℕ → Type 0
+MeetsBefore all second = (first : ℕ) × (first < second) × BothMeet (get_or all first None) (get_or all second None)

@@ -5,6 +5,7 @@ pub mod Kinds
 pub mod Names
 pub mod Paths
 pub mod Tables
+pub mod Targets
 pub mod Trace
 pub mod True
 pub mod Wanted

@@ -52,14 +52,7 @@ fn holds<H: Host>(alloc: Global, host: &mut H, wanted: &Wanted) -> Result<bool, 
     ensures cause { HasCauseOf HostError.Failed (H.faults host.old) (H.faults host.new) result }
 {
     match wanted {
-        Wanted::File {
-            path,
-            contents: Some(contents),
-        } => host.file_equals(path.as_str(), contents.as_bytes()),
-        Wanted::File {
-            path,
-            contents: None,
-        } => has_file(host, path),
+        Wanted::File { path, contents } => has_file_of(host, path, contents),
         Wanted::Folder { path } => has_folder(host, path),
         Wanted::NoFile { path } | Wanted::NoFolder { path, .. } => has_nothing(host, path),
         Wanted::Variable { name, value } => has_variable(alloc, host, name, value),
@@ -67,6 +60,21 @@ fn holds<H: Host>(alloc: Global, host: &mut H, wanted: &Wanted) -> Result<bool, 
         Wanted::NoVariable { name } => has_no_variable(alloc, host, name),
         Wanted::NoEntries { name, value } => has_none(alloc, host, name, value),
         Wanted::Logged { id, message } => host.log_has(id.as_str(), message.as_str()),
+    }
+}
+
+fn has_file_of<H: Host>(
+    host: &mut H,
+    path: &Utf8,
+    contents: &Option<Utf8>,
+) -> Result<bool, HostError>
+    ensures told { H.told host.new ≡ H.told host.old }
+    ensures answer { Tells (H.told host.old) result (λ state yes. IsTrue yes ↔ Holds state (wants.File path.now contents.now)) }
+    ensures cause { HasCauseOf HostError.Failed (H.faults host.old) (H.faults host.new) result }
+{
+    match contents {
+        Some(contents) => host.file_equals(path.as_str(), contents.as_bytes()),
+        None => has_file(host, path),
     }
 }
 

@@ -6,5 +6,5 @@ returns-in-Entries-clause-answer g c = rw c.in-Entries.is c.has_all.ensures.answ
 pub returns-in-NoEntries-clause-answer : goal.returns-in-NoEntries-clause-answer
 returns-in-NoEntries-clause-answer g c = rw c.in-NoEntries.is c.has_none.ensures.answer
 
-pub returns-in-File-default-None-clause-answer : goal.returns-in-File-default-None-clause-answer
-returns-in-File-default-None-clause-answer g c = rw (c.in-File-default-None.is, c.in-File-default-None.contents-is) c.has_file.ensures.answer
+pub returns-in-File-clause-answer : goal.returns-in-File-clause-answer
+returns-in-File-clause-answer g c = rw c.in-File.is c.has_file_of.ensures.answer
