@@ -1,0 +1,8 @@
+pub mod HostPaths
+pub mod JoinedPaths
+pub mod EntryLists
+pub mod Barred
+pub mod Changed
+pub mod Looked
+pub mod WhyMemory
+pub mod Meets

@@ -3,7 +3,7 @@ use Rattle.std.specs.Prelude.{◌≡◌, ◌==◌, ◌-◌, ℕ, Bool, true, fal
 use Rattle.dsc_terms.specs.Lists.{places_below}
 use Rattle.dsc_document.specs.declared.document.Document.{Document}
 use Rattle.resource_kinds.specs.declared.entry.Failure.{Failure}
-use Rattle.resource_kinds.specs.declared.entry.Failure.TheVariants.{NoSuchResource, OutOfProfile, HostFailed}
+use Rattle.resource_kinds.specs.declared.entry.Failure.TheVariants.{NoSuchResource, OutOfProfile, BadPath, InTheWay, HostFailed}
 use Rattle.resource_kinds.specs.declared.entry.TestAnswer.{TestAnswer}
 use Rattle.resource_kinds.specs.declared.entry.TestAnswer.TheVariants as tests
 use Rattle.resource_kinds.specs.declared.entry.SetAnswer.{SetAnswer}
@@ -72,6 +72,8 @@ IsFinal (Set place sets.Memory) = Unit {0}
 abbrev pub host_failure : Failure → ℕ
 host_failure NoSuchResource = 0
 host_failure (OutOfProfile name) = 0
+host_failure BadPath = 0
+host_failure InTheWay = 0
 host_failure HostFailed = 1
 
 abbrev pub test_failures : TestAnswer → ℕ

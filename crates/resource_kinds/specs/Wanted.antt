@@ -1,91 +1,89 @@
--- What an instance asks for, by the tables of the kinds of resources. Names compare by fold.
-use Rattle.std.specs.Prelude.{ℕ, Bool, true, false, not, ◌&&◌, ◌||◌, if◌then◌else◌, List, [], ◌∷◌, Option, Some, None, is_some, option_and_then, unwrap_or, find, Result, Ok, Err, codes}
-use Rattle.std.specs.List.{list_any}
+-- What a resource asks for, by the table of its kind, or its fault.
+use Rattle.std.specs.Prelude.{◌≡◌, ℕ, ⊤, if◌then◌else◌, List, [], Option, Some, None, option_map, option_and_then, unwrap_or, Result, Ok, Err, codes, encode_utf8_all}
+use Rattle.mof_values.specs.Fold.{fold_case}
 use Rattle.mof_values.specs.declared.instance.Instance.{Instance}
 use Rattle.mof_values.specs.declared.instance.Property.{Property}
-use Rattle.mof_values.specs.declared.value.Value.{Value}
-use Rattle.mof_values.specs.declared.value.Value.TheVariants.{One}
-use Rattle.mof_values.specs.declared.value.Scalar.TheVariants as scalars
-use Rattle.dsc_document.specs.Names.{same_name}
-use Rattle.dsc_document.specs.Declarations.{text_of, value_named}
+use Rattle.dsc_document.specs.declared.document.Resource.{Resource}
 use Rattle.resource_kinds.specs.declared.entry.Failure.{Failure}
-use Rattle.resource_kinds.specs.declared.entry.Failure.TheVariants.{NoSuchResource, OutOfProfile}
-use Rattle.resource_kinds.specs.declared.wanted.Kind.{Kind}
-use Rattle.resource_kinds.specs.declared.wanted.Kind.TheVariants.{Environment}
-use Rattle.resource_kinds.specs.Holds.{Variable}
+use Rattle.resource_kinds.specs.declared.entry.Failure.TheVariants.{NoSuchResource, OutOfProfile, BadPath, InTheWay, HostFailed}
+use Rattle.resource_kinds.specs.declared.tables.Kind.{Kind}
+use Rattle.resource_kinds.specs.declared.tables.Kind.TheVariants as kinds
+use Rattle.resource_kinds.specs.declared.wanted.Wanted.{Wanted}
+use Rattle.resource_kinds.specs.declared.wanted.Wanted.TheVariants.{File, Folder, NoFile, NoFolder, Variable, Entries, NoVariable, NoEntries, Logged}
+use Rattle.resource_kinds.specs.declared.wanted.WantedError.{WantedError}
+use Rattle.resource_kinds.specs.declared.wanted.WantedError.TheVariants as errors
+use Rattle.resource_kinds.specs.Paths.{path_of}
+use Rattle.resource_kinds.specs.Tables.{first_wrong, is_absent, is_directory, key_of, kind_of, rows_of, says_yes, text_named}
 
--- ---- values
+-- a name as a host has it
+abbrev pub folded_utf8 : List ℕ → List ℕ
+folded_utf8 name = encode_utf8_all (fold_case name)
 
-abbrev pub is_null : Value → Bool
-is_null (One scalars.Null) = true
-is_null _ = false
+-- the UTF-8 of its contents, where it has any
+abbrev pub contents_of : Instance → Option (List ℕ)
+contents_of instance = option_map encode_utf8_all (text_named (codes "Contents") instance)
 
--- a single text
-abbrev pub is_text : Value → Bool
-is_text value = is_some (text_of value)
+-- the UTF-8 of its value, which is empty where it has none
+abbrev pub value_of : Instance → List ℕ
+value_of instance = encode_utf8_all (unwrap_or (text_named (codes "Value") instance) [])
 
-abbrev pub is_filled : Option (List ℕ) → Bool
-is_filled (Some (c ∷ cs)) = true
-is_filled _ = false
+-- what is to stand at the path, or not to
+abbrev pub directory_at : Instance → List ℕ → Wanted
+directory_at instance path = if is_absent instance then NoFolder path (says_yes (codes "Force") instance) else Folder path
 
--- a single text that is not empty
-abbrev pub is_filled_text : Value → Bool
-is_filled_text value = is_filled (text_of value)
+abbrev pub file_at : Instance → List ℕ → Wanted
+file_at instance path = if is_absent instance then NoFile path else File path (contents_of instance)
 
--- ---- tables
+abbrev pub standing_at : Instance → List ℕ → Wanted
+standing_at instance path = if is_directory instance then directory_at instance path else file_at instance path
 
--- a row of a kind's table: a property, and what its value may be
-pub record Row : Type 0 where
-  pub name : List ℕ
-  pub fits : Value → Bool
+abbrev pub on_path : Instance → Option (List ℕ) → Result Wanted Failure
+on_path instance None = Err BadPath
+on_path instance (Some path) = Ok (standing_at instance path)
 
--- properties of every kind, of any value
-abbrev pub common : List (List ℕ)
-common =
-    codes "ResourceID" ∷ codes "ModuleName" ∷ codes "ModuleVersion" ∷ codes "SourceInfo" ∷ codes "ConfigurationName" ∷ codes "DependsOn" ∷ []
+-- the variable of that name, whole or entry by entry
+abbrev pub no_variable : Instance → List ℕ → Wanted
+no_variable instance name = if says_yes (codes "Path") instance then NoEntries name (value_of instance) else NoVariable name
 
-abbrev pub environment_rows : List Row
-environment_rows =
-    record { name = codes "Name"; fits = is_filled_text } ∷ record { name = codes "Value"; fits = is_text } ∷ []
+abbrev pub a_variable : Instance → List ℕ → Wanted
+a_variable instance name = if says_yes (codes "Path") instance then Entries name (value_of instance) else Variable name (value_of instance)
 
--- the table of each kind
-abbrev pub rows_of : Kind → List Row
-rows_of Environment = environment_rows
+abbrev pub variable_of : Instance → List ℕ → Wanted
+variable_of instance name = if is_absent instance then no_variable instance name else a_variable instance name
 
--- ---- properties
+-- by the text of its key
+abbrev pub by_key : Kind → Resource → List ℕ → Result Wanted Failure
+by_key kinds.File resource text = on_path resource.instance (path_of text)
+by_key kinds.Environment resource text = Ok (variable_of resource.instance (folded_utf8 text))
+by_key kinds.Log resource text = Ok (Logged (folded_utf8 resource.id) (encode_utf8_all text))
 
-abbrev pub is_common : Property → Bool
-is_common property = list_any (same_name property.name) common
+-- a wrong property is told before a missing key, and a key that is no path last
+abbrev pub by_table : Kind → Resource → Option Property → Option (List ℕ) → Result Wanted Failure
+by_table kind resource (Some property) text = Err (OutOfProfile property.name)
+by_table kind resource None None = Err (OutOfProfile (key_of kind))
+by_table kind resource None (Some text) = by_key kind resource text
 
-abbrev pub fits_row : Property → Row → Bool
-fits_row property row = same_name property.name row.name && row.fits property.value
+abbrev pub of_kind : Option Kind → Resource → Result Wanted Failure
+of_kind None resource = Err NoSuchResource
+of_kind (Some kind) resource = by_table kind resource (first_wrong (rows_of kind resource.instance) resource.instance) (text_named (key_of kind) resource.instance)
 
--- a property of no value, one of every kind, or one that fits a row
-abbrev pub may_stand : List Row → Property → Bool
-may_stand rows property = is_null property.value || (is_common property || list_any (fits_row property) rows)
+-- what a resource asks for, or its fault
+abbrev pub wanted_of : Resource → Result Wanted Failure
+wanted_of resource = of_kind (kind_of resource.instance) resource
 
--- the first property in the instance's text that may not stand there
-abbrev pub first_wrong : List Row → Instance → Option Property
-first_wrong rows instance = find (λ property. not (may_stand rows property)) instance.properties
+-- ---- what takes memory
 
-abbrev pub text_named : List ℕ → Instance → Option (List ℕ)
-text_named name instance = option_and_then text_of (value_named name instance)
+-- the fault names a property
+abbrev pub NamesProperty : Failure → Type 0
+NamesProperty NoSuchResource = ⊥
+NamesProperty (OutOfProfile name) = ⊤
+NamesProperty BadPath = ⊥
+NamesProperty InTheWay = ⊥
+NamesProperty HostFailed = ⊥
 
--- ---- what is asked for
-
--- an environment resource
-abbrev pub is_environment : Instance → Bool
-is_environment instance = same_name instance.class (codes "MSFT_EnvironmentResource")
-
--- by the first wrong property, the name and the value: a wrong property is told before a missing key, and no value is the empty one
-abbrev pub environment_of : Option Property → Option (List ℕ) → Option (List ℕ) → Result Variable Failure
-environment_of (Some property) name value = Err (OutOfProfile property.name)
-environment_of None None value = Err (OutOfProfile (codes "Name"))
-environment_of None (Some name) value = Ok (record { name = name; value = unwrap_or value [] })
-
--- the variable that an instance asks for, or its fault
-abbrev pub wanted_of : Instance → Result Variable Failure
-wanted_of instance =
-    if is_environment instance
-    then environment_of (first_wrong environment_rows instance) (text_named (codes "Name") instance) (text_named (codes "Value") instance)
-    else Err NoSuchResource
+-- why there is nothing that is asked for: the fault, or that there was no memory to make what is asked for or to copy the
+-- name of a property
+abbrev pub IsWhy : Result Wanted Failure → WantedError → Type 0
+IsWhy wanted (errors.Fault failure) = wanted ≡ Err failure
+IsWhy (Ok wanted) errors.Memory = ⊤
+IsWhy (Err failure) errors.Memory = NamesProperty failure

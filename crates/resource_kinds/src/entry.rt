@@ -13,6 +13,12 @@ pub enum Failure {
     /// this name is missing.
     OutOfProfile(Ident),
 
+    /// The text of its destination is no path.
+    BadPath,
+
+    /// What stands at its path, or above it, is in the way of a Set.
+    InTheWay,
+
     /// A call of the host failed.
     HostFailed,
 }
@@ -26,6 +32,8 @@ impl Failure {
         match self {
             Failure::NoSuchResource => "NoSuchResource",
             Failure::OutOfProfile(_) => "OutOfProfile",
+            Failure::BadPath => "BadPath",
+            Failure::InTheWay => "InTheWay",
             Failure::HostFailed => "HostFailed",
         }
     }

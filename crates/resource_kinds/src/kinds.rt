@@ -1,24 +1,15 @@
 //! The kinds of resources, over a host.
-ghost use Rattle.std.specs.Prelude.{◌≡◌, ◌<◌, ◌≤◌, ◌+◌, ◌-◌, ◌++◌, ◌∷◌, [], ◌↔◌, IfOk, IfSome, IsTrue, OnOk, OnErr, vec_capacity, vec_len, string_bytes, encode_utf8_all};
-ghost use Rattle.std.specs.Result.{IfErr};
-ghost use Rattle.mof_values.specs.Fold.{fold_case};
-ghost use Rattle.dsc_terms.specs.Counts.{RoseBy};
-ghost use Rattle.dsc_outside.specs.Causes.{HasCauseOf};
-ghost use Rattle.resource_kinds.specs.declared.entry.Entry.TheVariants.{Tested};
-ghost use Rattle.resource_kinds.specs.declared.entry.TestAnswer.TheVariants as tests;
-ghost use Rattle.resource_kinds.specs.Borrowed.{failure_of, variable_of};
-ghost use Rattle.resource_kinds.specs.Holds.{Holds};
-ghost use Rattle.resource_kinds.specs.Wanted.{wanted_of};
-ghost use Rattle.resource_kinds.specs.True.{AnswersKnown, AnswersTrue, HoldsName, IsHostsFault, IsTold, KeepsTable, TellsEntry};
-ghost use Rattle.resource_kinds.specs.Trace.{test_failures};
+ghost use Rattle.std.specs.Prelude.{◌≡◌, []};
 
-use crate::entry::{Entry, Failure, TestAnswer};
+use crate::entry::{Entry, SetAnswer, TestAnswer};
+use crate::keeping::{keep_set, keep_test};
 use crate::resources::Resources;
-use crate::wanted::{Wanted, Wrong, failure, wanted_of};
+use crate::setting::set;
+use crate::testing::test;
 use dsc_document::Document;
-use dsc_outside::{Host, HostError};
-use mof_values::{Instance, Memory};
-use std::alloc::{AllocError, Global};
+use dsc_outside::Host;
+use mof_values::Memory;
+use std::alloc::Global;
 
 /// The resources of the machine that a host is; it owns the host, and keeps an entry of each call.
 #[derive(Drop)]
@@ -93,120 +84,17 @@ impl<H: Host> Resources for Kinds<H> {
 
     fn test(&mut self, document: &Document, place: u32) -> TestAnswer {
         let resource = &document.resources.as_slice()[place as usize];
-        let answer = tested(self.alloc, &mut self.host, &resource.instance);
-        keep(&mut self.calls, place, answer)
+        let answer = test(self.alloc, &mut self.host, resource);
+        keep_test(&mut self.calls, place, answer)
+    }
+
+    fn set(&mut self, document: &Document, place: u32) -> SetAnswer {
+        let resource = &document.resources.as_slice()[place as usize];
+        let answer = set(self.alloc, &mut self.host, resource);
+        keep_set(&mut self.calls, place, answer)
     }
 
     fn calls(&self) -> &[Entry] {
         &self.calls
     }
-}
-
-// Keeps an entry for which there is room, and answers what it says: the answer, or `Memory` where none is left for a
-// second copy of a name.
-fn keep(calls: &mut Vec<Entry>, place: u32, answer: TestAnswer) -> TestAnswer
-    requires { vec_len calls.old < vec_capacity calls.old }
-    ensures kept { calls.new.items ≡ calls.old.items ++ Tested place result ∷ [] }
-    ensures room { vec_capacity calls.old - vec_len calls.old ≤ (vec_capacity calls.new - vec_len calls.new) + 1 }
-    ensures told { IsTold answer result }
-{
-    let (kept, told) = copies(answer);
-    match calls.push(Entry::Tested {
-        place,
-        answer: kept,
-    }) {
-        Ok(()) => told,
-        Err(_) => unreachable!(),
-    }
-}
-
-// The answer twice, or `Memory` twice.
-fn copies(answer: TestAnswer) -> (TestAnswer, TestAnswer)
-    ensures same { result.0 ≡ result.1 }
-    ensures told { IsTold answer result.1 }
-{
-    match copy_of(&answer) {
-        Ok(copy) => (copy, answer),
-        Err(AllocError) => (TestAnswer::Memory, TestAnswer::Memory),
-    }
-}
-
-// A copy of the answer; the name of a property alone takes memory.
-fn copy_of(answer: &TestAnswer) -> Result<TestAnswer, AllocError>
-    ensures copy { IfOk result (λ copy. copy ≡ answer.now) }
-    ensures memory { OnErr result (HoldsName answer.now) }
-{
-    Ok(match answer {
-        TestAnswer::Yes => TestAnswer::Yes,
-        TestAnswer::No => TestAnswer::No,
-        TestAnswer::Fault(Failure::NoSuchResource) => TestAnswer::Fault(Failure::NoSuchResource),
-        TestAnswer::Fault(Failure::OutOfProfile(name)) => {
-            TestAnswer::Fault(Failure::OutOfProfile(name.clone()?))
-        }
-        TestAnswer::Fault(Failure::HostFailed) => TestAnswer::Fault(Failure::HostFailed),
-        TestAnswer::Memory => TestAnswer::Memory,
-    })
-}
-
-fn tested<H: Host>(alloc: Global, host: &mut H, instance: &Instance) -> TestAnswer
-    ensures told { H.told host.new ≡ H.told host.old }
-    ensures answer { IfSome (H.told host.old) (λ state. AnswersTrue state (wanted_of instance.now) result) }
-    ensures table { KeepsTable (wanted_of instance.now) result }
-    ensures unseen { IfErr (wanted_of instance.now) (λ _. host.new ≡ host.old) }
-    ensures cause { RoseBy (test_failures result) (H.faults host.old) (H.faults host.new) }
-{
-    match wanted_of(instance) {
-        Ok(variable) => looked(alloc, host, &variable),
-        Err(wrong) => fault_of(alloc, &wrong),
-    }
-}
-
-// The answer that tells what is wrong, or `Memory` where none is left for a name.
-fn fault_of(alloc: Global, wrong: &Wrong) -> TestAnswer
-    ensures { IsTold (tests.Fault (failure_of wrong.now)) result }
-{
-    match failure(alloc, wrong) {
-        Ok(failure) => TestAnswer::Fault(failure),
-        Err(AllocError) => TestAnswer::Memory,
-    }
-}
-
-// The Test of a resource that asks for a variable.
-fn looked<H: Host>(alloc: Global, host: &mut H, variable: &Wanted) -> TestAnswer
-    ensures told { H.told host.new ≡ H.told host.old }
-    ensures answer { IfSome (H.told host.old) (λ state. AnswersKnown state (variable_of variable.now) result) }
-    ensures table { IsHostsFault result }
-    ensures cause { RoseBy (test_failures result) (H.faults host.old) (H.faults host.new) }
-{
-    match holds(alloc, host, variable) {
-        Ok(true) => TestAnswer::Yes,
-        Ok(false) => TestAnswer::No,
-        Err(HostError::Failed) => TestAnswer::Fault(Failure::HostFailed),
-        Err(HostError::Memory) => TestAnswer::Memory,
-    }
-}
-
-// Tells whether the variable is there and has the value.
-fn holds<H: Host>(alloc: Global, host: &mut H, variable: &Wanted) -> Result<bool, HostError>
-    ensures told { H.told host.new ≡ H.told host.old }
-    ensures answer { IfSome (H.told host.old) (λ state. IfOk result (λ yes. IsTrue yes ↔ Holds state (variable_of variable.now))) }
-    ensures cause { HasCauseOf HostError.Failed (H.faults host.old) (H.faults host.new) result }
-{
-    let name = folded(alloc, variable.name)?;
-    let wanted = encoded(alloc, variable.value)?;
-    let mut found = Vec::new(alloc);
-    let is_there = host.env_state(name.as_str(), &mut found)?;
-    Ok(is_there && found.as_slice() == wanted.as_bytes())
-}
-
-fn folded(alloc: Global, name: &[char]) -> Result<String, AllocError>
-    ensures { IfOk result (λ s. string_bytes s ≡ encode_utf8_all (fold_case name.now)) }
-{
-    name.iter().map(|c| c.to_ascii_lowercase()).collect(alloc)
-}
-
-fn encoded(alloc: Global, text: &[char]) -> Result<String, AllocError>
-    ensures { IfOk result (λ s. string_bytes s ≡ encode_utf8_all text.now) }
-{
-    text.iter().copied().collect(alloc)
 }

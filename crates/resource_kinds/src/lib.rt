@@ -1,22 +1,30 @@
-//! The kinds of resources: what the Test of a resource tells of a machine.
+//! The kinds of resources: files and directories, environment variables, and entries of the log.
 //!
-//! `Resources` is what a run tests; it keeps an entry of each call, and each call is one step of a relation of its own.
-//! `Kinds` is that over any host: where the host tells what it holds, each answer is true of it.
-//!
-//! A resource's kind is told by its class, and each kind has a table of its properties (`specs/Wanted.antt`). What breaks
-//! its table is a fault that no look at the host changes. So far there is one kind, the environment variable.
-//! `overlaps` tells whether two resources ask for the same one.
+//! `Resources` is what a run tests and sets; it keeps an entry of each call, and each call is one step of a relation of
+//! its own. `Kinds` is that over any host: where the host tells what it holds, each answer is true of it, a Set that is
+//! done makes of it what the resource asks for, and one that failed changes no more than the resource's own target.
 #![tactic(auto)]
 
 mod apart;
+mod entries;
 mod entry;
+mod keeping;
 mod kinds;
+mod obstacles;
+mod paths;
 mod resources;
+mod setting;
+mod tables;
+mod testing;
+mod utf8;
+mod values;
 mod wanted;
 
 pub use apart::overlaps;
+pub use entries::entry_laws;
 pub use entry::{Entry, Failure, SetAnswer, TestAnswer};
 pub use kinds::Kinds;
+pub use paths::path_of;
 pub use resources::Resources;
 
 #[cfg(test)]

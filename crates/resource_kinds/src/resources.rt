@@ -1,12 +1,12 @@
-//! What tests resources and keeps the answers.
+//! What tests and sets resources and keeps the answers.
 ghost use Rattle.std.specs.Prelude.{◌≡◌, ◌<◌, ◌≤◌, ◌+◌, ◌++◌, ◌∷◌, [], List, ℕ, length, OnOk};
 ghost use Rattle.dsc_terms.specs.Counts.{RoseBy};
 ghost use Rattle.dsc_document.specs.declared.document.Document.{Document};
 ghost use Rattle.resource_kinds.specs.declared.entry.Entry.{Entry};
-ghost use Rattle.resource_kinds.specs.declared.entry.Entry.TheVariants.{Tested};
+ghost use Rattle.resource_kinds.specs.declared.entry.Entry.TheVariants.{Tested, Set};
 ghost use Rattle.resource_kinds.specs.Trace.{entry_failures};
 
-use crate::entry::{Entry, TestAnswer};
+use crate::entry::{Entry, SetAnswer, TestAnswer};
 use dsc_document::Document;
 use mof_values::Memory;
 
@@ -42,6 +42,15 @@ pub trait Resources {
         ensures room { spare self.old ≤ spare self.new + 1 }
         ensures does { does self.old document.now (Tested place result) self.new }
         ensures cause { RoseBy (entry_failures (Tested place result)) (faults self.old) (faults self.new) };
+
+    /// Sets the resource at that place, and adds its entry.
+    fn set(&mut self, document: &Document, place: u32) -> SetAnswer
+        requires place { place < length document.now.resources }
+        requires room { 0 < spare self.old }
+        ensures kept { kept self.new ≡ kept self.old ++ Set place result ∷ [] }
+        ensures room { spare self.old ≤ spare self.new + 1 }
+        ensures does { does self.old document.now (Set place result) self.new }
+        ensures cause { RoseBy (entry_failures (Set place result)) (faults self.old) (faults self.new) };
 
     /// The entries so far.
     fn calls(&self) -> &[Entry]

@@ -1,19 +1,29 @@
+mod entries;
+mod machines;
+mod paths;
+mod setting;
+mod testing;
+
 use super::*;
 use dsc_document::{Document, Resource};
-use dsc_outside::{MemoryHost, Variable};
-use mof_values::{Bytes, Ident, Instance, Items, Property, Scalar, Text, Value};
+use mof_values::{Ident, Instance, Items, Property, Scalar, Text, Value};
 use std::process::Abort;
 use std::test::Fail;
 
+// `|` stands for `;`
 fn text(rt: &impl AllocGlobal, chars: &str) -> Result<Text, Fail> {
-    Ok(Text::of(chars.chars().collect(rt.alloc())?))
+    let mut made = Vec::new(rt.alloc());
+    for c in chars.chars() {
+        made.push(if c == '|' { ';' } else { c })?;
+    }
+    Ok(Text::of(made))
 }
 
 fn ident(rt: &impl AllocGlobal, chars: &str) -> Result<Ident, Fail> {
     Ok(Ident::make(rt.alloc(), &text(rt, chars)?)?)
 }
 
-// `null`, `7`, `true`, `$` and an alias, or else a text
+// `null`, `7`, `true`, `false`, `$` and an alias, or else a text
 fn scalar(rt: &impl AllocGlobal, word: &str) -> Result<Scalar, Fail> {
     if let Some(alias) = word.strip_prefix('$') {
         return Ok(Scalar::Alias(ident(rt, alias)?));
@@ -22,6 +32,7 @@ fn scalar(rt: &impl AllocGlobal, word: &str) -> Result<Scalar, Fail> {
         "null" => Scalar::Null,
         "7" => Scalar::Integer(7),
         "true" => Scalar::Bool(true),
+        "false" => Scalar::Bool(false),
         _ => Scalar::Text(text(rt, word)?),
     })
 }
@@ -36,10 +47,23 @@ fn value(rt: &impl AllocGlobal, word: &str) -> Result<Value, Fail> {
     Ok(Value::Many(Items::of(made)))
 }
 
+// `File`, `Environment` and `Log` stand for the classes of the kinds
+fn class(rt: &impl AllocGlobal, word: &str) -> Result<Ident, Fail> {
+    ident(
+        rt,
+        match word {
+            "File" => "MSFT_FileDirectoryConfiguration",
+            "Environment" => "MSFT_EnvironmentResource",
+            "Log" => "MSFT_LogResource",
+            _ => word,
+        },
+    )
+}
+
 // `Class Name=value Name=value`
 fn instance(rt: &impl AllocGlobal, declaration: &str) -> Result<Instance, Fail> {
     let mut words = declaration.split_whitespace();
-    let class = ident(rt, words.next().unwrap_or(""))?;
+    let class = class(rt, words.next().unwrap_or(""))?;
     let mut properties = Vec::new(rt.alloc());
     for word in words {
         let (name, given) = word.split_once('=').unwrap_or((word, ""));
@@ -55,12 +79,12 @@ fn instance(rt: &impl AllocGlobal, declaration: &str) -> Result<Instance, Fail> 
     })
 }
 
-// resources with semicolons between
+// resources of the id `[A]One`, with semicolons between
 fn document(rt: &impl AllocGlobal, declarations: &str) -> Result<Document, Fail> {
     let mut resources = Vec::new(rt.alloc());
     for declaration in declarations.split(';') {
         resources.push(Resource {
-            id: text(rt, "[Environment]One")?,
+            id: text(rt, "[A]One")?,
             part: 0,
             index: 0,
             instance: instance(rt, declaration)?,
@@ -75,191 +99,59 @@ fn document(rt: &impl AllocGlobal, declarations: &str) -> Result<Document, Fail>
     })
 }
 
-fn bytes(rt: &impl AllocGlobal, word: &str) -> Result<Bytes, Fail> {
-    Ok(Bytes::of(word.as_bytes().to_vec(rt.alloc())?))
-}
-
-// a machine whose EDITOR is vim and whose PAGER is empty, and whose looks of these numbers fail
-fn kinds(rt: &impl AllocGlobal, failing: &[u64]) -> Result<Kinds<MemoryHost>, Fail> {
-    let mut variables = Vec::new(rt.alloc());
-    for (name, value) in [("editor", "vim"), ("pager", "")] {
-        variables.push(Variable {
-            name: bytes(rt, name)?,
-            value: bytes(rt, value)?,
-        })?;
-    }
-    let host = MemoryHost::new(variables, failing.to_vec(rt.alloc())?);
-    Ok(Kinds::new(rt.alloc(), host))
-}
-
-// `yes`, `no`, `memory`, or the fault with the property that it names
-fn shown(rt: &impl AllocGlobal, answer: &TestAnswer) -> Result<String, Fail> {
-    let word = match answer {
-        TestAnswer::Yes => "yes",
-        TestAnswer::No => "no",
-        TestAnswer::Memory => "memory",
-        TestAnswer::Fault(failure) => failure.name(),
-    };
+// the fault, with the property that it names
+fn shown_fault(rt: &impl AllocGlobal, failure: &Failure) -> Result<String, Fail> {
     let mut made = String::new(rt.alloc());
-    made.push_str(word)?;
-    if let TestAnswer::Fault(Failure::OutOfProfile(name)) = answer {
+    made.push_str(failure.name())?;
+    if let Failure::OutOfProfile(name) = failure {
         made.push(' ')?;
         made.extend(name.as_slice().iter().copied())?;
     }
     Ok(made)
 }
 
-// Tests the one resource of the declaration.
-fn answer(
-    rt: &(impl AllocGlobal + Abort),
-    declaration: &str,
-    failing: &[u64],
-) -> Result<String, Fail> {
-    let document = document(rt, declaration)?;
-    assert!(rt; document.resources.as_slice().len() == 1);
-    let mut kinds = kinds(rt, failing)?;
-    kinds.reserve(1)?;
-    let answer = kinds.test(&document, 0);
-    assert!(rt;
-        matches!(kinds.calls(), [Entry::Tested { place: 0, answer: kept }] if *kept == answer)
-    );
-    shown(rt, &answer)
+fn shown_test(rt: &impl AllocGlobal, answer: &TestAnswer) -> Result<String, Fail> {
+    Ok(match answer {
+        TestAnswer::Yes => String::from_str(rt.alloc(), "yes")?,
+        TestAnswer::No => String::from_str(rt.alloc(), "no")?,
+        TestAnswer::Memory => String::from_str(rt.alloc(), "memory")?,
+        TestAnswer::Fault(failure) => shown_fault(rt, failure)?,
+    })
 }
 
-// Each property behind the class of an environment resource, with its answer.
-fn check_rows(rt: &(impl AllocGlobal + Abort), rows: &[(&str, &str)]) -> Result<(), Fail> {
-    for (properties, wanted) in rows {
-        let declaration = format!(in rt.alloc(); "MSFT_EnvironmentResource {properties}")?;
-        let told = answer(rt, declaration.as_str(), &[])?;
-        assert_eq!(rt; told.as_str(), *wanted, "{properties}");
-    }
-    Ok(())
+fn shown_set(rt: &impl AllocGlobal, answer: &SetAnswer) -> Result<String, Fail> {
+    Ok(match answer {
+        SetAnswer::Done => String::from_str(rt.alloc(), "done")?,
+        SetAnswer::Reboot => String::from_str(rt.alloc(), "reboot")?,
+        SetAnswer::Memory => String::from_str(rt.alloc(), "memory")?,
+        SetAnswer::Fault(failure) => shown_fault(rt, failure)?,
+    })
 }
 
 #[test]
-fn a_kind_is_told_by_its_class_without_case(rt: HostRuntime) -> Result<(), Fail> {
-    for (declaration, wanted) in [
-        ("MSFT_EnvironmentResource Name=Editor Value=vim", "yes"),
-        ("msft_ENVIRONMENTresource Name=Editor Value=vim", "yes"),
-        (
-            "MSFT_EnvironmentResources Name=Editor Value=vim",
-            "NoSuchResource",
-        ),
-        ("MSFT_Environment Name=Editor Value=vim", "NoSuchResource"),
-        (
-            "MSFT_FileDirectoryConfiguration Colour=red",
-            "NoSuchResource",
-        ),
-    ] {
-        let told = answer(&rt, declaration, &[])?;
-        assert_eq!(rt; told.as_str(), wanted, "{declaration}");
-    }
-    Ok(())
-}
-
-#[test]
-fn a_variable_is_compared_with_what_is_asked_for(rt: HostRuntime) -> Result<(), Fail> {
-    check_rows(
-        &rt,
-        &[
-            ("Name=Editor Value=vim", "yes"),
-            ("VALUE=vim nAME=eDITOR", "yes"),
-            ("Name=Editor Value=Vim", "no"),
-            ("Name=Editor", "no"),
-            ("Name=Editor Value=null", "no"),
-            ("Name=Pager", "yes"),
-            ("Name=Pager Value=", "yes"),
-            ("Name=Proxy", "no"),
-        ],
-    )
-}
-
-#[test]
-fn properties_of_every_kind_and_of_no_value_are_passed_over(rt: HostRuntime) -> Result<(), Fail> {
-    check_rows(
-        &rt,
-        &[
-            (
-                "ResourceID=7 MODULENAME={a} ModuleVersion=$m Name=Editor Value=vim",
-                "yes",
-            ),
-            (
-                "SourceInfo=true ConfigurationName=c dependson={[a]b} Name=Editor Value=vim",
-                "yes",
-            ),
-            (
-                "Ensure=null Path=null Colour=null Name=Editor Value=vim",
-                "yes",
-            ),
-        ],
-    )
-}
-
-#[test]
-fn the_first_wrong_property_is_told_and_then_a_missing_key(rt: HostRuntime) -> Result<(), Fail> {
-    check_rows(
-        &rt,
-        &[
-            ("Name=Editor Ensure=Present", "OutOfProfile Ensure"),
-            ("pATH=true Name=Editor Ensure=Present", "OutOfProfile pATH"),
-            ("Ensure=Absent", "OutOfProfile Ensure"),
-            ("nAME=7 VALUE=7", "OutOfProfile nAME"),
-            ("VALUE=7 nAME=7", "OutOfProfile VALUE"),
-            ("Name=", "OutOfProfile Name"),
-            ("Name={Editor}", "OutOfProfile Name"),
-            ("Name=Editor Value=$vim", "OutOfProfile Value"),
-            ("Value=vim", "OutOfProfile Name"),
-            ("name=null Value=vim", "OutOfProfile Name"),
-        ],
-    )
-}
-
-#[test]
-fn a_failing_look_is_the_hosts_fault_alone(rt: HostRuntime) -> Result<(), Fail> {
-    for (declaration, wanted) in [
-        (
-            "MSFT_EnvironmentResource Name=Editor Value=vim",
-            "HostFailed",
-        ),
-        (
-            "MSFT_EnvironmentResource Name=Editor Path=true",
-            "OutOfProfile Path",
-        ),
-        ("MSFT_LogResource Message=m", "NoSuchResource"),
-    ] {
-        let told = answer(&rt, declaration, &[0])?;
-        assert_eq!(rt; told.as_str(), wanted, "{declaration}");
-    }
-    Ok(())
-}
-
-#[test]
-fn resources_that_ask_for_one_variable_overlap(rt: HostRuntime) -> Result<(), Fail> {
+fn resources_about_one_thing_overlap(rt: HostRuntime) -> Result<(), Fail> {
     for (declarations, wanted) in [
-        ("MSFT_EnvironmentResource Name=A", false),
-        (
-            "MSFT_EnvironmentResource Name=A; MSFT_EnvironmentResource Name=B",
-            false,
-        ),
-        (
-            "MSFT_EnvironmentResource Name=A; MSFT_EnvironmentResource Name=B; msft_environmentresource name=a Value=v",
-            true,
-        ),
-        (
-            "MSFT_EnvironmentResource Name=A; MSFT_EnvironmentResource Name=A Ensure=Present",
-            false,
-        ),
-        (
-            "MSFT_EnvironmentResource Name=A; MSFT_LogResource Name=A",
-            false,
-        ),
-        (
-            "MSFT_EnvironmentResource Value=v; MSFT_EnvironmentResource Value=v",
-            false,
-        ),
+        ("Environment Name=A", false),
+        ("Environment Name=A; Environment Name=B", false),
+        ("Environment Name=A; Environment Name=B; environment Name=a", false),
+        ("Environment Name=A; Environment Name=B; Environment name=a Value=v", true),
+        ("Environment Name=A; Environment Name=A Colour=red", false),
+        ("Environment Name=A; Log Message=A", false),
+        ("Environment Value=v; Environment Value=v", false),
+        ("Environment Name=A Path=true; Environment Name=a Ensure=Absent", true),
+        ("Log Message=m; Log Message=m", true),
+        ("Log Message=m; Log Message=M", false),
+        ("File DestinationPath=/a/b; File DestinationPath=\\a\\.\\b", false),
+        ("File DestinationPath=/a/b; File DestinationPath=/a\\.\\b", true),
+        ("File DestinationPath=/a; File DestinationPath=/A", false),
+        ("File DestinationPath=/a; File DestinationPath=/a/b", true),
+        ("File DestinationPath=/a/b/c; File DestinationPath=/a", true),
+        ("File DestinationPath=/a; File DestinationPath=/ab", false),
+        ("File DestinationPath=/a Type=Directory; File DestinationPath=/a/b", false),
+        ("File DestinationPath=/a/b; File DestinationPath=/a Type=Directory", false),
+        ("File DestinationPath=/a Type=Directory Ensure=Absent; File DestinationPath=/a/b", true),
     ] {
         let document = document(&rt, declarations)?;
-        assert!(rt; document.resources.as_slice().len() < 4);
         assert_eq!(rt; overlaps(rt.alloc(), &document)?, wanted, "{declarations}");
     }
     Ok(())

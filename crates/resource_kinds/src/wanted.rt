@@ -1,189 +1,199 @@
-//! What an instance asks for, by the tables of the kinds of resources.
-ghost use Rattle.std.specs.Prelude.{◌≡◌, IfOk, OnErr, unwrap_or, []};
-ghost use Rattle.std.specs.Result.{result_map_both};
-ghost use Rattle.std.specs.List.{list_any};
+//! What a resource asks for, by the table of its kind, or its fault.
+ghost use Rattle.std.specs.Prelude.{◌≡◌, Ok, Err, MatchResult, IfOk, option_map, unwrap_or, [], encode_utf8_all};
 ghost use Rattle.std.specs.Option.{option_copied};
-ghost use Rattle.dsc_document.specs.Names.{same_name};
 ghost use Rattle.dsc_document.specs.Declarations.{text_of};
-ghost use Rattle.resource_kinds.specs.Wanted.{wanted_of, first_wrong, rows_of, may_stand, fits_row, common, is_null, is_text, is_filled_text, text_named};
-ghost use Rattle.resource_kinds.specs.Borrowed.{failure_of, variable_of};
-ghost use Rattle.resource_kinds.specs.True.{HoldsName};
-ghost use Rattle.resource_kinds.specs.declared.entry.TestAnswer.TheVariants as tests;
+ghost use Rattle.resource_kinds.specs.Paths.{path_of};
+ghost use Rattle.resource_kinds.specs.Tables.{kind_of, says_yes};
+ghost use Rattle.resource_kinds.specs.Wanted.{IsWhy, a_variable, by_key, contents_of, folded_utf8, no_variable, of_kind, on_path, standing_at, value_of, variable_of, wanted_of};
 
 use crate::entry::Failure;
-use mof_values::{Ident, IdentError, Instance, Property, Scalar, Text, Value, is_named};
+use crate::paths::path_of;
+use crate::tables::{Kind, first_wrong, key_name, key_of, kind_of};
+use crate::utf8::Utf8;
+use crate::values::{says, says_yes, text_named};
+use dsc_document::Resource;
+use mof_values::{Ident, Instance, Text};
 use std::alloc::{AllocError, Global};
 
-/// The kinds of resources, each with a table of its properties.
-#[derive(Clone, Copy, Debug, PartialEq, Eq)]
-pub enum Kind {
-    Environment,
+/// What a resource without a fault asks for. Names of variables and ids stand folded.
+#[derive(Debug, Drop)]
+pub enum Wanted {
+    /// A file, with these contents if any are given.
+    File { path: Utf8, contents: Option<Utf8> },
+    Folder { path: Utf8 },
+
+    /// Nothing at the path, where a file may be taken away.
+    NoFile { path: Utf8 },
+
+    /// Nothing at the path, where a folder may be taken away, and by force one that is not empty.
+    NoFolder { path: Utf8, forced: bool },
+    Variable { name: Utf8, value: Utf8 },
+
+    /// The entries of this value among those of the variable.
+    Entries { name: Utf8, value: Utf8 },
+    NoVariable { name: Utf8 },
+
+    /// None of the entries of this value among those of the variable.
+    NoEntries { name: Utf8, value: Utf8 },
+
+    /// An entry of the log.
+    Logged { id: Utf8, message: Utf8 },
 }
 
-/// The environment variable that an instance asks for.
-#[derive(Clone, Copy)]
-pub struct Wanted<'a> {
-    pub name: &'a [char],
-
-    /// Empty where none is given.
-    pub value: &'a [char],
+/// Why it is not known what a resource asks for.
+#[derive(Debug, Drop)]
+pub enum WantedError {
+    /// It asks for nothing, for it has this fault.
+    Fault(Failure),
+    Memory,
 }
 
-/// A property that every instance of a kind must have.
-#[derive(Clone, Copy, Debug, PartialEq, Eq)]
-pub enum Key {
-    Name,
-}
+impl From<AllocError> for WantedError {
+    ghost use Rattle.resource_kinds.specs.declared.wanted.WantedError.TheVariants as errors;
 
-/// Why an instance asks for nothing.
-#[derive(Clone, Copy)]
-pub enum Wrong<'a> {
-    /// Its class is that of no kind.
-    Kind,
+    ghost from_gives = { λ _ e. e ≡ errors.Memory };
 
-    /// The first property that may not stand there.
-    Property(&'a Ident),
-
-    /// Each property may stand there, but this one is missing.
-    Missing(Key),
-}
-
-/// What an instance asks for, or what is wrong with it; takes no memory.
-pub fn wanted_of<'a>(instance: &'a Instance) -> Result<Wanted<'a>, Wrong<'a>>
-    ensures { result_map_both variable_of failure_of result ≡ wanted_of instance.now }
-{
-    if !is_named(instance.class.as_slice(), "MSFT_EnvironmentResource") {
-        return Err(Wrong::Kind);
-    }
-    if let Some(property) = first_wrong(Kind::Environment, instance) {
-        return Err(Wrong::Property(&property.name));
-    }
-    match text_named(instance, "Name") {
-        Some(name) => Ok(Wanted {
-            name,
-            value: text_or_empty(text_named(instance, "Value")),
-        }),
-        None => Err(Wrong::Missing(Key::Name)),
+    fn from(_: AllocError) -> Self {
+        WantedError::Memory
     }
 }
 
-/// The failure that this is; it copies the name of a property.
-pub fn failure(alloc: Global, wrong: &Wrong) -> Result<Failure, AllocError>
-    ensures ok { IfOk result (λ failure. failure ≡ failure_of wrong.now) }
-    ensures memory { OnErr result (HoldsName (tests.Fault (failure_of wrong.now))) }
+/// What the resource asks for, or its fault.
+///
+/// The fault is the first of: no kind, the first property in the text that may not stand there, a missing key, a path
+/// that is none.
+pub fn wanted_of(alloc: Global, resource: &Resource) -> Result<Wanted, WantedError>
+    ensures { MatchResult result (λ wanted. wanted_of resource.now ≡ Ok wanted) (λ error. IsWhy (wanted_of resource.now) error) }
 {
-    match wrong {
-        Wrong::Kind => Ok(Failure::NoSuchResource),
-        Wrong::Property(name) => Ok(Failure::OutOfProfile((*name).clone()?)),
-        Wrong::Missing(Key::Name) => match Ident::from_latin1(alloc, b"Name") {
-            Ok(name) => Ok(Failure::OutOfProfile(name)),
-            Err(IdentError::Memory) => Err(AllocError),
-            Err(IdentError::NotAnIdent) => unreachable!(),
-        },
+    match kind_of(&resource.instance) {
+        Some(kind) => of_kind(alloc, kind, resource),
+        None => Err(WantedError::Fault(Failure::NoSuchResource)),
     }
 }
 
-// The first property that may not stand in an instance of the kind.
-fn first_wrong<'a>(kind: Kind, instance: &'a Instance) -> Option<&'a Property>
-    ensures { option_copied result ≡ first_wrong (rows_of kind) instance.now }
+fn of_kind(alloc: Global, kind: Kind, resource: &Resource) -> Result<Wanted, WantedError>
+    ensures { MatchResult result (λ wanted. of_kind (Some kind) resource.now ≡ Ok wanted) (λ error. IsWhy (of_kind (Some kind) resource.now) error) }
 {
-    let mut left = instance.properties.as_slice();
-    while let [property, rest @ ..] = left {
-        if !may_stand(kind, property) {
-            return Some(property);
-        }
-        left = rest;
+    if let Some(property) = first_wrong(kind, &resource.instance) {
+        return Err(out_of_profile(property.name.clone()));
     }
-    None
+    match text_named(&resource.instance, key_of(kind)) {
+        Some(text) => by_key(alloc, kind, resource, text),
+        None => Err(out_of_profile(key_name(alloc, kind))),
+    }
 }
 
-fn may_stand(kind: Kind, property: &Property) -> bool
-    ensures { result ≡ may_stand (rows_of kind) property.now }
+fn out_of_profile(name: Result<Ident, AllocError>) -> WantedError
+    ensures { MatchResult name (λ name. result ≡ WantedError.Fault (Failure.OutOfProfile name)) (λ _. result ≡ WantedError.Memory) }
 {
-    is_null(&property.value) || is_common(&property.name) || fits_a_row(kind, property)
+    match name {
+        Ok(name) => WantedError::Fault(Failure::OutOfProfile(name)),
+        Err(AllocError) => WantedError::Memory,
+    }
 }
 
-// The table of each kind: a property, and what its value may be.
-fn fits_a_row(kind: Kind, property: &Property) -> bool
-    ensures { result ≡ list_any (fits_row property.now) (rows_of kind) }
+fn by_key(
+    alloc: Global,
+    kind: Kind,
+    resource: &Resource,
+    text: &Text,
+) -> Result<Wanted, WantedError>
+    ensures { MatchResult result (λ wanted. by_key kind resource.now text.now ≡ Ok wanted) (λ error. IsWhy (by_key kind resource.now text.now) error) }
 {
-    let (name, value) = (&property.name, &property.value);
     match kind {
-        Kind::Environment => {
-            (has_name(name, "Name") && is_filled_text(value))
-                || (has_name(name, "Value") && is_text(value))
-        }
+        Kind::File => on_path(alloc, &resource.instance, text),
+        Kind::Environment => Ok(variable_of(
+            alloc,
+            &resource.instance,
+            Utf8::folded(alloc, text)?,
+        )?),
+        Kind::Log => Ok(logged(alloc, &resource.id, text)?),
     }
 }
 
-// Tells whether every kind has the property.
-fn is_common(name: &Ident) -> bool
-    ensures { result ≡ list_any (same_name name.now) common }
+// What is to stand at the path that a text means, or not to.
+fn on_path(alloc: Global, instance: &Instance, text: &Text) -> Result<Wanted, WantedError>
+    ensures { MatchResult result (λ wanted. on_path instance.now (path_of text.now) ≡ Ok wanted) (λ error. IsWhy (on_path instance.now (path_of text.now)) error) }
 {
-    has_name(name, "ResourceID")
-        || has_name(name, "ModuleName")
-        || has_name(name, "ModuleVersion")
-        || has_name(name, "SourceInfo")
-        || has_name(name, "ConfigurationName")
-        || has_name(name, "DependsOn")
-}
-
-fn is_null(value: &Value) -> bool
-    ensures { result ≡ is_null value.now }
-{
-    matches!(value, Value::One(Scalar::Null))
-}
-
-fn is_text(value: &Value) -> bool
-    ensures { result ≡ is_text value.now }
-{
-    text_of(value).is_some()
-}
-
-fn is_filled_text(value: &Value) -> bool
-    ensures { result ≡ is_filled_text value.now }
-{
-    match text_of(value) {
-        Some([_, ..]) => true,
-        _ => false,
+    match path_of(alloc, text)? {
+        Some(path) => Ok(standing_at(alloc, instance, Utf8::of(path))?),
+        None => Err(WantedError::Fault(Failure::BadPath)),
     }
 }
 
-// The text of the first property of that name, where it is a single text.
-fn text_named<'a>(instance: &'a Instance, word: &str) -> Option<&'a [char]>
-    ensures { option_copied result ≡ text_named word.now instance.now }
+fn standing_at(alloc: Global, instance: &Instance, path: Utf8) -> Result<Wanted, AllocError>
+    ensures { IfOk result (λ wanted. wanted ≡ standing_at instance.now path) }
 {
-    let mut left = instance.properties.as_slice();
-    while let [property, rest @ ..] = left {
-        if has_name(&property.name, word) {
-            return text_of(&property.value);
-        }
-        left = rest;
+    let is_absent = says(instance, "Ensure", "Absent");
+    if says(instance, "Type", "Directory") {
+        return Ok(if is_absent {
+            let forced = says_yes(instance, "Force");
+            Wanted::NoFolder { path, forced }
+        } else {
+            Wanted::Folder { path }
+        });
     }
-    None
+    if is_absent {
+        return Ok(Wanted::NoFile { path });
+    }
+    let contents = contents_of(alloc, instance)?;
+    Ok(Wanted::File { path, contents })
 }
 
-// The single text that a value is.
-fn text_of<'a>(value: &'a Value) -> Option<&'a [char]>
-    ensures { option_copied result ≡ text_of value.now }
+fn contents_of(alloc: Global, instance: &Instance) -> Result<Option<Utf8>, AllocError>
+    ensures { IfOk result (λ contents. contents ≡ contents_of instance.now) }
 {
-    match value {
-        Value::One(Scalar::Text(text)) => Some(text.as_slice()),
-        _ => None,
-    }
-}
-
-fn text_or_empty<'a>(text: Option<&'a [char]>) -> &'a [char]
-    ensures { result.now ≡ unwrap_or (option_copied text.entry) [] }
-{
-    match text {
-        Some(text) => text,
-        None => &[],
+    match text_named(instance, "Contents") {
+        Some(text) => Ok(Some(Utf8::encoded(alloc, text.as_slice())?)),
+        None => Ok(None),
     }
 }
 
-fn has_name(name: &Ident, word: &str) -> bool
-    ensures { result ≡ same_name name.now word.now }
+fn variable_of(alloc: Global, instance: &Instance, name: Utf8) -> Result<Wanted, AllocError>
+    ensures { IfOk result (λ wanted. wanted ≡ variable_of instance.now name) }
 {
-    is_named(name.as_slice(), word)
+    if says(instance, "Ensure", "Absent") {
+        no_variable(alloc, instance, name)
+    } else {
+        a_variable(alloc, instance, name)
+    }
+}
+
+fn no_variable(alloc: Global, instance: &Instance, name: Utf8) -> Result<Wanted, AllocError>
+    ensures { IfOk result (λ wanted. wanted ≡ no_variable instance.now name) }
+{
+    if !says_yes(instance, "Path") {
+        return Ok(Wanted::NoVariable { name });
+    }
+    let value = value_of(alloc, instance)?;
+    Ok(Wanted::NoEntries { name, value })
+}
+
+fn a_variable(alloc: Global, instance: &Instance, name: Utf8) -> Result<Wanted, AllocError>
+    ensures { IfOk result (λ wanted. wanted ≡ a_variable instance.now name) }
+{
+    let value = value_of(alloc, instance)?;
+    if says_yes(instance, "Path") {
+        return Ok(Wanted::Entries { name, value });
+    }
+    Ok(Wanted::Variable { name, value })
+}
+
+// The value of a variable; empty where none is given.
+fn value_of(alloc: Global, instance: &Instance) -> Result<Utf8, AllocError>
+    ensures { IfOk result (λ value. value ≡ value_of instance.now) }
+{
+    match text_named(instance, "Value") {
+        Some(text) => Utf8::encoded(alloc, text.as_slice()),
+        None => Utf8::encoded(alloc, &[]),
+    }
+}
+
+fn logged(alloc: Global, id: &Text, message: &Text) -> Result<Wanted, AllocError>
+    ensures { IfOk result (λ wanted. wanted ≡ Wanted.Logged (folded_utf8 id.now) (encode_utf8_all message.now)) }
+{
+    Ok(Wanted::Logged {
+        id: Utf8::folded(alloc, id)?,
+        message: Utf8::encoded(alloc, message.as_slice())?,
+    })
 }

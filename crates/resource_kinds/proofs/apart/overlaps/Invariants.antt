@@ -1,7 +1,7 @@
-use Rattle.dsc_document.proofs.Indexes.{Indexes}
-use Rattle.resource_kinds.specs.Apart.{name_at}
+use Rattle.std.proofs.Common.{ℕ, ◌<◌}
+use Rattle.resource_kinds.specs.Apart.{MeetsBefore}
 use Rattle.resource_kinds.proofs.apart.overlaps.Given as goal
 
--- the places are those of the names so far, no two of which are the same
-abbrev pub invariant-loop-place : goal.invariant-loop-place
-invariant-loop-place l = Indexes (name_at l.document) l.place l.places
+-- none of the resources so far meets one before it
+abbrev pub invariant-loop-second : goal.invariant-loop-second
+invariant-loop-second l = (k : ℕ) → k < l.second → MeetsBefore l.all.items k → ⊥

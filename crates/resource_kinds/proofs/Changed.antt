@@ -1,0 +1,83 @@
+-- What a Set that is done changes is its own target.
+use Rattle.std.proofs.Common.{◌≡◌, ◌⊎◌, ℕ, List, [], Bool, true, false, ◌||◌, if◌then◌else◌, inl, inr, Option, Some, None, Err, Ok, length, refl, sym, ap, ◌∙◌, arith}
+use Rattle.std.specs.Prelude.{unwrap_or}
+use Rattle.std.specs.Map.{update}
+use Rattle.std.specs.Str.{bytes_eq}
+use Rattle.std.proofs.lemmas.Bool.{false_from_ne_true}
+use Rattle.std.proofs.lemmas.Slice.Eq.{bytes_eq-Decides}
+use Rattle.dsc_outside.specs.Changes.{ChangedPath, ChangedVariable, Does, with_file, with_folder, with_variable, without_path, without_variable}
+use Rattle.dsc_outside.specs.Host.{HostState}
+use Rattle.dsc_outside.specs.Paths.{PathKind, Nothing, File, Folder, Other, filled, folder_made, is_below, is_within, file_put, removed, with_folders_above}
+use Rattle.dsc_outside.specs.declared.host.HostError.{HostError}
+use Rattle.dsc_outside.proofs.Below.{below_longer, not_below_both}
+use Rattle.resource_kinds.specs.declared.wanted.Wanted.{Wanted}
+use Rattle.resource_kinds.specs.declared.wanted.Wanted.TheVariants as wants
+use Rattle.resource_kinds.specs.Entries.{with_entries, without_entries}
+use Rattle.resource_kinds.specs.Holds.{ChangedTarget, applied, with_value}
+use Rattle.resource_kinds.specs.True.{TellsStep}
+
+-- what is above a path is not that path
+not_itself : (path other : List ℕ) → is_below other path ≡ true → bytes_eq path other ≡ false
+not_itself path other above =
+    false_from_ne_true _ (λ same. omega (arith, below_longer other path above, ap length ((bytes_eq-Decides path other).0 same)))
+
+-- what is neither at the path nor below it is not at the path
+apart_at : (a b : Bool) → (a || b) ≡ false → a ≡ false
+apart_at true b e = e
+apart_at false b e = refl
+
+apart_below : (a b : Bool) → (a || b) ≡ false → b ≡ false
+apart_below true b e = absurd (cc (e))
+apart_below false b e = e
+
+-- a folder that was missing, or nothing
+maybe_filled : (kind : PathKind) → (filled kind ≡ kind) ⊎ ((kind ≡ Nothing) × (filled kind ≡ Folder))
+maybe_filled Nothing = inr (refl, refl)
+maybe_filled (File bytes) = inl refl
+maybe_filled Folder = inl refl
+maybe_filled Other = inl refl
+
+module _ (path : List ℕ) (host : HostState) where
+  put_changes : (bytes : List ℕ) → ChangedPath path host (with_file path bytes host)
+  put_changes bytes = record {
+    elsewhere = λ other outside apart. rw (apart_at (bytes_eq path other) (is_below path other) outside, apart_below (bytes_eq path other) (is_below path other) outside, apart) refl;
+    above = λ other is. rw (not_itself path other is, not_below_both other path is, is) (maybe_filled (host.path other));
+    nothing_else = refl;
+  }
+
+  made_changes : ChangedPath path host (with_folder path host)
+  made_changes = record {
+    elsewhere = λ other outside apart. rw (apart_at (bytes_eq path other) (is_below path other) outside, apart) refl;
+    above = λ other is. rw (not_itself path other is, is) (maybe_filled (host.path other));
+    nothing_else = refl;
+  }
+
+  removal_changes : ChangedPath path host (without_path path host)
+  removal_changes = record {
+    elsewhere = λ other outside apart. rw outside refl;
+    above = λ other is. inl (rw (not_itself path other is, not_below_both other path is) refl);
+    nothing_else = refl;
+  }
+
+module _ (name : List ℕ) (host : HostState) where
+  value_changes : (value : Option (List ℕ)) → ChangedVariable name host (with_value name value host)
+  value_changes None = record { others = λ other apart. rw apart refl; nothing_else = refl }
+  value_changes (Some value) = record { others = λ other apart. rw apart refl; nothing_else = refl }
+
+-- the whole change is one of the target
+pub applied_changes : (wanted : Wanted) (host : HostState) → ChangedTarget wanted host (applied wanted host)
+applied_changes (wants.File path contents) host = put_changes path host (unwrap_or contents [])
+applied_changes (wants.Folder path) host = made_changes path host
+applied_changes (wants.NoFile path) host = removal_changes path host
+applied_changes (wants.NoFolder path forced) host = removal_changes path host
+applied_changes (wants.Variable name value) host = value_changes name host (Some value)
+applied_changes (wants.Entries name value) host = value_changes name host (with_entries (host.variable name) value)
+applied_changes (wants.NoVariable name) host = value_changes name host None
+applied_changes (wants.NoEntries name value) host = value_changes name host (without_entries (host.variable name) value)
+applied_changes (wants.Logged id message) host = inr refl
+
+-- a change that was made, and a look after it
+pub changed_then_looked : (before between after : Option HostState) (wanted : Wanted)
+    → Does {A = Unit {0}} {E = HostError} before between (Ok tt) (applied wanted) (ChangedTarget wanted) → after ≡ between → TellsStep before after (ChangedTarget wanted)
+changed_then_looked None between after wanted change same = same ∙ change
+changed_then_looked (Some host) between after wanted change same = (applied wanted host, same ∙ change, applied_changes wanted host)

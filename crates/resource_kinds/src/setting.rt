@@ -1,0 +1,134 @@
+//! The Set of a resource.
+ghost use Rattle.std.specs.Prelude.{◌≡◌, ◌↔◌, ◌⊎◌, ⊤, IfOk, IfSome, IsTrue, OnErr};
+ghost use Rattle.std.specs.Result.{IfErr};
+ghost use Rattle.dsc_terms.specs.Counts.{RoseBy};
+ghost use Rattle.dsc_outside.specs.Causes.{HasCauseOf};
+ghost use Rattle.dsc_outside.specs.Changes.{ChangedVariable, Does};
+ghost use Rattle.dsc_outside.specs.Host.{Tells, wants_reboot};
+ghost use Rattle.resource_kinds.specs.Holds.{ChangedTarget, InTheWay, applied};
+ghost use Rattle.resource_kinds.specs.Wanted.{folded_utf8, wanted_of};
+ghost use Rattle.resource_kinds.specs.True.{SetsKnown, SetsTrue, TellsStep};
+ghost use Rattle.resource_kinds.specs.Trace.{set_failures};
+ghost use Rattle.resource_kinds.specs.declared.wanted.Wanted.TheVariants as wants;
+
+use crate::entries::{with_entries, without_entries};
+use crate::entry::{Failure, SetAnswer};
+use crate::obstacles::is_in_the_way;
+use crate::testing::variable;
+use crate::utf8::Utf8;
+use crate::wanted::{Wanted, WantedError, wanted_of};
+use dsc_document::Resource;
+use dsc_outside::{Host, HostError};
+use mof_values::Text;
+use std::alloc::Global;
+
+/// Makes of the host what the resource asks for, where nothing is in the way, and tells whether the host wants a reboot
+/// for it; with a fault of its own the host is not called.
+pub fn set<H: Host>(alloc: Global, host: &mut H, resource: &Resource) -> SetAnswer
+    ensures told { TellsStep (H.told host.old) (H.told host.new) (λ before after. SetsTrue before resource.now.id (wanted_of resource.now) result after) }
+    ensures unseen { IfErr (wanted_of resource.now) (λ _. host.new ≡ host.old) }
+    ensures cause { RoseBy (set_failures result) (H.faults host.old) (H.faults host.new) }
+{
+    match wanted_of(alloc, resource) {
+        Ok(wanted) => set_wanted(alloc, host, &resource.id, &wanted),
+        Err(WantedError::Fault(failure)) => SetAnswer::Fault(failure),
+        Err(WantedError::Memory) => SetAnswer::Memory,
+    }
+}
+
+fn set_wanted<H: Host>(alloc: Global, host: &mut H, id: &Text, wanted: &Wanted) -> SetAnswer
+    ensures told { TellsStep (H.told host.old) (H.told host.new) (λ before after. SetsKnown before id.now wanted.now result after) }
+    ensures cause { RoseBy (set_failures result) (H.faults host.old) (H.faults host.new) }
+{
+    match is_in_the_way(host, wanted) {
+        Ok(true) => SetAnswer::Fault(Failure::InTheWay),
+        Ok(false) => set_clear(alloc, host, id, wanted),
+        Err(HostError::Failed) => SetAnswer::Fault(Failure::HostFailed),
+        Err(HostError::Memory) => SetAnswer::Memory,
+    }
+}
+
+// The Set of a resource that nothing is in the way of.
+fn set_clear<H: Host>(alloc: Global, host: &mut H, id: &Text, wanted: &Wanted) -> SetAnswer
+    requires { IfSome (H.told host.old) (λ state. InTheWay state wanted.now → ⊥) }
+    ensures told { TellsStep (H.told host.old) (H.told host.new) (λ before after. SetsKnown before id.now wanted.now result after) }
+    ensures cause { RoseBy (set_failures result) (H.faults host.old) (H.faults host.new) }
+{
+    match apply(alloc, host, wanted) {
+        Ok(()) => {}
+        Err(HostError::Failed) => return SetAnswer::Fault(Failure::HostFailed),
+        Err(HostError::Memory) => return SetAnswer::Memory,
+    }
+    match wants_reboot(alloc, host, id) {
+        Ok(true) => SetAnswer::Reboot,
+        Ok(false) => SetAnswer::Done,
+        Err(HostError::Failed) => SetAnswer::Fault(Failure::HostFailed),
+        Err(HostError::Memory) => SetAnswer::Memory,
+    }
+}
+
+// Tells whether the host wants a reboot for the resource of that id.
+fn wants_reboot<H: Host>(alloc: Global, host: &mut H, id: &Text) -> Result<bool, HostError>
+    ensures told { H.told host.new ≡ H.told host.old }
+    ensures answer { Tells (H.told host.old) result (λ state yes. yes ≡ wants_reboot state.wanting (folded_utf8 id.now)) }
+    ensures cause { HasCauseOf HostError.Failed (H.faults host.old) (H.faults host.new) result }
+{
+    let id = Utf8::folded(alloc, id)?;
+    host.reboot_wanted(id.as_str())
+}
+
+// Makes of the host what is asked for.
+fn apply<H: Host>(alloc: Global, host: &mut H, wanted: &Wanted) -> Result<(), HostError>
+    ensures change { Does (H.told host.old) (H.told host.new) result (applied wanted.now) (ChangedTarget wanted.now) }
+    ensures cause { HasCauseOf HostError.Failed (H.faults host.old) (H.faults host.new) result }
+{
+    match wanted {
+        Wanted::File {
+            path,
+            contents: Some(contents),
+        } => host.put_file(path.as_str(), contents.as_bytes()),
+        Wanted::File {
+            path,
+            contents: None,
+        } => host.put_file(path.as_str(), &[]),
+        Wanted::Folder { path } => host.make_dir(path.as_str()),
+        Wanted::NoFile { path } | Wanted::NoFolder { path, .. } => host.remove(path.as_str()),
+        Wanted::Variable { name, value } => host.env_put(name.as_str(), value.as_bytes()),
+        Wanted::Entries { name, value } => add_entries(alloc, host, name, value),
+        Wanted::NoVariable { name } => host.env_remove(name.as_str()),
+        Wanted::NoEntries { name, value } => take_entries(alloc, host, name, value),
+        Wanted::Logged { id, message } => host.log_add(id.as_str(), message.as_str()),
+    }
+}
+
+fn add_entries<H: Host>(
+    alloc: Global,
+    host: &mut H,
+    name: &Utf8,
+    value: &Utf8,
+) -> Result<(), HostError>
+    ensures change { Does (H.told host.old) (H.told host.new) result (applied (wants.Entries name.now value.now)) (ChangedVariable name.now) }
+    ensures cause { HasCauseOf HostError.Failed (H.faults host.old) (H.faults host.new) result }
+{
+    let found = variable(alloc, host, name)?;
+    let made = with_entries(alloc, found.as_deref(), value.as_bytes())?;
+    host.env_put(name.as_str(), made.as_slice())
+}
+
+fn take_entries<H: Host>(
+    alloc: Global,
+    host: &mut H,
+    name: &Utf8,
+    value: &Utf8,
+) -> Result<(), HostError>
+    ensures change { Does (H.told host.old) (H.told host.new) result (applied (wants.NoEntries name.now value.now)) (ChangedVariable name.now) }
+    ensures cause { HasCauseOf HostError.Failed (H.faults host.old) (H.faults host.new) result }
+{
+    match variable(alloc, host, name)? {
+        Some(found) => match without_entries(alloc, found.as_slice(), value.as_bytes())? {
+            Some(left) => host.env_put(name.as_str(), left.as_slice()),
+            None => host.env_remove(name.as_str()),
+        },
+        None => host.env_remove(name.as_str()),
+    }
+}

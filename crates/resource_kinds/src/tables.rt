@@ -1,0 +1,144 @@
+//! The kinds of resources, and the table of each.
+ghost use Rattle.std.specs.Prelude.{◌≡◌, ◌≢◌, IfOk, not, find};
+ghost use Rattle.std.specs.List.{list_any};
+ghost use Rattle.std.specs.Option.{option_copied};
+ghost use Rattle.dsc_document.specs.Names.{same_name};
+ghost use Rattle.mof_values.specs.Ident.{IsIdent};
+ghost use Rattle.resource_kinds.specs.Tables.{common, directory_rows, environment_rows, file_rows, first_wrong, fits_row, is_directory, key_of, kind_of, log_rows, may_stand, rows_of};
+
+use crate::values::{
+    has_name, is_filled_text, is_kind_of_file, is_null, is_presence, is_text, is_truth_value, says,
+};
+use mof_values::{Ident, IdentError, Instance, Property};
+use std::alloc::{AllocError, Global};
+
+/// The kinds of resources, each with a table of its properties.
+#[derive(Clone, Copy, Debug, PartialEq, Eq)]
+pub enum Kind {
+    /// Files and directories.
+    File,
+    Environment,
+    Log,
+}
+
+/// The kind of an instance, by its class.
+pub fn kind_of(instance: &Instance) -> Option<Kind>
+    ensures { result ≡ kind_of instance.now }
+{
+    let class = &instance.class;
+    if has_name(class, "MSFT_FileDirectoryConfiguration") {
+        Some(Kind::File)
+    } else if has_name(class, "MSFT_EnvironmentResource") {
+        Some(Kind::Environment)
+    } else if has_name(class, "MSFT_LogResource") {
+        Some(Kind::Log)
+    } else {
+        None
+    }
+}
+
+/// The property that each instance of the kind must have.
+pub fn key_of(kind: Kind) -> &'static str
+    ensures { result.now ≡ key_of kind }
+{
+    match kind {
+        Kind::File => "DestinationPath",
+        Kind::Environment => "Name",
+        Kind::Log => "Message",
+    }
+}
+
+/// The name of that property.
+pub fn key_name(alloc: Global, kind: Kind) -> Result<Ident, AllocError>
+    ensures { IfOk result (λ name. name ≡ key_of kind) }
+{
+    match kind {
+        Kind::File => ident(alloc, b"DestinationPath"),
+        Kind::Environment => ident(alloc, b"Name"),
+        Kind::Log => ident(alloc, b"Message"),
+    }
+}
+
+fn ident(alloc: Global, word: &[u8]) -> Result<Ident, AllocError>
+    requires { IsIdent word.now }
+    ensures { IfOk result (λ name. name ≡ word.now) }
+{
+    match Ident::from_latin1(alloc, word) {
+        Ok(name) => Ok(name),
+        Err(IdentError::Memory) => Err(AllocError),
+        Err(IdentError::NotAnIdent) => unreachable!(),
+    }
+}
+
+/// The first property that may not stand in an instance of the kind.
+pub fn first_wrong<'a>(kind: Kind, instance: &'a Instance) -> Option<&'a Property>
+    ensures { option_copied result ≡ first_wrong (rows_of kind instance.now) instance.now }
+{
+    let mut left = instance.properties.as_slice();
+    while let [property, rest @ ..] = left {
+        if !may_stand(kind, instance, property) {
+            return Some(property);
+        }
+        left = rest;
+    }
+    None
+}
+
+fn may_stand(kind: Kind, instance: &Instance, property: &Property) -> bool
+    ensures { result ≡ may_stand (rows_of kind instance.now) property.now }
+{
+    is_null(&property.value) || is_common(&property.name) || fits_a_row(kind, instance, property)
+}
+
+fn fits_a_row(kind: Kind, instance: &Instance, property: &Property) -> bool
+    ensures { result ≡ list_any (fits_row property.now) (rows_of kind instance.now) }
+{
+    match kind {
+        Kind::File => fits_file_row(instance, property),
+        Kind::Environment => fits_environment_row(property),
+        Kind::Log => has_name(&property.name, "Message") && is_text(&property.value),
+    }
+}
+
+// A directory has no contents.
+fn fits_file_row(instance: &Instance, property: &Property) -> bool
+    ensures { result ≡ list_any (fits_row property.now) (rows_of Kind.File instance.now) }
+{
+    if says(instance, "Type", "Directory") {
+        return fits_directory_row(property);
+    }
+    (has_name(&property.name, "Contents") && is_text(&property.value))
+        || fits_directory_row(property)
+}
+
+fn fits_directory_row(property: &Property) -> bool
+    ensures { result ≡ list_any (fits_row property.now) directory_rows }
+{
+    let (name, value) = (&property.name, &property.value);
+    (has_name(name, "DestinationPath") && is_text(value))
+        || (has_name(name, "Type") && is_kind_of_file(value))
+        || (has_name(name, "Ensure") && is_presence(value))
+        || (has_name(name, "Force") && is_truth_value(value))
+}
+
+fn fits_environment_row(property: &Property) -> bool
+    ensures { result ≡ list_any (fits_row property.now) environment_rows }
+{
+    let (name, value) = (&property.name, &property.value);
+    (has_name(name, "Name") && is_filled_text(value))
+        || (has_name(name, "Value") && is_text(value))
+        || (has_name(name, "Ensure") && is_presence(value))
+        || (has_name(name, "Path") && is_truth_value(value))
+}
+
+// Tells whether every kind has the property.
+fn is_common(name: &Ident) -> bool
+    ensures { result ≡ list_any (same_name name.now) common }
+{
+    has_name(name, "ResourceID")
+        || has_name(name, "ModuleName")
+        || has_name(name, "ModuleVersion")
+        || has_name(name, "SourceInfo")
+        || has_name(name, "ConfigurationName")
+        || has_name(name, "DependsOn")
+}
