@@ -1,5 +1,6 @@
 pub mod Apart
 pub mod Entries
+pub mod Faults
 pub mod Holds
 pub mod Kinds
 pub mod Names

@@ -1,5 +1,5 @@
 //! The entries of a variable that is a list of paths: the pieces between its `;`, compared byte by byte.
-ghost use Rattle.std.specs.Prelude.{◌≡◌, ◌↔◌, ◌++◌, ◌∷◌, IfOk, IsTrue, OnOk, List, Option, Some, ℕ, flat_map, map, option_map};
+ghost use Rattle.std.specs.Prelude.{◌≡◌, ◌↔◌, ◌++◌, ◌∷◌, ◌<◌, IfOk, IsTrue, OnOk, List, Option, Some, ℕ, flat_map, length, map, option_map};
 ghost use Rattle.std.specs.Option.{option_copied};
 ghost use Rattle.resource_kinds.specs.Entries.{entries, entries_of, HasEntries, LacksEntries, with_entries, without_entries, is_among, missing_entries, kept_entries, each_once, joined, appended};
 
@@ -9,6 +9,7 @@ use std::alloc::{AllocError, Global};
 pub fn entry_laws()
     ensures present { (old : Option (List ℕ)) (value : List ℕ) → HasEntries (with_entries old value) value }
     ensures absent { (old : Option (List ℕ)) (value : List ℕ) → LacksEntries (without_entries old value) value }
+    ensures added { (old value : List ℕ) → 0 < length old → entries_of (with_entries (Some old) value) ≡ entries old ++ missing_entries (Some old) value }
     ensures stays { (old value : List ℕ) → HasEntries (Some old) value → with_entries (Some old) value ≡ Some old }
     ensures kept { (old value : List ℕ) → entries_of (without_entries (Some old) value) ≡ kept_entries old value }
 {}
@@ -38,11 +39,7 @@ pub fn lacks_entries(old: Option<&[u8]>, value: &[u8]) -> bool
 }
 
 /// The variable's value with the missing entries behind its own.
-pub fn with_entries(
-    alloc: Global,
-    old: Option<&[u8]>,
-    value: &[u8],
-) -> Result<Vec<u8>, AllocError>
+pub fn with_entries(alloc: Global, old: Option<&[u8]>, value: &[u8]) -> Result<Vec<u8>, AllocError>
     ensures { IfOk result (λ v. Some v.items ≡ with_entries (option_copied old.entry) value.now) }
 {
     let missing = missing_entries(alloc, old, value)?;
@@ -70,7 +67,8 @@ fn has_entry(value: &[u8], entry: &[u8]) -> bool
     value.split(|b| *b == b';').any(|other| entry == other)
 }
 
-// The wanted entries that are not among the variable's, each once.
+// The wanted entries that are not among the variable's, each once. A variable that is not there lacks them as an empty
+// one does.
 fn missing_entries<'a>(
     alloc: Global,
     old: Option<&[u8]>,
@@ -87,11 +85,7 @@ fn missing_entries<'a>(
 }
 
 // The entries of a value that are not wanted away.
-fn kept_entries<'a>(
-    alloc: Global,
-    old: &'a [u8],
-    value: &[u8],
-) -> Result<Vec<&'a [u8]>, AllocError>
+fn kept_entries<'a>(alloc: Global, old: &'a [u8], value: &[u8]) -> Result<Vec<&'a [u8]>, AllocError>
     ensures { IfOk result (λ v. map (λ e. e.now) v.items ≡ kept_entries old.now value.now) }
 {
     old.split(|b| *b == b';')
@@ -124,7 +118,7 @@ fn appended(alloc: Global, value: &[u8], more: &[&[u8]]) -> Result<Vec<u8>, Allo
     if value.is_empty() {
         return joined(alloc, more);
     }
-    let mut made = value.to_vec(alloc)?;
+    let mut made = Vec::from_slice(alloc, value)?;
     push_entries(&mut made, more)?;
     Ok(made)
 }
@@ -136,7 +130,7 @@ fn joined(alloc: Global, entries: &[&[u8]]) -> Result<Vec<u8>, AllocError>
     let [first, more @ ..] = entries else {
         return Ok(Vec::new(alloc));
     };
-    let mut made = first.to_vec(alloc)?;
+    let mut made = Vec::from_slice(alloc, first)?;
     push_entries(&mut made, more)?;
     Ok(made)
 }

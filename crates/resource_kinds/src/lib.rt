@@ -5,6 +5,7 @@
 //! done makes of it what the resource asks for, and one that failed changes no more than the resource's own target.
 #![tactic(auto)]
 
+mod apart;
 mod entries;
 mod entry;
 mod keeping;
@@ -19,6 +20,8 @@ mod utf8;
 mod values;
 mod wanted;
 
+pub use apart::overlaps;
+pub use entries::entry_laws;
 pub use entry::{Entry, Failure, SetAnswer, TestAnswer};
 pub use kinds::Kinds;
 pub use resources::Resources;

@@ -1,3 +1,5 @@
+mod entries;
+
 use super::*;
 use dsc_document::{Document, Resource};
 use dsc_outside::{MemoryHost, Variable};
