@@ -1,1 +1,4 @@
 pub mod EntryLists
+pub mod PathSets
+pub mod RunLaws
+pub mod SetLaws

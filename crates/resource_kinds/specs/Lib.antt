@@ -3,6 +3,7 @@ pub mod Entries
 pub mod Faults
 pub mod Holds
 pub mod Kinds
+pub mod Laws
 pub mod Names
 pub mod Paths
 pub mod Tables
