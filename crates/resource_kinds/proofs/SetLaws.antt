@@ -1,21 +1,21 @@
 -- What a Set leaves of its own resource, and of the resources apart from it.
-use Rattle.std.proofs.Common.{◌≡◌, inl, inr, ℕ, Bool, true, false, cond, ◌||◌, ◌&&◌, IsTrue, List, [], ◌∷◌, ◌++◌, Option, Some, None, unwrap_or, refl, sym, ◌∙◌, ap, subst}
-use Rattle.std.proofs.lemmas.Bool.{and_from}
+use Rattle.std.proofs.Common.{◌≡◌, inl, inr, ℕ, Bool, true, false, cond, ◌||◌, ◌&&◌, IsTrue, List, [], ◌∷◌, ◌++◌, Option, Some, None, unwrap_or, refl, sym, ◌∙◌, ap, ap₂, subst}
+use Rattle.std.proofs.lemmas.Bool.{and_from, cases_Bool}
 use Rattle.std.proofs.lemmas.List.Elements.{All-head, All-tail}
 use Rattle.std.proofs.lemmas.List.Folds.{list_any-append}
 use Rattle.std.specs.Map.{update}
 use Rattle.std.specs.Str.{bytes_eq}
 use Rattle.dsc_outside.specs.Host.{HostState, has_entry}
-use Rattle.dsc_outside.specs.Paths.{PathKind, Folder, IsBelow, file_put, folder_made, removed}
-use Rattle.dsc_outside.specs.Changes.{without_path}
+use Rattle.dsc_outside.specs.Paths.{PathKind, Folder, IsBelow, is_below, is_within, file_put, folder_made, removed}
+use Rattle.dsc_outside.specs.Changes.{ChangedPath, ChangedVariable, without_path}
 use Rattle.dsc_outside.specs.declared.entries.LogEntry.{LogEntry}
 use Rattle.resource_kinds.specs.declared.wanted.Wanted.{Wanted}
 use Rattle.resource_kinds.specs.declared.wanted.Wanted.TheVariants as wants
 use Rattle.resource_kinds.specs.Apart.{Path, Variable, AreApart, closed_path, target_of}
 use Rattle.resource_kinds.specs.Entries.{HasEntries, LacksEntries, with_entries, without_entries}
 use Rattle.resource_kinds.specs.Holds.{Holds, IsFile, applied, with_value}
-use Rattle.resource_kinds.specs.Laws.{SetKeepsApart, SetMakesHold, SetsKeepApart}
-use Rattle.resource_kinds.proofs.PathSets.{same_bytes, other_bytes, file_at_path, folder_at_path, nothing_at_path, file_elsewhere, folder_elsewhere, removed_elsewhere, filled_elsewhere, folder_above}
+use Rattle.resource_kinds.specs.Laws.{FailureKeepsApart, SetKeepsApart, SetMakesHold, SetsKeepApart}
+use Rattle.resource_kinds.proofs.PathSets.{same_bytes, other_bytes, not_below, file_at_path, folder_at_path, nothing_at_path, file_elsewhere, folder_elsewhere, removed_elsewhere, filled_elsewhere, folder_above}
 
 -- ---- variables
 
@@ -154,6 +154,51 @@ keeps_apart host (wants.NoVariable name) other apart holds = value_keeps host na
 keeps_apart host (wants.NoEntries name value) other apart holds =
     value_keeps host name (without_entries (host.variable name) value) other (λ same. apart (inl same)) holds
 keeps_apart host (wants.Logged id message) other apart holds = log_keeps host (record { id = id; message = message } ∷ []) other holds
+
+-- ---- a Set that failed
+
+within_none : (path other : List ℕ) → (path ≡ other → ⊥) → (IsBelow path other → ⊥) → is_within path other ≡ false
+within_none path other apart above = ap₂ (λ b c. b || c) (other_bytes path other apart) (not_below path other above)
+
+-- a folder above the path stays
+changed_above : (path other : List ℕ) (old new : HostState) → is_within path other ≡ false → ChangedPath path old new → old.path other ≡ Folder → new.path other ≡ Folder
+changed_above path other old new outside changed is = elim (cases_Bool (is_below other path)) [
+  | inl over ↦ elim (changed.above other over) [
+    | inl same ↦ same ∙ is
+    | inr filled ↦ filled.1
+  ]
+  | inr not_over ↦ changed.elsewhere other outside not_over ∙ is
+]
+
+path_failed : (old new : HostState) (set other : Wanted) (path : List ℕ) → target_of set ≡ Path path → closed_path set ≡ Some path → AreApart set other
+    → ChangedPath path old new → Holds old other → Holds new other
+path_failed old new set other path at shut apart changed holds =
+    let outside = λ (q : List ℕ) (there : target_of other ≡ Path q).
+    within_none path q (other_path set other path q apart at there) (not_inside set other path q apart shut there) in
+    subst (λ h. Holds h other) (sym changed.nothing_else)
+    (paths_keep old new.path other
+    (λ q there closed. changed.elsewhere q (outside q there) (not_below q path (not_around set other path q apart at closed)))
+    (λ q there is. changed_above path q old new (outside q there) changed is) holds)
+
+variable_failed : (old new : HostState) (name : List ℕ) (other : Wanted) → (Variable name ≡ target_of other → ⊥) → ChangedVariable name old new
+    → Holds old other → Holds new other
+variable_failed old new name other apart changed holds =
+    subst (λ h. Holds h other) (sym changed.nothing_else)
+    (variables_keep old new.variable other (λ q there. changed.others q (other_bytes name q (λ same. apart (ap Variable same ∙ sym there)))) holds)
+
+pub failure_keeps : FailureKeepsApart
+failure_keeps old new (wants.File path contents) other apart closed changed holds = path_failed old new (wants.File path contents) other path refl refl apart changed holds
+failure_keeps old new (wants.Folder path) other apart closed changed holds = absurd (closed tt)
+failure_keeps old new (wants.NoFile path) other apart closed changed holds = path_failed old new (wants.NoFile path) other path refl refl apart changed holds
+failure_keeps old new (wants.NoFolder path forced) other apart closed changed holds = path_failed old new (wants.NoFolder path forced) other path refl refl apart changed holds
+failure_keeps old new (wants.Variable name value) other apart closed changed holds = variable_failed old new name other (λ same. apart (inl same)) changed holds
+failure_keeps old new (wants.Entries name value) other apart closed changed holds = variable_failed old new name other (λ same. apart (inl same)) changed holds
+failure_keeps old new (wants.NoVariable name) other apart closed changed holds = variable_failed old new name other (λ same. apart (inl same)) changed holds
+failure_keeps old new (wants.NoEntries name value) other apart closed changed holds = variable_failed old new name other (λ same. apart (inl same)) changed holds
+failure_keeps old new (wants.Logged id message) other apart closed changed holds = elim changed [
+  | inl same ↦ subst (λ h. Holds h other) (sym same) holds
+  | inr done ↦ subst (λ h. Holds h other) (sym done) (log_keeps old (record { id = id; message = message } ∷ []) other holds)
+]
 
 -- ---- Sets in turn
 
