@@ -1,8 +1,11 @@
-pub mod HostPaths
-pub mod JoinedPaths
-pub mod EntryLists
 pub mod Barred
 pub mod Changed
+pub mod EntryLists
+pub mod HostPaths
+pub mod JoinedPaths
 pub mod Looked
-pub mod WhyMemory
 pub mod Meets
+pub mod PathSets
+pub mod RunLaws
+pub mod SetLaws
+pub mod WhyMemory

@@ -2,6 +2,7 @@ pub mod Apart
 pub mod Entries
 pub mod Holds
 pub mod Kinds
+pub mod Laws
 pub mod Names
 pub mod Paths
 pub mod Tables

@@ -10,6 +10,7 @@ mod entries;
 mod entry;
 mod keeping;
 mod kinds;
+mod laws;
 mod obstacles;
 mod paths;
 mod resources;
@@ -25,6 +26,7 @@ pub use entries::entry_laws;
 pub use entry::{Entry, Failure, SetAnswer, TestAnswer};
 pub use kinds::Kinds;
 pub use paths::path_of;
+pub use laws::set_laws;
 pub use resources::Resources;
 
 #[cfg(test)]
