@@ -1,5 +1,5 @@
 -- Which answers are true of a machine.
-use Rattle.std.specs.Prelude.{◌≡◌, ◌⊎◌, ℕ, true, false, List, Option, Some, None, Result, Ok, Err, ⊤, IfSome, slice_get}
+use Rattle.std.specs.Prelude.{◌≡◌, ◌⊎◌, ℕ, true, false, List, Option, Some, None, Result, Ok, Err, ⊤, All, IfSome, slice_get}
 use Rattle.dsc_outside.specs.Host.{HostState, wants_reboot}
 use Rattle.dsc_document.specs.declared.document.Document.{Document}
 use Rattle.dsc_document.specs.declared.document.Resource.{Resource}
@@ -74,14 +74,45 @@ IsTrueEntry before document (Set place answer) after =
 abbrev pub True : Document → HostState → List Entry → HostState → Type 0
 True document before trace after = Chain (λ a d e b. IsTrueEntry a d e b) (λ a b. a ≡ b) document before trace after
 
--- one entry where the host tells what it holds
+-- ---- what an answer tells whatever the host holds
+
+-- the one fault of a Test besides the resource's own is the host's
+abbrev pub BlamesHost : TestAnswer → Type 0
+BlamesHost tests.Yes = ⊤
+BlamesHost tests.No = ⊤
+BlamesHost (tests.Fault failure) = failure ≡ faults.HostFailed
+BlamesHost tests.Memory = ⊤
+
+-- the faults of a Set besides the resource's own are the host's, and that something is in the way
+abbrev pub BlamesMachine : SetAnswer → Type 0
+BlamesMachine sets.Done = ⊤
+BlamesMachine sets.Reboot = ⊤
+BlamesMachine (sets.Fault failure) = (failure ≡ faults.HostFailed) ⊎ (failure ≡ faults.InTheWay)
+BlamesMachine sets.Memory = ⊤
+
+-- a resource with a fault of its own is answered with it, and no other is
+abbrev pub TestKeepsTable : Result Wanted Failure → TestAnswer → Type 0
+TestKeepsTable (Ok wanted) answer = BlamesHost answer
+TestKeepsTable (Err failure) answer = IsTold failure (tests.Fault failure) tests.Memory answer
+
+abbrev pub SetKeepsTable : Result Wanted Failure → SetAnswer → Type 0
+SetKeepsTable (Ok wanted) answer = BlamesMachine answer
+SetKeepsTable (Err failure) answer = IsTold failure (sets.Fault failure) sets.Memory answer
+
+abbrev pub KeepsTable : Document → Entry → Type 0
+KeepsTable document (Tested place answer) = IfSome (slice_get document.resources place) (λ resource. TestKeepsTable (wanted_of resource) answer)
+KeepsTable document (Set place answer) = IfSome (slice_get document.resources place) (λ resource. SetKeepsTable (wanted_of resource) answer)
+
+-- ---- hosts that may tell
+
+-- one entry where the host tells what it holds; where it does not, the faults are still the table's
 abbrev pub TellsEntry : Option HostState → Document → Entry → Option HostState → Type 0
-TellsEntry None document e after = after ≡ None
+TellsEntry None document e after = (after ≡ None) × KeepsTable document e
 TellsEntry (Some before) document e after = (state : HostState) × (after ≡ Some state) × IsTrueEntry before document e state
 
--- a trace where the host tells what it holds
+-- a trace where the host tells what it holds; where it does not, the faults are still the table's
 abbrev pub TellsTrue : Document → Option HostState → List Entry → Option HostState → Type 0
-TellsTrue document None trace after = after ≡ None
+TellsTrue document None trace after = (after ≡ None) × All (KeepsTable document) trace
 TellsTrue document (Some before) trace after = (state : HostState) × (after ≡ Some state) × True document before trace state
 
 -- where the host tells what it holds, this leads from what it held to what it holds

@@ -7,7 +7,7 @@ ghost use Rattle.dsc_outside.specs.Changes.{ChangedVariable, Does};
 ghost use Rattle.dsc_outside.specs.Host.{Tells, wants_reboot};
 ghost use Rattle.resource_kinds.specs.Holds.{ChangedTarget, InTheWay, applied};
 ghost use Rattle.resource_kinds.specs.Wanted.{folded_utf8, wanted_of};
-ghost use Rattle.resource_kinds.specs.True.{SetsKnown, SetsTrue, TellsStep};
+ghost use Rattle.resource_kinds.specs.True.{BlamesMachine, SetKeepsTable, SetsKnown, SetsTrue, TellsStep};
 ghost use Rattle.resource_kinds.specs.Trace.{set_failures};
 ghost use Rattle.resource_kinds.specs.declared.wanted.Wanted.TheVariants as wants;
 
@@ -26,6 +26,7 @@ use std::alloc::Global;
 /// for it; with a fault of its own the host is not called.
 pub fn set<H: Host>(alloc: Global, host: &mut H, resource: &Resource) -> SetAnswer
     ensures told { TellsStep (H.told host.old) (H.told host.new) (λ before after. SetsTrue before resource.now.id (wanted_of resource.now) result after) }
+    ensures table { SetKeepsTable (wanted_of resource.now) result }
     ensures unseen { IfErr (wanted_of resource.now) (λ _. host.new ≡ host.old) }
     ensures cause { RoseBy (set_failures result) (H.faults host.old) (H.faults host.new) }
 {
@@ -38,6 +39,7 @@ pub fn set<H: Host>(alloc: Global, host: &mut H, resource: &Resource) -> SetAnsw
 
 fn set_wanted<H: Host>(alloc: Global, host: &mut H, id: &Text, wanted: &Wanted) -> SetAnswer
     ensures told { TellsStep (H.told host.old) (H.told host.new) (λ before after. SetsKnown before id.now wanted.now result after) }
+    ensures table { BlamesMachine result }
     ensures cause { RoseBy (set_failures result) (H.faults host.old) (H.faults host.new) }
 {
     match is_in_the_way(host, wanted) {
@@ -52,6 +54,7 @@ fn set_wanted<H: Host>(alloc: Global, host: &mut H, id: &Text, wanted: &Wanted) 
 fn set_clear<H: Host>(alloc: Global, host: &mut H, id: &Text, wanted: &Wanted) -> SetAnswer
     requires { IfSome (H.told host.old) (λ state. InTheWay state wanted.now → ⊥) }
     ensures told { TellsStep (H.told host.old) (H.told host.new) (λ before after. SetsKnown before id.now wanted.now result after) }
+    ensures table { BlamesMachine result }
     ensures cause { RoseBy (set_failures result) (H.faults host.old) (H.faults host.new) }
 {
     match apply(alloc, host, wanted) {

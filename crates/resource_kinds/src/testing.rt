@@ -7,7 +7,7 @@ ghost use Rattle.dsc_outside.specs.Causes.{HasCauseOf};
 ghost use Rattle.dsc_outside.specs.Host.{Tells};
 ghost use Rattle.resource_kinds.specs.Holds.{Holds};
 ghost use Rattle.resource_kinds.specs.Wanted.{wanted_of};
-ghost use Rattle.resource_kinds.specs.True.{AnswersKnown, AnswersTrue};
+ghost use Rattle.resource_kinds.specs.True.{AnswersKnown, AnswersTrue, BlamesHost, TestKeepsTable};
 ghost use Rattle.resource_kinds.specs.Trace.{test_failures};
 ghost use Rattle.resource_kinds.specs.declared.wanted.Wanted.TheVariants as wants;
 
@@ -23,6 +23,7 @@ use std::alloc::Global;
 pub fn test<H: Host>(alloc: Global, host: &mut H, resource: &Resource) -> TestAnswer
     ensures told { H.told host.new ≡ H.told host.old }
     ensures answer { IfSome (H.told host.old) (λ state. AnswersTrue state (wanted_of resource.now) result) }
+    ensures table { TestKeepsTable (wanted_of resource.now) result }
     ensures unseen { IfErr (wanted_of resource.now) (λ _. host.new ≡ host.old) }
     ensures cause { RoseBy (test_failures result) (H.faults host.old) (H.faults host.new) }
 {
@@ -36,6 +37,7 @@ pub fn test<H: Host>(alloc: Global, host: &mut H, resource: &Resource) -> TestAn
 fn test_wanted<H: Host>(alloc: Global, host: &mut H, wanted: &Wanted) -> TestAnswer
     ensures told { H.told host.new ≡ H.told host.old }
     ensures answer { IfSome (H.told host.old) (λ state. AnswersKnown state wanted.now result) }
+    ensures table { BlamesHost result }
     ensures cause { RoseBy (test_failures result) (H.faults host.old) (H.faults host.new) }
 {
     match holds(alloc, host, wanted) {
