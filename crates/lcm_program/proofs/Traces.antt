@@ -15,7 +15,7 @@ use Rattle.resource_kinds.specs.declared.entry.TestAnswer.TheVariants as tests
 use Rattle.resource_kinds.specs.Trace.{Chain, place_of, entry_failures, host_failures, EndsWith}
 use Rattle.lcm_program.specs.Legal.{Legal, MayTest, MayFollow, GoesOn}
 use Rattle.dsc_outside.specs.Host.{HostState}
-use Rattle.resource_kinds.specs.True.{EntryKeepsTable, True, TellsTrue, TellsEntry}
+use Rattle.resource_kinds.specs.True.{KeepsTable, True, TellsTrue, TellsEntry}
 use Rattle.lcm_program.specs.Whole.{Whole}
 use Rattle.dsc_terms.proofs.Splits.{split_push, split_at, contains_front, precedes, precedes_front}
 
@@ -107,22 +107,32 @@ chain_map f does still document a (e ∷ t) b chain = (f chain.0, chain.1, chain
 
 -- what a chain of values over a host tells is true, where the host tells
 pub tells_true : (document : Document) (t : List Entry) (a b : Option HostState) → Chain TellsEntry (λ x y. x ≡ y) document a t b → TellsTrue document a t b
-tells_true document [] None b chain = (sym chain, All-nil (EntryKeepsTable document))
+tells_true document [] None b chain = (sym chain, All-nil (KeepsTable document))
 tells_true document [] (Some s) b chain = (s, sym chain, refl)
 tells_true document (e ∷ t) None b chain =
     let rest = tells_true document t None b (subst (λ (m : Option HostState). Chain TellsEntry (λ x y. x ≡ y) document m t b) chain.1.0 chain.2) in
-    (rest.0, All-cons (EntryKeepsTable document) e t chain.1.1 rest.1)
+    (rest.0, All-cons (KeepsTable document) e t chain.1.1 rest.1)
 tells_true document (e ∷ t) (Some s) b chain =
     let step = chain.1 in
     let rest = tells_true document t (Some step.0) b (subst (λ (m : Option HostState). Chain TellsEntry (λ x y. x ≡ y) document m t b) step.1 chain.2) in
     (rest.0, rest.1, (step.0, step.2, rest.2))
 
--- true answers of tests leave the host as it was
-pub true_keeps : (document : Document) (t : List Entry) (a b : HostState) → True document a t b → b ≡ a
-true_keeps document [] a b chain = sym chain
-true_keeps document (Tested place answer ∷ t) a b chain = true_keeps document t chain.0 b chain.2 ∙ chain.1.0
-true_keeps document (Set place answer ∷ t) a b chain = absurd chain.1
+-- the trace has no Set
+abbrev SetsNothing : List Entry → Type 0
+SetsNothing t = (before : List Entry) (r : ℕ) (answer : _) (after : List Entry) → t ≡ before ++ Set r answer ∷ after → ⊥
 
-pub tells_true_keeps : (document : Document) (t : List Entry) (a b : Option HostState) → TellsTrue document a t b → b ≡ a
-tells_true_keeps document t None b tells = tells.0
-tells_true_keeps document t (Some s) b tells = tells.1 ∙ ap (λ (x : HostState). Some x) (true_keeps document t s tells.0 tells.2)
+-- true answers of tests leave the host as it was
+true_keeps : (document : Document) (t : List Entry) (a b : HostState) → SetsNothing t → True document a t b → b ≡ a
+true_keeps document [] a b none chain = sym chain
+true_keeps document (Tested place answer ∷ t) a b none chain =
+    let behind : SetsNothing t = λ before r given after e. none (Tested place answer ∷ before) r given after (ap (λ (l : List Entry). Tested place answer ∷ l) e) in
+    true_keeps document t chain.0 b behind chain.2 ∙ chain.1.0
+true_keeps document (Set place answer ∷ t) a b none chain = absurd (none [] place answer t refl)
+
+tells_keeps : (document : Document) (t : List Entry) (a b : Option HostState) → SetsNothing t → TellsTrue document a t b → b ≡ a
+tells_keeps document t None b none tells = tells.0
+tells_keeps document t (Some s) b none tells = tells.1 ∙ ap (λ (x : HostState). Some x) (true_keeps document t s tells.0 none tells.2)
+
+-- so a run that only monitors leaves it so
+pub monitor_keeps : (document : Document) (order : List ℕ) (t : List Entry) (a b : Option HostState) → Legal document Monitor order t → TellsTrue document a t b → b ≡ a
+monitor_keeps document order t a b legal = tells_keeps document t a b (λ before r answer after e. monitor_sets_nothing document order t before r answer after legal e)
