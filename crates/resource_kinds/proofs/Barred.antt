@@ -1,5 +1,5 @@
 -- What stands above a path.
-use Rattle.std.proofs.Common.{◌≡◌, ◌↔◌, ℕ, ◌+◌, ◌<◌, ◌≤◌, List, ◌∷◌, ◌++◌, Bool, true, false, IsTrue, IfSome, Option, Some, None, Ok, length, take, drop, slice_index, get_or, refl, sym, ap, subst, ◌∙◌, arith, length-append}
+use Rattle.std.proofs.Common.{◌≡◌, ◌↔◌, ℕ, ◌+◌, ◌<◌, ◌≤◌, List, ◌∷◌, ◌++◌, Bool, true, false, IsTrue, IfSome, Option, Some, None, Ok, length, take, drop, slice_index, refl, sym, ap, subst, ◌∙◌, arith, length-append}
 use Rattle.std.proofs.Math.Seq.{take-append_seam, get_or-append_seam}
 use Rattle.dsc_terms.proofs.Splits.{split_at}
 use Rattle.dsc_outside.specs.Host.{HostState, Tells}

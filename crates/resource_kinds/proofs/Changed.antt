@@ -1,13 +1,12 @@
 -- What a Set that is done changes is its own target.
-use Rattle.std.proofs.Common.{◌≡◌, ◌⊎◌, ℕ, List, [], Bool, true, false, ◌||◌, if◌then◌else◌, inl, inr, Option, Some, None, Err, Ok, length, refl, sym, ap, ◌∙◌, arith}
+use Rattle.std.proofs.Common.{◌≡◌, ◌⊎◌, ℕ, List, [], Bool, true, false, ◌||◌, inl, inr, Option, Some, None, Ok, length, refl, ap, ◌∙◌, arith}
 use Rattle.std.specs.Prelude.{unwrap_or}
-use Rattle.std.specs.Map.{update}
 use Rattle.std.specs.Str.{bytes_eq}
 use Rattle.std.proofs.lemmas.Bool.{false_from_ne_true}
 use Rattle.std.proofs.lemmas.Slice.Eq.{bytes_eq-Decides}
-use Rattle.dsc_outside.specs.Changes.{ChangedPath, ChangedVariable, Does, with_file, with_folder, with_variable, without_path, without_variable}
+use Rattle.dsc_outside.specs.Changes.{ChangedPath, ChangedVariable, Does, with_file, with_folder, without_path}
 use Rattle.dsc_outside.specs.Host.{HostState}
-use Rattle.dsc_outside.specs.Paths.{PathKind, Nothing, File, Folder, Other, filled, folder_made, is_below, is_within, file_put, removed, with_folders_above}
+use Rattle.dsc_outside.specs.Paths.{PathKind, Nothing, File, Folder, Other, filled, is_below}
 use Rattle.dsc_outside.specs.declared.host.HostError.{HostError}
 use Rattle.dsc_outside.proofs.Below.{below_longer, not_below_both}
 use Rattle.resource_kinds.specs.declared.wanted.Wanted.{Wanted}

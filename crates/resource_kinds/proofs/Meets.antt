@@ -1,5 +1,5 @@
 -- The tests by which resources are told to meet.
-use Rattle.std.proofs.Common.{◌≡◌, ◌↔◌, ◌⊎◌, ◌<◌, ◌≤◌, ◌||◌, ℕ, zero, suc, List, [], ◌∷◌, Bool, true, false, IsTrue, Option, Some, None, inl, inr, map, length, get_or, slice_get, option_and_then, refl, sym, ap, subst, ◌∙◌, ⊎_elim, arith}
+use Rattle.std.proofs.Common.{◌≡◌, ◌↔◌, ◌<◌, ◌≤◌, ◌||◌, ℕ, zero, suc, List, [], ◌∷◌, Bool, true, false, IsTrue, Option, Some, None, inl, inr, map, length, get_or, slice_get, option_and_then, refl, sym, ap, subst, ◌∙◌, ⊎_elim, arith}
 use Rattle.std.specs.Bool.{Decides}
 use Rattle.std.specs.Str.{bytes_eq}
 use Rattle.std.specs.Result.{result_ok}
@@ -43,9 +43,10 @@ enclosed_says (Some path) (Variable name) e = absurd (cc (e))
 enclosed_says (Some path) (LogEntry i m) e = absurd (cc (e))
 
 pub enclosed-Decides : (a b : Wanted) → Decides (is_enclosed (closed_path a) (target_of b)) (Encloses a b)
-enclosed-Decides a b =
-    (λ e. let says = enclosed_says (closed_path a) (target_of b) e in (says.0, says.1, says.2, says.3, (below-Decides says.0 says.1).0 says.4),
-    λ is. rw (is.2, is.3) ((below-Decides is.0 is.1).1 is.4))
+enclosed-Decides a b = (
+  λ e. let says = enclosed_says (closed_path a) (target_of b) e in (says.0, says.1, says.2, says.3, (below-Decides says.0 says.1).0 says.4),
+  λ is. rw (is.2, is.3) ((below-Decides is.0 is.1).1 is.4),
+)
 
 pub meet_says : (a b : Wanted) (same out back : Bool) → same ≡ same_target (target_of a) (target_of b) → IsTrue out ↔ Encloses a b → IsTrue back ↔ Encloses b a
     → IsTrue ((same || out) || back) ↔ Meet a b
@@ -54,6 +55,7 @@ meet_says a b same out back is out_is back_is = (says same out back is out_is ba
   says true o k e p q t = inl (same_says (target_of a) (target_of b) (sym e))
   says false true k e p q t = inr (inl (p.0 refl))
   says false false k e p q t = inr (inr (q.0 t))
+
   found : (s o k : Bool) → s ≡ same_target (target_of a) (target_of b) → IsTrue o ↔ Encloses a b → IsTrue k ↔ Encloses b a → Meet a b → IsTrue ((s || o) || k)
   found true true k e p q m = refl
   found true false k e p q m = refl
@@ -93,7 +95,7 @@ overlap_at document all second is m =
       b = both.1;
       asks_first = asked_at document all m.0 is ∙ both.2;
       asks_second = asked_at document all second is ∙ both.3;
-      meet = both.4
+      meet = both.4;
     }
 
 pub apart_all : (document : Document) (all : List (Option Wanted)) (far : ℕ) → all ≡ map (λ r. result_ok (wanted_of r)) document.resources → length all ≤ far

@@ -4,7 +4,6 @@ use Rattle.std.specs.Str.{bytes_eq}
 use Rattle.std.specs.Result.{result_ok}
 use Rattle.dsc_outside.specs.Paths.{IsBelow, is_below}
 use Rattle.dsc_document.specs.declared.document.Document.{Document}
-use Rattle.dsc_document.specs.declared.document.Resource.{Resource}
 use Rattle.resource_kinds.specs.declared.wanted.Wanted.{Wanted}
 use Rattle.resource_kinds.specs.declared.wanted.Wanted.TheVariants as wants
 use Rattle.resource_kinds.specs.Wanted.{wanted_of}

@@ -2,7 +2,6 @@
 use Rattle.std.specs.Prelude.{◌≡◌, ◌⊎◌, ℕ, true, false, List, Option, Some, None, Result, Ok, Err, ⊤, All, IfSome, slice_get}
 use Rattle.dsc_outside.specs.Host.{HostState, wants_reboot}
 use Rattle.dsc_document.specs.declared.document.Document.{Document}
-use Rattle.dsc_document.specs.declared.document.Resource.{Resource}
 use Rattle.resource_kinds.specs.declared.entry.Failure.{Failure}
 use Rattle.resource_kinds.specs.declared.entry.Failure.TheVariants as faults
 use Rattle.resource_kinds.specs.declared.entry.TestAnswer.{TestAnswer}

@@ -1,5 +1,5 @@
 -- What a resource asks for, by the table of its kind, or its fault.
-use Rattle.std.specs.Prelude.{◌≡◌, ℕ, ⊤, if◌then◌else◌, List, [], Option, Some, None, option_map, option_and_then, unwrap_or, Result, Ok, Err, codes, encode_utf8_all}
+use Rattle.std.specs.Prelude.{◌≡◌, ℕ, ⊤, if◌then◌else◌, List, [], Option, Some, None, option_map, unwrap_or, Result, Ok, Err, codes, encode_utf8_all}
 use Rattle.mof_values.specs.Fold.{fold_case}
 use Rattle.mof_values.specs.declared.instance.Instance.{Instance}
 use Rattle.mof_values.specs.declared.instance.Property.{Property}

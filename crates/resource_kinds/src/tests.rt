@@ -133,23 +133,47 @@ fn resources_about_one_thing_overlap(rt: HostRuntime) -> Result<(), Fail> {
     for (declarations, wanted) in [
         ("Environment Name=A", false),
         ("Environment Name=A; Environment Name=B", false),
-        ("Environment Name=A; Environment Name=B; environment Name=a", false),
-        ("Environment Name=A; Environment Name=B; Environment name=a Value=v", true),
+        (
+            "Environment Name=A; Environment Name=B; environment Name=a",
+            false,
+        ),
+        (
+            "Environment Name=A; Environment Name=B; Environment name=a Value=v",
+            true,
+        ),
         ("Environment Name=A; Environment Name=A Colour=red", false),
         ("Environment Name=A; Log Message=A", false),
         ("Environment Value=v; Environment Value=v", false),
-        ("Environment Name=A Path=true; Environment Name=a Ensure=Absent", true),
+        (
+            "Environment Name=A Path=true; Environment Name=a Ensure=Absent",
+            true,
+        ),
         ("Log Message=m; Log Message=m", true),
         ("Log Message=m; Log Message=M", false),
-        ("File DestinationPath=/a/b; File DestinationPath=\\a\\.\\b", false),
-        ("File DestinationPath=/a/b; File DestinationPath=/a\\.\\b", true),
+        (
+            "File DestinationPath=/a/b; File DestinationPath=\\a\\.\\b",
+            false,
+        ),
+        (
+            "File DestinationPath=/a/b; File DestinationPath=/a\\.\\b",
+            true,
+        ),
         ("File DestinationPath=/a; File DestinationPath=/A", false),
         ("File DestinationPath=/a; File DestinationPath=/a/b", true),
         ("File DestinationPath=/a/b/c; File DestinationPath=/a", true),
         ("File DestinationPath=/a; File DestinationPath=/ab", false),
-        ("File DestinationPath=/a Type=Directory; File DestinationPath=/a/b", false),
-        ("File DestinationPath=/a/b; File DestinationPath=/a Type=Directory", false),
-        ("File DestinationPath=/a Type=Directory Ensure=Absent; File DestinationPath=/a/b", true),
+        (
+            "File DestinationPath=/a Type=Directory; File DestinationPath=/a/b",
+            false,
+        ),
+        (
+            "File DestinationPath=/a/b; File DestinationPath=/a Type=Directory",
+            false,
+        ),
+        (
+            "File DestinationPath=/a Type=Directory Ensure=Absent; File DestinationPath=/a/b",
+            true,
+        ),
     ] {
         let document = document(&rt, declarations)?;
         assert_eq!(rt; overlaps(rt.alloc(), &document)?, wanted, "{declarations}");

@@ -23,8 +23,15 @@ fn check_set(
     assert!(rt;
         matches!(kinds.calls(), [Entry::Set { place: 0, answer: kept }] if *kept == answer)
     );
-    assert!(rt; hold_the_same(kinds.host().contents(), &machine(rt, after)?), "{declaration} on {before}");
-    assert_eq!(rt; shown_set(rt, &answer)?.as_str(), wanted, "{declaration} on {before}");
+    assert!(rt;
+        hold_the_same(kinds.host().contents(), &machine(rt, after)?),
+        "{declaration} on {before}"
+    );
+    assert_eq!(rt;
+        shown_set(rt, &answer)?.as_str(),
+        wanted,
+        "{declaration} on {before}"
+    );
     Ok(())
 }
 
@@ -44,15 +51,45 @@ fn a_file_is_put_and_taken_away(rt: HostRuntime) -> Result<(), Fail> {
     check_sets(
         &rt,
         &[
-            ("File DestinationPath=c:\\a\\b Contents=hi", "q:x", "done", "q:x C/ C/a/ C/a/b:hi"),
+            (
+                "File DestinationPath=c:\\a\\b Contents=hi",
+                "q:x",
+                "done",
+                "q:x C/ C/a/ C/a/b:hi",
+            ),
             ("File DestinationPath=/p", "", "done", "p:"),
-            ("File DestinationPath=/p Contents=hi", "p:old pq:x", "done", "p:hi pq:x"),
-            ("File DestinationPath=/p Contents=hi", "p/", "InTheWay", "p/"),
+            (
+                "File DestinationPath=/p Contents=hi",
+                "p:old pq:x",
+                "done",
+                "p:hi pq:x",
+            ),
+            (
+                "File DestinationPath=/p Contents=hi",
+                "p/",
+                "InTheWay",
+                "p/",
+            ),
             ("File DestinationPath=/p", "p?", "InTheWay", "p?"),
             ("File DestinationPath=/p/q/r", "p:x", "InTheWay", "p:x"),
-            ("File DestinationPath=/p/q/r", "p/ p/q?", "InTheWay", "p/ p/q?"),
-            ("File DestinationPath=/p Ensure=Absent", "p:x pq:x", "done", "pq:x"),
-            ("File DestinationPath=/p Ensure=Absent", "p/", "InTheWay", "p/"),
+            (
+                "File DestinationPath=/p/q/r",
+                "p/ p/q?",
+                "InTheWay",
+                "p/ p/q?",
+            ),
+            (
+                "File DestinationPath=/p Ensure=Absent",
+                "p:x pq:x",
+                "done",
+                "pq:x",
+            ),
+            (
+                "File DestinationPath=/p Ensure=Absent",
+                "p/",
+                "InTheWay",
+                "p/",
+            ),
             ("File DestinationPath=/p Ensure=Absent", "", "done", ""),
         ],
     )
@@ -63,14 +100,54 @@ fn a_directory_is_made_and_taken_away(rt: HostRuntime) -> Result<(), Fail> {
     check_sets(
         &rt,
         &[
-            ("File DestinationPath=/p/q Type=Directory", "", "done", "p/ p/q/"),
-            ("File DestinationPath=/p Type=Directory", "p/ p/q:x", "done", "p/ p/q:x"),
-            ("File DestinationPath=/p Type=Directory", "p:x", "InTheWay", "p:x"),
-            ("File DestinationPath=/p Type=Directory Ensure=Absent", "p/ pq/", "done", "pq/"),
-            ("File DestinationPath=/p Type=Directory Ensure=Absent", "p/ p/q:x", "InTheWay", "p/ p/q:x"),
-            ("File DestinationPath=/p Type=Directory Ensure=Absent Force=false", "p/ p/q:x", "InTheWay", "p/ p/q:x"),
-            ("File DestinationPath=/p Type=Directory Ensure=Absent Force=true", "p/ p/q:x r:x", "done", "r:x"),
-            ("File DestinationPath=/p Type=Directory Ensure=Absent Force=true", "p:x", "InTheWay", "p:x"),
+            (
+                "File DestinationPath=/p/q Type=Directory",
+                "",
+                "done",
+                "p/ p/q/",
+            ),
+            (
+                "File DestinationPath=/p Type=Directory",
+                "p/ p/q:x",
+                "done",
+                "p/ p/q:x",
+            ),
+            (
+                "File DestinationPath=/p Type=Directory",
+                "p:x",
+                "InTheWay",
+                "p:x",
+            ),
+            (
+                "File DestinationPath=/p Type=Directory Ensure=Absent",
+                "p/ pq/",
+                "done",
+                "pq/",
+            ),
+            (
+                "File DestinationPath=/p Type=Directory Ensure=Absent",
+                "p/ p/q:x",
+                "InTheWay",
+                "p/ p/q:x",
+            ),
+            (
+                "File DestinationPath=/p Type=Directory Ensure=Absent Force=false",
+                "p/ p/q:x",
+                "InTheWay",
+                "p/ p/q:x",
+            ),
+            (
+                "File DestinationPath=/p Type=Directory Ensure=Absent Force=true",
+                "p/ p/q:x r:x",
+                "done",
+                "r:x",
+            ),
+            (
+                "File DestinationPath=/p Type=Directory Ensure=Absent Force=true",
+                "p:x",
+                "InTheWay",
+                "p:x",
+            ),
         ],
     )
 }
@@ -80,15 +157,50 @@ fn a_variable_is_put_and_taken_away(rt: HostRuntime) -> Result<(), Fail> {
     check_sets(
         &rt,
         &[
-            ("Environment Name=Editor Value=vim", "", "done", "$editor=vim"),
+            (
+                "Environment Name=Editor Value=vim",
+                "",
+                "done",
+                "$editor=vim",
+            ),
             ("Environment Name=Editor", "$editor=vim", "done", "$editor="),
-            ("Environment Name=Editor Ensure=Absent", "$editor=vim", "done", ""),
-            ("Environment Name=Path Path=true Value=/a|/c|/c", "$path=/a|/b", "done", "$path=/a|/b|/c"),
-            ("Environment Name=Path Path=true Value=/a|/c", "", "done", "$path=/a|/c"),
+            (
+                "Environment Name=Editor Ensure=Absent",
+                "$editor=vim",
+                "done",
+                "",
+            ),
+            (
+                "Environment Name=Path Path=true Value=/a|/c|/c",
+                "$path=/a|/b",
+                "done",
+                "$path=/a|/b|/c",
+            ),
+            (
+                "Environment Name=Path Path=true Value=/a|/c",
+                "",
+                "done",
+                "$path=/a|/c",
+            ),
             ("Environment Name=Path Path=true", "", "done", "$path="),
-            ("Environment Name=Path Path=true Ensure=Absent Value=/a", "$path=/a|/b", "done", "$path=/b"),
-            ("Environment Name=Path Path=true Ensure=Absent Value=/a", "$path=/a", "done", ""),
-            ("Environment Name=Path Path=true Ensure=Absent Value=/a", "", "done", ""),
+            (
+                "Environment Name=Path Path=true Ensure=Absent Value=/a",
+                "$path=/a|/b",
+                "done",
+                "$path=/b",
+            ),
+            (
+                "Environment Name=Path Path=true Ensure=Absent Value=/a",
+                "$path=/a",
+                "done",
+                "",
+            ),
+            (
+                "Environment Name=Path Path=true Ensure=Absent Value=/a",
+                "",
+                "done",
+                "",
+            ),
         ],
     )
 }
@@ -107,8 +219,18 @@ fn a_set_that_is_done_tells_the_wish_for_a_reboot(rt: HostRuntime) -> Result<(),
         &rt,
         &[
             ("Log Message=m", "![a]one", "reboot", "#[a]one=m ![a]one"),
-            ("Log Message=m", "![A]One ![a]two", "done", "#[a]one=m ![A]One ![a]two"),
-            ("File DestinationPath=/p", "p/ ![a]one", "InTheWay", "p/ ![a]one"),
+            (
+                "Log Message=m",
+                "![A]One ![a]two",
+                "done",
+                "#[a]one=m ![A]One ![a]two",
+            ),
+            (
+                "File DestinationPath=/p",
+                "p/ ![a]one",
+                "InTheWay",
+                "p/ ![a]one",
+            ),
         ],
     )
 }

@@ -39,11 +39,27 @@ fn a_kind_is_told_by_its_class_without_case(rt: HostRuntime) -> Result<(), Fail>
     check_tests(
         &rt,
         &[
-            ("MSFT_EnvironmentResource Name=Editor Value=vim", "$editor=vim", "yes"),
-            ("msft_ENVIRONMENTresource Name=Editor Value=vim", "$editor=vim", "yes"),
-            ("MSFT_EnvironmentResources Name=Editor Value=vim", "$editor=vim", "NoSuchResource"),
+            (
+                "MSFT_EnvironmentResource Name=Editor Value=vim",
+                "$editor=vim",
+                "yes",
+            ),
+            (
+                "msft_ENVIRONMENTresource Name=Editor Value=vim",
+                "$editor=vim",
+                "yes",
+            ),
+            (
+                "MSFT_EnvironmentResources Name=Editor Value=vim",
+                "$editor=vim",
+                "NoSuchResource",
+            ),
             ("msft_logresource Message=m", "#[a]one=m", "yes"),
-            ("MSFT_FILEDIRECTORYCONFIGURATION DestinationPath=/p", "p:x", "yes"),
+            (
+                "MSFT_FILEDIRECTORYCONFIGURATION DestinationPath=/p",
+                "p:x",
+                "yes",
+            ),
             ("MSFT_ServiceResource Colour=red", "", "NoSuchResource"),
         ],
     )
@@ -58,17 +74,37 @@ fn a_path_holds_what_is_asked_for(rt: HostRuntime) -> Result<(), Fail> {
             ("File DestinationPath=/p", "", "no"),
             ("File DestinationPath=/p", "p/", "no"),
             ("File DestinationPath=/p", "p?", "no"),
-            ("File DestinationPath=c:\\a\\b Contents=hi", "C/ C/a/ C/a/b:hi", "yes"),
+            (
+                "File DestinationPath=c:\\a\\b Contents=hi",
+                "C/ C/a/ C/a/b:hi",
+                "yes",
+            ),
             ("File DestinationPath=/p Contents=hi", "p:Hi", "no"),
             ("File DestinationPath=/p Contents=", "p:", "yes"),
-            ("File DestinationPath=/p Contents=null Type=FILE", "p:x", "yes"),
+            (
+                "File DestinationPath=/p Contents=null Type=FILE",
+                "p:x",
+                "yes",
+            ),
             ("File DestinationPath=/p tYPE=dIRECTORY", "p/ p/q:x", "yes"),
             ("File DestinationPath=/p Type=Directory", "p/", "yes"),
             ("File DestinationPath=/p Type=Directory", "p:x", "no"),
             ("File DestinationPath=/p Ensure=aBSENT", "", "yes"),
-            ("File DestinationPath=/p Ensure=Absent Contents=hi", "p:x", "no"),
-            ("File DestinationPath=/p Ensure=Absent Type=Directory", "p/", "no"),
-            ("File DestinationPath=/p Ensure=PRESENT Force=false", "p:x", "yes"),
+            (
+                "File DestinationPath=/p Ensure=Absent Contents=hi",
+                "p:x",
+                "no",
+            ),
+            (
+                "File DestinationPath=/p Ensure=Absent Type=Directory",
+                "p/",
+                "no",
+            ),
+            (
+                "File DestinationPath=/p Ensure=PRESENT Force=false",
+                "p:x",
+                "yes",
+            ),
         ],
     )
 }
@@ -84,12 +120,32 @@ fn a_variable_holds_what_is_asked_for(rt: HostRuntime) -> Result<(), Fail> {
             ("Environment Name=Editor Value=null", "$editor=", "yes"),
             ("Environment Name=Editor", "", "no"),
             ("Environment Name=Editor Ensure=Absent", "$editor=vim", "no"),
-            ("Environment Name=Editor Ensure=Absent Value=nano", "", "yes"),
-            ("Environment Name=Path Path=true Value=/a|/c", "$path=/a|/b", "no"),
-            ("Environment Name=Path Path=true Value=/b|/a", "$path=/a|/b", "yes"),
+            (
+                "Environment Name=Editor Ensure=Absent Value=nano",
+                "",
+                "yes",
+            ),
+            (
+                "Environment Name=Path Path=true Value=/a|/c",
+                "$path=/a|/b",
+                "no",
+            ),
+            (
+                "Environment Name=Path Path=true Value=/b|/a",
+                "$path=/a|/b",
+                "yes",
+            ),
             ("Environment Name=Path Path=true", "", "no"),
-            ("Environment Name=Path Path=true Ensure=Absent Value=/c", "$path=/a|/b", "yes"),
-            ("Environment Name=Path Path=true Ensure=Absent Value=/c|/a", "$path=/a|/b", "no"),
+            (
+                "Environment Name=Path Path=true Ensure=Absent Value=/c",
+                "$path=/a|/b",
+                "yes",
+            ),
+            (
+                "Environment Name=Path Path=true Ensure=Absent Value=/c|/a",
+                "$path=/a|/b",
+                "no",
+            ),
         ],
     )
 }
@@ -111,9 +167,21 @@ fn properties_of_every_kind_and_of_no_value_are_passed_over(rt: HostRuntime) -> 
     check_tests(
         &rt,
         &[
-            ("Log ResourceID=7 MODULENAME={a} ModuleVersion=$m Message=m", "#[a]one=m", "yes"),
-            ("Log SourceInfo=true ConfigurationName=c dependson={[a]b} Message=m", "#[a]one=m", "yes"),
-            ("Log Ensure=null Path=null Colour=null Message=m", "#[a]one=m", "yes"),
+            (
+                "Log ResourceID=7 MODULENAME={a} ModuleVersion=$m Message=m",
+                "#[a]one=m",
+                "yes",
+            ),
+            (
+                "Log SourceInfo=true ConfigurationName=c dependson={[a]b} Message=m",
+                "#[a]one=m",
+                "yes",
+            ),
+            (
+                "Log Ensure=null Path=null Colour=null Message=m",
+                "#[a]one=m",
+                "yes",
+            ),
         ],
     )
 }
@@ -125,26 +193,62 @@ fn the_first_wrong_property_is_told_then_a_missing_key_then_a_wrong_path(
     check_tests(
         &rt,
         &[
-            ("Environment Name=Editor Ensure=Preset", "", "OutOfProfile Ensure"),
-            ("Environment pATH=yes Name=Editor Ensure=7", "", "OutOfProfile pATH"),
+            (
+                "Environment Name=Editor Ensure=Preset",
+                "",
+                "OutOfProfile Ensure",
+            ),
+            (
+                "Environment pATH=yes Name=Editor Ensure=7",
+                "",
+                "OutOfProfile pATH",
+            ),
             ("Environment nAME=7 VALUE=7", "", "OutOfProfile nAME"),
             ("Environment VALUE=7 nAME=7", "", "OutOfProfile VALUE"),
             ("Environment Name=", "", "OutOfProfile Name"),
             ("Environment Name={Editor}", "", "OutOfProfile Name"),
-            ("Environment Name=Editor Contents=x", "", "OutOfProfile Contents"),
+            (
+                "Environment Name=Editor Contents=x",
+                "",
+                "OutOfProfile Contents",
+            ),
             ("Environment Value=vim", "", "OutOfProfile Name"),
             ("Environment name=null Value=vim", "", "OutOfProfile Name"),
             ("Log", "", "OutOfProfile Message"),
             ("Log Message=$m", "", "OutOfProfile Message"),
             ("Log Message=m Ensure=Present", "", "OutOfProfile Ensure"),
             ("File", "", "OutOfProfile DestinationPath"),
-            ("File DestinationPath=p Colour=red", "", "OutOfProfile Colour"),
+            (
+                "File DestinationPath=p Colour=red",
+                "",
+                "OutOfProfile Colour",
+            ),
             ("File DestinationPath=/p Type=Link", "", "OutOfProfile Type"),
-            ("File DestinationPath=/p Force=yes", "", "OutOfProfile Force"),
-            ("File DestinationPath=/p Contents=x Type=Directory", "", "OutOfProfile Contents"),
-            ("File DestinationPath=/p Type=Directory Contents=x Ensure=Absent", "", "OutOfProfile Contents"),
-            ("File DestinationPath=/p Ensure=Absent Contents=7", "", "OutOfProfile Contents"),
-            ("File DestinationPath=/p SourcePath=/q", "", "OutOfProfile SourcePath"),
+            (
+                "File DestinationPath=/p Force=yes",
+                "",
+                "OutOfProfile Force",
+            ),
+            (
+                "File DestinationPath=/p Contents=x Type=Directory",
+                "",
+                "OutOfProfile Contents",
+            ),
+            (
+                "File DestinationPath=/p Type=Directory Contents=x Ensure=Absent",
+                "",
+                "OutOfProfile Contents",
+            ),
+            (
+                "File DestinationPath=/p Ensure=Absent Contents=7",
+                "",
+                "OutOfProfile Contents",
+            ),
+            (
+                "File DestinationPath=/p SourcePath=/q",
+                "",
+                "OutOfProfile SourcePath",
+            ),
             ("File DestinationPath=p", "", "BadPath"),
             ("File DestinationPath=/a/../b", "", "BadPath"),
         ],
@@ -155,7 +259,10 @@ fn the_first_wrong_property_is_told_then_a_missing_key_then_a_wrong_path(
 fn a_failing_look_is_the_hosts_fault_alone(rt: HostRuntime) -> Result<(), Fail> {
     for (declaration, wanted) in [
         ("Environment Name=Editor Value=vim", "HostFailed"),
-        ("Environment Name=Editor Path=true Ensure=Absent", "HostFailed"),
+        (
+            "Environment Name=Editor Path=true Ensure=Absent",
+            "HostFailed",
+        ),
         ("File DestinationPath=/p", "HostFailed"),
         ("File DestinationPath=/p Contents=x", "HostFailed"),
         ("File DestinationPath=/p Type=Directory", "HostFailed"),
