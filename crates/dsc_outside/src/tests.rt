@@ -1,3 +1,5 @@
+mod faulty_files;
+mod folder_faults;
 mod folder_lists;
 mod folder_paths;
 mod memory_forms;
