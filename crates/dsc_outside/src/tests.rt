@@ -1,4 +1,6 @@
 mod host_calls;
+mod faulty_files;
+mod folder_faults;
 mod folder_lists;
 mod folder_paths;
 mod memory_forms;

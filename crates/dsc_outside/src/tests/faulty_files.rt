@@ -1,0 +1,146 @@
+use std::alloc::Allocator;
+use std::fs::{Metadata, OpenFile, OpenOptions};
+use std::io;
+use std::io::{ErrorKind, Read, Seek, SeekFrom, Write};
+use std::rt::Files;
+
+/// What fails, and in which way.
+#[derive(Clone, Copy, Debug, PartialEq, Eq)]
+pub enum Step {
+    /// Each read but the first of a file, which gives one byte.
+    Read,
+
+    /// Each write but the first of a file, which takes one byte.
+    Write,
+    Sync,
+    Rename,
+}
+
+/// The system's files, of which one step fails.
+#[derive(Drop)]
+pub struct FaultyFiles<R: Files> {
+    pub rt: R,
+    pub fails: Step,
+}
+
+#[derive(Drop)]
+pub struct FaultyFile<F: Read + Write + Seek + OpenFile + Drop> {
+    file: F,
+    fails: Step,
+    calls: u32,
+}
+
+fn fault() -> io::Error {
+    io::Error::from(ErrorKind::StorageFull)
+}
+
+impl<F: Read + Write + Seek + OpenFile + Drop> Read for FaultyFile<F> {
+    fn read(&mut self, buf: &mut [u8]) -> io::Result<usize> {
+        if self.fails != Step::Read {
+            return self.file.read(buf);
+        }
+        self.calls = self.calls.saturating_add(1);
+        if self.calls > 1 {
+            return Err(fault());
+        }
+        let room = buf.len().min(1);
+        self.file.read(&mut buf[..room])
+    }
+}
+
+impl<F: Read + Write + Seek + OpenFile + Drop> Write for FaultyFile<F> {
+    fn write(&mut self, buf: &[u8]) -> io::Result<usize> {
+        if self.fails != Step::Write {
+            return self.file.write(buf);
+        }
+        self.calls = self.calls.saturating_add(1);
+        if self.calls > 1 {
+            return Err(fault());
+        }
+        self.file.write(&buf[..buf.len().min(1)])
+    }
+
+    fn flush(&mut self) -> io::Result<()> {
+        self.file.flush()
+    }
+}
+
+impl<F: Read + Write + Seek + OpenFile + Drop> Seek for FaultyFile<F> {
+    fn seek(&mut self, to: SeekFrom) -> io::Result<u64> {
+        self.file.seek(to)
+    }
+}
+
+impl<F: Read + Write + Seek + OpenFile + Drop> OpenFile for FaultyFile<F> {
+    fn metadata(&self) -> io::Result<Metadata> {
+        self.file.metadata()
+    }
+
+    fn set_len(&self, size: u64) -> io::Result<()> {
+        self.file.set_len(size)
+    }
+
+    fn sync_all(&self) -> io::Result<()> {
+        if self.fails == Step::Sync {
+            return Err(fault());
+        }
+        self.file.sync_all()
+    }
+
+    fn sync_data(&self) -> io::Result<()> {
+        self.file.sync_data()
+    }
+}
+
+impl<R: Files> Files for FaultyFiles<R> {
+    type File = FaultyFile<R::File>;
+
+    type Dir = R::Dir;
+
+    fn open_file(&self, how: &OpenOptions, path: &str) -> io::Result<FaultyFile<R::File>> {
+        Ok(FaultyFile {
+            file: self.rt.open_file(how, path)?,
+            fails: self.fails,
+            calls: 0,
+        })
+    }
+
+    fn open_dir(&self, path: &str) -> io::Result<R::Dir> {
+        self.rt.open_dir(path)
+    }
+
+    fn metadata(&self, path: &str) -> io::Result<Metadata> {
+        self.rt.metadata(path)
+    }
+
+    fn symlink_metadata(&self, path: &str) -> io::Result<Metadata> {
+        self.rt.symlink_metadata(path)
+    }
+
+    fn copy(&self, from: &str, to: &str) -> io::Result<u64> {
+        self.rt.copy(from, to)
+    }
+
+    fn rename(&self, from: &str, to: &str) -> io::Result<()> {
+        if self.fails == Step::Rename {
+            return Err(fault());
+        }
+        self.rt.rename(from, to)
+    }
+
+    fn remove_file(&self, path: &str) -> io::Result<()> {
+        self.rt.remove_file(path)
+    }
+
+    fn create_dir(&self, path: &str) -> io::Result<()> {
+        self.rt.create_dir(path)
+    }
+
+    fn remove_dir(&self, path: &str) -> io::Result<()> {
+        self.rt.remove_dir(path)
+    }
+
+    fn remove_dir_all<B: Allocator>(&self, alloc: B, path: &str) -> io::Result<()> {
+        self.rt.remove_dir_all(alloc, path)
+    }
+}
