@@ -8,7 +8,7 @@ use Rattle.dsc_outside.specs.declared.host.HostError.{HostError}
 use Rattle.resource_kinds.specs.Holds.{BarsFolder, IsBarred}
 
 -- the front of a path, up to a `/`, is above it
-front_above : (path : List ℕ) (at : ℕ) → at < length path → slice_index path at ≡ 47 → IsBelow (take at path) path
+pub front_above : (path : List ℕ) (at : ℕ) → at < length path → slice_index path at ≡ 47 → IsBelow (take at path) path
 front_above path at within slash = (drop (at + 1) path, split_at path at 0 within ∙ ap (λ c. take at path ++ c ∷ drop (at + 1) path) slash)
 
 pub barred : (told now : Option HostState) (heard : Bool) (path front : List ℕ) (at : ℕ) → now ≡ told → heard ≡ true → front ≡ take at path → at < length path → slice_index path at ≡ 47

@@ -1,113 +1,248 @@
--- The tests by which resources are told to meet.
-use Rattle.std.proofs.Common.{◌≡◌, ◌↔◌, ◌<◌, ◌≤◌, ◌||◌, ℕ, zero, suc, List, [], ◌∷◌, Bool, true, false, IsTrue, Option, Some, None, inl, inr, map, length, get_or, slice_get, option_and_then, refl, sym, ap, subst, ◌∙◌, ⊎_elim, arith}
-use Rattle.std.specs.Bool.{Decides}
-use Rattle.std.specs.Str.{bytes_eq}
+-- Resources meet where their keys tell it.
+use Rattle.std.proofs.Common.{◌≡◌, ◌⊎◌, ◌+◌, ◌<◌, ◌≤◌, ℕ, zero, suc, List, [], ◌∷◌, ◌++◌, true, false, IsTrue, Option, Some, None, inl, inr, map, length, take, get_or, slice_get, option_and_then, is_some, refl, sym, ap, subst, ◌∙◌, ⊎_elim, arith, length-append, drop, append_assoc, drop-cons}
 use Rattle.std.specs.Result.{result_ok}
-use Rattle.std.proofs.lemmas.Bool.{and_parts, cases_lt}
-use Rattle.std.proofs.lemmas.List.{get_or_past}
+use Rattle.std.specs.Str.{bytes_eq}
+use Rattle.std.proofs.lemmas.Bool.{cases_Bool, cases_eq, cases_lt, both_ways}
+use Rattle.std.proofs.lemmas.List.{drop_all, get_or_default, get_or_past}
 use Rattle.std.proofs.lemmas.Slice.Eq.{bytes_eq-Decides}
-use Rattle.dsc_outside.specs.Paths.{is_below}
-use Rattle.dsc_outside.proofs.Below.{below-Decides}
+use Rattle.std.proofs.Math.Seq.{take-append_seam, get_or-append_seam}
+use Rattle.dsc_outside.specs.Paths.{IsBelow}
 use Rattle.dsc_document.specs.declared.document.Document.{Document}
 use Rattle.dsc_document.specs.declared.document.Resource.{Resource}
+use Rattle.resource_kinds.specs.declared.keys.Keys.{Keys}
 use Rattle.resource_kinds.specs.declared.wanted.Wanted.{Wanted}
+use Rattle.resource_kinds.specs.declared.wanted.Wanted.TheVariants as wants
+use Rattle.resource_kinds.specs.Apart.{Apart, Encloses, IsClosed, IsInside, IsInsideIfAny, Meet, Overlap, Target, Path, Variable, LogEntry, closed_path, entry_key, key_if_any, key_of, target_of, wanted_at}
+use Rattle.resource_kinds.specs.Keys.{Puts, PutsIfAny, place_of}
 use Rattle.resource_kinds.specs.Wanted.{wanted_of}
-use Rattle.resource_kinds.specs.Apart.{Apart, BothMeet, Encloses, Meet, MeetsBefore, Overlap, Target, Path, Variable, LogEntry, closed_path, is_enclosed, same_target, target_of, wanted_at}
+use Rattle.resource_kinds.proofs.Barred.{front_above}
 
-same_itself : (a : List ℕ) → bytes_eq a a ≡ true
-same_itself a = (bytes_eq-Decides a a).1 refl
+-- ---- keys
 
-same_says : (a b : Target) → same_target a b ≡ true → a ≡ b
-same_says (Path a) (Path b) e = ap Path ((bytes_eq-Decides a b).0 e)
-same_says (Path a) (Variable b) e = absurd (cc (e))
-same_says (Path a) (LogEntry i m) e = absurd (cc (e))
-same_says (Variable a) (Variable b) e = ap Variable ((bytes_eq-Decides a b).0 e)
-same_says (Variable a) (Path b) e = absurd (cc (e))
-same_says (Variable a) (LogEntry i m) e = absurd (cc (e))
-same_says (LogEntry i m) (LogEntry j n) e =
-    let parts = and_parts (bytes_eq i j) (bytes_eq m n) e in
-    ap (λ x. LogEntry x m) ((bytes_eq-Decides i j).0 parts.0) ∙ ap (LogEntry j) ((bytes_eq-Decides m n).0 parts.1)
-same_says (LogEntry i m) (Path b) e = absurd (cc (e))
-same_says (LogEntry i m) (Variable b) e = absurd (cc (e))
+entry_key_same : (id other message text : List ℕ) → entry_key id message ≡ entry_key other text → (id ≡ other) × (message ≡ text)
+entry_key_same [] [] message text e = let rest : message ≡ text = cc in (refl, rest)
+entry_key_same [] (b ∷ bs) message text e = absurd (omega (arith, ap (λ k. get_or k 0 9) e))
+entry_key_same (a ∷ front) [] message text e = absurd (omega (arith, ap (λ k. get_or k 0 9) e))
+entry_key_same (a ∷ front) (b ∷ bs) message text e =
+    let h : a ≡ b = cc in
+    let rest : entry_key front message ≡ entry_key bs text = cc in
+    let same = entry_key_same front bs message text rest in
+    (λ i. h i ∷ same.0 i, same.1)
 
-same_target_itself : (a : Target) → same_target a a ≡ true
-same_target_itself (Path a) = same_itself a
-same_target_itself (Variable a) = same_itself a
-same_target_itself (LogEntry i m) = rw (same_itself i, same_itself m) refl
+key_same : (a b : Target) → key_of a ≡ key_of b → a ≡ b
+key_same (Path a) (Path b) e = let same : a ≡ b = cc in ap Path same
+key_same (Path a) (Variable b) e = absurd (omega (arith, ap (λ k. get_or k 0 9) e))
+key_same (Path a) (LogEntry i m) e = absurd (omega (arith, ap (λ k. get_or k 0 9) e))
+key_same (Variable a) (Variable b) e = let same : a ≡ b = cc in ap Variable same
+key_same (Variable a) (Path b) e = absurd (omega (arith, ap (λ k. get_or k 0 9) e))
+key_same (Variable a) (LogEntry i m) e = absurd (omega (arith, ap (λ k. get_or k 0 9) e))
+key_same (LogEntry id message) (LogEntry other text) e =
+    let rest : entry_key id message ≡ entry_key other text = cc in
+    let same = entry_key_same id other message text rest in
+    ap (λ x. LogEntry x message) same.0 ∙ ap (LogEntry other) same.1
+key_same (LogEntry i m) (Path b) e = absurd (omega (arith, ap (λ k. get_or k 0 9) e))
+key_same (LogEntry i m) (Variable b) e = absurd (omega (arith, ap (λ k. get_or k 0 9) e))
 
-enclosed_says : (closed : Option (List ℕ)) (target : Target) → is_enclosed closed target ≡ true
-    → (path : List ℕ) × (below : List ℕ) × (closed ≡ Some path) × (target ≡ Path below) × (is_below path below ≡ true)
-enclosed_says None target e = absurd (cc (e))
-enclosed_says (Some path) (Path below) e = (path, below, refl, refl, e)
-enclosed_says (Some path) (Variable name) e = absurd (cc (e))
-enclosed_says (Some path) (LogEntry i m) e = absurd (cc (e))
+cases_same : (a b : List ℕ) → (a ≡ b) ⊎ (a ≡ b → ⊥)
+cases_same a b =
+    elim (cases_Bool (bytes_eq a b)) [
+      | inl e ↦ inl ((bytes_eq-Decides a b).0 e)
+      | inr e ↦ inr (λ same. both_ways _ e ((bytes_eq-Decides a b).1 same))
+    ]
 
-pub enclosed-Decides : (a b : Wanted) → Decides (is_enclosed (closed_path a) (target_of b)) (Encloses a b)
-enclosed-Decides a b = (
-  λ e. let says = enclosed_says (closed_path a) (target_of b) e in (says.0, says.1, says.2, says.3, (below-Decides says.0 says.1).0 says.4),
-  λ is. rw (is.2, is.3) ((below-Decides is.0 is.1).1 is.4),
-)
+-- ---- paths above
 
-pub meet_says : (a b : Wanted) (same out back : Bool) → same ≡ same_target (target_of a) (target_of b) → IsTrue out ↔ Encloses a b → IsTrue back ↔ Encloses b a
-    → IsTrue ((same || out) || back) ↔ Meet a b
-meet_says a b same out back is out_is back_is = (says same out back is out_is back_is, found same out back is out_is back_is) where
-  says : (s o k : Bool) → s ≡ same_target (target_of a) (target_of b) → IsTrue o ↔ Encloses a b → IsTrue k ↔ Encloses b a → IsTrue ((s || o) || k) → Meet a b
-  says true o k e p q t = inl (same_says (target_of a) (target_of b) (sym e))
-  says false true k e p q t = inr (inl (p.0 refl))
-  says false false k e p q t = inr (inr (q.0 t))
+-- a path of which a front up to a `/` is the other
+below_by_key : (path : List ℕ) (target : Target) (at : ℕ) → at < length (key_of target) → get_or (key_of target) at 0 ≡ 47 → 0 ∷ path ≡ take at (key_of target)
+    → (below : List ℕ) × (target ≡ Path below) × IsBelow path below
+below_by_key path (Path below) zero within slash e = absurd (omega (arith, slash))
+below_by_key path (Path below) (suc k) within slash e =
+    let front : path ≡ take k below = cc in
+    (below, refl, subst (λ p. IsBelow p below) (sym front) (front_above below k (omega (arith, within)) slash))
+below_by_key path (Variable name) zero within slash e = absurd (omega (arith, ap length e))
+below_by_key path (Variable name) (suc k) within slash e = absurd (omega (arith, ap (λ x. get_or x 0 9) e))
+below_by_key path (LogEntry id message) zero within slash e = absurd (omega (arith, ap length e))
+below_by_key path (LogEntry id message) (suc k) within slash e = absurd (omega (arith, ap (λ x. get_or x 0 9) e))
 
-  found : (s o k : Bool) → s ≡ same_target (target_of a) (target_of b) → IsTrue o ↔ Encloses a b → IsTrue k ↔ Encloses b a → Meet a b → IsTrue ((s || o) || k)
-  found true true k e p q m = refl
-  found true false k e p q m = refl
-  found false true k e p q m = refl
-  found false false true e p q m = refl
-  found false false false e p q m =
-      ⊎_elim (λ same. absurd (cc (e, ap (λ t. same_target t (target_of b)) same, same_target_itself (target_of b))))
-      (λ r. ⊎_elim (λ out. p.1 out) (λ back. q.1 back) r) m
+closed_target : (wanted : Wanted) → is_some (closed_path wanted) ≡ true → (path : List ℕ) × (closed_path wanted ≡ Some path) × (target_of wanted ≡ Path path)
+closed_target (wants.File path contents) e = (path, refl, refl)
+closed_target (wants.Folder path) e = absurd (cc (e))
+closed_target (wants.NoFile path) e = (path, refl, refl)
+closed_target (wants.NoFolder path forced) e = (path, refl, refl)
+closed_target (wants.Variable name value) e = absurd (cc (e))
+closed_target (wants.Entries name value) e = absurd (cc (e))
+closed_target (wants.NoVariable name) e = absurd (cc (e))
+closed_target (wants.NoEntries name value) e = absurd (cc (e))
+closed_target (wants.Logged id message) e = absurd (cc (e))
 
--- what is asked for at a place
+encloses_by_key : (outer inner : Wanted) (at : ℕ) → is_some (closed_path outer) ≡ true → at < length (key_of (target_of inner)) → get_or (key_of (target_of inner)) at 0 ≡ 47
+    → key_of (target_of outer) ≡ take at (key_of (target_of inner)) → Encloses outer inner
+encloses_by_key outer inner at closed within slash is =
+    let target = closed_target outer closed in
+    let found = below_by_key target.0 (target_of inner) at within slash (ap key_of (sym target.2) ∙ is) in
+    (target.0, found.0, target.1, found.1, found.2)
+
+not_in_itself : (wanted : Wanted) → Encloses wanted wanted → ⊥
+not_in_itself wanted is = absurd (inside (closed_target wanted (ap is_some is.2))) where
+  inside : (path : List ℕ) × (closed_path wanted ≡ Some path) × (target_of wanted ≡ Path path) → ⊥
+  inside target =
+      let same : is.0 ≡ target.0 = cc (is.2, target.1) in
+      let one : is.1 ≡ target.0 = cc (is.3, target.2) in
+      omega (arith, ap length (sym one ∙ is.4.1), ap length same, length-append is.0 (47 ∷ is.4.0))
+
+-- ---- the keys of a list
+
+-- the keys are those of what is asked for before n, no two of which are the same
+pub record Indexed (all : List (Option Wanted)) (n : ℕ) (keys : Keys) : Type 0 where
+  pub known : (k : ℕ) (wanted : Wanted) → k < n → get_or all k None ≡ Some wanted → place_of keys (key_of (target_of wanted)) ≡ Some k
+  pub only : (key : List ℕ) (k : ℕ) → place_of keys key ≡ Some k → (k < n) × ((wanted : Wanted) × (get_or all k None ≡ Some wanted) × (key_of (target_of wanted) ≡ key))
+
+pub indexed_none : (all : List (Option Wanted)) (keys : Keys) → ((key : List ℕ) → place_of keys key ≡ None) → Indexed all 0 keys
+indexed_none all keys empty = record {
+  known = λ k wanted below is. absurd (omega (arith, below));
+  only = λ key k found. absurd (cc (empty key, found));
+}
+
+module _ (all : List (Option Wanted)) (n : ℕ) (old : Keys) (so_far : Indexed all n old) where
+  skip : get_or all n None ≡ None → Indexed all (n + 1) old
+  skip nothing = record {
+    known = λ k wanted below is.
+        ⊎_elim (λ e. absurd (cc (ap (λ x. get_or all x None) e, nothing, is))) (λ ne. so_far.known k wanted (omega (arith, below, ne)) is) (cases_eq k n);
+    only = λ key k found. let earlier : k < n = (so_far.only key k found).0 in (omega (arith, earlier), (so_far.only key k found).1);
+  }
+
+  put : (new : Keys) (wanted : Wanted) → get_or all n None ≡ Some wanted → place_of old (key_of (target_of wanted)) ≡ None → Puts old new (key_of (target_of wanted)) n → Indexed all (n + 1) new
+  put new wanted is free puts = record {
+    known = λ k other below at_k.
+        ⊎_elim
+        (λ e. let same : wanted ≡ other = cc (ap (λ x. get_or all x None) e, is, at_k) in
+        ap (λ w. place_of new (key_of (target_of w))) (sym same) ∙ puts.here ∙ ap (λ m. Some m) (sym e))
+        (λ ne. let before = so_far.known k other (omega (arith, below, ne)) at_k in
+        puts.kept (key_of (target_of other)) (λ same. absurd (cc (ap (place_of old) same, free, before))) ∙ before)
+        (cases_eq k n);
+    only = λ key k found.
+        ⊎_elim
+        (λ same. let e : k ≡ n = cc (ap (place_of new) same, puts.here, found) in (omega (arith, e), (wanted, ap (λ x. get_or all x None) e ∙ is, same)))
+        (λ differs. let before = so_far.only key k (sym (puts.kept key differs) ∙ found) in
+        let earlier : k < n = before.0 in (omega (arith, earlier), before.1))
+        (cases_same (key_of (target_of wanted)) key);
+  }
+
+  pub indexed_put : (new : Keys) (given : Option Wanted) → get_or all n None ≡ given → option_and_then (place_of old) (key_if_any given) ≡ None → PutsIfAny old new (key_if_any given) n → Indexed all (n + 1) new
+  indexed_put new None is free puts = subst (Indexed all (n + 1)) (sym puts) (skip is)
+  indexed_put new (Some wanted) is free puts = put new wanted is free puts
+
+-- ---- documents
+
 module _ (f : Resource → Option Wanted) where
   at_place : (xs : List Resource) (k : ℕ) → option_and_then f (slice_get xs k) ≡ get_or (map f xs) k None
   at_place [] k = refl
   at_place (x ∷ xs) zero = refl
   at_place (x ∷ xs) (suc k) = at_place xs k
 
--- what is asked for at a place, of a list with the answers for all resources
-abbrev pub asked : Resource → Option Wanted
-asked resource = result_ok (wanted_of resource)
+module _ (document : Document) (all : List (Option Wanted)) (is_all : all ≡ map (λ r. result_ok (wanted_of r)) document.resources) where
+  asked_at : (k : ℕ) → wanted_at document k ≡ get_or all k None
+  asked_at k = at_place (λ r. result_ok (wanted_of r)) document.resources k ∙ ap (λ xs. get_or xs k None) (sym is_all)
 
-pub asked_at : (document : Document) (all : List (Option Wanted)) (k : ℕ) → all ≡ map (λ r. result_ok (wanted_of r)) document.resources → wanted_at document k ≡ get_or all k None
-asked_at document all k is = at_place asked document.resources k ∙ ap (λ xs. get_or xs k None) (sym is)
+  two_meet : (first second : ℕ) (a b : Wanted) → first < second → get_or all first None ≡ Some a → get_or all second None ≡ Some b → Meet a b → Overlap document
+  two_meet first second a b before at_first at_second meet = record {
+    first = first;
+    second = second;
+    before = before;
+    a = a;
+    b = b;
+    asks_first = asked_at first ∙ at_first;
+    asks_second = asked_at second ∙ at_second;
+    meet = meet;
+  }
 
-both_ask : (x y : Option Wanted) → BothMeet x y → (a : Wanted) × (b : Wanted) × (x ≡ Some a) × (y ≡ Some b) × Meet a b
-both_ask None y m = absurd m
-both_ask (Some a) None m = absurd m
-both_ask (Some a) (Some b) m = (a, b, refl, refl, m)
+  -- what has a place already is met
+  pub met : (n : ℕ) (keys : Keys) → Indexed all n keys → (given : Option Wanted) → get_or all n None ≡ given → (had : Option ℕ) → option_and_then (place_of keys) (key_if_any given) ≡ had → is_some had ≡ true → Overlap document
+  met n keys so_far None is had e some = absurd (cc (e, some))
+  met n keys so_far (Some b) is None e some = absurd (cc (some))
+  met n keys so_far (Some b) is (Some p) e some =
+      let before = so_far.only (key_of (target_of b)) p e in
+      two_meet p n before.1.0 b before.0 before.1.1 is (inl (key_same (target_of before.1.0) (target_of b) before.1.2))
 
-pub overlap_at : (document : Document) (all : List (Option Wanted)) (second : ℕ) → all ≡ map (λ r. result_ok (wanted_of r)) document.resources → MeetsBefore all second → Overlap document
-overlap_at document all second is m =
-    let both = both_ask (get_or all m.0 None) (get_or all second None) m.2 in
-    record {
-      first = m.0;
-      second = second;
-      before = m.1;
-      a = both.0;
-      b = both.1;
-      asks_first = asked_at document all m.0 is ∙ both.2;
-      asks_second = asked_at document all second is ∙ both.3;
-      meet = both.4;
-    }
+  -- what is inside another is met
+  pub inside_meets : (n : ℕ) (keys : Keys) → Indexed all n keys → (k : ℕ) (given : Option Wanted) → get_or all k None ≡ given → IsInsideIfAny all keys (key_if_any given) → Overlap document
+  inside_meets n keys whole k None at_k is = absurd is
+  inside_meets n keys whole k (Some inner) at_k is =
+      let before = whole.only (take is.0 (key_of (target_of inner))) is.3.0 is.3.1 in
+      let outer = before.1.0 in
+      let closed : IsTrue (is_some (closed_path outer)) = subst IsClosed before.1.1 is.3.2 in
+      let encloses = encloses_by_key outer inner is.0 closed is.1 is.2 before.1.2 in
+      ⊎_elim
+      (λ earlier. two_meet is.3.0 k outer inner earlier before.1.1 at_k (inr (inl encloses)))
+      (λ not_earlier. ⊎_elim
+      (λ later. two_meet k is.3.0 inner outer later at_k before.1.1 (inr (inr encloses)))
+      (λ not_later.
+      let here : is.3.0 ≡ k = omega (arith, not_earlier, not_later) in
+      let same : outer ≡ inner = cc (ap (λ x. get_or all x None) here, before.1.1, at_k) in
+      absurd (not_in_itself inner (subst (λ w. Encloses w inner) same encloses)))
+      (cases_lt k is.3.0))
+      (cases_lt is.3.0 k)
 
-pub apart_all : (document : Document) (all : List (Option Wanted)) (far : ℕ) → all ≡ map (λ r. result_ok (wanted_of r)) document.resources → length all ≤ far
-    → ((k : ℕ) → k < far → MeetsBefore all k → ⊥) → Apart document
-apart_all document all far is whole none first second a b before asks_first asks_second meet =
-    let at_first : get_or all first None ≡ Some a = sym (asked_at document all first is) ∙ asks_first in
-    let at_second : get_or all second None ≡ Some b = sym (asked_at document all second is) ∙ asks_second in
-    ⊎_elim
-    (λ below. none second (omega (arith, below, whole)) (first, before, subst (λ x. BothMeet x (get_or all second None)) (sym at_first) (subst (λ y. BothMeet (Some a) y) (sym at_second) meet)))
-    (λ past. absurd (cc (get_or_past all second None past, at_second)))
-    (cases_lt second (length all))
+  within : (k : ℕ) (wanted : Wanted) → get_or all k None ≡ Some wanted → k < length all
+  within k wanted is = ⊎_elim (λ below. below) (λ past. absurd (cc (get_or_past all k None past, is))) (cases_lt k (length all))
 
-pub enclosed_is : (a b : Wanted) (closed : Option (List ℕ)) (target : Target) (r : Bool) → r ≡ is_enclosed closed target → closed ≡ closed_path a → target ≡ target_of b → IsTrue r ↔ Encloses a b
-enclosed_is a b closed target r is outer inner =
-    subst (λ x. IsTrue x ↔ Encloses a b) (sym (is ∙ ap (λ c. is_enclosed c target) outer ∙ ap (is_enclosed (closed_path a)) inner)) (enclosed-Decides a b)
+  module _ (keys : Keys) (far : ℕ) (reached : length all ≤ far) (whole : Indexed all far keys)
+      (none : (k : ℕ) → k < far → IsInsideIfAny all keys (key_if_any (get_or all k None)) → ⊥) where
+    differ : (first second : ℕ) (a b : Wanted) → first < second → get_or all first None ≡ Some a → get_or all second None ≡ Some b → target_of a ≡ target_of b → ⊥
+    differ first second a b before at_first at_second same =
+        let at_once : first ≡ second = cc (whole.known first a (omega (arith, within first a at_first, reached)) at_first, whole.known second b (omega (arith, within second b at_second, reached)) at_second, ap (λ t. place_of keys (key_of t)) same) in
+        omega (arith, at_once, before)
+
+    outside : (outer inner : ℕ) (a b : Wanted) → get_or all outer None ≡ Some a → get_or all inner None ≡ Some b → Encloses a b → ⊥
+    outside outer inner a b at_outer at_inner is =
+        let path = is.0 in
+        let below = is.1 in
+        let spelled : below ≡ path ++ 47 ∷ is.4.0 = is.4.1 in
+        let key : key_of (target_of b) ≡ 0 ∷ below = ap key_of is.3 in
+        let outer_key : key_of (target_of a) ≡ 0 ∷ path = ap key_of (closed_target_is a path is.2) in
+        let front : take (suc (length path)) (0 ∷ below) ≡ 0 ∷ path = ap (λ t. 0 ∷ t) (ap (take (length path)) spelled ∙ take-append_seam path (47 ∷ is.4.0)) in
+        let found : place_of keys (take (suc (length path)) (0 ∷ below)) ≡ Some outer =
+        ap (place_of keys) (front ∙ sym outer_key) ∙ whole.known outer a (omega (arith, within outer a at_outer, reached)) at_outer in
+        let closed : IsClosed (get_or all outer None) = subst IsClosed (sym at_outer) (ap is_some is.2) in
+        let slash : get_or (0 ∷ below) (suc (length path)) 0 ≡ 47 = ap (λ p. get_or p (length path) 0) spelled ∙ get_or-append_seam path 47 is.4.0 0 in
+        let short : suc (length path) < length (0 ∷ below) = omega (arith, ap length spelled, length-append path (47 ∷ is.4.0)) in
+        let inside : IsInside all keys (0 ∷ below) = (suc (length path), short, slash, (outer, found, closed)) in
+        none inner (omega (arith, within inner b at_inner, reached)) (subst (λ g. IsInsideIfAny all keys (key_if_any g)) (sym at_inner) (subst (IsInside all keys) (sym key) inside))
+      where
+        closed_target_is : (wanted : Wanted) (path : List ℕ) → closed_path wanted ≡ Some path → target_of wanted ≡ Path path
+        closed_target_is wanted path e =
+            let target = closed_target wanted (ap is_some e) in
+            let same : target.0 ≡ path = cc (target.1, e) in
+            target.2 ∙ ap Path same
+
+    pub all_apart : Apart document
+    all_apart first second a b before asks_first asks_second meet =
+        let at_first : get_or all first None ≡ Some a = sym (asked_at first) ∙ asks_first in
+        let at_second : get_or all second None ≡ Some b = sym (asked_at second) ∙ asks_second in
+        ⊎_elim (differ first second a b before at_first at_second)
+        (λ inside. ⊎_elim (outside first second a b at_first at_second) (outside second first b a at_second at_first) inside) meet
+
+-- ---- the key of an entry
+
+pub entry_more : (key next id message : List ℕ) (i b : ℕ) → i < length id → get_or id i 0 ≡ b → next ≡ (key ++ 0 ∷ []) ++ b ∷ [] → key ++ entry_key (drop i id) message ≡ next ++ entry_key (drop (i + 1) id) message
+entry_more key next id message i b within here is =
+    let one : suc i ≡ i + 1 = omega arith in
+    let left : drop i id ≡ b ∷ drop (i + 1) id = drop-cons id i 0 within ∙ ap (λ n. get_or id i 0 ∷ drop n id) one ∙ ap (λ c. c ∷ drop (i + 1) id) here in
+    let rest = entry_key (drop (i + 1) id) message in
+    ap (λ d. key ++ entry_key d message) left ∙ sym (append_assoc key (0 ∷ []) (b ∷ rest)) ∙ sym (append_assoc (key ++ 0 ∷ []) (b ∷ []) rest) ∙ ap (λ k. k ++ rest) (sym is)
+
+pub entry_done : (key whole id bytes message text : List ℕ) (i : ℕ) → length bytes ≤ i → bytes ≡ id → text ≡ message → whole ≡ (key ++ 1 ∷ []) ++ text → 2 ∷ entry_key bytes message ≡ key ++ entry_key (drop i bytes) message
+    → whole ≡ 2 ∷ entry_key id message
+entry_done key whole id bytes message text i all same_id same_message is so_far =
+    is ∙ ap (λ m. (key ++ 1 ∷ []) ++ m) same_message ∙ append_assoc key (1 ∷ []) message ∙ ap (λ d. key ++ entry_key d message) (sym (drop_all i bytes all)) ∙ sym so_far
+    ∙ ap (λ x. 2 ∷ entry_key x message) same_id
+
+-- ---- the loops
+
+-- an element is the same whatever stands past the end
+pub at_index : (all : List (Option Wanted)) (k far : ℕ) (given : Option Wanted) → k < far → far ≡ length all → given ≡ get_or all k given → get_or all k None ≡ given
+at_index all k far given below is here = get_or_default all k None given (omega (arith, below, is)) ∙ sym here
+
+pub none_had : (had : Option ℕ) → is_some had ≡ false → had ≡ None
+none_had None e = refl
+none_had (Some k) e = absurd (cc (e))

@@ -1,8 +1,9 @@
 -- Which resources of a document are apart: what one asks for is no matter of the other.
-use Rattle.std.specs.Prelude.{◌≡◌, ◌⊎◌, ◌<◌, ◌&&◌, Bool, false, ℕ, List, Option, Some, None, option_and_then, slice_get, get_or}
-use Rattle.std.specs.Str.{bytes_eq}
+use Rattle.resource_kinds.specs.declared.keys.Keys.{Keys}
+use Rattle.resource_kinds.specs.Keys.{place_of}
+use Rattle.std.specs.Prelude.{◌≡◌, ◌⊎◌, ◌<◌, ℕ, IsTrue, List, [], ◌∷◌, length, take, Option, Some, None, is_some, option_map, option_and_then, slice_get, get_or}
 use Rattle.std.specs.Result.{result_ok}
-use Rattle.dsc_outside.specs.Paths.{IsBelow, is_below}
+use Rattle.dsc_outside.specs.Paths.{IsBelow}
 use Rattle.dsc_document.specs.declared.document.Document.{Document}
 use Rattle.resource_kinds.specs.declared.wanted.Wanted.{Wanted}
 use Rattle.resource_kinds.specs.declared.wanted.Wanted.TheVariants as wants
@@ -68,22 +69,35 @@ pub record Overlap (document : Document) : Type 0 where
 
 -- ---- the code
 
--- the first two as tests
-abbrev pub same_target : Target → Target → Bool
-same_target (Path a) (Path b) = bytes_eq a b
-same_target (Variable a) (Variable b) = bytes_eq a b
-same_target (LogEntry id message) (LogEntry other text) = bytes_eq id other && bytes_eq message text
-same_target _ _ = false
+-- a target as a key; of two targets the keys differ
+abbrev pub entry_key : List ℕ → List ℕ → List ℕ
+entry_key [] message = 1 ∷ message
+entry_key (b ∷ bs) message = 0 ∷ b ∷ entry_key bs message
 
-abbrev pub is_enclosed : Option (List ℕ) → Target → Bool
-is_enclosed (Some path) (Path below) = is_below path below
-is_enclosed _ _ = false
+abbrev pub key_of : Target → List ℕ
+key_of (Path path) = 0 ∷ path
+key_of (Variable name) = 1 ∷ name
+key_of (LogEntry id message) = 2 ∷ entry_key id message
 
-abbrev pub BothMeet : Option Wanted → Option Wanted → Type 0
-BothMeet None b = ⊥
-BothMeet (Some a) None = ⊥
-BothMeet (Some a) (Some b) = Meet a b
+abbrev pub key_if_any : Option Wanted → Option (List ℕ)
+key_if_any wanted = option_map (λ w. key_of (target_of w)) wanted
 
--- of a list of what is asked for, what is asked for at a place meets something before it
-abbrev pub MeetsBefore : List (Option Wanted) → ℕ → Type 0
-MeetsBefore all second = (first : ℕ) × (first < second) × BothMeet (get_or all first None) (get_or all second None)
+abbrev pub IsClosed : Option Wanted → Type 0
+IsClosed None = ⊥
+IsClosed (Some wanted) = IsTrue (is_some (closed_path wanted))
+
+-- the key is that of a path at which no folder is asked for
+abbrev pub IsClosedKey : List (Option Wanted) → Keys → List ℕ → Type 0
+IsClosedKey all keys key = (place : ℕ) × (place_of keys key ≡ Some place) × IsClosed (get_or all place None)
+
+-- one of the paths above is such a path
+abbrev pub IsInside : List (Option Wanted) → Keys → List ℕ → Type 0
+IsInside all keys key = (at : ℕ) × (at < length key) × (get_or key at 0 ≡ 47) × IsClosedKey all keys (take at key)
+
+abbrev pub IsInsideIfAny : List (Option Wanted) → Keys → Option (List ℕ) → Type 0
+IsInsideIfAny all keys None = ⊥
+IsInsideIfAny all keys (Some key) = IsInside all keys key
+
+-- each place is one of the list
+abbrev pub ArePlaces : List (Option Wanted) → Keys → Type 0
+ArePlaces all keys = (key : List ℕ) (place : ℕ) → place_of keys key ≡ Some place → place < length all

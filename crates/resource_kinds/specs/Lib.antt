@@ -1,12 +1,12 @@
 pub mod Apart
 pub mod Entries
 pub mod Holds
+pub mod Keys
 pub mod Kinds
 pub mod Laws
 pub mod Names
 pub mod Paths
 pub mod Tables
-pub mod Targets
 pub mod Trace
 pub mod True
 pub mod Wanted

@@ -1,38 +1,35 @@
 //! Resources of one document that are about the same thing.
-ghost use Rattle.std.specs.Prelude.{◌≡◌, ◌<◌, ◌^◌, ◌↔◌, IfOk, IsTrue, length, map, true, false};
+ghost use Rattle.std.specs.Prelude.{◌≡◌, ◌<◌, ◌^◌, ◌↔◌, IfOk, OnOk, IsTrue, length, map, ◌∷◌, option_and_then, true, false};
 ghost use Rattle.std.specs.Option.{option_copied};
 ghost use Rattle.std.specs.Result.{result_ok};
-ghost use Rattle.dsc_outside.specs.Paths.{is_below};
-ghost use Rattle.resource_kinds.specs.Apart.{Apart, BothMeet, Encloses, Meet, MeetsBefore, Overlap, closed_path, is_enclosed, same_target, target_of};
-ghost use Rattle.resource_kinds.specs.Targets.{seen};
+ghost use Rattle.resource_kinds.specs.Apart.{Apart, ArePlaces, IsClosed, IsClosedKey, IsInside, IsInsideIfAny, Overlap, closed_path, entry_key, key_if_any, key_of, target_of};
+ghost use Rattle.resource_kinds.specs.Keys.{PutsIfAny, place_of};
 ghost use Rattle.resource_kinds.specs.Wanted.{wanted_of};
 
+use crate::keys::Keys;
+use crate::utf8::Utf8;
 use crate::wanted::{Wanted, WantedError, wanted_of};
 use dsc_document::{Document, Resource};
 use std::alloc::{AllocError, Global};
 
-/// What a resource is about.
-#[derive(Clone, Copy)]
-pub enum Target<'a> {
-    Path(&'a [u8]),
-    Variable(&'a [u8]),
-
-    /// Of an id, with a message.
-    LogEntry(&'a [u8], &'a [u8]),
-}
-
 /// Tells whether two resources without a fault meet: they are about one path, one variable or one entry of the log, or
 /// the path of one lies below that of the other, and the other does not ask for a folder there.
 ///
-/// Each pair is looked at.
+/// What each is about is kept by a key and looked up once, and so is each path above.
 pub fn overlaps(alloc: Global, document: &Document) -> Result<bool, AllocError>
     requires few { length document.now.resources < 2 ^ 32 }
     ensures apart { IfOk result (λ yes. yes ≡ false → Apart document.now) }
     ensures overlap { IfOk result (λ yes. yes ≡ true → Overlap document.now) }
 {
     let all = all_wanted(alloc, document.resources.as_slice())?;
-    for second in 0..all.len() {
-        if meets_one_before(&all, second) {
+    let mut keys = Keys::new(alloc);
+    for place in 0..all.len() {
+        if put_key(alloc, &mut keys, &all[place], place as u32)?.is_some() {
+            return Ok(true);
+        }
+    }
+    for inner in 0..all.len() {
+        if is_inside(alloc, &all, &keys, &all[inner])? {
             return Ok(true);
         }
     }
@@ -60,99 +57,110 @@ fn wanted_if_any(alloc: Global, resource: &Resource) -> Result<Option<Wanted>, A
     }
 }
 
-// Tells whether what is asked for at a place meets what is asked for before it.
-fn meets_one_before(all: &[Option<Wanted>], second: usize) -> bool
-    requires { second < length all.now }
-    ensures { IsTrue result ↔ MeetsBefore all.now second }
+// Gives what is asked for a place by its key, and tells the place of another one that is about the same.
+fn put_key(
+    alloc: Global,
+    keys: &mut Keys,
+    wanted: &Option<Wanted>,
+    place: u32,
+) -> Result<Option<u32>, AllocError>
+    ensures had { IfOk result (λ had. had ≡ option_and_then (place_of keys.old) (key_if_any wanted.now)) }
+    ensures put { OnOk result (PutsIfAny keys.old keys.new (key_if_any wanted.now) place) }
 {
-    for first in 0..second {
-        if both_meet(&all[first], &all[second]) {
+    match wanted {
+        Some(wanted) => keys.put(key_of(alloc, wanted)?, place),
+        None => Ok(None),
+    }
+}
+
+// Tells whether what is asked for is about a path below one at which no folder is asked for.
+fn is_inside(
+    alloc: Global,
+    all: &[Option<Wanted>],
+    keys: &Keys,
+    wanted: &Option<Wanted>,
+) -> Result<bool, AllocError>
+    requires { ArePlaces all.now keys.now }
+    ensures { IfOk result (λ inside. IsTrue inside ↔ IsInsideIfAny all.now keys.now (key_if_any wanted.now)) }
+{
+    match wanted {
+        Some(wanted) => {
+            let key = key_of(alloc, wanted)?;
+            Ok(key_is_inside(all, keys, &key))
+        }
+        None => Ok(false),
+    }
+}
+
+fn key_is_inside(all: &[Option<Wanted>], keys: &Keys, key: &[u8]) -> bool
+    requires { ArePlaces all.now keys.now }
+    ensures { IsTrue result ↔ IsInside all.now keys.now key.now }
+{
+    for at in 0..key.len() {
+        if key[at] == b'/' && is_closed_key(all, keys, &key[..at]) {
             return true;
         }
     }
     false
 }
 
-fn both_meet(first: &Option<Wanted>, second: &Option<Wanted>) -> bool
-    ensures { IsTrue result ↔ BothMeet first.now second.now }
+// Tells whether the key is that of a path at which no folder is asked for.
+fn is_closed_key(all: &[Option<Wanted>], keys: &Keys, key: &[u8]) -> bool
+    requires { ArePlaces all.now keys.now }
+    ensures { IsTrue result ↔ IsClosedKey all.now keys.now key.now }
 {
-    match (first, second) {
-        (Some(first), Some(second)) => meet(first, second),
-        _ => false,
+    match keys.find(key) {
+        Some(place) => is_closed(&all[place as usize]),
+        None => false,
     }
 }
 
-fn meet(a: &Wanted, b: &Wanted) -> bool
-    ensures { IsTrue result ↔ Meet a.now b.now }
-{
-    same_target(target_of(a), target_of(b)) || encloses(a, b) || encloses(b, a)
-}
-
-fn encloses(outer: &Wanted, inner: &Wanted) -> bool
-    ensures { IsTrue result ↔ Encloses outer.now inner.now }
-{
-    is_enclosed(closed_path(outer), target_of(inner))
-}
-
-fn is_enclosed(path: Option<&[u8]>, target: Target) -> bool
-    ensures { result ≡ is_enclosed (option_copied path.entry) (seen target.entry) }
-{
-    match (path, target) {
-        (Some(path), Target::Path(below)) => is_below(path, below),
-        _ => false,
-    }
-}
-
-fn is_below(path: &[u8], other: &[u8]) -> bool
-    ensures { result ≡ is_below path.now other.now }
-{
-    let Some(rest) = other.strip_prefix(path) else {
-        return false;
-    };
-    match rest {
-        [] => false,
-        [first, ..] => *first == b'/',
-    }
-}
-
-fn same_target(a: Target, b: Target) -> bool
-    ensures { result ≡ same_target (seen a.entry) (seen b.entry) }
-{
-    match (a, b) {
-        (Target::Path(a), Target::Path(b)) => a == b,
-        (Target::Variable(a), Target::Variable(b)) => a == b,
-        (Target::LogEntry(id, message), Target::LogEntry(other, text)) => {
-            id == other && message == text
-        }
-        _ => false,
-    }
-}
-
-// What is asked for is about this.
-fn target_of<'a>(wanted: &'a Wanted) -> Target<'a>
-    ensures { seen result ≡ target_of wanted.now }
+fn is_closed(wanted: &Option<Wanted>) -> bool
+    ensures { IsTrue result ↔ IsClosed wanted.now }
 {
     match wanted {
-        Wanted::File { path, .. }
-        | Wanted::Folder { path }
-        | Wanted::NoFile { path }
-        | Wanted::NoFolder { path, .. } => Target::Path(path.as_bytes()),
-        Wanted::Variable { name, .. }
-        | Wanted::Entries { name, .. }
-        | Wanted::NoVariable { name }
-        | Wanted::NoEntries { name, .. } => Target::Variable(name.as_bytes()),
-        Wanted::Logged { id, message } => Target::LogEntry(id.as_bytes(), message.as_bytes()),
+        Some(Wanted::File { .. } | Wanted::NoFile { .. } | Wanted::NoFolder { .. }) => true,
+        _ => false,
     }
 }
 
-// The path at which no folder is asked for.
-fn closed_path<'a>(wanted: &'a Wanted) -> Option<&'a [u8]>
-    ensures { option_copied result ≡ closed_path wanted.now }
+// The key of what is asked for: a byte for its sort, and what it is about. Of an entry of the log the bytes of the id
+// have a 0 in front of each, and the message a 1.
+fn key_of(alloc: Global, wanted: &Wanted) -> Result<Vec<u8>, AllocError>
+    ensures { IfOk result (λ key. key.items ≡ key_of (target_of wanted.now)) }
 {
     match wanted {
-        Wanted::File { path, .. } | Wanted::NoFile { path } | Wanted::NoFolder { path, .. } => {
-            Some(path.as_bytes())
-        }
-        _ => None,
+        Wanted::File { path, .. } => with_sort(alloc, 0, path),
+        Wanted::Folder { path } => with_sort(alloc, 0, path),
+        Wanted::NoFile { path } => with_sort(alloc, 0, path),
+        Wanted::NoFolder { path, .. } => with_sort(alloc, 0, path),
+        Wanted::Variable { name, .. } => with_sort(alloc, 1, name),
+        Wanted::Entries { name, .. } => with_sort(alloc, 1, name),
+        Wanted::NoVariable { name } => with_sort(alloc, 1, name),
+        Wanted::NoEntries { name, .. } => with_sort(alloc, 1, name),
+        Wanted::Logged { id, message } => entry_key(alloc, id, message),
     }
+}
+
+fn with_sort(alloc: Global, sort: u8, bytes: &Utf8) -> Result<Vec<u8>, AllocError>
+    ensures { IfOk result (λ key. key.items ≡ sort ∷ bytes.now) }
+{
+    let mut key = Vec::new(alloc);
+    key.push(sort)?;
+    key.extend_from_slice(bytes.as_bytes())?;
+    Ok(key)
+}
+
+fn entry_key(alloc: Global, id: &Utf8, message: &Utf8) -> Result<Vec<u8>, AllocError>
+    ensures { IfOk result (λ key. key.items ≡ 2 ∷ entry_key id.now message.now) }
+{
+    let mut key = Vec::new(alloc);
+    key.push(2)?;
+    for byte in id.as_bytes() {
+        key.push(0)?;
+        key.push(*byte)?;
+    }
+    key.push(1)?;
+    key.extend_from_slice(message.as_bytes())?;
+    Ok(key)
 }

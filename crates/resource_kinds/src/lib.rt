@@ -9,6 +9,7 @@ mod apart;
 mod entries;
 mod entry;
 mod keeping;
+mod keys;
 mod kinds;
 mod laws;
 mod obstacles;

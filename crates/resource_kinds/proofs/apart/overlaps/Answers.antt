@@ -1,27 +1,31 @@
-use Rattle.std.proofs.Common.{◌≡◌, map, ap, subst, sym, ◌∙◌, ⊎_elim, arith}
+use Rattle.std.proofs.Common.{◌∙◌, ap, sym, map, subst, arith}
 use Rattle.std.specs.Result.{result_ok}
-use Rattle.std.proofs.lemmas.Bool.{cases_lt}
-use Rattle.resource_kinds.specs.Apart.{MeetsBefore}
+use Rattle.resource_kinds.specs.Apart.{IsInsideIfAny, key_if_any}
 use Rattle.resource_kinds.specs.Wanted.{wanted_of}
-use Rattle.resource_kinds.proofs.Meets.{apart_all, overlap_at}
+use Rattle.resource_kinds.proofs.Meets.{all_apart, at_index, indexed_put, inside_meets, met, none_had}
 use Rattle.resource_kinds.proofs.apart.overlaps.Goals as goal
 
-pub returns-then-meets_one_before-clause-overlap : goal.returns-then-meets_one_before-clause-overlap
-returns-then-meets_one_before-clause-overlap c = λ _.
-    overlap_at c.args.document.now c.in_ok-all.all.items c.loop-second.second (c.in_ok-all.ensures ∙ ap (map (λ r. result_ok (wanted_of r))) c.as_slice.ensures)
-    (subst (λ xs. MeetsBefore xs c.loop-second.second) c.deref.ensures.value (c.meets_one_before.ensures.0 c.if-meets_one_before.true))
+pub returns-then-is_some-clause-overlap : goal.returns-then-is_some-clause-overlap
+returns-then-is_some-clause-overlap c = λ _.
+    met c.args.document.now c.in_ok-all.all.items (c.in_ok-all.ensures ∙ ap (map (λ r. result_ok (wanted_of r))) c.as_slice.ensures) c.loop-place.place c.loop-place.keys c.loop-place.invariant
+    c.index.result.now (at_index c.in_ok-all.all.items c.loop-place.place c.len-place-end.result c.index.result.now c.loop-place-test.true (omega (arith, c.len-place-end.ensures)) c.index.ensures)
+    c.in_ok-put_key.field-0 (sym c.in_ok-put_key.ensures.had) (sym c.is_some.ensures ∙ c.if-is_some.true)
 
-pub loop-second-preserved : goal.loop-second-preserved
-loop-second-preserved c = λ k below m.
-    ⊎_elim
-    (λ before. c.loop-second.invariant k before m)
-    (λ past.
-    let here : k ≡ c.loop-second.second = omega (arith, below, past) in
-    let met = c.meets_one_before.ensures.1 (subst (λ xs. MeetsBefore xs c.loop-second.second) (sym c.deref.ensures.value) (subst (λ n. MeetsBefore c.in_ok-all.all.items n) here m)) in
-    absurd (cc (met, c.if-meets_one_before.false)))
-    (cases_lt k c.loop-second.second)
+pub loop-place-preserved : goal.loop-place-preserved
+loop-place-preserved c =
+    indexed_put c.in_ok-all.all.items c.loop-place.place c.loop-place.keys c.loop-place.invariant c.put_key.new.keys
+    c.index.result.now (at_index c.in_ok-all.all.items c.loop-place.place c.len-place-end.result c.index.result.now c.loop-place-test.true (omega (arith, c.len-place-end.ensures)) c.index.ensures)
+    (sym c.in_ok-put_key.ensures.had ∙ none_had c.in_ok-put_key.field-0 (sym c.is_some.ensures ∙ c.if-is_some.false)) c.in_ok-put_key.ensures.put
+
+pub returns-then-branch-clause-overlap : goal.returns-then-branch-clause-overlap
+returns-then-branch-clause-overlap c = λ _.
+    inside_meets c.args.document.now c.in_ok-all.all.items (c.in_ok-all.ensures ∙ ap (map (λ r. result_ok (wanted_of r))) c.as_slice.ensures) c.loop-place.place c.loop-place.keys c.loop-place.invariant
+    c.loop-inner.inner c.index-in-loop-inner.result.now
+    (at_index c.in_ok-all.all.items c.loop-inner.inner c.len-inner-end.result c.index-in-loop-inner.result.now c.loop-inner-test.true (omega (arith, c.len-inner-end.ensures)) c.index-in-loop-inner.ensures)
+    (subst (λ xs. IsInsideIfAny xs c.loop-place.keys (key_if_any c.index-in-loop-inner.result.now)) c.deref.ensures.value (c.in_ok-is_inside.ensures.0 c.if-branch.true))
 
 pub returns-clause-apart : goal.returns-clause-apart
 returns-clause-apart c = λ _.
-    apart_all c.args.document.now c.in_ok-all.all.items c.loop-second.second (c.in_ok-all.ensures ∙ ap (map (λ r. result_ok (wanted_of r))) c.as_slice.ensures)
-    (omega (arith, c.loop-second-test.false, c.len-second-end.ensures)) c.loop-second.invariant
+    all_apart c.args.document.now c.in_ok-all.all.items (c.in_ok-all.ensures ∙ ap (map (λ r. result_ok (wanted_of r))) c.as_slice.ensures) c.loop-place.keys c.loop-place.place
+    (omega (arith, c.loop-place-test.false, c.len-place-end.ensures)) c.loop-place.invariant
+    (λ k below. c.loop-inner.invariant k (omega (arith, below, c.loop-place.auto.place-end, c.loop-inner-test.false, c.len-place-end.ensures, c.len-inner-end.ensures)))

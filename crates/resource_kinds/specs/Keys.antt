@@ -1,0 +1,20 @@
+-- The places of keys, which are lists of bytes.
+use Rattle.std.specs.Prelude.{◌≡◌, ℕ, List, Option, Some, None}
+use Rattle.std.specs.BTreeMap.{get_by}
+use Rattle.std.specs.Cmp.Lexicographic.{slice_cmp}
+use Rattle.std.specs.Ordering.{nat_cmp}
+use Rattle.resource_kinds.specs.declared.keys.Keys.{Keys}
+
+-- the place that is kept for a key
+unfoldable pub place_of : Keys → List ℕ → Option ℕ
+place_of keys key = get_by (λ kept. slice_cmp nat_cmp key kept.items) keys.by_key
+
+-- only this key's place has changed
+pub record Puts (old new : Keys) (key : List ℕ) (place : ℕ) : Type 0 where
+  pub here : place_of new key ≡ Some place
+  pub kept : (other : List ℕ) → (key ≡ other → ⊥) → place_of new other ≡ place_of old other
+
+-- the same, where there may be no key
+abbrev pub PutsIfAny : Keys → Keys → Option (List ℕ) → ℕ → Type 0
+PutsIfAny old new None place = new ≡ old
+PutsIfAny old new (Some key) place = Puts old new key place

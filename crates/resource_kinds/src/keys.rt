@@ -1,0 +1,38 @@
+//! The places of keys, which are lists of bytes.
+ghost use Rattle.std.specs.Prelude.{◌≡◌, ℕ, List, IfOk, OnOk};
+ghost use Rattle.resource_kinds.specs.Keys.{place_of, Puts};
+
+use std::alloc::{AllocError, Global};
+use std::collections::BTreeMap;
+
+/// A place for each of some keys.
+#[derive(Drop)]
+pub struct Keys {
+    by_key: BTreeMap<Vec<u8>, u32>,
+}
+
+impl Keys {
+    /// No key has a place.
+    pub fn new(alloc: Global) -> Keys
+        ensures { (key : List ℕ) → place_of result key ≡ None }
+    {
+        Keys {
+            by_key: BTreeMap::new(alloc),
+        }
+    }
+
+    /// Gives the key this place, and tells which one it had.
+    pub fn put(&mut self, key: Vec<u8>, place: u32) -> Result<Option<u32>, AllocError>
+        ensures had { IfOk result (λ had. had ≡ place_of self.old key.items) }
+        ensures put { OnOk result (Puts self.old self.new key.items place) }
+    {
+        Ok(self.by_key.insert(key, place)?)
+    }
+
+    /// The place that the key has.
+    pub fn find(&self, key: &[u8]) -> Option<u32>
+        ensures { result ≡ place_of self.now key.now }
+    {
+        self.by_key.get(key).copied()
+    }
+}
