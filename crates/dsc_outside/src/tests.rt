@@ -1,8 +1,8 @@
-mod host_calls;
 mod faulty_files;
 mod folder_faults;
 mod folder_lists;
 mod folder_paths;
+mod host_calls;
 mod memory_forms;
 mod memory_host;
 mod real_things;

@@ -26,8 +26,8 @@ pub use apart::overlaps;
 pub use entries::entry_laws;
 pub use entry::{Entry, Failure, SetAnswer, TestAnswer};
 pub use kinds::Kinds;
-pub use paths::path_of;
 pub use laws::set_laws;
+pub use paths::path_of;
 pub use resources::Resources;
 
 #[cfg(test)]
