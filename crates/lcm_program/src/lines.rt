@@ -1,9 +1,8 @@
 //! The printed lines of a run.
-ghost use Rattle.std.specs.Prelude.{◌≡◌, ◌<◌, ◌≤◌, ◌-◌, ◌++◌, length, count_by, codes, All, OnOk, IfOk, string_bytes};
-ghost use Rattle.std.specs.Option.{option_copied};
+ghost use Rattle.std.specs.Prelude.{◌≡◌, ◌<◌, ◌≤◌, ◌-◌, ◌++◌, length, count_by, codes, map, All, OnOk, IfOk, string_bytes};
 ghost use Rattle.std.specs.List.{flat_map};
 ghost use Rattle.dsc_terms.specs.Lists.{places_below};
-ghost use Rattle.resource_kinds.specs.Trace.{place_of, entry_is_yes, last_entry, has_succeeded};
+ghost use Rattle.resource_kinds.specs.Trace.{place_of, entry_is_yes, has_succeeded, succeeded_count};
 ghost use Rattle.resource_kinds.specs.Names.{failure_name};
 ghost use Rattle.lcm_program.specs.Lines.{test_words, set_words, id_at, line_of, overlap_line, verdict, summary, run_lines};
 
@@ -12,16 +11,17 @@ use mof_codec::push_literal;
 use resource_kinds::{Entry, Failure, SetAnswer, TestAnswer};
 use std::alloc::{AllocError, Global};
 
-/// The lines of a run; `places` are those of all resources, in order, and `overlaps` tells whether some of them do.
+/// The lines of a run in which so many resources succeeded; `overlaps` tells whether some of them do.
 pub fn lines_of(
     alloc: Global,
     document: &Document,
-    places: &[u32],
     calls: &[Entry],
+    good: usize,
     overlaps: bool,
 ) -> Result<String, AllocError>
-    requires places { places.now ≡ places_below (length document.now.resources) }
     requires known { All (λ e. place_of e < length document.now.resources) calls.now }
+    requires good { good ≡ succeeded_count document.now calls.now }
+    requires bound { good ≤ length document.now.resources }
     ensures { IfOk result (λ s. string_bytes s ≡ run_lines document.now calls.now ++ overlap_line overlaps) }
 {
     let mut out = String::new(alloc);
@@ -29,34 +29,38 @@ pub fn lines_of(
         push_line(&mut out, document, entry)?;
     }
     let total = document.resources.as_slice().len();
-    let good = count_succeeded(places, calls);
     push_summary(&mut out, total, good)?;
     push_overlap(&mut out, overlaps)?;
     Ok(out)
 }
 
-/// How many of the resources succeeded.
-pub fn count_succeeded(places: &[u32], calls: &[Entry]) -> usize
-    ensures value { result ≡ count_by (has_succeeded calls.now) places.now }
-    ensures bound { result ≤ length places.now }
+/// How many of so many resources succeeded: the last entry of each is a test that answered yes.
+pub fn count_succeeded(alloc: Global, count: usize, calls: &[Entry]) -> Result<usize, AllocError>
+    requires known { All (λ e. place_of e < count) calls.now }
+    ensures value { IfOk result (λ good. good ≡ count_by (has_succeeded calls.now) (places_below count)) }
+    ensures bound { IfOk result (λ good. good ≤ count) }
 {
-    places.iter().filter(|r| succeeded(calls, **r)).count()
+    let marks = succeeded_marks(alloc, count, calls)?;
+    Ok(count_marks(&marks))
 }
 
-/// Tells whether the last entry of the resource at that place is a test that answered yes.
-pub fn succeeded(calls: &[Entry], place: u32) -> bool
-    ensures { result ≡ has_succeeded calls.now place }
+// Tells of each resource whether it succeeded.
+fn succeeded_marks(alloc: Global, count: usize, calls: &[Entry]) -> Result<Vec<bool>, AllocError>
+    requires known { All (λ e. place_of e < count) calls.now }
+    ensures { IfOk result (λ marks. marks.items ≡ map (has_succeeded calls.now) (places_below count)) }
 {
-    match last_of(calls, place) {
-        None => false,
-        Some(entry) => is_yes(entry),
+    let mut marks = vec![in alloc; false; count]?;
+    for entry in calls {
+        marks[entry.place() as usize] = is_yes(entry);
     }
+    Ok(marks)
 }
 
-fn last_of(calls: &[Entry], place: u32) -> Option<&Entry>
-    ensures { option_copied result ≡ last_entry calls.now place }
+fn count_marks(marks: &[bool]) -> usize
+    ensures value { result ≡ count_by (λ mark. mark) marks.now }
+    ensures bound { result ≤ length marks.now }
 {
-    calls.iter().rev().find(|e| e.place() == place)
+    marks.iter().filter(|mark| **mark).count()
 }
 
 fn is_yes(entry: &Entry) -> bool

@@ -28,7 +28,7 @@ use command_line::CommandLine;
 use dsc_outside::Absent;
 use dsc_outside::real::{FolderHost, InSource, OutSink};
 pub use input::{Unread, read_document, read_instances};
-pub use lines::{id, lines_of, succeeded};
+pub use lines::{count_succeeded, id, lines_of};
 pub use order::{order_of_merged, read_order};
 pub use program::node;
 pub use refusal::Refusal;

@@ -1,7 +1,6 @@
 //! The word `test`: a run that monitors the document that the input declares.
 ghost use Rattle.std.specs.Prelude.{◌≡◌, ◌⊎◌, ◌<◌, ◌≤◌, ◌^◌, ℕ, List, [], length, All, IfOk, OnOk, string_bytes};
 ghost use Rattle.dsc_terms.specs.Counts.{Rose};
-ghost use Rattle.dsc_terms.specs.Lists.{IsOnce, places_below};
 ghost use Rattle.dsc_document.specs.declared.document.Document.{Document};
 ghost use Rattle.depend_order.specs.Documents.{IsOrderOfDocument};
 ghost use Rattle.partial_merge.specs.declared.part.Part.{Part};
@@ -19,7 +18,7 @@ use dsc_document::Document;
 use dsc_outside::Host;
 use mof_values::Memory;
 use resource_kinds::{Kinds, Resources, overlaps};
-use std::alloc::{AllocError, Global};
+use std::alloc::Global;
 
 /// What a run comes to.
 #[derive(Drop)]
@@ -49,12 +48,12 @@ pub fn monitor_document<H: Host>(
 {
     let overlap = overlaps(alloc, document)?;
     let order = order_of_merged(alloc, document)?;
-    let count = document.resources.as_slice().len() as u32;
-    let places = places(alloc, count)?;
     run_in_order(document, &order, kinds)?;
     let calls = kinds.calls();
-    let lines = lines_of(alloc, document, &places, calls, overlap)?;
-    let missed = count - count_succeeded(&places, calls) as u32;
+    let count = document.resources.as_slice().len();
+    let good = count_succeeded(alloc, count, calls)?;
+    let lines = lines_of(alloc, document, calls, good, overlap)?;
+    let missed = (count - good) as u32;
     Ok(Outcome { lines, missed })
 }
 
@@ -79,16 +78,4 @@ fn run_in_order<H: Host>(
         RunEnd::Finished => Ok(()),
         RunEnd::Memory => Err(Memory),
     }
-}
-
-// The places of so many resources, in order.
-fn places(alloc: Global, count: u32) -> Result<Vec<u32>, AllocError>
-    ensures value { IfOk result (λ v. v.items ≡ places_below count) }
-    ensures length { IfOk result (λ v. length v.items ≡ count) }
-{
-    let mut all = Vec::new(alloc);
-    for place in 0..count {
-        all.push(place)?;
-    }
-    Ok(all)
 }

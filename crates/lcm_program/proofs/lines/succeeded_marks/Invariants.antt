@@ -1,0 +1,6 @@
+use Rattle.std.proofs.Common.{◌≡◌, take}
+use Rattle.lcm_program.proofs.Marks.{marks_of}
+use Rattle.lcm_program.proofs.lines.succeeded_marks.Given as goal
+
+abbrev pub invariant-loop-entry : goal.invariant-loop-entry
+invariant-loop-entry l = l.marks.items ≡ marks_of (take l.entry-index l.calls) l.count
