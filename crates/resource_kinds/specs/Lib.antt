@@ -4,6 +4,7 @@ pub mod Holds
 pub mod Keys
 pub mod Kinds
 pub mod Names
+pub mod Packages
 pub mod Paths
 pub mod Tables
 pub mod Trace
