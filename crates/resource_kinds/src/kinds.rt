@@ -3,11 +3,12 @@ ghost use Rattle.std.specs.Prelude.{◌≡◌, []};
 
 use crate::entry::{Entry, SetAnswer, TestAnswer};
 use crate::keeping::{keep_set, keep_test};
+use crate::machine::Machine;
 use crate::resources::Resources;
 use crate::setting::set;
 use crate::testing::test;
 use dsc_document::Document;
-use dsc_outside::Host;
+use dsc_outside::{Host, HostError};
 use mof_values::Memory;
 use std::alloc::Global;
 
@@ -96,5 +97,36 @@ impl<H: Host> Resources for Kinds<H> {
 
     fn calls(&self) -> &[Entry] {
         &self.calls
+    }
+}
+
+impl<H: Host> Machine for Kinds<H> {
+    ghost use Rattle.std.specs.Prelude.{◌≡◌};
+    ghost use Rattle.dsc_outside.specs.Causes.{HasCauseOf};
+    ghost use Rattle.dsc_outside.specs.Changes.{AllOrNothing, Does, with_package};
+    ghost use Rattle.dsc_outside.specs.Host.{Tells, has_package};
+    ghost use Rattle.resource_kinds.specs.Kinds.{calls_of, host_of, spare_of};
+    ghost use Rattle.resource_kinds.specs.Packages.{ChangesPackages};
+
+    ghost packages_changed = { λ a b. ChangesPackages (H.told (host_of a)) (H.told (host_of b)) };
+
+    fn package_has(&mut self, name: &str, version: &str) -> Result<bool, HostError>
+        ensures kept { calls_of self.new ≡ calls_of self.old }
+        ensures room { spare_of self.new ≡ spare_of self.old }
+        ensures still { H.told (host_of self.old) ≡ H.told (host_of self.new) }
+        ensures answer { Tells (H.told (host_of self.old)) result (λ state there. there ≡ has_package state.packages name.now version.now) }
+        ensures cause { HasCauseOf HostError.Failed (H.faults (host_of self.old)) (H.faults (host_of self.new)) result }
+    {
+        self.host.package_has(name, version)
+    }
+
+    fn package_put(&mut self, name: &str, version: &str, bytes: &[u8]) -> Result<(), HostError>
+        ensures kept { calls_of self.new ≡ calls_of self.old }
+        ensures room { spare_of self.new ≡ spare_of self.old }
+        ensures packages { ChangesPackages (H.told (host_of self.old)) (H.told (host_of self.new)) }
+        ensures change { Does (H.told (host_of self.old)) (H.told (host_of self.new)) result (with_package name.now version.now bytes.now) (AllOrNothing (with_package name.now version.now bytes.now)) }
+        ensures cause { HasCauseOf HostError.Failed (H.faults (host_of self.old)) (H.faults (host_of self.new)) result }
+    {
+        self.host.package_put(name, version, bytes)
     }
 }

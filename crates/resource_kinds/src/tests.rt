@@ -176,6 +176,7 @@ fn resources_about_one_thing_overlap(rt: HostRuntime) -> Result<(), Fail> {
         ),
     ] {
         let document = document(&rt, declarations)?;
+        assert!(rt; document.resources.as_slice().len() < 4);
         assert_eq!(rt; overlaps(rt.alloc(), &document)?, wanted, "{declarations}");
     }
     Ok(())

@@ -16,6 +16,7 @@ fn check_set(
     after: &str,
 ) -> Result<(), Fail> {
     let document = document(rt, declaration)?;
+    assert!(rt; document.resources.as_slice().len() == 1);
     let host = MemoryHost::of(machine(rt, before)?, failing.to_vec(rt.alloc())?, None);
     let mut kinds = Kinds::new(rt.alloc(), host);
     kinds.reserve(1)?;

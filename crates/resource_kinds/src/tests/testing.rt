@@ -14,6 +14,7 @@ fn answer(
     failing: &[u64],
 ) -> Result<String, Fail> {
     let document = document(rt, declaration)?;
+    assert!(rt; document.resources.as_slice().len() == 1);
     let host = MemoryHost::of(machine(rt, words)?, failing.to_vec(rt.alloc())?, None);
     let mut kinds = Kinds::new(rt.alloc(), host);
     kinds.reserve(1)?;
