@@ -55,24 +55,24 @@ pub marks_none : (n : ℕ) → replicate n false ≡ marks_of [] n
 marks_none n =
     same_lists (replicate n false) (marks_of [] n) (length-replicate n false ∙ sym (length-marks [] n))
     (λ k d below.
-      let lt : k < n = omega (arith, below, length-replicate n false) in
-      get_or-replicate n k false d lt ∙ sym (get_or-marks [] n k d lt))
+    let lt : k < n = omega (arith, below, length-replicate n false) in
+    get_or-replicate n k false d lt ∙ sym (get_or-marks [] n k d lt))
 
 pub marks_push : (t : List Entry) (e : Entry) (n : ℕ) → place_of e < n → set (marks_of t n) (place_of e) (entry_is_yes e) ≡ marks_of (t ++ e ∷ []) n
 marks_push t e n within =
     same_lists (set (marks_of t n) (place_of e) (entry_is_yes e)) (marks_of (t ++ e ∷ []) n)
     (length-set (marks_of t n) (place_of e) (entry_is_yes e) ∙ length-marks t n ∙ sym (length-marks (t ++ e ∷ []) n))
     (λ k d below.
-      let lt : k < n = omega (arith, below, length-set (marks_of t n) (place_of e) (entry_is_yes e), length-marks t n) in
-      elim (eqb_tells (place_of e) k) [
-        | inl same ↦
-            subst (λ (j : ℕ). get_or (set (marks_of t n) (place_of e) (entry_is_yes e)) j d ≡ entry_is_yes e) same.1
-            (get_or-set_same (marks_of t n) (place_of e) (entry_is_yes e) d (omega (arith, within, length-marks t n)))
-            ∙ sym (succeeded_here t e k same.1) ∙ sym (get_or-marks (t ++ e ∷ []) n k d lt)
-        | inr apart ↦
-            get_or-set_other (marks_of t n) (place_of e) k (entry_is_yes e) d (λ back. apart.1 (sym back))
-            ∙ get_or-marks t n k d lt ∙ sym (succeeded_elsewhere t e k apart.0) ∙ sym (get_or-marks (t ++ e ∷ []) n k d lt)
-      ])
+    let lt : k < n = omega (arith, below, length-set (marks_of t n) (place_of e) (entry_is_yes e), length-marks t n) in
+    elim (eqb_tells (place_of e) k) [
+      | inl same ↦
+          subst (λ (j : ℕ). get_or (set (marks_of t n) (place_of e) (entry_is_yes e)) j d ≡ entry_is_yes e) same.1
+          (get_or-set_same (marks_of t n) (place_of e) (entry_is_yes e) d (omega (arith, within, length-marks t n)))
+          ∙ sym (succeeded_here t e k same.1) ∙ sym (get_or-marks (t ++ e ∷ []) n k d lt)
+      | inr apart ↦
+          get_or-set_other (marks_of t n) (place_of e) k (entry_is_yes e) d (λ back. apart.1 (sym back))
+          ∙ get_or-marks t n k d lt ∙ sym (succeeded_elsewhere t e k apart.0) ∙ sym (get_or-marks (t ++ e ∷ []) n k d lt)
+    ])
 
 -- ---- counting
 

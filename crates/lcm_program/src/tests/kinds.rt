@@ -10,7 +10,7 @@ fn resource<R: AllocGlobal>(rt: &R, class: &str, properties: &str) -> Result<Str
 fn a_fault_of_a_resource_is_told_by_its_name(rt: HostRuntime) -> Result<(), Fail> {
     for (class, properties, fault) in [
         ("MSFT_ServiceResource", "Name=\"V\";", "NoSuchResource"),
-        ("MSFT_LogResource", "Message=\"m\";", "NoSuchResource"),
+        ("MSFT_LogResource", "Message=1;", "OutOfProfile"),
         (
             "MSFT_EnvironmentResource",
             "Name=\"V\";Value=1;",
@@ -23,10 +23,49 @@ fn a_fault_of_a_resource_is_told_by_its_name(rt: HostRuntime) -> Result<(), Fail
             "Name=\"V\";Colour=\"red\";",
             "OutOfProfile",
         ),
+        (
+            "MSFT_FileDirectoryConfiguration",
+            "DestinationPath=\"/a\";SourcePath=\"x\";",
+            "OutOfProfile",
+        ),
+        (
+            "MSFT_FileDirectoryConfiguration",
+            "DestinationPath=\"C:\\\\a\\\\..\\\\b\";",
+            "BadPath",
+        ),
     ] {
         let lines = format!(in rt.alloc();
             "test \"[x]A\" fault {fault}\nresources 1 succeeded 0\nnot compliant 1\n"
         )?;
+        run_and_compare(
+            &rt,
+            resource(&rt, class, properties)?.as_bytes(),
+            lines.as_str(),
+        )?;
+    }
+    Ok(())
+}
+
+#[test]
+fn files_and_entries_of_the_log_are_tested(rt: HostRuntime) -> Result<(), Fail> {
+    for (class, properties, answer) in [
+        (
+            "MSFT_LogResource",
+            "Message=\"m\";",
+            "no\nresources 1 succeeded 0\nnot compliant 1",
+        ),
+        (
+            "MSFT_FileDirectoryConfiguration",
+            "DestinationPath=\"/a\";Contents=\"hi\";",
+            "no\nresources 1 succeeded 0\nnot compliant 1",
+        ),
+        (
+            "MSFT_FileDirectoryConfiguration",
+            "Type=\"directory\";DestinationPath=\"/a\";",
+            "no\nresources 1 succeeded 0\nnot compliant 1",
+        ),
+    ] {
+        let lines = format!(in rt.alloc(); "test \"[x]A\" {answer}\n")?;
         run_and_compare(
             &rt,
             resource(&rt, class, properties)?.as_bytes(),
@@ -68,4 +107,18 @@ fn resources_are_tested_behind_their_dependencies_and_overlaps_are_told(
     rt: HostRuntime,
 ) -> Result<(), Fail> {
     run_and_compare(&rt, OVERLAPPING.as_bytes(), OVERLAPPING_LINES)
+}
+
+// A generated document: comments, an alias, and a header with more than a version.
+const GENERATED: &str =
+    "/*\n@TargetNode='localhost'\n@GeneratedBy=admin\n*/\n\ninstance of MSFT_FileDirectoryConfiguration as $MSFT_FileDirectoryConfiguration1ref\n{\nResourceID = \"[File]A\";\n Type = \"File\";\n Ensure = \"Present\";\n Contents = \"hi\";\n DestinationPath = \"C:\\\\Temp\\\\a.txt\";\n ModuleName = \"PSDesiredStateConfiguration\";\n SourceInfo = \"C:\\\\demo.ps1::3::5::File\";\n\nModuleVersion = \"1.0\";\n\n ConfigurationName = \"Demo\";\n\n};\ninstance of OMI_ConfigurationDocument\n{\n Version=\"2.0.0\";\n MinimumCompatibleVersion = \"1.0.0\";\n CompatibleVersionAdditionalProperties= {\"Omi_BaseResource:ConfigurationName\"};\n Author=\"admin\";\n Name=\"Demo\";\n};\n";
+
+#[test]
+fn a_generated_document_in_utf_16_is_tested(rt: HostRuntime) -> Result<(), Fail> {
+    let mut bytes = b"\xff\xfe".to_vec(rt.alloc())?;
+    for byte in GENERATED.as_bytes() {
+        bytes.extend_from_slice(&[*byte, 0])?;
+    }
+    let lines = "test \"[File]A\" no\nresources 1 succeeded 0\nnot compliant 1\n";
+    run_and_compare(&rt, &bytes, lines)
 }

@@ -17,6 +17,6 @@ loop-entry-preserved c =
     let lt = c.loop-entry-test.true in
     let within : place_of e < count = subst (λ (x : Entry). place_of x < count) (sym c.entry-item.is) (c.requires.known i e lt) in
     rw (c.loop-entry.invariant, c.place.ensures, c.is_yes.ensures) (
-      marks_push (take i calls) e count within
-      ∙ ap (λ (l : List Entry). marks_of l count) (ap (λ (x : Entry). take i calls ++ x ∷ []) c.entry-item.is ∙ sym (take_more calls i e lt))
+    marks_push (take i calls) e count within
+    ∙ ap (λ (l : List Entry). marks_of l count) (ap (λ (x : Entry). take i calls ++ x ∷ []) c.entry-item.is ∙ sym (take_more calls i e lt))
     )

@@ -11,6 +11,6 @@ returns c =
     let name = encode_utf8_all c.args.name.now in
     on_ok_weaker c.push_ident.result _ _
     (λ pushed.
-      pushed ∙ ap (λ (t : List ℕ). t ++ codes " " ++ name) c.in_ok-write.ensures.bytes
-      ∙ ap (λ (t : List ℕ). t ++ name) (append_assoc old front (codes " ")) ∙ append_assoc old (front ++ codes " ") name)
+    pushed ∙ ap (λ (t : List ℕ). t ++ codes " " ++ name) c.in_ok-write.ensures.bytes
+    ∙ ap (λ (t : List ℕ). t ++ name) (append_assoc old front (codes " ")) ∙ append_assoc old (front ++ codes " ") name)
     c.push_ident.ensures
