@@ -1,7 +1,7 @@
 -- The resources that instances declare, in their order.
 use Rattle.std.proofs.Common.{◌≡◌, ◌⊎◌, inl, inr, ℕ, zero, suc, ◌+◌, ◌<◌, ◌≤◌, List, [], ◌∷◌, ◌++◌, length, All, Option, Some, None, filter_map, option_map, option_and_then, slice_get, slice_index_or, refl, sym, ap, subst, ◌∙◌, arith, append_assoc, append-nil}
 use Rattle.mof_values.specs.declared.value.Value.{Value}
-use Rattle.std.specs.Prelude.{if◌then◌else◌, codes, true, false, ◌^◌, AllPairs, Any, IsSomeAnd}
+use Rattle.std.specs.Prelude.{if◌then◌else◌, codes, true, false, AllPairs, Any, IsSomeAnd}
 use Rattle.std.specs.List.{cons_option, enumerate_from}
 use Rattle.std.proofs.lemmas.List.Elements.{All-cons, All-nil, All-push}
 use Rattle.std.proofs.lemmas.Bool.{cases_Bool}

@@ -1,5 +1,5 @@
 -- What is answered of each input that is read as a document, from what was told of it.
-use Rattle.std.proofs.Common.{◌≡◌, ℕ, ◌<◌, ◌≤◌, length, List, [], ◌∷◌, Option, Some, None, Ok, Err, refl, ap, arith}
+use Rattle.std.proofs.Common.{ℕ, ◌<◌, ◌≤◌, length, List, [], ◌∷◌, Option, Some, None, Ok, refl, ap, arith}
 use Rattle.std.specs.Prelude.{IfSome}
 use Rattle.std.specs.List.{AllZip}
 use Rattle.dsc_document.specs.declared.document.Document.{Document}

@@ -1,5 +1,5 @@
 -- What one part is merged to, or refused for, is a matter of its name and its bytes.
-use Rattle.std.proofs.Common.{◌≡◌, ℕ, zero, suc, ◌<◌, List, [], ◌∷◌, Option, Some, None, IsSomeAnd, slice_get, length, ap, subst, ◌∙◌, arith}
+use Rattle.std.proofs.Common.{◌≡◌, ℕ, zero, suc, List, [], ◌∷◌, ap, subst, ◌∙◌, arith}
 use Rattle.std.specs.List.{AllZip}
 use Rattle.mof_syntax.specs.Refusals.{Reads}
 use Rattle.dsc_document.specs.declared.document.Document.{Document}

@@ -101,12 +101,14 @@ impl<H: Host> Resources for Kinds<H> {
 }
 
 impl<H: Host> Machine for Kinds<H> {
-    ghost use Rattle.std.specs.Prelude.{◌≡◌};
+    ghost use Rattle.std.specs.Prelude.{◌≡◌, IfOk, IfSome, OnOk};
     ghost use Rattle.dsc_outside.specs.Causes.{HasCauseOf};
     ghost use Rattle.dsc_outside.specs.Changes.{AllOrNothing, Does, with_package};
-    ghost use Rattle.dsc_outside.specs.Host.{Tells, has_package};
+    ghost use Rattle.dsc_outside.specs.Host.{has_package};
     ghost use Rattle.resource_kinds.specs.Kinds.{calls_of, host_of, spare_of};
-    ghost use Rattle.resource_kinds.specs.Packages.{ChangesPackages};
+    ghost use Rattle.resource_kinds.specs.Packages.{AddsPackage, ChangesPackages, packages_of};
+
+    ghost packages = { λ k. packages_of (H.told (host_of k)) };
 
     ghost packages_changed = { λ a b. ChangesPackages (H.told (host_of a)) (H.told (host_of b)) };
 
@@ -114,7 +116,7 @@ impl<H: Host> Machine for Kinds<H> {
         ensures kept { calls_of self.new ≡ calls_of self.old }
         ensures room { spare_of self.new ≡ spare_of self.old }
         ensures still { H.told (host_of self.old) ≡ H.told (host_of self.new) }
-        ensures answer { Tells (H.told (host_of self.old)) result (λ state there. there ≡ has_package state.packages name.now version.now) }
+        ensures answer { IfSome (packages_of (H.told (host_of self.old))) (λ list. IfOk result (λ there. there ≡ has_package list name.now version.now)) }
         ensures cause { HasCauseOf HostError.Failed (H.faults (host_of self.old)) (H.faults (host_of self.new)) result }
     {
         self.host.package_has(name, version)
@@ -123,7 +125,8 @@ impl<H: Host> Machine for Kinds<H> {
     fn package_put(&mut self, name: &str, version: &str, bytes: &[u8]) -> Result<(), HostError>
         ensures kept { calls_of self.new ≡ calls_of self.old }
         ensures room { spare_of self.new ≡ spare_of self.old }
-        ensures packages { ChangesPackages (H.told (host_of self.old)) (H.told (host_of self.new)) }
+        ensures changed { ChangesPackages (H.told (host_of self.old)) (H.told (host_of self.new)) }
+        ensures added { OnOk result (AddsPackage (packages_of (H.told (host_of self.old))) (packages_of (H.told (host_of self.new))) name.now version.now bytes.now) }
         ensures change { Does (H.told (host_of self.old)) (H.told (host_of self.new)) result (with_package name.now version.now bytes.now) (AllOrNothing (with_package name.now version.now bytes.now)) }
         ensures cause { HasCauseOf HostError.Failed (H.faults (host_of self.old)) (H.faults (host_of self.new)) result }
     {

@@ -1,12 +1,18 @@
 //! Machines that also keep module packages.
-ghost use Rattle.std.specs.Prelude.{◌≡◌};
+ghost use Rattle.std.specs.Prelude.{◌≡◌, IfOk, IfSome, List, OnOk, Option};
 ghost use Rattle.dsc_outside.specs.Causes.{HasCauseOf};
+ghost use Rattle.dsc_outside.specs.Host.{has_package};
+ghost use Rattle.dsc_outside.specs.declared.entries.Package.{Package};
+ghost use Rattle.resource_kinds.specs.Packages.{AddsPackage};
 
 use crate::resources::Resources;
 use dsc_outside::HostError;
 
 /// The resources of a machine that also keeps module packages. The calls on packages keep no entry.
 pub trait Machine: Resources {
+    /// The packages, the oldest first, where they are told.
+    ghost packages: { Self → Option (List Package) };
+
     /// Nothing has changed but the packages.
     ghost packages_changed: { Self → Self → Type 0 };
 
@@ -15,12 +21,14 @@ pub trait Machine: Resources {
         ensures kept { Self.kept self.new ≡ Self.kept self.old }
         ensures room { Self.spare self.new ≡ Self.spare self.old }
         ensures still { Self.still self.old self.new }
+        ensures answer { IfSome (packages self.old) (λ list. IfOk result (λ there. there ≡ has_package list name.now version.now)) }
         ensures cause { HasCauseOf HostError.Failed (Self.faults self.old) (Self.faults self.new) result };
 
     /// Adds a package at the end of the list.
     fn package_put(&mut self, name: &str, version: &str, bytes: &[u8]) -> Result<(), HostError>
         ensures kept { Self.kept self.new ≡ Self.kept self.old }
         ensures room { Self.spare self.new ≡ Self.spare self.old }
-        ensures packages { packages_changed self.old self.new }
+        ensures changed { packages_changed self.old self.new }
+        ensures added { OnOk result (AddsPackage (packages self.old) (packages self.new) name.now version.now bytes.now) }
         ensures cause { HasCauseOf HostError.Failed (Self.faults self.old) (Self.faults self.new) result };
 }
