@@ -1,6 +1,6 @@
 -- What a Set that is done changes is its own target.
 use Rattle.std.proofs.Common.{◌≡◌, ◌⊎◌, ℕ, List, [], Bool, true, false, ◌||◌, inl, inr, Option, Some, None, Ok, length, refl, ap, ◌∙◌, arith}
-use Rattle.std.specs.Prelude.{unwrap_or}
+use Rattle.std.specs.Prelude.{IfSome, unwrap_or}
 use Rattle.std.specs.Str.{bytes_eq}
 use Rattle.std.proofs.lemmas.Bool.{false_from_ne_true}
 use Rattle.std.proofs.lemmas.Slice.Eq.{bytes_eq-Decides}
@@ -12,8 +12,8 @@ use Rattle.dsc_outside.proofs.Below.{below_longer, not_below_both}
 use Rattle.resource_kinds.specs.declared.wanted.Wanted.{Wanted}
 use Rattle.resource_kinds.specs.declared.wanted.Wanted.TheVariants as wants
 use Rattle.resource_kinds.specs.Entries.{with_entries, without_entries}
-use Rattle.resource_kinds.specs.Holds.{ChangedTarget, applied, with_value}
-use Rattle.resource_kinds.specs.True.{TellsStep}
+use Rattle.resource_kinds.specs.Holds.{ChangedTarget, InTheWay, applied, with_value}
+use Rattle.resource_kinds.specs.True.{BrokeOff, TellsStep}
 
 -- what is above a path is not that path
 not_itself : (path other : List ℕ) → is_below other path ≡ true → bytes_eq path other ≡ false
@@ -75,8 +75,10 @@ applied_changes (wants.NoVariable name) host = value_changes name host None
 applied_changes (wants.NoEntries name value) host = value_changes name host (without_entries (host.variable name) value)
 applied_changes (wants.Logged id message) host = inr refl
 
--- a change that was made, and a look after it
-pub changed_then_looked : (before between after : Option HostState) (wanted : Wanted)
-    → Does {A = Unit {0}} {E = HostError} before between (Ok tt) (applied wanted) (ChangedTarget wanted) → after ≡ between → TellsStep before after (ChangedTarget wanted)
-changed_then_looked None between after wanted change same = same ∙ change
-changed_then_looked (Some host) between after wanted change same = (applied wanted host, same ∙ change, applied_changes wanted host)
+-- a change that was made where nothing was in the way, and a look after it
+pub changed_then_looked : (before between after : Option HostState) (wanted : Wanted) → IfSome before (λ host. InTheWay host wanted → ⊥)
+    → Does {A = Unit {0}} {E = HostError} before between (Ok tt) (applied wanted) (ChangedTarget wanted) → after ≡ between
+    → TellsStep before after (λ from to. BrokeOff from wanted to)
+changed_then_looked None between after wanted clear change same = same ∙ change
+changed_then_looked (Some host) between after wanted clear change same =
+    (applied wanted host, same ∙ change, record { part = applied_changes wanted host; spared = λ way. absurd (clear way) })

@@ -56,8 +56,8 @@ known_keeps before after id set other (sets.Fault (faults.OutOfProfile name)) ap
 known_keeps before after id set other (sets.Fault faults.BadPath) apart whole told holds = absurd told
 known_keeps before after id set other (sets.Fault faults.InTheWay) apart whole told holds = subst (λ h. Holds h other) (sym told.1) holds
 known_keeps before after id set other (sets.Fault faults.HostFailed) apart whole told holds =
-    failure_keeps before after set other apart (whole refl) told holds
-known_keeps before after id set other sets.Memory apart whole told holds = failure_keeps before after set other apart (whole tt) told holds
+    failure_keeps before after set other apart (whole refl) told.part holds
+known_keeps before after id set other sets.Memory apart whole told holds = failure_keeps before after set other apart (whole tt) told.part holds
 
 told_keeps : (before after : HostState) (id : List ℕ) (wanted : Result Wanted Failure) (other : Wanted) (answer : SetAnswer)
     → ((set : Wanted) → wanted ≡ Ok set → AreApart set other) → ((set : Wanted) → wanted ≡ Ok set → MayBreakOff answer → AsksFolder set → ⊥)

@@ -40,20 +40,25 @@ pub record IsSet (before : HostState) (wanted : Wanted) (after : HostState) : Ty
   pub clear : InTheWay before wanted → ⊥
   pub applied : after ≡ applied wanted before
 
+-- the Set did a part at most, and nothing where something was in the way
+pub record BrokeOff (before : HostState) (wanted : Wanted) (after : HostState) : Type 0 where
+  pub part : ChangedTarget wanted before after
+  pub spared : InTheWay before wanted → after ≡ before
+
 -- the one fault besides the host's is that something is in the way
 abbrev pub LeavesFaulty : HostState → Wanted → Failure → HostState → Type 0
 LeavesFaulty before wanted faults.NoSuchResource after = ⊥
 LeavesFaulty before wanted (faults.OutOfProfile name) after = ⊥
 LeavesFaulty before wanted faults.BadPath after = ⊥
 LeavesFaulty before wanted faults.InTheWay after = InTheWay before wanted × (after ≡ before)
-LeavesFaulty before wanted faults.HostFailed after = ChangedTarget wanted before after
+LeavesFaulty before wanted faults.HostFailed after = BrokeOff before wanted after
 
 -- the Set of a resource of that id without a fault of its own
 abbrev pub SetsKnown : HostState → List ℕ → Wanted → SetAnswer → HostState → Type 0
 SetsKnown before id wanted sets.Done after = IsSet before wanted after × (wants_reboot after.wanting (folded_utf8 id) ≡ false)
 SetsKnown before id wanted sets.Reboot after = IsSet before wanted after × (wants_reboot after.wanting (folded_utf8 id) ≡ true)
 SetsKnown before id wanted (sets.Fault failure) after = LeavesFaulty before wanted failure after
-SetsKnown before id wanted sets.Memory after = ChangedTarget wanted before after
+SetsKnown before id wanted sets.Memory after = BrokeOff before wanted after
 
 -- a resource with a fault is answered with it, and nothing changes
 abbrev pub SetsTrue : HostState → List ℕ → Result Wanted Failure → SetAnswer → HostState → Type 0

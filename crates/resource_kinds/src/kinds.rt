@@ -101,7 +101,7 @@ impl<H: Host> Resources for Kinds<H> {
 }
 
 impl<H: Host> Machine for Kinds<H> {
-    ghost use Rattle.std.specs.Prelude.{◌≡◌, IfOk, IfSome, OnOk};
+    ghost use Rattle.std.specs.Prelude.{◌≡◌, ◌⊎◌, IfOk, IfSome, OnOk};
     ghost use Rattle.dsc_outside.specs.Causes.{HasCauseOf};
     ghost use Rattle.dsc_outside.specs.Changes.{AllOrNothing, Does, with_package};
     ghost use Rattle.dsc_outside.specs.Host.{has_package};
@@ -116,6 +116,7 @@ impl<H: Host> Machine for Kinds<H> {
         ensures kept { calls_of self.new ≡ calls_of self.old }
         ensures room { spare_of self.new ≡ spare_of self.old }
         ensures still { H.told (host_of self.old) ≡ H.told (host_of self.new) }
+        ensures same { packages_of (H.told (host_of self.new)) ≡ packages_of (H.told (host_of self.old)) }
         ensures answer { IfSome (packages_of (H.told (host_of self.old))) (λ list. IfOk result (λ there. there ≡ has_package list name.now version.now)) }
         ensures cause { HasCauseOf HostError.Failed (H.faults (host_of self.old)) (H.faults (host_of self.new)) result }
     {
@@ -127,6 +128,7 @@ impl<H: Host> Machine for Kinds<H> {
         ensures room { spare_of self.new ≡ spare_of self.old }
         ensures changed { ChangesPackages (H.told (host_of self.old)) (H.told (host_of self.new)) }
         ensures added { OnOk result (AddsPackage (packages_of (H.told (host_of self.old))) (packages_of (H.told (host_of self.new))) name.now version.now bytes.now) }
+        ensures whole { (packages_of (H.told (host_of self.new)) ≡ packages_of (H.told (host_of self.old))) ⊎ AddsPackage (packages_of (H.told (host_of self.old))) (packages_of (H.told (host_of self.new))) name.now version.now bytes.now }
         ensures change { Does (H.told (host_of self.old)) (H.told (host_of self.new)) result (with_package name.now version.now bytes.now) (AllOrNothing (with_package name.now version.now bytes.now)) }
         ensures cause { HasCauseOf HostError.Failed (H.faults (host_of self.old)) (H.faults (host_of self.new)) result }
     {

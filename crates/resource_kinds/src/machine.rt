@@ -1,5 +1,5 @@
 //! Machines that also keep module packages.
-ghost use Rattle.std.specs.Prelude.{◌≡◌, IfOk, IfSome, List, OnOk, Option};
+ghost use Rattle.std.specs.Prelude.{◌≡◌, ◌⊎◌, IfOk, IfSome, List, OnOk, Option};
 ghost use Rattle.dsc_outside.specs.Causes.{HasCauseOf};
 ghost use Rattle.dsc_outside.specs.Host.{has_package};
 ghost use Rattle.dsc_outside.specs.declared.entries.Package.{Package};
@@ -21,6 +21,7 @@ pub trait Machine: Resources {
         ensures kept { Self.kept self.new ≡ Self.kept self.old }
         ensures room { Self.spare self.new ≡ Self.spare self.old }
         ensures still { Self.still self.old self.new }
+        ensures same { packages self.new ≡ packages self.old }
         ensures answer { IfSome (packages self.old) (λ list. IfOk result (λ there. there ≡ has_package list name.now version.now)) }
         ensures cause { HasCauseOf HostError.Failed (Self.faults self.old) (Self.faults self.new) result };
 
@@ -30,5 +31,6 @@ pub trait Machine: Resources {
         ensures room { Self.spare self.new ≡ Self.spare self.old }
         ensures changed { packages_changed self.old self.new }
         ensures added { OnOk result (AddsPackage (packages self.old) (packages self.new) name.now version.now bytes.now) }
+        ensures whole { (packages self.new ≡ packages self.old) ⊎ AddsPackage (packages self.old) (packages self.new) name.now version.now bytes.now }
         ensures cause { HasCauseOf HostError.Failed (Self.faults self.old) (Self.faults self.new) result };
 }
