@@ -1,8 +1,10 @@
 -- Orders and cycles of the resources of a document.
-use Rattle.std.specs.Prelude.{ℕ, List, length}
+use Rattle.std.specs.Prelude.{◌≡◌, ◌↔◌, ℕ, List, length}
+use Rattle.std.specs.Global.{Vec}
 use Rattle.dsc_document.specs.declared.document.Document.{Document}
 use Rattle.dsc_document.specs.Dependencies.{IsDependency, Names}
 use Rattle.depend_order.specs.Cycle.{IsCycle}
+use Rattle.depend_order.specs.Numbers.{Lists}
 use Rattle.depend_order.specs.Order.{IsOrder}
 
 abbrev pub IsOrderOfDocument : Document → List ℕ → Type 0
@@ -10,3 +12,8 @@ IsOrderOfDocument document order = IsOrder (length document.resources) (IsDepend
 
 abbrev pub IsCycleOfDocument : Document → List ℕ → Type 0
 IsCycleOfDocument document cycle = IsCycle (length document.resources) (Names document) cycle
+
+-- the k-th number for a resource is the place that the k-th name in its DependsOn means
+pub record AreDependencies (document : Document) (depends : List (Vec ℕ)) : Type 0 where
+  pub count : length depends ≡ length document.resources
+  pub listed : (r k q : ℕ) → Lists depends r k q ↔ Names document r k q

@@ -14,7 +14,7 @@ mod numbers;
 mod search;
 mod walk;
 
-pub use documents::order;
+pub use documents::{dependencies, order};
 pub use error::OrderError;
 pub use laws::{order_laws, order_of_laws};
 pub use numbers::order_of;
