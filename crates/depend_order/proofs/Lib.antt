@@ -1,5 +1,6 @@
 pub mod Answered
 pub mod Cycles
+pub mod DocumentOrders
 pub mod Marks
 pub mod NumberLemmas
 pub mod Options

@@ -4,7 +4,7 @@ use Rattle.std.specs.Global.{Vec}
 use Rattle.dsc_document.specs.declared.document.Document.{Document}
 use Rattle.dsc_document.specs.Dependencies.{IsDependency, Names}
 use Rattle.depend_order.specs.Cycle.{IsCycle}
-use Rattle.depend_order.specs.Numbers.{Lists}
+use Rattle.depend_order.specs.Numbers.{AreBelow, Lists}
 use Rattle.depend_order.specs.Order.{IsOrder}
 
 abbrev pub IsOrderOfDocument : Document → List ℕ → Type 0
@@ -13,7 +13,8 @@ IsOrderOfDocument document order = IsOrder (length document.resources) (IsDepend
 abbrev pub IsCycleOfDocument : Document → List ℕ → Type 0
 IsCycleOfDocument document cycle = IsCycle (length document.resources) (Names document) cycle
 
--- the k-th number for a resource is the place that the k-th name in its DependsOn means
+-- for each resource the places that the names in its DependsOn mean, in their order
 pub record AreDependencies (document : Document) (depends : List (Vec ℕ)) : Type 0 where
   pub count : length depends ≡ length document.resources
+  pub below : AreBelow (length depends) depends
   pub listed : (r k q : ℕ) → Lists depends r k q ↔ Names document r k q

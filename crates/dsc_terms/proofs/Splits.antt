@@ -21,6 +21,22 @@ split_push {A} (a ∷ t) e (b ∷ bs) x after p =
       | inr more ↦ inr (more.0, λ i. h i ∷ more.1 i)
     ]
 
+-- where a split of two lists together lies
+pub split_append : {A : Type 0} (t u before : List A) (x : A) (after : List A) → t ++ u ≡ before ++ x ∷ after
+    → ((rest : List A) × (t ≡ before ++ x ∷ rest) × (after ≡ rest ++ u)) ⊎ ((front : List A) × (before ≡ t ++ front) × (u ≡ front ++ x ∷ after))
+split_append [] u before x after p = inr (before, refl, p)
+split_append (a ∷ t) u [] x after p =
+    let h : a ≡ x = cc in
+    let q : after ≡ t ++ u = cc in
+    inl (t, ap (λ y. y ∷ t) h, q)
+split_append (a ∷ t) u (b ∷ bs) x after p =
+    let h : a ≡ b = cc in
+    let q : t ++ u ≡ bs ++ x ∷ after = cc in
+    elim (split_append t u bs x after q) [
+      | inl here ↦ inl (here.0, λ i. h i ∷ here.1 i, here.2)
+      | inr there ↦ inr (there.0, λ i. (sym h) i ∷ there.1 i, there.2)
+    ]
+
 -- the split of a list at a place
 pub split_at : {A : Type 0} (xs : List A) (i : ℕ) (d : A) → i < length xs → xs ≡ take i xs ++ get_or xs i d ∷ drop (i + 1) xs
 split_at {A} xs i d lt = sym (take-append-drop i xs) ∙ ap (λ (l : List A). take i xs ++ l) (drop_more xs i d lt)

@@ -1,9 +1,11 @@
 pub mod Barred
+pub mod Chains
 pub mod Changed
 pub mod EntryLists
 pub mod HostPaths
 pub mod JoinedPaths
 pub mod Looked
+pub mod Marks
 pub mod Meets
 pub mod PathSets
 pub mod RunLaws

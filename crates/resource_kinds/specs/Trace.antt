@@ -56,9 +56,18 @@ missed_count document trace = length document.resources - succeeded_count docume
 abbrev pub EndsWith : List Entry → Entry → Type 0
 EndsWith trace e = (front : List Entry) × (trace ≡ front ++ e ∷ [])
 
--- the last entry is a test for which memory was refused
+-- memory was refused
+abbrev pub WantsMemory : Entry → Type 0
+WantsMemory (Tested place answer) = answer ≡ tests.Memory
+WantsMemory (Set place answer) = answer ≡ sets.Memory
+
+-- the last entry is one for which memory was refused
 abbrev pub EndsInMemory : List Entry → Type 0
-EndsInMemory trace = (r : ℕ) × EndsWith trace (Tested r tests.Memory)
+EndsInMemory trace = (e : Entry) × EndsWith trace e × WantsMemory e
+
+-- the last entry is a Set for which the machine wants a reboot
+abbrev pub EndsInReboot : List Entry → Type 0
+EndsInReboot trace = (r : ℕ) × EndsWith trace (Set r sets.Reboot)
 
 -- nothing follows such an entry: a reboot was asked for, or memory was refused
 abbrev pub IsFinal : Entry → Type 0

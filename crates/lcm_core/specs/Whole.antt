@@ -2,14 +2,14 @@
 use Rattle.std.specs.Prelude.{◌≡◌, ℕ, List, [], ◌∷◌, ◌++◌, Contains}
 use Rattle.dsc_terms.specs.Lists.{Precedes}
 use Rattle.dsc_document.specs.declared.document.Document.{Document}
-use Rattle.lcm_program.specs.declared.runs.RunMode.{RunMode}
-use Rattle.lcm_program.specs.declared.runs.RunMode.TheVariants.{Repair}
+use Rattle.lcm_core.specs.declared.modes.RunMode.{RunMode}
+use Rattle.lcm_core.specs.declared.modes.RunMode.TheVariants.{Repair}
 use Rattle.resource_kinds.specs.declared.entry.TestAnswer.TheVariants as tests
 use Rattle.resource_kinds.specs.declared.entry.SetAnswer.TheVariants as sets
 use Rattle.resource_kinds.specs.declared.entry.Entry.{Entry}
 use Rattle.resource_kinds.specs.declared.entry.Entry.TheVariants.{Tested, Set}
 use Rattle.resource_kinds.specs.Trace.{HasEntry, EndsWith, IsFinal, place_of}
-use Rattle.lcm_program.specs.Legal.{IsReady}
+use Rattle.lcm_core.specs.Legal.{IsReady}
 
 -- where the trace ends with a reboot asked for, or with memory refused, only the resources before that one are asked of it
 abbrev pub IsReached : List ℕ → List Entry → ℕ → Type 0

@@ -1,4 +1,4 @@
--- Marks of the resources that succeeded.
+-- Which resources succeeded, as a trace grows; and marks of them.
 use Rattle.std.proofs.Common.{◌≡◌, inl, inr, ◌<◌, ◌+◌, ◌-◌, ℕ, zero, suc, Bool, false, List, [], ◌∷◌, ◌++◌, Some, if◌then◌else◌, cond, length, map, get_or, set, replicate, refl, sym, ◌∙◌, ap, subst, arith, length-set, get_or-set_same, get_or-set_other}
 use Rattle.std.specs.Prelude.{count_by, find, reverse}
 use Rattle.std.proofs.Math.Dec.{eqb}
@@ -33,11 +33,11 @@ module _ (t : List Entry) (e : Entry) where
   by_entry : (r : ℕ) → has_succeeded (t ++ e ∷ []) r ≡ is_yes (find (λ x. eqb (place_of x) r) (e ∷ reverse t))
   by_entry r = ap (λ (l : List Entry). is_yes (find (λ x. eqb (place_of x) r) l)) last_first
 
-  succeeded_here : (r : ℕ) → place_of e ≡ r → has_succeeded (t ++ e ∷ []) r ≡ entry_is_yes e
+  pub succeeded_here : (r : ℕ) → place_of e ≡ r → has_succeeded (t ++ e ∷ []) r ≡ entry_is_yes e
   succeeded_here r here =
       by_entry r ∙ ap (λ (b : Bool). is_yes (if b then Some e else find (λ x. eqb (place_of x) r) (reverse t))) (eq-eqb (place_of e) r here)
 
-  succeeded_elsewhere : (r : ℕ) → eqb (place_of e) r ≡ false → has_succeeded (t ++ e ∷ []) r ≡ has_succeeded t r
+  pub succeeded_elsewhere : (r : ℕ) → eqb (place_of e) r ≡ false → has_succeeded (t ++ e ∷ []) r ≡ has_succeeded t r
   succeeded_elsewhere r apart =
       by_entry r ∙ ap (λ (b : Bool). is_yes (if b then Some e else find (λ x. eqb (place_of x) r) (reverse t))) apart
 

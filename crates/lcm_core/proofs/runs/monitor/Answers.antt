@@ -1,13 +1,15 @@
-use Rattle.std.proofs.Common.{◌≡◌, rules, length-append, ◌∷◌, [], ◌++◌, List, arith, sym, ◌∙◌, ap, subst, length, get_or}
+use Rattle.std.proofs.Common.{◌≡◌, inl, refl, rules, length-append, ◌∷◌, [], ◌++◌, List, arith, sym, ◌∙◌, ap, subst, length, get_or}
 use Rattle.resource_kinds.specs.declared.entry.Entry.TheVariants.{Tested}
 use Rattle.resource_kinds.specs.declared.entry.TestAnswer.TheVariants as tests
-use Rattle.lcm_program.specs.declared.runs.RunMode.TheVariants.{Monitor}
+use Rattle.lcm_core.specs.declared.modes.RunMode.TheVariants.{Monitor}
 use Rattle.resource_kinds.specs.declared.entry.Entry.{Entry}
 use Rattle.resource_kinds.specs.declared.entry.TestAnswer.{TestAnswer}
-use Rattle.lcm_program.specs.Legal.{Legal}
+use Rattle.lcm_core.specs.Legal.{Legal}
 use Rattle.resource_kinds.specs.Trace.{IsFinal}
-use Rattle.lcm_program.proofs.Traces.{legal_push, chain_push, ends_with_push, may_test, places_push, host_failures_push, whole_at_memory}
-use Rattle.lcm_program.proofs.runs.monitor.Goals as goal
+use Rattle.lcm_core.proofs.Traces.{legal_push, ends_with_push, may_test, places_push, host_failures_push, whole_at_memory}
+use Rattle.depend_order.proofs.DocumentOrders.{order_below, order_count}
+use Rattle.resource_kinds.proofs.Chains.{chain_push}
+use Rattle.lcm_core.proofs.runs.monitor.Goals as goal
 
 pub loop-place-init : goal.loop-place-init
 loop-place-init g c =
@@ -18,14 +20,14 @@ loop-place-init g c =
       goes_on = λ e ends last. absurd (omega (arith, ap length ends.1, length-append ends.0 (e ∷ [])));
       chain = g.met.R.Resources.stays _;
       faults = omega arith;
-      room = omega (arith, c.requires.room);
+      room = omega (arith, c.requires.room, order_count c.args.document.now c.args.order.now c.requires.order);
     })
 
 pub returns-in-Memory-clause-legal : goal.returns-in-Memory-clause-legal
 returns-in-Memory-clause-legal g c =
     let i = c.loop-place.place-index in
     let so_far = c.loop-place.invariant in
-    let may = may_test c.args.document.now c.args.order.now (g.R.Resources.kept c.loop-place.resources) i c.loop-place-test.true so_far.places (c.requires.places i 0 c.loop-place-test.true) c.requires.distinct so_far.goes_on in
+    let may = may_test c.args.document.now c.args.order.now (g.R.Resources.kept c.loop-place.resources) i c.loop-place-test.true so_far.places (order_below c.args.document.now c.args.order.now c.requires.order i 0 c.loop-place-test.true) c.requires.order.once so_far.goes_on in
     rw c.test.ensures.kept (legal_push _ Monitor _ _ _ so_far.legal may)
 
 pub returns-in-Memory-clause-whole : goal.returns-in-Memory-clause-whole
@@ -36,14 +38,14 @@ returns-in-Memory-clause-whole g c =
     let grown : g.R.Resources.kept c.test.new.self ≡ kept ++ Tested (get_or order i 0) tests.Memory ∷ [] =
     c.test.ensures.kept ∙ ap (λ (a : TestAnswer). kept ++ Tested (get_or order i 0) a ∷ []) c.in-Memory.is in
     let legal = subst (λ (t : List Entry). Legal c.args.document.now Monitor order t) grown (returns-in-Memory-clause-legal g c) in
-    rw grown (whole_at_memory c.args.document.now order kept i c.loop-place-test.true c.requires.distinct c.loop-place.invariant.places legal)
+    rw grown (whole_at_memory c.args.document.now order kept i c.loop-place-test.true c.requires.order.once c.loop-place.invariant.places legal)
 
-pub returns-in-Memory-clause-memory : goal.returns-in-Memory-clause-memory
-returns-in-Memory-clause-memory g c = λ _.
+pub returns-in-Memory-clause-end : goal.returns-in-Memory-clause-end
+returns-in-Memory-clause-end g c =
     let order = c.args.order.now in
     let place = get_or order c.loop-place.place-index 0 in
     let kept = g.R.Resources.kept c.loop-place.resources in
-    (place, (kept, c.test.ensures.kept ∙ ap (λ (a : TestAnswer). kept ++ Tested place a ∷ []) c.in-Memory.is))
+    inl (Tested place tests.Memory, (kept, c.test.ensures.kept ∙ ap (λ (a : TestAnswer). kept ++ Tested place a ∷ []) c.in-Memory.is), refl)
 
 pub returns-in-Memory-clause-chain : goal.returns-in-Memory-clause-chain
 returns-in-Memory-clause-chain g c = rw c.test.ensures.kept (chain_push g.R.Resources.does g.R.Resources.still _ _ _ _ _ _ g.met.R.Resources.still_does g.met.R.Resources.stays c.loop-place.invariant.chain c.test.ensures.does)
@@ -56,7 +58,7 @@ loop-place-preserved g c =
     let so_far = c.loop-place.invariant in
     let kept = g.R.Resources.kept c.loop-place.resources in
     let entry = Tested (get_or order i 0) c.test.result in
-    let may = may_test c.args.document.now order kept i lt so_far.places (c.requires.places i 0 lt) c.requires.distinct so_far.goes_on in
+    let may = may_test c.args.document.now order kept i lt so_far.places (order_below c.args.document.now order c.requires.order i 0 lt) c.requires.order.once so_far.goes_on in
     rw c.test.ensures.kept (record {
       places = places_push c.args.document.now order kept i lt so_far.places c.test.result;
       legal = legal_push c.args.document.now Monitor order kept entry so_far.legal may;
@@ -65,3 +67,6 @@ loop-place-preserved g c =
       faults = omega (arith, host_failures_push kept entry, so_far.faults, c.test.ensures.cause);
       room = omega (arith, so_far.room, c.test.ensures.room);
     })
+
+pub test-requires-clause-place : goal.test-requires-clause-place
+test-requires-clause-place g c = order_below c.args.document.now c.args.order.now c.requires.order c.loop-place.place-index 0 c.loop-place-test.true

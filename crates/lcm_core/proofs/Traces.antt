@@ -2,21 +2,21 @@
 use Rattle.std.proofs.Common.{Option, Some, None, ◌≡◌, inl, inr, ℕ, ◌+◌, ◌<◌, List, [], ◌∷◌, ◌++◌, length, take, drop, get_or, map, refl, sym, ◌∙◌, ap, subst, arith, length-append, All}
 use Rattle.std.specs.Prelude.{Contains}
 use Rattle.std.proofs.lemmas.List.{take_more, map_push}
-use Rattle.std.proofs.lemmas.List.Elements.{All-cons, All-nil, Contains-append_left}
+use Rattle.std.proofs.lemmas.List.Elements.{Contains-append_left}
 use Rattle.std.proofs.lemmas.List.Sums.{sum_by-append}
 use Rattle.dsc_terms.specs.Lists.{IsOnce}
 use Rattle.dsc_document.specs.declared.document.Document.{Document}
-use Rattle.lcm_program.specs.declared.runs.RunMode.{RunMode}
-use Rattle.lcm_program.specs.declared.runs.RunMode.TheVariants.{Monitor}
+use Rattle.lcm_core.specs.declared.modes.RunMode.{RunMode}
+use Rattle.lcm_core.specs.declared.modes.RunMode.TheVariants.{Monitor}
 use Rattle.resource_kinds.specs.declared.entry.Entry.{Entry}
 use Rattle.resource_kinds.specs.declared.entry.Entry.TheVariants.{Tested, Set}
 use Rattle.resource_kinds.specs.declared.entry.TestAnswer.{TestAnswer}
 use Rattle.resource_kinds.specs.declared.entry.TestAnswer.TheVariants as tests
-use Rattle.resource_kinds.specs.Trace.{Chain, place_of, entry_failures, host_failures, EndsWith}
-use Rattle.lcm_program.specs.Legal.{Legal, MayTest, MayFollow, GoesOn}
+use Rattle.resource_kinds.specs.Trace.{place_of, entry_failures, host_failures, EndsWith}
+use Rattle.lcm_core.specs.Legal.{Legal, MayTest, MayFollow, GoesOn}
 use Rattle.dsc_outside.specs.Host.{HostState}
-use Rattle.resource_kinds.specs.True.{KeepsTable, True, TellsTrue, TellsEntry}
-use Rattle.lcm_program.specs.Whole.{Whole}
+use Rattle.resource_kinds.specs.True.{True, TellsTrue}
+use Rattle.lcm_core.specs.Whole.{Whole}
 use Rattle.dsc_terms.proofs.Splits.{split_push, split_at, contains_front, precedes, precedes_front}
 
 pub legal_push : (document : Document) (mode : RunMode) (order : List ℕ) (t : List Entry) (e : Entry) → Legal document mode order t → MayFollow document mode order t e
@@ -91,31 +91,6 @@ whole_at_memory document order t i lt once places legal =
       again = λ before q after reached e. absurd (monitor_sets_nothing document order all before q _ after legal e);
       repaired = λ before q after same reached e first. absurd cc;
     }
-
--- a chain goes on by one step
-pub chain_push : {S : Type 0} (does : S → Document → Entry → S → Type 0) (still : S → S → Type 0) (document : Document) (a : S) (t : List Entry) (b : S) (e : Entry) (c : S)
-    → ((x y z : S) (d : Document) (w : Entry) → still x y → does y d w z → does x d w z) → ((x : S) → still x x)
-    → Chain does still document a t b → does b document e c → Chain does still document a (t ++ e ∷ []) c
-chain_push does still document a [] b e c joins stays chain step = (c, joins a b c document e chain step, stays c)
-chain_push does still document a (x ∷ t) b e c joins stays chain step = (chain.0, chain.1, chain_push does still document chain.0 t b e c joins stays chain.2 step)
-
--- a chain of values is one of what they tell
-pub chain_map : {S T : Type 0} (f : S → T) (does : T → Document → Entry → T → Type 0) (still : T → T → Type 0) (document : Document) (a : S) (t : List Entry) (b : S)
-    → Chain (λ x d e y. does (f x) d e (f y)) (λ x y. still (f x) (f y)) document a t b → Chain does still document (f a) t (f b)
-chain_map f does still document a [] b chain = chain
-chain_map f does still document a (e ∷ t) b chain = (f chain.0, chain.1, chain_map f does still document chain.0 t b chain.2)
-
--- what a chain of values over a host tells is true, where the host tells
-pub tells_true : (document : Document) (t : List Entry) (a b : Option HostState) → Chain TellsEntry (λ x y. x ≡ y) document a t b → TellsTrue document a t b
-tells_true document [] None b chain = (sym chain, All-nil (KeepsTable document))
-tells_true document [] (Some s) b chain = (s, sym chain, refl)
-tells_true document (e ∷ t) None b chain =
-    let rest = tells_true document t None b (subst (λ (m : Option HostState). Chain TellsEntry (λ x y. x ≡ y) document m t b) chain.1.0 chain.2) in
-    (rest.0, All-cons (KeepsTable document) e t chain.1.1 rest.1)
-tells_true document (e ∷ t) (Some s) b chain =
-    let step = chain.1 in
-    let rest = tells_true document t (Some step.0) b (subst (λ (m : Option HostState). Chain TellsEntry (λ x y. x ≡ y) document m t b) step.1 chain.2) in
-    (rest.0, rest.1, (step.0, step.2, rest.2))
 
 -- the trace has no Set
 abbrev SetsNothing : List Entry → Type 0

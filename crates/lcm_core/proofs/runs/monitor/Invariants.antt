@@ -1,9 +1,9 @@
 use Rattle.std.proofs.Common.{◌≡◌, ◌+◌, ◌≤◌, length, map, take}
 use Rattle.dsc_terms.specs.Counts.{RoseBy}
-use Rattle.lcm_program.specs.declared.runs.RunMode.TheVariants.{Monitor}
+use Rattle.lcm_core.specs.declared.modes.RunMode.TheVariants.{Monitor}
 use Rattle.resource_kinds.specs.Trace.{Chain, place_of, host_failures}
-use Rattle.lcm_program.specs.Legal.{Legal, GoesOn}
-use Rattle.lcm_program.proofs.runs.monitor.Given as goal
+use Rattle.lcm_core.specs.Legal.{Legal, GoesOn}
+use Rattle.lcm_core.proofs.runs.monitor.Given as goal
 
 abbrev pub invariant-loop-place : goal.invariant-loop-place
 invariant-loop-place g l =

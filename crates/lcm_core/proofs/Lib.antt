@@ -1,0 +1,4 @@
+pub mod OneTurn
+pub mod Past
+pub mod Ready
+pub mod Traces

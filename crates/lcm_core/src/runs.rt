@@ -1,0 +1,138 @@
+//! Runs in both modes.
+ghost use Rattle.std.specs.Prelude.{◌≡◌, ◌⊎◌, ◌<◌, ◌≤◌, ◌*◌, ◌^◌, [], length, replicate, All, false};
+ghost use Rattle.dsc_terms.specs.Counts.{RoseBy};
+ghost use Rattle.dsc_document.specs.Dependencies.{HasDistinctIds, NamesResources};
+ghost use Rattle.depend_order.specs.Documents.{AreDependencies, IsOrderOfDocument};
+ghost use Rattle.resource_kinds.specs.Trace.{Chain, host_failures};
+ghost use Rattle.lcm_core.specs.Ends.{IsEnd, IsUnbegun};
+ghost use Rattle.lcm_core.specs.Legal.{Legal};
+ghost use Rattle.lcm_core.specs.Turn.{IsStop, all_held};
+ghost use Rattle.lcm_core.specs.Whole.{Whole};
+
+use crate::modes::{RunEnd, RunMode};
+use crate::turns::{Stop, take_turn};
+use depend_order::dependencies;
+use dsc_document::Document;
+use resource_kinds::{Resources, TestAnswer};
+use std::alloc::{AllocError, Global};
+
+/// Tests each resource of the document in the order of dependencies, and in a repair sets what does not hold.
+///
+/// In a repair a resource is tested only where the last Test of each of its dependencies answered yes; where its own answers
+/// no it is set, and tested again where that was done. A fault of one resource does not end the run.
+pub fn run<R: Resources>(
+    alloc: Global,
+    document: &Document,
+    order: &[u32],
+    mode: RunMode,
+    resources: &mut R,
+) -> RunEnd
+    requires few { length document.now.resources < 2 ^ 32 }
+    requires known { NamesResources document.now }
+    requires distinct { HasDistinctIds document.now }
+    requires order { IsOrderOfDocument document.now order.now }
+    requires fresh { R.kept resources.old ≡ [] }
+    requires room { 3 * length document.now.resources ≤ R.spare resources.old }
+
+    ensures legal { Legal document.now mode order.now (R.kept resources.new) }
+    ensures whole { Whole document.now mode order.now (R.kept resources.new) ⊎ IsUnbegun mode result (R.kept resources.new) }
+    ensures end { IsEnd mode result (R.kept resources.new) }
+    ensures chain { Chain R.does R.still document.now resources.old (R.kept resources.new) resources.new }
+    ensures faults { RoseBy (host_failures (R.kept resources.new)) (R.faults resources.old) (R.faults resources.new) }
+{
+    match mode {
+        RunMode::Monitor => monitor(document, order, resources),
+        RunMode::Repair => repair(alloc, document, order, resources),
+    }
+}
+
+// Tests the resources in order, and changes nothing.
+fn monitor<R: Resources>(document: &Document, order: &[u32], resources: &mut R) -> RunEnd
+    requires order { IsOrderOfDocument document.now order.now }
+    requires fresh { R.kept resources.old ≡ [] }
+    requires room { 3 * length document.now.resources ≤ R.spare resources.old }
+
+    ensures legal { Legal document.now RunMode.Monitor order.now (R.kept resources.new) }
+    ensures whole { Whole document.now RunMode.Monitor order.now (R.kept resources.new) }
+    ensures end { IsEnd RunMode.Monitor result (R.kept resources.new) }
+    ensures chain { Chain R.does R.still document.now resources.old (R.kept resources.new) resources.new }
+    ensures faults { RoseBy (host_failures (R.kept resources.new)) (R.faults resources.old) (R.faults resources.new) }
+{
+    for place in order {
+        if let TestAnswer::Memory = resources.test(document, *place) {
+            return RunEnd::Memory;
+        }
+    }
+    RunEnd::Finished
+}
+
+// Lets each resource whose dependencies succeeded take its turn.
+fn repair<R: Resources>(
+    alloc: Global,
+    document: &Document,
+    order: &[u32],
+    resources: &mut R,
+) -> RunEnd
+    requires few { length document.now.resources < 2 ^ 32 }
+    requires known { NamesResources document.now }
+    requires distinct { HasDistinctIds document.now }
+    requires order { IsOrderOfDocument document.now order.now }
+    requires fresh { R.kept resources.old ≡ [] }
+    requires room { 3 * length document.now.resources ≤ R.spare resources.old }
+
+    ensures legal { Legal document.now RunMode.Repair order.now (R.kept resources.new) }
+    ensures whole { Whole document.now RunMode.Repair order.now (R.kept resources.new) ⊎ IsUnbegun RunMode.Repair result (R.kept resources.new) }
+    ensures end { IsEnd RunMode.Repair result (R.kept resources.new) }
+    ensures chain { Chain R.does R.still document.now resources.old (R.kept resources.new) resources.new }
+    ensures faults { RoseBy (host_failures (R.kept resources.new)) (R.faults resources.old) (R.faults resources.new) }
+{
+    let Ok(depends) = dependencies(alloc, document) else {
+        return RunEnd::Memory;
+    };
+    let Ok(mut held) = vec![in alloc; false; depends.len()] else {
+        return RunEnd::Memory;
+    };
+    match take_turns(document, order, &depends, &mut held, resources) {
+        Ok(()) => RunEnd::Finished,
+        Err(Stop::RebootAsked(place)) => RunEnd::RebootAsked(place),
+        Err(Stop::Memory) => RunEnd::Memory,
+    }
+}
+
+// Takes the turns in order, and marks in `held` the resources that succeeded.
+fn take_turns<R: Resources>(
+    document: &Document,
+    order: &[u32],
+    depends: &[Vec<u32>],
+    held: &mut [bool],
+    resources: &mut R,
+) -> Result<(), Stop>
+    requires depends { AreDependencies document.now depends.now }
+    requires none { held.old ≡ replicate (length document.now.resources) false }
+    requires order { IsOrderOfDocument document.now order.now }
+    requires fresh { R.kept resources.old ≡ [] }
+    requires room { 3 * length document.now.resources ≤ R.spare resources.old }
+
+    ensures legal { Legal document.now RunMode.Repair order.now (R.kept resources.new) }
+    ensures whole { Whole document.now RunMode.Repair order.now (R.kept resources.new) }
+    ensures end { IsStop result (R.kept resources.new) }
+    ensures chain { Chain R.does R.still document.now resources.old (R.kept resources.new) resources.new }
+    ensures faults { RoseBy (host_failures (R.kept resources.new)) (R.faults resources.old) (R.faults resources.new) }
+{
+    for place in order {
+        let at = *place as usize;
+        if !all_held(&depends[at], held) {
+            continue;
+        }
+        held[at] = take_turn(document, *place, resources)?;
+    }
+    Ok(())
+}
+
+// Tells whether all of these places are marked.
+fn all_held(places: &[u32], held: &[bool]) -> bool
+    requires { All (λ q. q < length held.now) places.now }
+    ensures { result ≡ all_held held.now places.now }
+{
+    places.iter().all(|place| held[*place as usize])
+}
