@@ -1,5 +1,5 @@
 -- What a Set that is done changes is its own target.
-use Rattle.std.proofs.Common.{◌≡◌, ◌⊎◌, ℕ, List, [], Bool, true, false, ◌||◌, inl, inr, Option, Some, None, Ok, length, refl, ap, ◌∙◌, arith}
+use Rattle.std.proofs.Common.{◌≡◌, ◌⊎◌, ℕ, List, [], Bool, true, false, ◌||◌, inl, inr, Option, Some, None, Ok, Err, length, refl, ap, ◌∙◌, arith}
 use Rattle.std.specs.Prelude.{IfSome, unwrap_or}
 use Rattle.std.specs.Str.{bytes_eq}
 use Rattle.std.proofs.lemmas.Bool.{false_from_ne_true}
@@ -82,3 +82,9 @@ pub changed_then_looked : (before between after : Option HostState) (wanted : Wa
 changed_then_looked None between after wanted clear change same = same ∙ change
 changed_then_looked (Some host) between after wanted clear change same =
     (applied wanted host, same ∙ change, record { part = applied_changes wanted host; spared = λ way. absurd (clear way) })
+
+-- a change that broke off where nothing was in the way
+pub changed_in_part : (before after : Option HostState) (wanted : Wanted) (error : HostError) → IfSome before (λ host. InTheWay host wanted → ⊥)
+    → Does {A = Unit {0}} {E = HostError} before after (Err error) (applied wanted) (ChangedTarget wanted) → TellsStep before after (λ from to. BrokeOff from wanted to)
+changed_in_part None after wanted error clear change = change
+changed_in_part (Some host) after wanted error clear change = (change.0, change.1, record { part = change.2; spared = λ way. absurd (clear way) })

@@ -1,11 +1,11 @@
 -- Where the resources are apart and no Set of a folder broke off, what the last entry of a resource settles holds to the end.
-use Rattle.std.proofs.Common.{◌≡◌, ◌⊎◌, inl, inr, ℕ, zero, suc, ◌<◌, Bool, true, false, cond, ◌==◌, List, [], ◌∷◌, length, reverse, find, slice_get, Option, Some, None, IfSome, Result, Ok, Err, option_and_then, refl, sym, ◌∙◌, ap, subst, arith, All}
+use Rattle.std.proofs.Common.{◌≡◌, ◌⊎◌, inl, inr, ℕ, Bool, true, false, cond, ◌==◌, List, [], ◌∷◌, reverse, find, slice_get, Option, Some, None, Result, Ok, Err, option_and_then, refl, sym, ◌∙◌, ap, subst, All}
 use Rattle.std.proofs.lemmas.Bool.{cases_order, eqb-true, eqb-false, false≢true}
 use Rattle.std.proofs.lemmas.List.{reverse-append}
 use Rattle.std.proofs.lemmas.List.Elements.{All-head, All-tail}
 use Rattle.std.proofs.lemmas.List.Folds.{find-append}
 use Rattle.std.proofs.lemmas.Option.{none-some, same_Some}
-use Rattle.std.specs.Option.{option_or}
+use Rattle.std.specs.Option.{IsSomeAnd, option_or}
 use Rattle.std.specs.Result.{result_ok}
 use Rattle.dsc_outside.specs.Host.{HostState}
 use Rattle.dsc_document.specs.declared.document.Document.{Document}
@@ -20,7 +20,7 @@ use Rattle.resource_kinds.specs.declared.entry.Entry.TheVariants.{Tested, Set}
 use Rattle.resource_kinds.specs.declared.wanted.Wanted.{Wanted}
 use Rattle.resource_kinds.specs.Apart.{Apart, AreApart, Meet, wanted_at}
 use Rattle.resource_kinds.specs.Holds.{Holds, applied}
-use Rattle.resource_kinds.specs.Laws.{AsksFolder, IsSettled, IsWhole, IsWithin, MayBreakOff, SetMakesHold, SettledHold, SucceededHold, entry_settles, set_is_done, settles}
+use Rattle.resource_kinds.specs.Laws.{AsksFolder, IsSettled, IsWhole, MayBreakOff, SetMakesHold, SettledHold, SucceededHold, entry_settles, set_is_done, settles}
 use Rattle.resource_kinds.specs.Trace.{is_yes, last_entry, place_of}
 use Rattle.resource_kinds.specs.True.{AnswersTrue, IsTrueEntry, SetsKnown, SetsTrue, True}
 use Rattle.resource_kinds.specs.Wanted.{wanted_of}
@@ -66,11 +66,6 @@ told_keeps before after id (Ok set) other answer apart whole told holds =
     known_keeps before after id set other answer (apart set refl) (whole set refl) told holds
 told_keeps before after id (Err failure) other answer apart whole told holds = subst (λ h. Holds h other) (sym told.1) holds
 
-within_list : {X : Type 0} (xs : List X) (i : ℕ) → i < length xs → slice_get xs i ≡ None → ⊥
-within_list [] i lt none = omega arith
-within_list (x ∷ xs) zero lt none = none-some x (sym none)
-within_list (x ∷ xs) (suc i) lt none = within_list xs i (omega arith) none
-
 abbrev asked : Option Resource → Option Wanted
 asked resource = option_and_then (λ r. result_ok (wanted_of r)) resource
 
@@ -80,20 +75,20 @@ asked_at : (document : Document) (place : ℕ) (resource : Resource) (set : Want
 asked_at document place resource set at is = ap asked at ∙ ap result_ok is
 
 set_keeps : (document : Document) (before after : HostState) (place r : ℕ) (answer : SetAnswer) (other : Wanted) (resource : Option Resource)
-    → slice_get document.resources place ≡ resource → Apart document → wanted_at document r ≡ Some other → (place ≡ r → ⊥) → place < length document.resources
-    → IsWhole document (Set place answer) → IfSome resource (λ x. SetsTrue before x.id (wanted_of x) answer after) → Holds before other → Holds after other
-set_keeps document before after place r answer other None at apart asks differ within whole told holds = absurd (within_list document.resources place within at)
-set_keeps document before after place r answer other (Some resource) at apart asks differ within whole told holds =
+    → slice_get document.resources place ≡ resource → Apart document → wanted_at document r ≡ Some other → (place ≡ r → ⊥)
+    → IsWhole document (Set place answer) → IsSomeAnd resource (λ x. SetsTrue before x.id (wanted_of x) answer after) → Holds before other → Holds after other
+set_keeps document before after place r answer other None at apart asks differ whole told holds = absurd told
+set_keeps document before after place r answer other (Some resource) at apart asks differ whole told holds =
     told_keeps before after resource.id (wanted_of resource) other answer
     (λ set is. apart_at document place r set other apart differ (asked_at document place resource set at is) asks)
     (λ set is broke. whole broke set (asked_at document place resource set at is)) told holds
 
 -- an entry of another resource keeps what holds of this one
 entry_keeps : (document : Document) (before after : HostState) (e : Entry) (r : ℕ) (other : Wanted) → Apart document → wanted_at document r ≡ Some other
-    → (place_of e ≡ r → ⊥) → IsWithin document e → IsWhole document e → IsTrueEntry before document e after → Holds before other → Holds after other
-entry_keeps document before after (Tested place answer) r other apart asks differ within whole told holds = subst (λ h. Holds h other) (sym told.0) holds
-entry_keeps document before after (Set place answer) r other apart asks differ within whole told holds =
-    set_keeps document before after place r answer other (slice_get document.resources place) refl apart asks differ within whole told holds
+    → (place_of e ≡ r → ⊥) → IsWhole document e → IsTrueEntry before document e after → Holds before other → Holds after other
+entry_keeps document before after (Tested place answer) r other apart asks differ whole told holds = subst (λ h. Holds h other) (sym told.0) holds
+entry_keeps document before after (Set place answer) r other apart asks differ whole told holds =
+    set_keeps document before after place r answer other (slice_get document.resources place) refl apart asks differ whole told holds
 
 -- ---- an entry that settles its resource
 
@@ -102,7 +97,7 @@ known_yes before (Ok known) wanted is told = subst (λ w. Holds before w) (same_
 known_yes before (Err failure) wanted is told = absurd (none-some wanted is)
 
 told_yes : (before : HostState) (resource : Option Resource) (wanted : Wanted) → asked resource ≡ Some wanted
-    → IfSome resource (λ x. AnswersTrue before (wanted_of x) tests.Yes) → Holds before wanted
+    → IsSomeAnd resource (λ x. AnswersTrue before (wanted_of x) tests.Yes) → Holds before wanted
 told_yes before None wanted is told = absurd (none-some wanted is)
 told_yes before (Some resource) wanted is told = known_yes before (wanted_of resource) wanted is told
 
@@ -123,7 +118,7 @@ known_done before after id (Ok known) wanted answer makes is done told =
 known_done before after id (Err failure) wanted answer makes is done told = absurd (none-some wanted is)
 
 told_done : (before after : HostState) (resource : Option Resource) (wanted : Wanted) (answer : SetAnswer) → SetMakesHold → asked resource ≡ Some wanted
-    → set_is_done answer ≡ true → IfSome resource (λ x. SetsTrue before x.id (wanted_of x) answer after) → Holds after wanted
+    → set_is_done answer ≡ true → IsSomeAnd resource (λ x. SetsTrue before x.id (wanted_of x) answer after) → Holds after wanted
 told_done before after None wanted answer makes is done told = absurd (none-some wanted is)
 told_done before after (Some resource) wanted answer makes is done told = known_done before after resource.id (wanted_of resource) wanted answer makes is done told
 
@@ -162,14 +157,14 @@ own_settles false e settled = absurd (false≢true settled)
 
 -- entries of other resources keep what holds of this one
 pub rest_keeps : (document : Document) (before after : HostState) (trace : List Entry) (r : ℕ) (other : Wanted) → Apart document → wanted_at document r ≡ Some other
-    → last_entry trace r ≡ None → True document before trace after → All (IsWithin document) trace → All (IsWhole document) trace → Holds before other → Holds after other
-rest_keeps document before after [] r other apart asks none told within whole holds = subst (λ h. Holds h other) told holds
-rest_keeps document before after (e ∷ es) r other apart asks none told within whole holds =
+    → last_entry trace r ≡ None → True document before trace after → All (IsWhole document) trace → Holds before other → Holds after other
+rest_keeps document before after [] r other apart asks none told whole holds = subst (λ h. Holds h other) told holds
+rest_keeps document before after (e ∷ es) r other apart asks none told whole holds =
     let parts = or_none (last_entry es r) (own_entry e r) (sym (last_behind e es r) ∙ none) in
     let differ = eqb-false (place_of e) r (cond_none (place_of e == r) e parts.1) in
     let kept = entry_keeps document before told.0 e r other apart asks differ
-    (All-head (IsWithin document) e es within) (All-head (IsWhole document) e es whole) told.1 holds in
-    rest_keeps document told.0 after es r other apart asks parts.0 told.2 (All-tail (IsWithin document) e es within) (All-tail (IsWhole document) e es whole) kept
+    (All-head (IsWhole document) e es whole) told.1 holds in
+    rest_keeps document told.0 after es r other apart asks parts.0 told.2 (All-tail (IsWhole document) e es whole) kept
 
 -- the last entry of the resource is behind this one, or it is this one
 last_settles : (e : Entry) (es : List Entry) (r : ℕ) (last : Option Entry) → last_entry es r ≡ last → settles (option_or last (own_entry e r)) ≡ true
@@ -178,21 +173,20 @@ last_settles e es r None is settled = let own = own_settles (place_of e == r) e 
 last_settles e es r (Some last) is settled = inl (ap settles is ∙ settled)
 
 settled_hold : (document : Document) (before after : HostState) (trace : List Entry) (r : ℕ) (wanted : Wanted) → SetMakesHold → Apart document
-    → True document before trace after → All (IsWithin document) trace → All (IsWhole document) trace
+    → True document before trace after → All (IsWhole document) trace
     → wanted_at document r ≡ Some wanted → IsSettled trace r → Holds after wanted
-settled_hold document before after [] r wanted makes apart told within whole asks settled = absurd (false≢true settled)
-settled_hold document before after (e ∷ es) r wanted makes apart told within whole asks settled =
-    let es_within = All-tail (IsWithin document) e es within in
+settled_hold document before after [] r wanted makes apart told whole asks settled = absurd (false≢true settled)
+settled_hold document before after (e ∷ es) r wanted makes apart told whole asks settled =
     let es_whole = All-tail (IsWhole document) e es whole in
     elim (last_settles e es r (last_entry es r) refl (ap settles (sym (last_behind e es r)) ∙ settled)) [
-      | inl later ↦ settled_hold document told.0 after es r wanted makes apart told.2 es_within es_whole asks later
-      | inr here ↦ rest_keeps document told.0 after es r wanted apart asks here.0 told.2 es_within es_whole
+      | inl later ↦ settled_hold document told.0 after es r wanted makes apart told.2 es_whole asks later
+      | inr here ↦ rest_keeps document told.0 after es r wanted apart asks here.0 told.2 es_whole
           (entry_holds document before told.0 e r wanted makes asks here.1 here.2 told.1)
     ]
 
 pub together : SetMakesHold → SettledHold
 together makes document before after trace r wanted keeps asks settled =
-    settled_hold document before after trace r wanted makes keeps.apart keeps.is_true keeps.within keeps.whole asks settled
+    settled_hold document before after trace r wanted makes keeps.apart keeps.is_true keeps.whole asks settled
 
 yes_settles : (last : Option Entry) → is_yes last ≡ true → settles last ≡ true
 yes_settles None passes = passes

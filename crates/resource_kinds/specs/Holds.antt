@@ -79,6 +79,18 @@ IsBarred paths path = (above : List ℕ) × IsBelow above path × BarsFolder (pa
 abbrev pub IsKeptFolder : (List ℕ → PathKind) → List ℕ → Bool → Type 0
 IsKeptFolder paths path forced = (forced ≡ false) × (paths path ≡ Folder) × IsInhabited paths path
 
+-- what is asked for is to stand at a path, or not to
+abbrev pub AsksPath : Wanted → Type 0
+AsksPath (wants.File path contents) = ⊤
+AsksPath (wants.Folder path) = ⊤
+AsksPath (wants.NoFile path) = ⊤
+AsksPath (wants.NoFolder path forced) = ⊤
+AsksPath (wants.Variable name value) = ⊥
+AsksPath (wants.Entries name value) = ⊥
+AsksPath (wants.NoVariable name) = ⊥
+AsksPath (wants.NoEntries name value) = ⊥
+AsksPath (wants.Logged id message) = ⊥
+
 abbrev pub InTheWay : HostState → Wanted → Type 0
 InTheWay host (wants.File path contents) = IsBarred host.path path ⊎ BarsFile (host.path path)
 InTheWay host (wants.Folder path) = IsBarred host.path path ⊎ BarsFolder (host.path path)

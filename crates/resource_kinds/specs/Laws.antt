@@ -1,5 +1,5 @@
 -- What the Sets of a run leave behind: each makes its resource hold, and what holds of the resources apart from it stays.
-use Rattle.std.specs.Prelude.{◌≡◌, ◌<◌, ℕ, ⊤, Bool, true, false, IsTrue, List, [], ◌∷◌, length, Option, Some, None, All}
+use Rattle.std.specs.Prelude.{◌≡◌, ℕ, ⊤, Bool, true, false, IsTrue, List, [], ◌∷◌, Option, Some, None, All}
 use Rattle.dsc_outside.specs.Host.{HostState}
 use Rattle.dsc_document.specs.declared.document.Document.{Document}
 use Rattle.resource_kinds.specs.declared.entry.Failure.TheVariants.{HostFailed}
@@ -11,7 +11,7 @@ use Rattle.resource_kinds.specs.declared.wanted.Wanted.{Wanted}
 use Rattle.resource_kinds.specs.declared.wanted.Wanted.TheVariants as wants
 use Rattle.resource_kinds.specs.Apart.{Apart, AreApart, wanted_at}
 use Rattle.resource_kinds.specs.Holds.{ChangedTarget, Holds, applied}
-use Rattle.resource_kinds.specs.Trace.{Succeeded, last_entry, place_of, test_is_yes}
+use Rattle.resource_kinds.specs.Trace.{Succeeded, last_entry, test_is_yes}
 use Rattle.resource_kinds.specs.True.{True}
 
 -- ---- one Set
@@ -60,9 +60,6 @@ abbrev pub IsWhole : Document → Entry → Type 0
 IsWhole document (Tested place answer) = ⊤
 IsWhole document (Set place answer) = MayBreakOff answer → (set : Wanted) → wanted_at document place ≡ Some set → AsksFolder set → ⊥
 
-abbrev pub IsWithin : Document → Entry → Type 0
-IsWithin document e = place_of e < length document.resources
-
 abbrev pub set_is_done : SetAnswer → Bool
 set_is_done sets.Done = true
 set_is_done sets.Reboot = true
@@ -82,11 +79,10 @@ settles (Some e) = entry_settles e
 abbrev pub IsSettled : List Entry → ℕ → Type 0
 IsSettled trace r = IsTrue (settles (last_entry trace r))
 
--- the trace is true and within a document whose resources are apart, and no Set of a folder broke off
+-- the trace is true of a document whose resources are apart, and no Set of a folder broke off
 pub record KeepsWhole (document : Document) (before : HostState) (trace : List Entry) (after : HostState) : Type 0 where
   pub apart : Apart document
   pub is_true : True document before trace after
-  pub within : All (IsWithin document) trace
   pub whole : All (IsWhole document) trace
 
 -- each resource that was settled in its turn holds at the end, together with all the others

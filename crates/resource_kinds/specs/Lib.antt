@@ -5,6 +5,7 @@ pub mod Keys
 pub mod Kinds
 pub mod Laws
 pub mod Names
+pub mod PackageSteps
 pub mod Packages
 pub mod Paths
 pub mod Tables

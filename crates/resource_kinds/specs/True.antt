@@ -1,5 +1,6 @@
 -- Which answers are true of a machine.
-use Rattle.std.specs.Prelude.{◌≡◌, ◌⊎◌, ℕ, true, false, List, Option, Some, None, Result, Ok, Err, ⊤, All, IfSome, slice_get}
+use Rattle.std.specs.Prelude.{◌≡◌, ◌⊎◌, ℕ, true, false, List, Option, Some, None, Result, Ok, Err, ⊤, All, slice_get}
+use Rattle.std.specs.Option.{IsSomeAnd}
 use Rattle.dsc_outside.specs.Host.{HostState, wants_reboot}
 use Rattle.dsc_document.specs.declared.document.Document.{Document}
 use Rattle.resource_kinds.specs.declared.entry.Failure.{Failure}
@@ -11,7 +12,7 @@ use Rattle.resource_kinds.specs.declared.entry.SetAnswer.TheVariants as sets
 use Rattle.resource_kinds.specs.declared.entry.Entry.{Entry}
 use Rattle.resource_kinds.specs.declared.entry.Entry.TheVariants.{Tested, Set}
 use Rattle.resource_kinds.specs.declared.wanted.Wanted.{Wanted}
-use Rattle.resource_kinds.specs.Holds.{ChangedTarget, Holds, InTheWay, applied}
+use Rattle.resource_kinds.specs.Holds.{AsksPath, ChangedTarget, Holds, InTheWay, applied}
 use Rattle.resource_kinds.specs.Wanted.{NamesProperty, folded_utf8, wanted_of}
 use Rattle.resource_kinds.specs.Trace.{Chain}
 
@@ -67,12 +68,12 @@ SetsTrue before id (Err failure) answer after = IsTold failure (sets.Fault failu
 
 -- ---- entries
 
--- an entry over what a host tells: the answer is true, and a Test leaves the host as it was
+-- an entry over what a host tells: its resource is one of the document, the answer is true, and a Test leaves the host as it was
 abbrev pub IsTrueEntry : HostState → Document → Entry → HostState → Type 0
 IsTrueEntry before document (Tested place answer) after =
-    (after ≡ before) × IfSome (slice_get document.resources place) (λ resource. AnswersTrue before (wanted_of resource) answer)
+    (after ≡ before) × IsSomeAnd (slice_get document.resources place) (λ resource. AnswersTrue before (wanted_of resource) answer)
 IsTrueEntry before document (Set place answer) after =
-    IfSome (slice_get document.resources place) (λ resource. SetsTrue before resource.id (wanted_of resource) answer after)
+    IsSomeAnd (slice_get document.resources place) (λ resource. SetsTrue before resource.id (wanted_of resource) answer after)
 
 -- the answers along a trace are true, from a host to a host
 abbrev pub True : Document → HostState → List Entry → HostState → Type 0
@@ -87,12 +88,12 @@ BlamesHost tests.No = ⊤
 BlamesHost (tests.Fault failure) = failure ≡ faults.HostFailed
 BlamesHost tests.Memory = ⊤
 
--- the faults of a Set besides the resource's own are the host's, and that something is in the way
-abbrev pub BlamesMachine : SetAnswer → Type 0
-BlamesMachine sets.Done = ⊤
-BlamesMachine sets.Reboot = ⊤
-BlamesMachine (sets.Fault failure) = (failure ≡ faults.HostFailed) ⊎ (failure ≡ faults.InTheWay)
-BlamesMachine sets.Memory = ⊤
+-- the faults of a Set besides the resource's own are the host's, and that something is in the way of what stands at a path
+abbrev pub BlamesMachine : Wanted → SetAnswer → Type 0
+BlamesMachine wanted sets.Done = ⊤
+BlamesMachine wanted sets.Reboot = ⊤
+BlamesMachine wanted (sets.Fault failure) = (failure ≡ faults.HostFailed) ⊎ ((failure ≡ faults.InTheWay) × AsksPath wanted)
+BlamesMachine wanted sets.Memory = ⊤
 
 -- a resource with a fault of its own is answered with it, and no other is
 abbrev pub TestKeepsTable : Result Wanted Failure → TestAnswer → Type 0
@@ -100,12 +101,13 @@ TestKeepsTable (Ok wanted) answer = BlamesHost answer
 TestKeepsTable (Err failure) answer = IsTold failure (tests.Fault failure) tests.Memory answer
 
 abbrev pub SetKeepsTable : Result Wanted Failure → SetAnswer → Type 0
-SetKeepsTable (Ok wanted) answer = BlamesMachine answer
+SetKeepsTable (Ok wanted) answer = BlamesMachine wanted answer
 SetKeepsTable (Err failure) answer = IsTold failure (sets.Fault failure) sets.Memory answer
 
+-- the resource is one of the document, and so answered
 abbrev pub KeepsTable : Document → Entry → Type 0
-KeepsTable document (Tested place answer) = IfSome (slice_get document.resources place) (λ resource. TestKeepsTable (wanted_of resource) answer)
-KeepsTable document (Set place answer) = IfSome (slice_get document.resources place) (λ resource. SetKeepsTable (wanted_of resource) answer)
+KeepsTable document (Tested place answer) = IsSomeAnd (slice_get document.resources place) (λ resource. TestKeepsTable (wanted_of resource) answer)
+KeepsTable document (Set place answer) = IsSomeAnd (slice_get document.resources place) (λ resource. SetKeepsTable (wanted_of resource) answer)
 
 -- ---- hosts that may tell
 

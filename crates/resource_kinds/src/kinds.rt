@@ -105,12 +105,22 @@ impl<H: Host> Machine for Kinds<H> {
     ghost use Rattle.dsc_outside.specs.Causes.{HasCauseOf};
     ghost use Rattle.dsc_outside.specs.Changes.{AllOrNothing, Does, with_package};
     ghost use Rattle.dsc_outside.specs.Host.{has_package};
+    ghost use Rattle.resource_kinds.specs.PackageSteps.{changed_again, unchanged};
+    ghost use Rattle.std.proofs.Common.{◌∙◌, ap};
     ghost use Rattle.resource_kinds.specs.Kinds.{calls_of, host_of, spare_of};
     ghost use Rattle.resource_kinds.specs.Packages.{AddsPackage, ChangesPackages, packages_of};
 
     ghost packages = { λ k. packages_of (H.told (host_of k)) };
 
     ghost packages_changed = { λ a b. ChangesPackages (H.told (host_of a)) (H.told (host_of b)) };
+
+    ghost still_still = { λ a b c first second. first ∙ second };
+
+    ghost still_packages = { λ a b same. ap packages_of same };
+
+    ghost still_changed = { λ a b same. unchanged (H.told (host_of a)) (H.told (host_of b)) same };
+
+    ghost changed_changed = { λ a b c first second. changed_again (H.told (host_of a)) (H.told (host_of b)) (H.told (host_of c)) first second };
 
     fn package_has(&mut self, name: &str, version: &str) -> Result<bool, HostError>
         ensures kept { calls_of self.new ≡ calls_of self.old }

@@ -33,4 +33,12 @@ pub trait Machine: Resources {
         ensures added { OnOk result (AddsPackage (packages self.old) (packages self.new) name.now version.now bytes.now) }
         ensures whole { (packages self.new ≡ packages self.old) ⊎ AddsPackage (packages self.old) (packages self.new) name.now version.now bytes.now }
         ensures cause { HasCauseOf HostError.Failed (Self.faults self.old) (Self.faults self.new) result };
+
+    ghost still_still: { (a b c : Self) → Self.still a b → Self.still b c → Self.still a c };
+
+    ghost still_packages: { (a b : Self) → Self.still a b → packages a ≡ packages b };
+
+    ghost still_changed: { (a b : Self) → Self.still a b → packages_changed a b };
+
+    ghost changed_changed: { (a b c : Self) → packages_changed a b → packages_changed b c → packages_changed a c };
 }

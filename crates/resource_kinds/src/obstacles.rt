@@ -1,8 +1,8 @@
 //! What is in the way of a Set.
-ghost use Rattle.std.specs.Prelude.{◌≡◌, ◌↔◌, ◌⊎◌, IsTrue, take, length, ◌≤◌, ◌<◌};
+ghost use Rattle.std.specs.Prelude.{◌≡◌, ◌↔◌, ◌⊎◌, IfOk, IsTrue, take, length, ◌≤◌, ◌<◌};
 ghost use Rattle.dsc_outside.specs.Causes.{HasCauseOf};
 ghost use Rattle.dsc_outside.specs.Host.{Tells};
-ghost use Rattle.resource_kinds.specs.Holds.{BarsFile, BarsFolder, InTheWay, IsBarred};
+ghost use Rattle.resource_kinds.specs.Holds.{AsksPath, BarsFile, BarsFolder, InTheWay, IsBarred};
 ghost use Rattle.resource_kinds.specs.declared.wanted.Wanted.TheVariants as wants;
 
 use crate::utf8::Utf8;
@@ -13,6 +13,7 @@ use dsc_outside::{Host, HostError, PathState};
 pub fn is_in_the_way<H: Host>(host: &mut H, wanted: &Wanted) -> Result<bool, HostError>
     ensures told { H.told host.new ≡ H.told host.old }
     ensures answer { Tells (H.told host.old) result (λ state yes. IsTrue yes ↔ InTheWay state wanted.now) }
+    ensures path { IfOk result (λ yes. IsTrue yes → AsksPath wanted.now) }
     ensures cause { HasCauseOf HostError.Failed (H.faults host.old) (H.faults host.new) result }
 {
     match wanted {

@@ -41,6 +41,7 @@ pub trait Resources {
         ensures kept { kept self.new ≡ kept self.old ++ Tested place result ∷ [] }
         ensures room { spare self.old ≤ spare self.new + 1 }
         ensures does { does self.old document.now (Tested place result) self.new }
+        ensures later { faults self.old ≤ faults self.new }
         ensures cause { RoseBy (entry_failures (Tested place result)) (faults self.old) (faults self.new) };
 
     /// Sets the resource at that place, and adds its entry.
@@ -50,6 +51,7 @@ pub trait Resources {
         ensures kept { kept self.new ≡ kept self.old ++ Set place result ∷ [] }
         ensures room { spare self.old ≤ spare self.new + 1 }
         ensures does { does self.old document.now (Set place result) self.new }
+        ensures later { faults self.old ≤ faults self.new }
         ensures cause { RoseBy (entry_failures (Set place result)) (faults self.old) (faults self.new) };
 
     /// The entries so far.

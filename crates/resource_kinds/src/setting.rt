@@ -1,12 +1,11 @@
 //! The Set of a resource.
-ghost use Rattle.std.specs.Prelude.{◌≡◌, ◌↔◌, ◌⊎◌, ⊤, IfOk, IfSome, IsTrue, OnErr};
+ghost use Rattle.std.specs.Prelude.{◌≡◌, ◌≤◌, ◌↔◌, ◌⊎◌, ⊤, IfOk, IfSome, IsTrue, OnErr};
 ghost use Rattle.std.specs.Result.{IfErr};
 ghost use Rattle.dsc_terms.specs.Counts.{RoseBy};
 ghost use Rattle.dsc_outside.specs.Causes.{HasCauseOf};
 ghost use Rattle.dsc_outside.specs.Changes.{ChangedVariable, Does};
-ghost use Rattle.dsc_outside.specs.Host.{Tells, wants_reboot};
 ghost use Rattle.resource_kinds.specs.Holds.{ChangedTarget, InTheWay, applied};
-ghost use Rattle.resource_kinds.specs.Wanted.{folded_utf8, wanted_of};
+ghost use Rattle.resource_kinds.specs.Wanted.{wanted_of};
 ghost use Rattle.resource_kinds.specs.True.{BlamesMachine, SetKeepsTable, SetsKnown, SetsTrue, TellsStep};
 ghost use Rattle.resource_kinds.specs.Trace.{set_failures};
 ghost use Rattle.resource_kinds.specs.declared.wanted.Wanted.TheVariants as wants;
@@ -28,6 +27,7 @@ pub fn set<H: Host>(alloc: Global, host: &mut H, resource: &Resource) -> SetAnsw
     ensures told { TellsStep (H.told host.old) (H.told host.new) (λ before after. SetsTrue before resource.now.id (wanted_of resource.now) result after) }
     ensures table { SetKeepsTable (wanted_of resource.now) result }
     ensures unseen { IfErr (wanted_of resource.now) (λ _. host.new ≡ host.old) }
+    ensures later { H.faults host.old ≤ H.faults host.new }
     ensures cause { RoseBy (set_failures result) (H.faults host.old) (H.faults host.new) }
 {
     match wanted_of(alloc, resource) {
@@ -39,7 +39,8 @@ pub fn set<H: Host>(alloc: Global, host: &mut H, resource: &Resource) -> SetAnsw
 
 fn set_wanted<H: Host>(alloc: Global, host: &mut H, id: &Text, wanted: &Wanted) -> SetAnswer
     ensures told { TellsStep (H.told host.old) (H.told host.new) (λ before after. SetsKnown before id.now wanted.now result after) }
-    ensures table { BlamesMachine result }
+    ensures table { BlamesMachine wanted.now result }
+    ensures later { H.faults host.old ≤ H.faults host.new }
     ensures cause { RoseBy (set_failures result) (H.faults host.old) (H.faults host.new) }
 {
     match is_in_the_way(host, wanted) {
@@ -54,30 +55,24 @@ fn set_wanted<H: Host>(alloc: Global, host: &mut H, id: &Text, wanted: &Wanted) 
 fn set_clear<H: Host>(alloc: Global, host: &mut H, id: &Text, wanted: &Wanted) -> SetAnswer
     requires { IfSome (H.told host.old) (λ state. InTheWay state wanted.now → ⊥) }
     ensures told { TellsStep (H.told host.old) (H.told host.new) (λ before after. SetsKnown before id.now wanted.now result after) }
-    ensures table { BlamesMachine result }
+    ensures table { BlamesMachine wanted.now result }
+    ensures later { H.faults host.old ≤ H.faults host.new }
     ensures cause { RoseBy (set_failures result) (H.faults host.old) (H.faults host.new) }
 {
+    let Ok(id) = Utf8::folded(alloc, id) else {
+        return SetAnswer::Memory;
+    };
     match apply(alloc, host, wanted) {
         Ok(()) => {}
         Err(HostError::Failed) => return SetAnswer::Fault(Failure::HostFailed),
         Err(HostError::Memory) => return SetAnswer::Memory,
     }
-    match wants_reboot(alloc, host, id) {
+    match host.reboot_wanted(id.as_str()) {
         Ok(true) => SetAnswer::Reboot,
         Ok(false) => SetAnswer::Done,
         Err(HostError::Failed) => SetAnswer::Fault(Failure::HostFailed),
         Err(HostError::Memory) => SetAnswer::Memory,
     }
-}
-
-// Tells whether the host wants a reboot for the resource of that id.
-fn wants_reboot<H: Host>(alloc: Global, host: &mut H, id: &Text) -> Result<bool, HostError>
-    ensures told { H.told host.new ≡ H.told host.old }
-    ensures answer { Tells (H.told host.old) result (λ state yes. yes ≡ wants_reboot state.wanting (folded_utf8 id.now)) }
-    ensures cause { HasCauseOf HostError.Failed (H.faults host.old) (H.faults host.new) result }
-{
-    let id = Utf8::folded(alloc, id)?;
-    host.reboot_wanted(id.as_str())
 }
 
 // Makes of the host what is asked for.

@@ -1,5 +1,5 @@
 //! The Test of a resource.
-ghost use Rattle.std.specs.Prelude.{◌≡◌, ◌↔◌, IfOk, IfSome, IsTrue, option_map};
+ghost use Rattle.std.specs.Prelude.{◌≡◌, ◌≤◌, ◌↔◌, IfOk, IfSome, IsTrue, option_map};
 ghost use Rattle.std.specs.Result.{IfErr};
 ghost use Rattle.std.specs.Option.{option_copied};
 ghost use Rattle.dsc_terms.specs.Counts.{RoseBy};
@@ -25,6 +25,7 @@ pub fn test<H: Host>(alloc: Global, host: &mut H, resource: &Resource) -> TestAn
     ensures answer { IfSome (H.told host.old) (λ state. AnswersTrue state (wanted_of resource.now) result) }
     ensures table { TestKeepsTable (wanted_of resource.now) result }
     ensures unseen { IfErr (wanted_of resource.now) (λ _. host.new ≡ host.old) }
+    ensures later { H.faults host.old ≤ H.faults host.new }
     ensures cause { RoseBy (test_failures result) (H.faults host.old) (H.faults host.new) }
 {
     match wanted_of(alloc, resource) {
@@ -38,6 +39,7 @@ fn test_wanted<H: Host>(alloc: Global, host: &mut H, wanted: &Wanted) -> TestAns
     ensures told { H.told host.new ≡ H.told host.old }
     ensures answer { IfSome (H.told host.old) (λ state. AnswersKnown state wanted.now result) }
     ensures table { BlamesHost result }
+    ensures later { H.faults host.old ≤ H.faults host.new }
     ensures cause { RoseBy (test_failures result) (H.faults host.old) (H.faults host.new) }
 {
     match holds(alloc, host, wanted) {
