@@ -1,10 +1,10 @@
 -- What a machine holds, and what looks at it answer.
-use Rattle.std.specs.Prelude.{◌≡◌, ℕ, List, ◌++◌, Bool, true, false, ◌&&◌, Option, Some, None, Result, Ok, Err, ⊤, IfOk}
+use Rattle.std.specs.Prelude.{◌≡◌, ℕ, List, [], ◌++◌, Bool, true, false, ◌&&◌, Option, Some, None, Result, Ok, Err, ⊤, IfOk}
 use Rattle.std.specs.List.{list_any}
 use Rattle.std.specs.Str.{bytes_eq}
 use Rattle.std.specs.Io.{StartsWith}
 use Rattle.dsc_outside.specs.Causes.{one_more}
-use Rattle.dsc_outside.specs.Paths.{PathKind}
+use Rattle.dsc_outside.specs.Paths.{PathKind, Nothing}
 use Rattle.dsc_outside.specs.declared.entries.LogEntry.{LogEntry}
 use Rattle.dsc_outside.specs.declared.entries.Package.{Package}
 use Rattle.dsc_outside.specs.declared.host.HostError.{HostError}
@@ -20,6 +20,10 @@ pub record HostState : Type 0 where
   pub packages : List Package
   -- the UTF-8 bytes of the folded ids of the resources that want a reboot
   pub wanting : List (List ℕ)
+
+-- nothing at any path, no variable, no entry, no package, and nobody wants a reboot
+abbrev pub empty_host : HostState
+empty_host = record { path = λ path. Nothing; variable = λ name. None; log = []; packages = []; wanting = [] }
 
 abbrev pub has_entry : List LogEntry → List ℕ → List ℕ → Bool
 has_entry log id message = list_any (λ e. bytes_eq e.id id && bytes_eq e.message message) log

@@ -9,3 +9,4 @@ pub mod Memory
 pub mod MemoryHost
 pub mod Paths
 pub mod Real
+pub mod ReliableHost

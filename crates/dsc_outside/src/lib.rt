@@ -33,7 +33,8 @@ pub use failed::Failed;
 pub use host::{Host, HostError, PathState};
 pub use link::{Link, LinkError, Peer};
 pub use memory::{
-    Done, HostContents, MemoryHost, MemorySink, MemorySource, PathEntry, Standing, Stop, Variable,
+    Done, HostContents, MemoryHost, MemorySink, MemorySource, PathEntry, ReliableHost, Standing,
+    Stop, Variable,
 };
 pub use mof_values::Memory;
 pub use sink::Sink;

@@ -1,8 +1,13 @@
 //! Contents of a host in memory.
+ghost use Rattle.std.specs.Prelude.{◌≡◌};
+ghost use Rattle.dsc_outside.specs.Host.{empty_host};
+ghost use Rattle.dsc_outside.specs.ReliableHost.{told_by};
+
 use super::paths::PathEntry;
 use super::variable::Variable;
 use crate::{LogEntry, Package};
 use mof_values::Bytes;
+use std::alloc::Global;
 
 /// What a host in memory holds. Of several entries of one path, and of several variables of one name, the first
 /// counts, and the others are as if they were not there.
@@ -20,4 +25,19 @@ pub struct HostContents {
 
     /// The UTF-8 of the folded ids of the resources that want a reboot.
     pub wanting: Vec<Bytes>,
+}
+
+impl HostContents {
+    /// What a machine holds that has nothing.
+    pub fn empty(alloc: Global) -> HostContents
+        ensures { told_by result ≡ empty_host }
+    {
+        HostContents {
+            paths: Vec::new(alloc),
+            variables: Vec::new(alloc),
+            log: Vec::new(alloc),
+            packages: Vec::new(alloc),
+            wanting: Vec::new(alloc),
+        }
+    }
 }
