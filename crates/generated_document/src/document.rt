@@ -1,0 +1,33 @@
+//! The generated document.
+ghost use Rattle.std.specs.Prelude.{◌<◌, ◌≤◌, IfOk};
+ghost use Rattle.generated_document.specs.Generated.{IsGenerated};
+
+use crate::instances::instances;
+use dsc_document::Document;
+use mof_codec::write;
+use mof_values::{Memory, Text};
+use partial_merge::{MergeError, merge, part_of};
+use std::alloc::{AllocError, Global};
+
+/// The document of that many resources, 1 to 4096.
+///
+/// The resources stand by falling number. That of number i, 0 to `count` - 1, is an environment resource of the id
+/// `[Environment]Ri`, the name `Vi` and the value i, and depends on that of number (i - 1) / 2, rounded down, where i
+/// is above 0. The version is `2.0.0`.
+pub fn generated_document(alloc: Global, count: u32) -> Result<Document, AllocError>
+    requires some { 0 < count }
+    requires few { count ≤ 4096 }
+    ensures { IfOk result (IsGenerated count) }
+{
+    let instances = instances(alloc, count)?;
+    let text = match write(alloc, &instances) {
+        Ok(text) => text,
+        Err(Memory) => return Err(AllocError),
+    };
+    let part = part_of(Text::of(Vec::new(alloc)), text);
+    match merge(alloc, &[part]) {
+        Ok(document) => Ok(document),
+        Err(MergeError::Memory) => Err(AllocError),
+        Err(_) => unreachable!(),
+    }
+}
