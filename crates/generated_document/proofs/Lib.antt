@@ -1,0 +1,5 @@
+pub mod Decimals
+pub mod Fits
+pub mod Lengths
+pub mod Making
+pub mod Within

@@ -28,6 +28,8 @@ pub fn generated_document(alloc: Global, count: u32) -> Result<Document, AllocEr
     match merge(alloc, &[part]) {
         Ok(document) => Ok(document),
         Err(MergeError::Memory) => Err(AllocError),
-        Err(_) => unreachable!(),
+        Err(MergeError::Part { .. } | MergeError::DependsUnknown { .. } | MergeError::Cycle(_)) => {
+            unreachable!()
+        }
     }
 }

@@ -42,9 +42,10 @@ fn properties(alloc: Global, number: u32) -> Result<Vec<Property>, AllocError>
     properties.push(id_property(alloc, "ResourceID", number)?)?;
     properties.push(property(alloc, "Name", &name)?)?;
     properties.push(property(alloc, "Value", &value)?)?;
-    if number > 0 {
-        properties.push(id_property(alloc, "DependsOn", (number - 1) / 2)?)?;
+    if number == 0 {
+        return Ok(properties);
     }
+    properties.push(id_property(alloc, "DependsOn", (number - 1) / 2)?)?;
     Ok(properties)
 }
 
