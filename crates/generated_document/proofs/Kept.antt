@@ -1,8 +1,7 @@
 -- Generated instances keep the rules of a part.
-use Rattle.std.proofs.Common.{◌≡◌, ℕ, zero, suc, ◌<◌, ◌≤◌, true, false, List, [], ◌∷◌, All, IsTrue, slice_get, refl, sym, ap, subst, ◌∙◌, arith, inl, inr, length}
+use Rattle.std.proofs.Common.{◌≡◌, ℕ, zero, suc, ◌<◌, ◌≤◌, true, false, All, IsTrue, slice_get, refl, sym, ap, ◌∙◌, arith, inl, inr}
 use Rattle.std.proofs.lemmas.Bool.{both_ways}
 use Rattle.std.proofs.lemmas.List.Elements.{All-tail}
-use Rattle.mof_values.specs.declared.instance.Instance.{Instance}
 use Rattle.mof_values.specs.Fold.{SameName, fold_case}
 use Rattle.dsc_document.specs.Declarations.{is_header}
 use Rattle.dsc_document.specs.Names.{ShareName}

@@ -1,13 +1,11 @@
 -- How long the canonical text of generated instances is.
-use Rattle.std.proofs.Common.{◌≡◌, ◌∙◌, ℕ, zero, suc, ◌+◌, ◌*◌, ◌/◌, ◌<◌, ◌≤◌, List, [], ◌∷◌, ◌++◌, length, codes, refl, sym, ap, subst, arith, append-nil}
+use Rattle.std.proofs.Common.{ℕ, zero, suc, ◌+◌, ◌*◌, ◌/◌, ◌<◌, ◌≤◌, List, [], ◌++◌, length, codes, refl, sym, subst, arith, append-nil}
 use Rattle.std.specs.Fmt.{decimal}
 use Rattle.std.specs.List.{flat_map}
 use Rattle.std.proofs.lemmas.Grind.{flat_map-append}
-use Rattle.mof_values.specs.declared.instance.Instance.{Instance}
-use Rattle.mof_values.specs.declared.instance.Property.{Property}
 use Rattle.mof_syntax.specs.Canonical.{literal_char, canonical_literal, canonical_property, canonical_instance, canonical_text, canonical_bytes}
 use Rattle.mof_syntax.specs.Limits.{document_limit}
-use Rattle.generated_document.specs.Generated.{text_property, id_of_number, dependency, generated_header, generated_instances, generated_properties, generated_resource}
+use Rattle.generated_document.specs.Generated.{text_property, id_of_number, dependency, generated_instances, generated_properties, generated_resource}
 use Rattle.generated_document.proofs.Decimals.{decimal_digits, decimal_short, literal_digits}
 use Rattle.generated_document.proofs.Fits.{Fits, fits_joined, fits_more, fits_digits, fits_word, fits_encoded}
 

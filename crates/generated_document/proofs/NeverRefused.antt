@@ -1,6 +1,8 @@
 -- The part of generated instances is merged, or memory is wanting.
-use Rattle.std.proofs.Common.{◌≡◌, ◌≢◌, ℕ, zero, suc, ◌<◌, ◌≤◌, List, [], ◌∷◌, refl, sym, ap, subst}
+use Rattle.std.proofs.Common.{◌≡◌, ◌∙◌, ℕ, zero, suc, ◌≤◌, List, [], ◌∷◌, length, refl, sym, ap, subst, arith}
 use Rattle.mof_values.specs.declared.instance.Instance.{Instance}
+use Rattle.mof_syntax.specs.Canonical.{canonical_bytes}
+use Rattle.mof_syntax.specs.Limits.{IsWithinLimits, document_limit}
 use Rattle.mof_syntax.specs.Refusals.{Reads}
 use Rattle.mof_codec.proofs.OneRefusal.{reads_once}
 use Rattle.dsc_document.specs.Rules.{Applies}
@@ -13,8 +15,10 @@ use Rattle.partial_merge.specs.declared.error.MergeError.TheVariants as refusals
 use Rattle.partial_merge.specs.Refused.{HasFault, IsFirstFault, Refused}
 use Rattle.generated_document.specs.Generated.{generated_instances}
 use Rattle.generated_document.proofs.Kept.{rules_kept}
+use Rattle.generated_document.proofs.Lengths.{bytes_within}
 use Rattle.generated_document.proofs.NoCycle.{no_cycle}
 use Rattle.generated_document.proofs.Resources.{names_resources, resources_are}
+use Rattle.generated_document.proofs.Within.{instances_within}
 
 module _ (part : Part) (n : ℕ) (few : n ≤ 4096) (reads : Reads part.bytes (generated_instances n)) where
   no_fault : (fault : PartFault) → HasFault part fault → ⊥
@@ -27,11 +31,18 @@ module _ (part : Part) (n : ℕ) (few : n ≤ 4096) (reads : Reads part.bytes (g
   no_first_fault zero fault first = no_fault fault first.here
   no_first_fault (suc index) fault first = first.here
 
-  pub only_memory : (error : MergeError) → error ≢ refusals.Memory → Refused (part ∷ []) error → ⊥
-  only_memory (refusals.Part index fault) other refused = no_first_fault index fault refused
-  only_memory (refusals.DependsUnknown spot name) other refused =
-      unknown_unknown refused.document spot name refused.unknown
-      (names_resources refused.document n (resources_are part n reads refused.document refused.parts_are))
-  only_memory (refusals.Cycle cycle) other refused =
-      no_cycle refused.document n few (resources_are part n reads refused.document refused.parts_are) cycle refused.leads_round
-  only_memory refusals.Memory other refused = other refl
+  pub only_memory : (error : MergeError) → Refused (part ∷ []) error → error ≡ refusals.Memory
+  only_memory (refusals.Part index fault) refused = absurd (no_first_fault index fault refused)
+  only_memory (refusals.DependsUnknown spot name) refused =
+      absurd (unknown_unknown refused.document spot name refused.unknown
+      (names_resources refused.document n (resources_are part n reads refused.document refused.parts_are)))
+  only_memory (refusals.Cycle cycle) refused =
+      absurd (no_cycle refused.document n few (resources_are part n reads refused.document refused.parts_are) cycle refused.leads_round)
+  only_memory refusals.Memory refused = refl
+
+-- a text that is read as the instances where these and it are within the limits is read so
+pub read_back : (n : ℕ) (instances : List Instance) (text : List ℕ) → n ≤ 4096 → instances ≡ generated_instances n → text ≡ canonical_bytes instances
+    → (IsWithinLimits instances → length text ≤ document_limit → Reads text instances) → Reads text (generated_instances n)
+read_back n instances text few are written reads =
+    subst (Reads text) are (reads (subst IsWithinLimits (sym are) (instances_within n few))
+    (omega (arith, ap length (written ∙ ap canonical_bytes are), bytes_within n few)))

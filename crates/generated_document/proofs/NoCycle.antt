@@ -1,5 +1,5 @@
 -- A generated resource depends on one behind it, so that no walk along dependencies comes back.
-use Rattle.std.proofs.Common.{◌≡◌, ◌∙◌, ℕ, zero, suc, ◌+◌, ◌/◌, ◌<◌, ◌≤◌, List, [], ◌∷◌, ◌++◌, length, Option, Some, None, IsSomeAnd, slice_get, refl, sym, ap, subst, arith}
+use Rattle.std.proofs.Common.{◌≡◌, ◌∙◌, ℕ, zero, suc, ◌/◌, ◌<◌, ◌≤◌, List, [], ◌∷◌, ◌++◌, length, Some, IsSomeAnd, slice_get, refl, sym, ap, subst, arith}
 use Rattle.std.proofs.lemmas.Option.{none-some, same_Some}
 use Rattle.mof_values.specs.Fold.{SameName, fold_case}
 use Rattle.dsc_document.specs.declared.document.Document.{Document}
@@ -12,7 +12,7 @@ use Rattle.depend_order.proofs.Cycles.{closed}
 use Rattle.depend_order.proofs.Options.{some_of}
 use Rattle.generated_document.specs.Generated.{generated_resource, id_of_number}
 use Rattle.generated_document.proofs.Decimals.{same_number}
-use Rattle.generated_document.proofs.Resources.{StandsAt, resources, stands_at}
+use Rattle.generated_document.proofs.Resources.{resources, stands_at}
 
 -- where each step of a list leads further, its last place is behind its first
 rises : (first : ℕ) (rest : List ℕ) (last : ℕ) → ((a : List ℕ) (r s : ℕ) (b : List ℕ) → first ∷ rest ++ last ∷ [] ≡ a ++ r ∷ s ∷ b → r < s) → first < last

@@ -1,5 +1,5 @@
 -- The properties of generated instances: names that differ, texts as values, an id and a dependency.
-use Rattle.std.proofs.Common.{◌≡◌, ◌≢◌, ◌∙◌, ℕ, zero, suc, ◌+◌, ◌/◌, ◌<◌, ◌≤◌, Bool, true, false, ◌&&◌, List, [], ◌∷◌, ◌++◌, length, codes, Option, Some, None, refl, sym, ap, subst, arith}
+use Rattle.std.proofs.Common.{◌≡◌, ◌≢◌, ◌∙◌, ℕ, zero, suc, ◌+◌, ◌<◌, ◌≤◌, true, false, List, [], ◌∷◌, ◌++◌, length, codes, Some, refl, sym, ap, subst, arith}
 use Rattle.std.specs.Prelude.{Contains, encode_utf8_all}
 use Rattle.std.specs.List.{AllByRecursion, list_all}
 use Rattle.std.specs.Fmt.{decimal}
@@ -14,9 +14,9 @@ use Rattle.mof_values.specs.declared.value.Scalar.TheVariants.{Alias}
 use Rattle.dsc_document.specs.Names.{ShareName, same_name}
 use Rattle.dsc_document.specs.Declarations.{HasKindAndName, IsResourceId, is_text, scalars_of}
 use Rattle.dsc_document.specs.Rules.{HasBadDependsOn, HasBadId, NamesNoAlias, RepeatsName, property_name_at}
-use Rattle.generated_document.specs.Generated.{dependency, generated_header, generated_properties, generated_resource, id_of_number}
+use Rattle.generated_document.specs.Generated.{generated_header, generated_properties, generated_resource, id_of_number}
 use Rattle.generated_document.proofs.Decimals.{decimal_digits, decimal_short}
-use Rattle.generated_document.proofs.Fits.{Fits, fits_digits, fits_encoded, fits_joined, fits_word}
+use Rattle.generated_document.proofs.Fits.{fits_digits, fits_encoded, fits_joined, fits_word}
 
 -- ---- names
 

@@ -1,8 +1,8 @@
 -- Generated instances are within the limits of a text.
-use Rattle.std.proofs.Common.{◌≡◌, ℕ, zero, suc, ◌+◌, ◌<◌, ◌≤◌, List, [], ◌∷◌, length, refl, arith}
+use Rattle.std.proofs.Common.{◌≡◌, ℕ, zero, suc, ◌+◌, ◌≤◌, List, length, refl, arith}
 use Rattle.std.specs.List.{AllByRecursion}
 use Rattle.mof_syntax.specs.Limits.{PropertyFits, InstanceFits, IsWithinLimits}
-use Rattle.generated_document.specs.Generated.{text_property, id_of_number, dependency, generated_header, generated_instances, generated_properties, generated_resource}
+use Rattle.generated_document.specs.Generated.{text_property, dependency, generated_header, generated_instances, generated_resource}
 
 property_fits : (name text : List ℕ) → length name ≤ 255 → PropertyFits (text_property name text)
 property_fits name text short = record { name = short; value = tt }

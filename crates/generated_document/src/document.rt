@@ -1,5 +1,5 @@
 //! The generated document.
-ghost use Rattle.std.specs.Prelude.{◌<◌, ◌≤◌, IfOk};
+ghost use Rattle.std.specs.Prelude.{◌≡◌, ◌<◌, ◌≤◌, IfOk};
 ghost use Rattle.generated_document.specs.Generated.{IsGenerated};
 
 use crate::instances::instances;
@@ -27,9 +27,16 @@ pub fn generated_document(alloc: Global, count: u32) -> Result<Document, AllocEr
     let part = part_of(Text::of(Vec::new(alloc)), text);
     match merge(alloc, &[part]) {
         Ok(document) => Ok(document),
-        Err(MergeError::Memory) => Err(AllocError),
-        Err(MergeError::Part { .. } | MergeError::DependsUnknown { .. } | MergeError::Cycle(_)) => {
-            unreachable!()
-        }
+        Err(error) => Err(want_of_memory(error)),
+    }
+}
+
+// Nothing else stands in the way of a generated document.
+fn want_of_memory(error: MergeError) -> AllocError
+    requires only { error ≡ MergeError.Memory }
+{
+    match error {
+        MergeError::Memory => AllocError,
+        _ => unreachable!(),
     }
 }

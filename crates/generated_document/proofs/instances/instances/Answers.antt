@@ -1,5 +1,4 @@
-use Rattle.std.proofs.Common.{◌≡◌, ◌++◌, ◌∷◌, [], ◌∙◌, ◌-◌, arith}
-use Rattle.mof_values.specs.declared.instance.Instance.{Instance}
+use Rattle.std.proofs.Common.{◌≡◌, ◌-◌, arith}
 use Rattle.generated_document.specs.Generated.{generated_instances, generated_resource}
 use Rattle.generated_document.proofs.Making.{one_more}
 use Rattle.generated_document.proofs.instances.instances.Goals as goal
