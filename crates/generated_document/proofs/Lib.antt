@@ -1,3 +1,4 @@
+pub mod Contents
 pub mod Decimals
 pub mod Fits
 pub mod Kept

@@ -40,9 +40,11 @@ module _ (part : Part) (n : ℕ) (few : n ≤ 4096) (reads : Reads part.bytes (g
       absurd (no_cycle refused.document n few (resources_are part n reads refused.document refused.parts_are) cycle refused.leads_round)
   only_memory refusals.Memory refused = refl
 
--- a text that is read as the instances where these and it are within the limits is read so
-pub read_back : (n : ℕ) (instances : List Instance) (text : List ℕ) → n ≤ 4096 → instances ≡ generated_instances n → text ≡ canonical_bytes instances
-    → (IsWithinLimits instances → length text ≤ document_limit → Reads text instances) → Reads text (generated_instances n)
-read_back n instances text few are written reads =
-    subst (Reads text) are (reads (subst IsWithinLimits (sym are) (instances_within n few))
-    (omega (arith, ap length (written ∙ ap canonical_bytes are), bytes_within n few)))
+-- the part of a text that is read as the instances, where these and it are within the limits, spells them
+pub part_reads : (n : ℕ) (instances : List Instance) (text : List ℕ) (part : Part) → n ≤ 4096 → instances ≡ generated_instances n
+    → text ≡ canonical_bytes instances → (IsWithinLimits instances → length text ≤ document_limit → Reads text instances)
+    → part.bytes ≡ text → Reads part.bytes (generated_instances n)
+part_reads n instances text part few are written reads of =
+    subst (λ (bytes : List ℕ). Reads bytes (generated_instances n)) (sym of)
+    (subst (Reads text) are (reads (subst IsWithinLimits (sym are) (instances_within n few))
+    (omega (arith, ap length (written ∙ ap canonical_bytes are), bytes_within n few))))

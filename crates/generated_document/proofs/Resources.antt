@@ -5,13 +5,13 @@ use Rattle.std.proofs.lemmas.Bool.{cases_eq}
 use Rattle.std.proofs.lemmas.List.Elements.{All-cons, All-from_recursion, All-nil}
 use Rattle.std.proofs.lemmas.Option.{none-some, same_Some}
 use Rattle.mof_values.specs.Fold.{fold_case}
-use Rattle.mof_values.specs.declared.instance.Instance.{Instance}
 use Rattle.mof_syntax.specs.Refusals.{Reads}
 use Rattle.mof_codec.proofs.OneRefusal.{reads_once}
 use Rattle.dsc_document.specs.declared.document.Document.{Document}
 use Rattle.dsc_document.specs.declared.document.Resource.{Resource}
 use Rattle.dsc_document.specs.Declarations.{depends_of}
 use Rattle.dsc_document.specs.Dependencies.{IsId, NamesResources}
+use Rattle.dsc_document.specs.Rules.{document_of}
 use Rattle.dsc_document.proofs.Declared.{resources_from}
 use Rattle.partial_merge.specs.declared.part.Part.{Part}
 use Rattle.partial_merge.specs.Parts.{AreParts, IsWhole, in_part, joined}
@@ -25,22 +25,24 @@ resources from n = map (in_part 0) (resources_from from (generated_instances n))
 abbrev pub resource : ℕ → ℕ → Resource
 resource from i = record { id = id_of_number i; part = 0; index = from; instance = generated_resource i; depends = depends_of (generated_resource i) }
 
--- the document of the part that spells the instances has these resources
+-- the document of the part that spells the instances
 module _ (part : Part) (n : ℕ) (reads : Reads part.bytes (generated_instances n)) where
-  declared : (document : Document) → IsWhole part document → document.resources ≡ resources_from 0 (generated_instances n)
+  declared : (document : Document) → IsWhole part document → document ≡ document_of (generated_instances n)
   declared document whole =
-      ap (λ (d : Document). d.resources) whole.rules.made
-      ∙ ap (λ (is : List Instance). resources_from 0 is) (reads_once part.bytes whole.instances (generated_instances n) whole.spelled reads)
+      whole.rules.made ∙ ap document_of (reads_once part.bytes whole.instances (generated_instances n) whole.spelled reads)
 
   of_documents : (document : Document) (documents : List Document) → AllZip IsWhole (part ∷ []) documents → document ≡ joined (part ∷ []) documents
-      → document.resources ≡ resources 0 n
+      → document ≡ joined (part ∷ []) (document_of (generated_instances n) ∷ [])
   of_documents document [] whole made = absurd whole
-  of_documents document (d ∷ []) whole made =
-      ap (λ (d : Document). d.resources) made ∙ ap (λ (rs : List Resource). map (in_part 0) rs ++ []) (declared d whole.0)
+  of_documents document (d ∷ []) whole made = made ∙ ap (λ (d : Document). joined (part ∷ []) (d ∷ [])) (declared d whole.0)
   of_documents document (d ∷ e ∷ rest) whole made = absurd whole.1
 
+  -- it is that of the generated instances, with the name of the part
+  pub document_is : (document : Document) → AreParts (part ∷ []) document → document ≡ joined (part ∷ []) (document_of (generated_instances n) ∷ [])
+  document_is document are = of_documents document are.documents are.whole are.joined
+
   pub resources_are : (document : Document) → AreParts (part ∷ []) document → document.resources ≡ resources 0 n
-  resources_are document are = of_documents document are.documents are.whole are.joined
+  resources_are document are = ap (λ (d : Document). d.resources) (document_is document are)
 
 -- what holds of the resource of each number holds of each resource
 pub each_resource : (P : Resource → Type 0) (from n : ℕ) → ((m i : ℕ) → i < n → P (resource m i)) → AllByRecursion P (resources from n)
