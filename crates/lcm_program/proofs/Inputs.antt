@@ -11,6 +11,7 @@ use Rattle.partial_merge.specs.declared.part.Part.{Part}
 use Rattle.partial_merge.specs.declared.error.MergeError.{MergeError}
 use Rattle.partial_merge.specs.declared.error.MergeError.TheVariants as merge
 use Rattle.partial_merge.specs.Merged.{Merged}
+use Rattle.partial_merge.specs.Parts.{unnamed_part}
 use Rattle.partial_merge.specs.Refused.{Refused}
 use Rattle.partial_merge.proofs.SameParts.{merged_same, refused_same}
 use Rattle.lcm_program.specs.declared.input.Unread.{Unread}
@@ -22,7 +23,7 @@ use Rattle.lcm_program.specs.declared.status.InputError.TheVariants.{TooLong, Mo
 use Rattle.lcm_program.specs.declared.status.Status.{Status}
 use Rattle.lcm_program.specs.declared.status.Status.TheVariants.{Done, NotCompliant, Usage, InputRefused, ReadFault, WriteFault, Memory}
 use Rattle.lcm_program.specs.Canon.{AnswersCanon, AnswersEachText, IsNotTold}
-use Rattle.lcm_program.specs.Input.{IsDocument, IsRefusedFor, input_limit, input_part}
+use Rattle.lcm_program.specs.Input.{IsDocument, IsRefusedFor, input_limit}
 use Rattle.lcm_program.specs.Tool.{Answered, IsRefusalFor, Refuses, TellsAnswer}
 use Rattle.lcm_program.specs.Unread.{IsRefusedInput, IsTooLong, IsUnread, IsUntaken}
 use Rattle.lcm_program.proofs.Results.{if_some_weaker}
@@ -65,7 +66,7 @@ module _ (left : Option (List ℕ)) (before now : ℕ) where
       subst (λ (u : Unread). IsUnread u left before now) (sym refused.1) (record {
         all = bytes;
         input_is = if_some_weaker left (λ all. bytes ≡ all) (λ all. all ≡ bytes) (λ all b. sym b) input;
-        is_answer = record { fits = fits; wins = refused_same part (input_part bytes) unnamed of error wins; cause = refused.0 };
+        is_answer = record { fits = fits; wins = refused_same part (unnamed_part bytes) unnamed of error wins; cause = refused.0 };
       })
 
 -- bytes that are merged so are the document's
@@ -74,7 +75,7 @@ pub merged_input : (left : Option (List ℕ)) (bytes : List ℕ) (part : Part) (
 merged_input left bytes part d input unnamed of merged = record {
   all = bytes;
   input_is = if_some_weaker left (λ all. bytes ≡ all) (λ all. all ≡ bytes) (λ all b. sym b) input;
-  is_answer = merged_same part (input_part bytes) unnamed of d merged;
+  is_answer = merged_same part (unnamed_part bytes) unnamed of d merged;
 }
 
 -- bytes that spell no instances are refused so, or memory was

@@ -1,7 +1,5 @@
 -- What an input is: instances, and the document that they declare; or why it is refused.
 use Rattle.std.specs.Prelude.{◌≢◌, ℕ, ◌≤◌, List, [], ◌∷◌, length}
-use Rattle.std.proofs.Common.{refl}
-use Rattle.sha2.specs.Sha256.{sha256}
 use Rattle.mof_syntax.specs.declared.mof_error.MofError.{MofError}
 use Rattle.mof_syntax.specs.Limits.{document_limit}
 use Rattle.dsc_document.specs.declared.document.Document.{Document}
@@ -9,6 +7,7 @@ use Rattle.partial_merge.specs.declared.part.Part.{Part}
 use Rattle.partial_merge.specs.declared.error.MergeError.{MergeError}
 use Rattle.partial_merge.specs.declared.error.MergeError.TheVariants as merge
 use Rattle.partial_merge.specs.Merged.{Merged}
+use Rattle.partial_merge.specs.Parts.{unnamed_part}
 use Rattle.partial_merge.specs.Refused.{IsUnspelled, Refused}
 
 -- the most bytes of an input: those of a document
@@ -16,11 +15,8 @@ abbrev pub input_limit : ℕ
 input_limit = document_limit
 
 -- the part that an input is, which has no name
-abbrev pub input_part : List ℕ → Part
-input_part all = record { name = []; digest = sha256 all; bytes = all; whole = refl }
-
 abbrev pub parts_of : List ℕ → List Part
-parts_of all = input_part all ∷ []
+parts_of all = unnamed_part all ∷ []
 
 -- the document that the bytes declare
 abbrev pub IsDocument : List ℕ → Document → Type 0

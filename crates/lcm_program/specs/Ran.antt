@@ -1,21 +1,20 @@
--- A run that monitors a document, from one value of the kinds to another.
+-- A run over a document, from one state of a machine to another.
 use Rattle.std.specs.Prelude.{ℕ, List, Option}
 use Rattle.dsc_terms.specs.Counts.{RoseBy}
 use Rattle.dsc_outside.specs.Host.{HostState}
 use Rattle.dsc_document.specs.declared.document.Document.{Document}
 use Rattle.depend_order.specs.Documents.{IsOrderOfDocument}
-use Rattle.lcm_program.specs.declared.runs.RunMode.TheVariants.{Monitor}
+use Rattle.lcm_core.specs.declared.modes.RunMode.{RunMode}
+use Rattle.lcm_core.specs.Legal.{Legal}
+use Rattle.lcm_core.specs.Whole.{Whole}
 use Rattle.resource_kinds.specs.declared.entry.Entry.{Entry}
 use Rattle.resource_kinds.specs.Trace.{host_failures}
-use Rattle.lcm_program.specs.Legal.{Legal}
-use Rattle.lcm_program.specs.Whole.{Whole}
 use Rattle.resource_kinds.specs.True.{TellsTrue}
 
--- the trace may be left by such a run in the order of dependencies, leaves nothing out, is true of the machine, and blames it no more often than its count of faults rose
-pub record Ran (document : Document) (trace : List Entry) (before after : Option HostState) (faults_before faults_after : ℕ) : Type 0 where
-  pub order : List ℕ
+-- the trace may be left by such a run in this order, that of dependencies, leaves nothing out, is true of the machine, and blames it no more often than its count of faults rose
+pub record Ran (document : Document) (mode : RunMode) (order : List ℕ) (trace : List Entry) (before after : Option HostState) (faults_before faults_after : ℕ) : Type 0 where
   pub is_order : IsOrderOfDocument document order
-  pub legal : Legal document Monitor order trace
-  pub whole : Whole document Monitor order trace
+  pub legal : Legal document mode order trace
+  pub whole : Whole document mode order trace
   pub is_true : TellsTrue document before trace after
   pub failures : RoseBy (host_failures trace) faults_before faults_after

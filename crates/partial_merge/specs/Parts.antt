@@ -2,6 +2,8 @@
 use Rattle.std.specs.Prelude.{◌≡◌, ℕ, ◌≤◌, List, [], AllPairs, length, map, flat_map, slice_get}
 use Rattle.std.specs.List.{AllZip, enumerate_from}
 use Rattle.std.specs.Option.{option_map_or}
+use Rattle.std.proofs.Common.{refl}
+use Rattle.sha2.specs.Sha256.{sha256}
 use Rattle.mof_values.specs.Fold.{SameName}
 use Rattle.mof_values.specs.declared.instance.Instance.{Instance}
 use Rattle.mof_syntax.specs.Refusals.{Reads}
@@ -14,6 +16,10 @@ use Rattle.partial_merge.specs.declared.part.Part.{Part}
 -- the most resources of a document
 abbrev pub resources_limit : ℕ
 resources_limit = 4096
+
+-- the part that bytes are, which has no name
+abbrev pub unnamed_part : List ℕ → Part
+unnamed_part bytes = record { name = []; digest = sha256 bytes; bytes = bytes; whole = refl }
 
 -- the part's bytes spell instances that keep the rules of a part, and these declare the document. That its digest is
 -- the digest of its bytes is a fact of every part

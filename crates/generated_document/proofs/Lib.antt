@@ -1,0 +1,12 @@
+pub mod Contents
+pub mod Decimals
+pub mod Fits
+pub mod Kept
+pub mod Lengths
+pub mod Making
+pub mod NeverRefused
+pub mod NoCycle
+pub mod Placed
+pub mod Properties
+pub mod Resources
+pub mod Within

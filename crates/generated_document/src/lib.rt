@@ -1,0 +1,14 @@
+//! Documents that are made from a number, to measure with and to try other programs on.
+//!
+//! `generated_document` makes the instances, writes their canonical text and merges that text as one part without a
+//! name. A layer above may rely on it that the document is exactly the one of `generated_instances`, and that there is
+//! one for each count in the range: only memory can be wanting.
+#![tactic(auto)]
+
+mod document;
+mod instances;
+
+pub use document::generated_document;
+
+#[cfg(test)]
+mod tests;
