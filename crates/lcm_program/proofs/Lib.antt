@@ -1,10 +1,7 @@
 pub mod Answered
 pub mod Inputs
-pub mod Marks
 pub mod Monitored
-pub mod Orders
 pub mod Refusals
 pub mod Results
 pub mod ToolInputs
 pub mod ToolTexts
-pub mod Traces

@@ -2,7 +2,6 @@ pub mod Canon
 pub mod Checksum
 pub mod Documents
 pub mod Input
-pub mod Legal
 pub mod Lines
 pub mod Printed
 pub mod Program
@@ -13,5 +12,4 @@ pub mod Status
 pub mod Streams
 pub mod Tool
 pub mod Unread
-pub mod Whole
 pub mod Words

@@ -11,7 +11,8 @@ use Rattle.lcm_program.specs.declared.status.InputError.{InputError}
 use Rattle.resource_kinds.specs.Kinds.{calls_of, host_of}
 use Rattle.lcm_program.specs.Printed.{IsCutShort}
 use Rattle.resource_kinds.specs.Trace.{missed_count}
-use Rattle.lcm_program.specs.Legal.{GoesOn}
+use Rattle.lcm_core.specs.declared.modes.RunMode.TheVariants.{Monitor}
+use Rattle.lcm_core.specs.Legal.{GoesOn}
 use Rattle.lcm_program.specs.Lines.{TellsRun}
 use Rattle.lcm_program.specs.Input.{IsDocument}
 use Rattle.lcm_program.specs.Tool.{Answered}
@@ -67,9 +68,9 @@ Tells held faults ReadFault missed text old new = ⊥
 Tells held faults WriteFault missed text old new = IsCutShort held faults old new text
 Tells held faults Memory missed text old new = ⊥
 
--- a run over the kinds
+-- a run over the kinds that monitored the document
 abbrev pub RanOver : {H : Type 0} → (H → Option HostState) → (H → ℕ) → Document → Kinds H → Kinds H → Type 0
-RanOver told faults document before after = Ran document (calls_of after) (told (host_of before)) (told (host_of after)) (faults (host_of before)) (faults (host_of after))
+RanOver told faults document before after = (order : List ℕ) × Ran document Monitor order (calls_of after) (told (host_of before)) (told (host_of after)) (faults (host_of before)) (faults (host_of after))
 
 -- the document of the input was run to its end, and the status and the output tell it
 pub record RanToEnd {K H : Type 0} (held : K → Option (List ℕ)) (output_faults : K → ℕ) (told : H → Option HostState) (faults : H → ℕ)

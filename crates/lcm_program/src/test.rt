@@ -1,21 +1,18 @@
 //! The word `test`: a run that monitors the document that the input declares.
-ghost use Rattle.std.specs.Prelude.{◌≡◌, ◌⊎◌, ◌<◌, ◌≤◌, ◌^◌, ℕ, List, [], length, All, IfOk, OnOk, string_bytes};
-ghost use Rattle.dsc_terms.specs.Counts.{Rose};
-ghost use Rattle.dsc_document.specs.declared.document.Document.{Document};
-ghost use Rattle.depend_order.specs.Documents.{IsOrderOfDocument};
+ghost use Rattle.std.specs.Prelude.{◌≡◌, ◌⊎◌, List, [], IfOk, OnOk, string_bytes};
 ghost use Rattle.partial_merge.specs.declared.part.Part.{Part};
 ghost use Rattle.partial_merge.specs.Merged.{Merged};
 ghost use Rattle.resource_kinds.specs.Kinds.{calls_of, host_of};
-ghost use Rattle.resource_kinds.specs.Trace.{missed_count, place_of};
-ghost use Rattle.lcm_program.specs.Legal.{GoesOn};
+ghost use Rattle.resource_kinds.specs.Trace.{missed_count};
+ghost use Rattle.lcm_core.specs.Legal.{GoesOn};
 ghost use Rattle.lcm_program.specs.Lines.{TellsRun};
-ghost use Rattle.lcm_program.specs.Ran.{Ran};
+ghost use Rattle.lcm_program.specs.Program.{RanOver};
 
 use crate::lines::{count_succeeded, lines_of};
-use crate::order::order_of_merged;
-use crate::runs::{RunEnd, monitor};
+use crate::merged_run::run_merged;
 use dsc_document::Document;
 use dsc_outside::Host;
+use lcm_core::RunMode;
 use mof_values::Memory;
 use resource_kinds::{Kinds, Resources, overlaps};
 use std::alloc::Global;
@@ -39,43 +36,19 @@ pub fn monitor_document<H: Host>(
     requires fresh { calls_of kinds.old ≡ [] }
     requires merged { (parts : List Part) × Merged parts document.now }
 
-    ensures run { (calls_of kinds.new ≡ []) ⊎ Ran document.now (calls_of kinds.new) (H.told (host_of kinds.old)) (H.told (host_of kinds.new)) (H.faults (host_of kinds.old)) (H.faults (host_of kinds.new)) }
+    ensures run { (calls_of kinds.new ≡ []) ⊎ RanOver H.told H.faults document.now kinds.old kinds.new }
     ensures host { H.told (host_of kinds.new) ≡ H.told (host_of kinds.old) }
-    ensures ok { OnOk result (Ran document.now (calls_of kinds.new) (H.told (host_of kinds.old)) (H.told (host_of kinds.new)) (H.faults (host_of kinds.old)) (H.faults (host_of kinds.new))) }
+    ensures ok { OnOk result (RanOver H.told H.faults document.now kinds.old kinds.new) }
     ensures finished { OnOk result (GoesOn (calls_of kinds.new)) }
     ensures lines { IfOk result (λ outcome. TellsRun document.now (calls_of kinds.new) (string_bytes outcome.lines)) }
     ensures missed { IfOk result (λ outcome. outcome.missed ≡ missed_count document.now (calls_of kinds.new)) }
 {
     let overlap = overlaps(alloc, document)?;
-    let order = order_of_merged(alloc, document)?;
-    run_in_order(document, &order, kinds)?;
+    let _order = run_merged(alloc, document, RunMode::Monitor, kinds)?;
     let calls = kinds.calls();
     let count = document.resources.as_slice().len();
     let good = count_succeeded(alloc, count, calls)?;
     let lines = lines_of(alloc, document, calls, good, overlap)?;
     let missed = (count - good) as u32;
     Ok(Outcome { lines, missed })
-}
-
-// Tests each resource in the order of dependencies.
-fn run_in_order<H: Host>(
-    document: &Document,
-    order: &[u32],
-    kinds: &mut Kinds<H>,
-) -> Result<(), Memory>
-    requires fresh { calls_of kinds.old ≡ [] }
-    requires count { length document.now.resources < 2 ^ 32 }
-    requires order { IsOrderOfDocument document.now order.now }
-
-    ensures run { (calls_of kinds.new ≡ []) ⊎ Ran document.now (calls_of kinds.new) (H.told (host_of kinds.old)) (H.told (host_of kinds.new)) (H.faults (host_of kinds.old)) (H.faults (host_of kinds.new)) }
-    ensures host { H.told (host_of kinds.new) ≡ H.told (host_of kinds.old) }
-    ensures ok { OnOk result (Ran document.now (calls_of kinds.new) (H.told (host_of kinds.old)) (H.told (host_of kinds.new)) (H.faults (host_of kinds.old)) (H.faults (host_of kinds.new))) }
-    ensures finished { OnOk result (GoesOn (calls_of kinds.new)) }
-    ensures known { All (λ e. place_of e < length document.now.resources) (calls_of kinds.new) }
-{
-    kinds.reserve(order.len() as u32)?;
-    match monitor(document, order, kinds) {
-        RunEnd::Finished => Ok(()),
-        RunEnd::Memory => Err(Memory),
-    }
 }

@@ -2,7 +2,7 @@ use Rattle.std.proofs.Common.{Bool, List, ◌∙◌, length, ap, arith}
 use Rattle.std.specs.Prelude.{count_by}
 use Rattle.dsc_terms.specs.Lists.{places_below}
 use Rattle.resource_kinds.specs.Trace.{has_succeeded}
-use Rattle.lcm_program.proofs.Marks.{count_marked, length-marks}
+use Rattle.resource_kinds.proofs.Marks.{count_marked, length-marks}
 use Rattle.lcm_program.proofs.lines.count_succeeded.Goals as goal
 
 pub returns-clause-value : goal.returns-clause-value

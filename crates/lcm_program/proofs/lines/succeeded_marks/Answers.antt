@@ -2,7 +2,7 @@ use Rattle.std.proofs.Common.{◌<◌, ◌++◌, ◌∷◌, ◌∙◌, [], List,
 use Rattle.std.proofs.lemmas.List.{take_more}
 use Rattle.resource_kinds.specs.declared.entry.Entry.{Entry}
 use Rattle.resource_kinds.specs.Trace.{place_of}
-use Rattle.lcm_program.proofs.Marks.{marks_none, marks_of, marks_push}
+use Rattle.resource_kinds.proofs.Marks.{marks_none, marks_of, marks_push}
 use Rattle.lcm_program.proofs.lines.succeeded_marks.Goals as goal
 
 pub loop-entry-init : goal.loop-entry-init

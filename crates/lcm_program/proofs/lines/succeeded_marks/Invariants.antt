@@ -1,5 +1,5 @@
 use Rattle.std.proofs.Common.{◌≡◌, take}
-use Rattle.lcm_program.proofs.Marks.{marks_of}
+use Rattle.resource_kinds.proofs.Marks.{marks_of}
 use Rattle.lcm_program.proofs.lines.succeeded_marks.Given as goal
 
 abbrev pub invariant-loop-entry : goal.invariant-loop-entry

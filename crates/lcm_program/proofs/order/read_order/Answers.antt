@@ -1,4 +1,4 @@
-use Rattle.lcm_program.proofs.Orders.{order_below}
+use Rattle.depend_order.proofs.DocumentOrders.{order_below}
 use Rattle.lcm_program.proofs.order.read_order.Goals as goal
 
 pub id_lines-requires : goal.id_lines-requires
