@@ -8,5 +8,6 @@ pub mod NeverRefused
 pub mod NoCycle
 pub mod Placed
 pub mod Properties
+pub mod Reading
 pub mod Resources
 pub mod Within

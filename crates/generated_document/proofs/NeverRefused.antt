@@ -1,8 +1,6 @@
 -- The part of generated instances is merged, or memory is wanting.
-use Rattle.std.proofs.Common.{◌≡◌, ◌∙◌, ℕ, zero, suc, ◌≤◌, List, [], ◌∷◌, length, refl, sym, ap, subst, arith}
+use Rattle.std.proofs.Common.{◌≡◌, ℕ, zero, suc, ◌≤◌, List, [], ◌∷◌, refl, subst}
 use Rattle.mof_values.specs.declared.instance.Instance.{Instance}
-use Rattle.mof_syntax.specs.Canonical.{canonical_bytes}
-use Rattle.mof_syntax.specs.Limits.{IsWithinLimits, document_limit}
 use Rattle.mof_syntax.specs.Refusals.{Reads}
 use Rattle.mof_codec.proofs.OneRefusal.{reads_once}
 use Rattle.dsc_document.specs.Rules.{Applies}
@@ -15,10 +13,8 @@ use Rattle.partial_merge.specs.declared.error.MergeError.TheVariants as refusals
 use Rattle.partial_merge.specs.Refused.{HasFault, IsFirstFault, Refused}
 use Rattle.generated_document.specs.Generated.{generated_instances}
 use Rattle.generated_document.proofs.Kept.{rules_kept}
-use Rattle.generated_document.proofs.Lengths.{bytes_within}
 use Rattle.generated_document.proofs.NoCycle.{no_cycle}
 use Rattle.generated_document.proofs.Resources.{names_resources, resources_are}
-use Rattle.generated_document.proofs.Within.{instances_within}
 
 module _ (part : Part) (n : ℕ) (few : n ≤ 4096) (reads : Reads part.bytes (generated_instances n)) where
   no_fault : (fault : PartFault) → HasFault part fault → ⊥
@@ -39,12 +35,3 @@ module _ (part : Part) (n : ℕ) (few : n ≤ 4096) (reads : Reads part.bytes (g
   only_memory (refusals.Cycle cycle) refused =
       absurd (no_cycle refused.document n few (resources_are part n reads refused.document refused.parts_are) cycle refused.leads_round)
   only_memory refusals.Memory refused = refl
-
--- the part of a text that is read as the instances, where these and it are within the limits, spells them
-pub part_reads : (n : ℕ) (instances : List Instance) (text : List ℕ) (part : Part) → n ≤ 4096 → instances ≡ generated_instances n
-    → text ≡ canonical_bytes instances → (IsWithinLimits instances → length text ≤ document_limit → Reads text instances)
-    → part.bytes ≡ text → Reads part.bytes (generated_instances n)
-part_reads n instances text part few are written reads of =
-    subst (λ (bytes : List ℕ). Reads bytes (generated_instances n)) (sym of)
-    (subst (Reads text) are (reads (subst IsWithinLimits (sym are) (instances_within n few))
-    (omega (arith, ap length (written ∙ ap canonical_bytes are), bytes_within n few))))

@@ -3,7 +3,6 @@ ghost use Rattle.std.specs.Prelude.{◌≡◌, ◌<◌, ◌≤◌, [], IfOk};
 ghost use Rattle.generated_document.specs.Contents.{HasContents};
 ghost use Rattle.generated_document.specs.Generated.{IsGenerated, generated_instances};
 ghost use Rattle.mof_syntax.specs.Canonical.{canonical_bytes};
-ghost use Rattle.mof_syntax.specs.Refusals.{Reads};
 
 use crate::instances::instances;
 use dsc_document::Document;
@@ -32,10 +31,8 @@ pub fn generated_document(alloc: Global, count: u32) -> Result<Document, AllocEr
 
 // The part without a name that is the text of the instances.
 fn part(alloc: Global, count: u32) -> Result<Part, AllocError>
-    requires few { count ≤ 4096 }
     ensures name { IfOk result (λ part. part.name ≡ []) }
     ensures text { IfOk result (λ part. part.bytes ≡ canonical_bytes (generated_instances count)) }
-    ensures reads { IfOk result (λ part. Reads part.bytes (generated_instances count)) }
 {
     let instances = instances(alloc, count)?;
     match write(alloc, &instances) {

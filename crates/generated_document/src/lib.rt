@@ -7,8 +7,10 @@
 
 mod document;
 mod instances;
+mod laws;
 
 pub use document::generated_document;
+pub use laws::generated_laws;
 
 #[cfg(test)]
 mod tests;

@@ -46,6 +46,11 @@ fn a_resource_depends_on_the_half_before_it(rt: HostRuntime) -> Result<(), Fail>
             3,
             "[Environment]R2 -> [Environment]R0\n[Environment]R1 -> [Environment]R0\n[Environment]R0\n",
         ),
+        (
+            5,
+            "[Environment]R4 -> [Environment]R1\n[Environment]R3 -> [Environment]R1\n\
+             [Environment]R2 -> [Environment]R0\n[Environment]R1 -> [Environment]R0\n[Environment]R0\n",
+        ),
     ];
     for (count, lines) in rows {
         let document = generated_document(rt.alloc(), count)?;

@@ -1,6 +1,7 @@
 pub mod Canon
 pub mod Checksum
 pub mod Documents
+pub mod Generate
 pub mod Input
 pub mod Lines
 pub mod Printed

@@ -43,9 +43,13 @@ line_of document (Set place answer) = codes "set " ++ quoted (id_at document pla
 abbrev pub verdict : ℕ → List ℕ
 verdict missed = if missed == 0 then codes "compliant\n" else codes "not compliant " ++ decimal missed ++ codes "\n"
 
--- by how many resources there are, how many succeeded, and how many did not
+-- how many resources there are, and how many succeeded
+abbrev pub resources_line : ℕ → ℕ → List ℕ
+resources_line total succeeded = codes "resources " ++ decimal total ++ codes " succeeded " ++ decimal succeeded ++ codes "\n"
+
+-- the same, and the verdict on how many did not
 abbrev pub summary : ℕ → ℕ → ℕ → List ℕ
-summary total succeeded missed = codes "resources " ++ decimal total ++ codes " succeeded " ++ decimal succeeded ++ codes "\n" ++ verdict missed
+summary total succeeded missed = resources_line total succeeded ++ verdict missed
 
 abbrev pub overlap_line : Bool → List ℕ
 overlap_line true = codes "overlapping\n"

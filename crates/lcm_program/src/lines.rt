@@ -4,7 +4,7 @@ ghost use Rattle.std.specs.List.{flat_map};
 ghost use Rattle.dsc_terms.specs.Lists.{places_below};
 ghost use Rattle.resource_kinds.specs.Trace.{place_of, entry_is_yes, has_succeeded, succeeded_count};
 ghost use Rattle.resource_kinds.specs.Names.{failure_name};
-ghost use Rattle.lcm_program.specs.Lines.{test_words, set_words, id_at, line_of, overlap_line, verdict, summary, run_lines};
+ghost use Rattle.lcm_program.specs.Lines.{test_words, set_words, id_at, line_of, overlap_line, resources_line, verdict, summary, run_lines};
 
 use dsc_document::Document;
 use mof_codec::push_literal;
@@ -143,9 +143,16 @@ fn push_summary(out: &mut String, total: usize, good: usize) -> Result<(), Alloc
     requires { good ≤ total }
     ensures { OnOk result (string_bytes out.new ≡ string_bytes out.old ++ summary total good (total - good)) }
 {
-    write!(out, "resources {total} succeeded {good}\n")?;
+    push_resources(out, total, good)?;
     let missed = total - good;
     push_verdict(out, missed)
+}
+
+/// Appends how many resources there are, and how many succeeded.
+pub fn push_resources(out: &mut String, total: usize, good: usize) -> Result<(), AllocError>
+    ensures { OnOk result (string_bytes out.new ≡ string_bytes out.old ++ resources_line total good) }
+{
+    write!(out, "resources {total} succeeded {good}\n")
 }
 
 fn push_verdict(out: &mut String, missed: usize) -> Result<(), AllocError>

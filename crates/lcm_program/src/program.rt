@@ -1,5 +1,5 @@
 //! The program: one command, from its words and its input to its output.
-ghost use Rattle.std.specs.Prelude.{◌≡◌, ◌≢◌, ◌⊎◌, ℕ, [], map, IfSome, string_bytes};
+ghost use Rattle.std.specs.Prelude.{◌≡◌, ◌≢◌, ◌⊎◌, ◌<◌, ◌≤◌, ℕ, [], map, IfSome, string_bytes};
 ghost use Rattle.dsc_terms.specs.Counts.{Rose};
 ghost use Rattle.lcm_program.specs.declared.words.Command.{Command};
 ghost use Rattle.lcm_program.specs.declared.refusal.Refusal.{Refusal};
@@ -13,10 +13,12 @@ ghost use Rattle.lcm_program.specs.Tool.{IsRefusalFor, RanTool, TellsText, Tells
 ghost use Rattle.lcm_program.specs.Canon.{AnswersCanon, AnswersEachText};
 ghost use Rattle.lcm_program.specs.Checksum.{AnswersChecksum};
 ghost use Rattle.lcm_program.specs.Documents.{AnswersOf, TellsCount, TellsOrder};
+ghost use Rattle.lcm_program.specs.Generate.{TellsGenerate};
 
 use crate::canon::read_canonical;
 use crate::check::read_count;
 use crate::checksum::{checksum_line, read_digest};
+use crate::generate::repair_generated;
 use crate::input::{Unread, read_document};
 use crate::order::read_order;
 use crate::refusal::Refusal;
@@ -25,6 +27,7 @@ use crate::streams::write_all;
 use crate::test::monitor_document;
 use crate::words::{Command, UsageError, read_words};
 use dsc_outside::{Clock, Disk, Failed, Host, Link, Sink, Source};
+use mof_values::Memory;
 use resource_kinds::Kinds;
 use std::alloc::Global;
 
@@ -92,6 +95,10 @@ pub fn node<S: Source, K: Sink, D: Disk, H: Host, L: Link, C: Clock>(
     ensures checksum_memory { IsForm Command.Checksum (map string_bytes words.now) → result ≡ Status.Memory
         → OnlyForRefusal AnswersChecksum (S.left input.old) (S.faults input.old) (S.faults input.new) }
 
+    // The word `generate`: it takes no input, changes nothing, and tells of the repair of a made document.
+    ensures generate { (count : ℕ) → IsForm (Command.Generate count) (map string_bytes words.now)
+        → TellsGenerate count K.held K.faults result output.old output.new × (kinds.new ≡ kinds.old) × (input.new ≡ input.old) }
+
     // Where memory was refused nothing is told, and what was done is the front of a run.
     ensures memory { result ≡ Status.Memory → Stopped H.told H.faults (S.left input.old) kinds.old kinds.new × (output.new ≡ output.old) }
 {
@@ -101,6 +108,7 @@ pub fn node<S: Source, K: Sink, D: Disk, H: Host, L: Link, C: Clock>(
         Ok(Command::Order) => order(alloc, input, output),
         Ok(Command::Canon) => canon(alloc, input, output),
         Ok(Command::Checksum) => checksum(alloc, input, output),
+        Ok(Command::Generate { count }) => generate(alloc, count, output),
         Err(UsageError { word }) => refuse(alloc, output, Refusal::Usage { word }),
     }
 }
@@ -204,6 +212,19 @@ fn checksum<S: Source, K: Sink>(alloc: Global, input: &mut S, output: &mut K) ->
         Err(refusal) => return refuse(alloc, output, refusal),
     };
     print(output, &checksum_line(&digest))
+}
+
+// The word `generate`.
+fn generate<K: Sink>(alloc: Global, count: u32, output: &mut K) -> Status
+    requires some { 0 < count }
+    requires few { count ≤ 4096 }
+    ensures tells { TellsGenerate count K.held K.faults result output.old output.new }
+    ensures silent { result ≡ Status.Memory → output.new ≡ output.old }
+{
+    match repair_generated(alloc, count) {
+        Ok(text) => print(output, text.as_bytes()),
+        Err(Memory) => Status::Memory,
+    }
 }
 
 // Prints the text with which a tool answers.

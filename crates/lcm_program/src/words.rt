@@ -1,6 +1,9 @@
 //! The words of the command line.
-ghost use Rattle.std.specs.Prelude.{◌≡◌, IfOk, IfErr, IfSome, IfNone, map, string_bytes};
-ghost use Rattle.lcm_program.specs.Words.{IsForm, IsUsage, word_of};
+ghost use Rattle.std.specs.Prelude.{◌≡◌, ℕ, ◌∷◌, IfOk, IfErr, IfSome, IfNone, codes, map, string_bytes};
+ghost use Rattle.lcm_program.specs.Words.{IsCount, IsForm, IsUsage, StandsAlone, word_of};
+
+/// The most resources of a generated document.
+const GENERATED_LIMIT: u32 = 4096;
 
 /// What the program is asked to do.
 #[derive(Clone, Copy, Debug, PartialEq, Eq)]
@@ -19,6 +22,9 @@ pub enum Command {
 
     /// Prints the checksum of the input.
     Checksum,
+
+    /// Repairs an empty machine in memory by a document of so many resources, 1 to 4,096, and tells of it.
+    Generate { count: u32 },
 }
 
 /// The words are in no form; `word` is the place of the first word that no form goes on with, or their count.
@@ -35,6 +41,9 @@ pub fn read_words(words: &[String]) -> Result<Command, UsageError>
     let [first, rest @ ..] = words else {
         return Err(UsageError { word: 0 });
     };
+    if first.as_str() == "generate" {
+        return read_generate(rest);
+    }
     let Some(command) = command_of(first) else {
         return Err(UsageError { word: 0 });
     };
@@ -44,10 +53,10 @@ pub fn read_words(words: &[String]) -> Result<Command, UsageError>
     }
 }
 
-// The command of that word.
+// The command of that word, which stands alone.
 fn command_of(word: &str) -> Option<Command>
-    ensures some { IfSome result (λ command. word.now ≡ word_of command) }
-    ensures none { IfNone result ((command : Command) → word.now ≡ word_of command → ⊥) }
+    ensures some { IfSome result (λ command. (word.now ≡ word_of command) × StandsAlone command) }
+    ensures none { IfNone result ((command : Command) → StandsAlone command → word.now ≡ word_of command → ⊥) }
 {
     match word {
         "test" => Some(Command::Test),
@@ -55,6 +64,38 @@ fn command_of(word: &str) -> Option<Command>
         "order" => Some(Command::Order),
         "canon" => Some(Command::Canon),
         "checksum" => Some(Command::Checksum),
+        _ => None,
+    }
+}
+
+// What the words behind `generate` ask for.
+fn read_generate(rest: &[String]) -> Result<Command, UsageError>
+    ensures ok { IfOk result (λ command. IsForm command (codes "generate" ∷ map string_bytes rest.now)) }
+    ensures usage { IfErr result (λ error. IsUsage (codes "generate" ∷ map string_bytes rest.now) error.word) }
+{
+    let [word, more @ ..] = rest else {
+        return Err(UsageError { word: 1 });
+    };
+    let Some(count) = read_count(word) else {
+        return Err(UsageError { word: 1 });
+    };
+    match more {
+        [] => Ok(Command::Generate { count }),
+        _ => Err(UsageError { word: 2 }),
+    }
+}
+
+// The number of resources that the word is: in decimal, without a sign or a zero in front.
+fn read_count(word: &str) -> Option<u32>
+    ensures some { IfSome result (IsCount word.now) }
+    ensures none { IfNone result ((count : ℕ) → IsCount word.now count → ⊥) }
+{
+    match word.as_bytes() {
+        [b'1'..=b'9', ..] => {}
+        _ => return None,
+    }
+    match word.parse::<u32>() {
+        Ok(count) if count <= GENERATED_LIMIT => Some(count),
         _ => None,
     }
 }

@@ -1,12 +1,17 @@
 use Rattle.generated_document.proofs.Contents.{has_contents}
 use Rattle.generated_document.proofs.NeverRefused.{only_memory}
+use Rattle.generated_document.proofs.Reading.{generated_reads}
 use Rattle.generated_document.proofs.document.generated_document.Goals as goal
 
 -- the part spells the instances, so that it is not refused
 pub want_of_memory-requires : goal.want_of_memory-requires
 want_of_memory-requires c =
-    record { only = only_memory c.in_ok-part.part c.args.count c.requires.few c.in_ok-part.ensures.reads c.in-Err.error c.in-Err.ensures.refused }
+    let part = c.in_ok-part.part in
+    let reads = generated_reads c.args.count part.bytes c.requires.few c.in_ok-part.ensures.text in
+    record { only = only_memory part c.args.count c.requires.few reads c.in-Err.error c.in-Err.ensures.refused }
 
 pub returns-in-Ok-clause-contents : goal.returns-in-Ok-clause-contents
 returns-in-Ok-clause-contents c =
-    has_contents c.in_ok-part.part c.args.count c.in_ok-part.ensures.reads c.in-Ok.document c.in-Ok.ensures.merged.parts_are
+    let part = c.in_ok-part.part in
+    let reads = generated_reads c.args.count part.bytes c.requires.few c.in_ok-part.ensures.text in
+    has_contents part c.args.count reads c.in-Ok.document c.in-Ok.ensures.merged.parts_are

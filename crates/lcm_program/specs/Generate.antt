@@ -1,0 +1,48 @@
+-- The word `generate`: the repair of a document that is made of a number, on an empty machine.
+use Rattle.std.specs.Prelude.{◌≡◌, ◌⊎◌, ℕ, ◌-◌, Bool, true, false, not, List, ◌++◌, length, Option, Some, codes, count_by, get_or}
+use Rattle.std.specs.Fmt.{decimal}
+use Rattle.dsc_outside.specs.Host.{HostState, empty_host}
+use Rattle.dsc_document.specs.declared.document.Document.{Document}
+use Rattle.generated_document.specs.Generated.{IsGenerated}
+use Rattle.lcm_core.specs.declared.modes.RunMode.TheVariants.{Repair}
+use Rattle.resource_kinds.specs.declared.entry.Entry.{Entry}
+use Rattle.resource_kinds.specs.declared.entry.Entry.TheVariants.{Tested, Set}
+use Rattle.resource_kinds.specs.Trace.{host_failures, succeeded_count}
+use Rattle.lcm_program.specs.declared.status.Status.{Status}
+use Rattle.lcm_program.specs.declared.status.Status.TheVariants.{Memory}
+use Rattle.lcm_program.specs.Lines.{id_at, resources_line}
+use Rattle.lcm_program.specs.Quoted.{quoted}
+use Rattle.lcm_program.specs.Ran.{RanWhole}
+use Rattle.lcm_program.specs.Tool.{TellsText}
+
+abbrev pub is_test : Entry → Bool
+is_test (Tested place answer) = true
+is_test (Set place answer) = false
+
+-- how many Tests and Sets there were
+abbrev pub calls_line : List Entry → List ℕ
+calls_line trace = codes "tests " ++ decimal (count_by is_test trace) ++ codes " sets " ++ decimal (count_by (λ e. not (is_test e)) trace) ++ codes "\n"
+
+-- the first and the last id of the order
+abbrev pub ends_line : Document → List ℕ → List ℕ
+ends_line document order =
+    codes "first " ++ quoted (id_at document (get_or order 0 0)) ++ codes " last " ++ quoted (id_at document (get_or order (length order - 1) 0)) ++ codes "\n"
+
+abbrev pub generated_lines : ℕ → Document → List ℕ → List Entry → List ℕ
+generated_lines count document order trace =
+    codes "generated " ++ decimal count ++ codes "\n" ++ resources_line (length document.resources) (succeeded_count document trace) ++ calls_line trace ++ ends_line document order
+
+-- the text tells of the repair of the document of that count, on an empty machine that did not fail
+pub record TellsGenerated (count : ℕ) (text : List ℕ) : Type 0 where
+  pub document : Document
+  pub generated : IsGenerated count document
+  pub order : List ℕ
+  pub trace : List Entry
+  pub after : HostState
+  pub run : RanWhole document Repair order trace (Some empty_host) (Some after) 0 0
+  pub blameless : host_failures trace ≡ 0
+  pub lines : text ≡ generated_lines count document order trace
+
+-- such a text is printed, or a part from its front where the output failed; or memory was refused
+abbrev pub TellsGenerate : {K : Type 0} → ℕ → (K → Option (List ℕ)) → (K → ℕ) → Status → K → K → Type 0
+TellsGenerate count held faults status old new = (status ≡ Memory) ⊎ ((text : List ℕ) × TellsGenerated count text × TellsText held faults text status old new)

@@ -1,0 +1,77 @@
+//! The word `generate`: the repair of a document that is made of a number, on an empty machine in memory.
+ghost use Rattle.std.specs.Prelude.{◌≡◌, ◌<◌, ◌≤◌, ◌-◌, ◌++◌, All, IfOk, OnOk, count_by, length, not, string_bytes};
+ghost use Rattle.resource_kinds.specs.Trace.{place_of};
+ghost use Rattle.lcm_program.specs.Generate.{TellsGenerated, calls_line, ends_line, generated_lines, is_test};
+
+use crate::lines::{count_succeeded, id, push_resources};
+use crate::merged_run::run_merged;
+use dsc_document::Document;
+use dsc_outside::{HostContents, ReliableHost};
+use generated_document::generated_document;
+use lcm_core::RunMode;
+use mof_codec::push_literal;
+use mof_values::Memory;
+use resource_kinds::{Entry, Kinds, Resources};
+use std::alloc::{AllocError, Global};
+
+/// Makes the document of so many resources, 1 to 4,096, repairs an empty machine in memory by it, and gives the lines that
+/// tell of that.
+pub fn repair_generated(alloc: Global, count: u32) -> Result<String, Memory>
+    requires some { 0 < count }
+    requires few { count ≤ 4096 }
+    ensures { IfOk result (λ text. TellsGenerated count (string_bytes text)) }
+{
+    let document = generated_document(alloc, count)?;
+    let mut kinds = Kinds::new(alloc, ReliableHost::of(HostContents::empty(alloc)));
+    let order = run_merged(alloc, &document, RunMode::Repair, &mut kinds)?;
+    Ok(lines(alloc, count, &document, &order, kinds.calls())?)
+}
+
+// The lines of such a repair.
+fn lines(
+    alloc: Global,
+    count: u32,
+    document: &Document,
+    order: &[u32],
+    calls: &[Entry],
+) -> Result<String, AllocError>
+    requires some { 0 < length order.now }
+    requires order { All (λ r. r < length document.now.resources) order.now }
+    requires known { All (λ e. place_of e < length document.now.resources) calls.now }
+    ensures { IfOk result (λ text. string_bytes text ≡ generated_lines count document.now order.now calls.now) }
+{
+    let total = document.resources.as_slice().len();
+    let good = count_succeeded(alloc, total, calls)?;
+    let mut text = String::new(alloc);
+    write!(text, "generated {count}\n")?;
+    push_resources(&mut text, total, good)?;
+    push_calls(&mut text, calls)?;
+    push_ends(&mut text, document, order)?;
+    Ok(text)
+}
+
+fn push_calls(text: &mut String, calls: &[Entry]) -> Result<(), AllocError>
+    ensures { OnOk result (string_bytes text.new ≡ string_bytes text.old ++ calls_line calls.now) }
+{
+    let tests = calls.iter().filter(|entry| is_test(entry)).count();
+    let sets = calls.iter().filter(|entry| !is_test(entry)).count();
+    write!(text, "tests {tests} sets {sets}\n")
+}
+
+fn is_test(entry: &Entry) -> bool
+    ensures { result ≡ is_test entry.now }
+{
+    matches!(entry, Entry::Tested { .. })
+}
+
+fn push_ends(text: &mut String, document: &Document, order: &[u32]) -> Result<(), AllocError>
+    requires some { 0 < length order.now }
+    requires order { All (λ r. r < length document.now.resources) order.now }
+    ensures { OnOk result (string_bytes text.new ≡ string_bytes text.old ++ ends_line document.now order.now) }
+{
+    text.push_str("first ")?;
+    push_literal(text, id(document, order[0]))?;
+    text.push_str(" last ")?;
+    push_literal(text, id(document, order[order.len() - 1]))?;
+    text.push_str("\n")
+}
