@@ -4,6 +4,7 @@ pub mod EntryLists
 pub mod HostPaths
 pub mod JoinedPaths
 pub mod Looked
+pub mod Marks
 pub mod Meets
 pub mod PathSets
 pub mod RunLaws
