@@ -1,10 +1,11 @@
 -- Marks along a trace: a list that keeps of each resource what its last entry says.
-use Rattle.std.proofs.Common.{◌≡◌, inl, inr, ◌<◌, ◌+◌, ◌-◌, ℕ, zero, suc, Bool, false, List, [], ◌∷◌, ◌++◌, Option, Some, None, if◌then◌else◌, length, map, get_or, set, replicate, sym, ◌∙◌, ap, subst, arith, length-set, get_or-set_same, get_or-set_other}
-use Rattle.std.specs.Prelude.{find, reverse}
+use Rattle.std.proofs.Common.{◌≡◌, inl, inr, ◌<◌, ◌+◌, ◌-◌, ℕ, zero, suc, Bool, false, List, [], ◌∷◌, ◌++◌, Option, Some, None, if◌then◌else◌, cond, length, map, get_or, set, replicate, refl, sym, ◌∙◌, ap, subst, arith, length-set, get_or-set_same, get_or-set_other}
+use Rattle.std.specs.Prelude.{count_by, find, reverse}
 use Rattle.std.proofs.Math.Dec.{eqb}
 use Rattle.std.proofs.lemmas.Bool.{cases_lt, eq-eqb}
 use Rattle.std.proofs.lemmas.Bool.Decides.{eqb_tells}
 use Rattle.std.proofs.lemmas.List.{same_lists, length-map, get_or-map, get_or-append_right, get_or_append_left, reverse-append, length-replicate, get_or-replicate}
+use Rattle.std.proofs.lemmas.List.Sums.{sum_by-cons}
 use Rattle.dsc_terms.specs.Lists.{places_below}
 use Rattle.dsc_terms.proofs.Places.{length-places_below}
 use Rattle.resource_kinds.specs.declared.entry.Entry.{Entry}
@@ -76,3 +77,11 @@ module _ {A : Type 0} (f : Option Entry → A) where
             get_or-set_other (marks_by t n) (place_of e) k (f (Some e)) d (λ back. apart.1 (sym back))
             ∙ get_or-marks t n k d lt ∙ ap f (sym (last_elsewhere t e k apart.0)) ∙ sym (get_or-marks (t ++ e ∷ []) n k d lt)
       ])
+
+-- ---- counting
+
+pub count_mapped : {A B : Type 0} (p : B → Bool) (f : A → B) (xs : List A) → count_by p (map f xs) ≡ count_by (λ x. p (f x)) xs
+count_mapped p f [] = refl
+count_mapped {A} {B} p f (x ∷ xs) =
+    sum_by-cons (λ (y : B). cond (p y) 1 0) (f x) (map f xs)
+    ∙ ap (λ (n : ℕ). cond (p (f x)) 1 0 + n) (count_mapped p f xs) ∙ sym (sum_by-cons (λ (y : A). cond (p (f y)) 1 0) x xs)
