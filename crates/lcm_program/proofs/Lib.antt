@@ -1,6 +1,5 @@
 pub mod Answered
 pub mod Inputs
-pub mod Marks
 pub mod Monitored
 pub mod Orders
 pub mod Refusals
