@@ -1,0 +1,128 @@
+//! Runs as words, as `test 0 no; set 0 fault BadPath`.
+ghost use Rattle.std.specs.Prelude.{◌≡◌, ◌<◌, ◌≤◌, All, IsTrue, IfOk, length};
+ghost use Rattle.resource_kinds.specs.Trace.{place_of};
+ghost use Rattle.report_log.specs.declared.marks.Mark.TheVariants.{Unsettled};
+ghost use Rattle.report_log.specs.Report.{AnswersMemory, EndsNoneDone};
+ghost use Rattle.report_log.specs.Sizes.{DocumentInSize, Fits};
+
+use super::*;
+use std::alloc::{AllocError, Global};
+
+fn failure(rt: &impl AllocGlobal, word: &str) -> Result<Failure, Fail> {
+    Ok(match word {
+        "NoSuchResource" => Failure::NoSuchResource,
+        "OutOfProfile" => Failure::OutOfProfile(ident(rt, "Colour")?),
+        "BadPath" => Failure::BadPath,
+        "InTheWay" => Failure::InTheWay,
+        _ => Failure::HostFailed,
+    })
+}
+
+fn call(rt: &impl AllocGlobal, words: &str) -> Result<Entry, Fail> {
+    let mut words = words.split_whitespace();
+    let call = words.next().unwrap_or("");
+    let place = words.next().unwrap_or("").parse::<u32>().unwrap_or(0);
+    let answer = words.next().unwrap_or("");
+    let fault = failure(rt, words.next().unwrap_or(""))?;
+    Ok(match (call, answer) {
+        ("test", "yes") => Entry::Tested {
+            place,
+            answer: TestAnswer::Yes,
+        },
+        ("test", "no") => Entry::Tested {
+            place,
+            answer: TestAnswer::No,
+        },
+        ("test", _) => Entry::Tested {
+            place,
+            answer: TestAnswer::Fault(fault),
+        },
+        (_, "done") => Entry::Set {
+            place,
+            answer: SetAnswer::Done,
+        },
+        (_, "reboot") => Entry::Set {
+            place,
+            answer: SetAnswer::Reboot,
+        },
+        _ => Entry::Set {
+            place,
+            answer: SetAnswer::Fault(fault),
+        },
+    })
+}
+
+/// The calls of a run.
+pub fn calls(rt: &impl AllocGlobal, run: &str) -> Result<Vec<Entry>, Fail> {
+    let mut made = Vec::new(rt.alloc());
+    for words in run.split(';') {
+        if !words.trim().is_empty() {
+            made.push(call(rt, words)?)?;
+        }
+    }
+    Ok(made)
+}
+
+fn is_memory(entry: &Entry) -> bool
+    ensures { AnswersMemory entry.now → IsTrue result }
+{
+    match entry {
+        Entry::Tested { answer, .. } => matches!(answer, TestAnswer::Memory),
+        Entry::Set { answer, .. } => matches!(answer, SetAnswer::Memory),
+    }
+}
+
+fn ids_fit(resources: &[Resource]) -> bool
+    ensures { IsTrue result → All (λ resource. Fits 256 resource.id) resources.now }
+{
+    for resource in resources {
+        if !resource.id.fits_utf8(256) {
+            return false;
+        }
+    }
+    true
+}
+
+/// Tells whether the document is in size.
+pub fn is_in_size(document: &Document) -> bool
+    ensures { IsTrue result → DocumentInSize document.now }
+{
+    let resources = document.resources.as_slice();
+    resources.len() <= 4096 && document.version.as_slice().len() <= 64 && ids_fit(resources)
+}
+
+/// Tells whether the entries are of so many resources, and none answers `Memory`.
+pub fn is_known(count: usize, calls: &[Entry]) -> bool
+    ensures known { IsTrue result → All (λ e. place_of e < count) calls.now }
+    ensures memory { IsTrue result → All (λ e. AnswersMemory e → ⊥) calls.now }
+{
+    for entry in calls {
+        if entry.place() as usize >= count || is_memory(entry) {
+            return false;
+        }
+    }
+    true
+}
+
+/// Tells whether no resource's last entry is a Set that was done.
+pub fn is_settled(alloc: Global, document: &Document, calls: &[Entry]) -> Result<bool, AllocError>
+    requires { All (λ e. place_of e < length document.now.resources) calls.now }
+    ensures { IfOk result (λ told. IsTrue told → EndsNoneDone document.now calls.now) }
+{
+    let marks = marked(
+        vec![in alloc; Mark::NotCalled; document.resources.as_slice().len()]?,
+        calls,
+    );
+    Ok(has_none_unsettled(&marks))
+}
+
+fn has_none_unsettled(marks: &[Mark]) -> bool
+    ensures { IsTrue result → All (λ mark. mark ≡ Unsettled → ⊥) marks.now }
+{
+    for mark in marks {
+        if matches!(mark, Mark::Unsettled) {
+            return false;
+        }
+    }
+    true
+}
