@@ -95,5 +95,5 @@ AnswersMemory (Tested place answer) = answer ≡ tests.Memory
 AnswersMemory (Set place answer) = answer ≡ sets.Memory
 
 -- no resource's last entry is a Set that was done
-abbrev pub EndsNoneDone : Document → List Entry → Type 0
-EndsNoneDone document trace = (r place : ℕ) → r < length document.resources → last_entry trace r ≡ Some (Set place sets.Done) → ⊥
+abbrev pub IsSettled : Document → List Entry → Type 0
+IsSettled document trace = (r place : ℕ) → r < length document.resources → last_entry trace r ≡ Some (Set place sets.Done) → ⊥

@@ -6,14 +6,14 @@
 //! resource's last entry, and that the report is in size.
 #![tactic(auto)]
 
+mod making;
 mod marks;
 mod report;
 mod room;
-mod writing;
 
+pub use making::report_of;
 pub use report::{FailureKind, Frame, Missed, Outcome, PartMark, Reason, Report};
 pub use room::{ReportRoom, room_for};
-pub use writing::report_of;
 
 #[cfg(test)]
 mod tests;

@@ -5,7 +5,7 @@ use crate::marks::{Mark, marked};
 use dsc_document::{Document, Resource};
 use mof_values::{Ident, Instance, Items, Text};
 use resource_kinds::{Entry, Failure, SetAnswer, TestAnswer};
-use runs::{calls, is_in_size, is_known, is_settled};
+use runs::{calls, has_no_memory, is_in_size, is_known, is_settled};
 use std::process::Abort;
 use std::test::Fail;
 
@@ -52,6 +52,7 @@ fn report(rt: &(impl AllocGlobal + Abort), count: u32, run: &str) -> Result<Repo
     let calls = calls(rt, run)?;
     assert!(rt; is_in_size(&document));
     assert!(rt; is_known(document.resources.as_slice().len(), &calls));
+    assert!(rt; has_no_memory(&calls));
     assert!(rt; is_settled(rt.alloc(), &document, &calls)?);
     let frame = Frame {
         job: 1,

@@ -1,8 +1,9 @@
 //! Runs as words, as `test 0 no; set 0 fault BadPath`.
-ghost use Rattle.std.specs.Prelude.{◌≡◌, ◌<◌, ◌≤◌, All, IsTrue, IfOk, length};
+ghost use Rattle.std.specs.Prelude.{◌≡◌, ◌<◌, ◌↔◌, All, IsTrue, IfOk, length};
+ghost use Rattle.std.specs.Bool.{OnTrue};
 ghost use Rattle.resource_kinds.specs.Trace.{place_of};
 ghost use Rattle.report_log.specs.declared.marks.Mark.TheVariants.{Unsettled};
-ghost use Rattle.report_log.specs.Report.{AnswersMemory, EndsNoneDone};
+ghost use Rattle.report_log.specs.Report.{AnswersMemory, IsSettled};
 ghost use Rattle.report_log.specs.Sizes.{DocumentInSize, Fits};
 
 use super::*;
@@ -63,17 +64,16 @@ pub fn calls(rt: &impl AllocGlobal, run: &str) -> Result<Vec<Entry>, Fail> {
     Ok(made)
 }
 
-fn is_memory(entry: &Entry) -> bool
-    ensures { AnswersMemory entry.now → IsTrue result }
+/// Tells whether the document is in size.
+pub fn is_in_size(document: &Document) -> bool
+    ensures { OnTrue result (DocumentInSize document.now) }
 {
-    match entry {
-        Entry::Tested { answer, .. } => matches!(answer, TestAnswer::Memory),
-        Entry::Set { answer, .. } => matches!(answer, SetAnswer::Memory),
-    }
+    let resources = document.resources.as_slice();
+    resources.len() <= 4096 && document.version.as_slice().len() <= 64 && ids_fit(resources)
 }
 
 fn ids_fit(resources: &[Resource]) -> bool
-    ensures { IsTrue result → All (λ resource. Fits 256 resource.id) resources.now }
+    ensures { OnTrue result (All (λ resource. Fits 256 resource.id) resources.now) }
 {
     for resource in resources {
         if !resource.id.fits_utf8(256) {
@@ -83,46 +83,62 @@ fn ids_fit(resources: &[Resource]) -> bool
     true
 }
 
-/// Tells whether the document is in size.
-pub fn is_in_size(document: &Document) -> bool
-    ensures { IsTrue result → DocumentInSize document.now }
-{
-    let resources = document.resources.as_slice();
-    resources.len() <= 4096 && document.version.as_slice().len() <= 64 && ids_fit(resources)
-}
-
-/// Tells whether the entries are of so many resources, and none answers `Memory`.
+/// Tells whether the entries are of so many resources.
 pub fn is_known(count: usize, calls: &[Entry]) -> bool
-    ensures known { IsTrue result → All (λ e. place_of e < count) calls.now }
-    ensures memory { IsTrue result → All (λ e. AnswersMemory e → ⊥) calls.now }
+    ensures { OnTrue result (All (λ e. place_of e < count) calls.now) }
 {
     for entry in calls {
-        if entry.place() as usize >= count || is_memory(entry) {
+        if entry.place() as usize >= count {
             return false;
         }
     }
     true
+}
+
+/// Tells whether no entry answers `Memory`.
+pub fn has_no_memory(calls: &[Entry]) -> bool
+    ensures { OnTrue result (All (λ e. AnswersMemory e → ⊥) calls.now) }
+{
+    for entry in calls {
+        if is_memory(entry) {
+            return false;
+        }
+    }
+    true
+}
+
+fn is_memory(entry: &Entry) -> bool
+    ensures { IsTrue result ↔ AnswersMemory entry.now }
+{
+    match entry {
+        Entry::Tested { answer, .. } => matches!(answer, TestAnswer::Memory),
+        Entry::Set { answer, .. } => matches!(answer, SetAnswer::Memory),
+    }
 }
 
 /// Tells whether no resource's last entry is a Set that was done.
 pub fn is_settled(alloc: Global, document: &Document, calls: &[Entry]) -> Result<bool, AllocError>
     requires { All (λ e. place_of e < length document.now.resources) calls.now }
-    ensures { IfOk result (λ told. IsTrue told → EndsNoneDone document.now calls.now) }
+    ensures { IfOk result (λ told. OnTrue told (IsSettled document.now calls.now)) }
 {
-    let marks = marked(
-        vec![in alloc; Mark::NotCalled; document.resources.as_slice().len()]?,
-        calls,
-    );
-    Ok(has_none_unsettled(&marks))
+    let count = document.resources.as_slice().len();
+    let marks = marked(vec![in alloc; Mark::NotCalled; count]?, calls);
+    Ok(are_settled(&marks))
 }
 
-fn has_none_unsettled(marks: &[Mark]) -> bool
-    ensures { IsTrue result → All (λ mark. mark ≡ Unsettled → ⊥) marks.now }
+fn are_settled(marks: &[Mark]) -> bool
+    ensures { OnTrue result (All (λ mark. mark ≡ Unsettled → ⊥) marks.now) }
 {
     for mark in marks {
-        if matches!(mark, Mark::Unsettled) {
+        if is_unsettled(mark) {
             return false;
         }
     }
     true
+}
+
+fn is_unsettled(mark: &Mark) -> bool
+    ensures { IsTrue result ↔ (mark.now ≡ Unsettled) }
+{
+    *mark == Mark::Unsettled
 }

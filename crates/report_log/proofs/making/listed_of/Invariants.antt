@@ -2,7 +2,7 @@ use Rattle.std.proofs.Common.{◌≡◌, ◌≤◌, filter_map, length, take, ve
 use Rattle.dsc_terms.specs.Lists.{places_below}
 use Rattle.report_log.specs.Marks.{listed_at}
 use Rattle.report_log.specs.Report.{listed_limit}
-use Rattle.report_log.proofs.writing.listed_of.Given as goal
+use Rattle.report_log.proofs.making.listed_of.Given as goal
 
 abbrev pub invariant-loop-place : goal.invariant-loop-place
 invariant-loop-place l = record {

@@ -3,7 +3,7 @@ ghost use Rattle.std.specs.Prelude.{◌≡◌, ◌<◌, ◌≤◌, ◌↔◌, �
 ghost use Rattle.resource_kinds.specs.Trace.{place_of};
 ghost use Rattle.report_log.specs.declared.marks.Mark.TheVariants.{Unsettled};
 ghost use Rattle.report_log.specs.Marks.{listed_of, outcome_of, reason_of};
-ghost use Rattle.report_log.specs.Report.{AnswersMemory, EndsInReboot, EndsNoneDone, IsReport, listed_limit};
+ghost use Rattle.report_log.specs.Report.{AnswersMemory, EndsInReboot, IsSettled, IsReport, listed_limit};
 ghost use Rattle.report_log.specs.Room.{IsRoomFor};
 ghost use Rattle.report_log.specs.Sizes.{DocumentInSize, FrameInSize, ReportInSize};
 
@@ -14,14 +14,14 @@ use dsc_document::Document;
 use mof_values::{Items, Text};
 use resource_kinds::{Entry, SetAnswer};
 
-/// The report of a run over this document that left these entries; takes no memory, and goes over the entries and the
-/// resources once.
+/// The report of a run over this document that left these entries; takes no memory, and time linear in the entries and the
+/// resources.
 pub fn report_of(room: ReportRoom, document: &Document, calls: &[Entry], frame: Frame) -> Report
     requires room { IsRoomFor document.now room }
     requires document { DocumentInSize document.now }
     requires known { All (λ e. place_of e < length document.now.resources) calls.now }
     requires memory { All (λ e. AnswersMemory e → ⊥) calls.now }
-    requires done { EndsNoneDone document.now calls.now }
+    requires settled { IsSettled document.now calls.now }
     requires frame { FrameInSize frame }
 
     ensures report { IsReport document.now calls.now frame result }

@@ -12,7 +12,7 @@ use Rattle.report_log.specs.declared.report.Reason.{Reason}
 use Rattle.report_log.specs.Marks.{listed_at, reason_of}
 use Rattle.report_log.specs.Report.{listed_limit}
 use Rattle.report_log.proofs.Grown.{length-first, made_none, made_one, take_grown}
-use Rattle.report_log.proofs.writing.listed_of.Goals as goal
+use Rattle.report_log.proofs.making.listed_of.Goals as goal
 
 abbrev missed_of : List ℕ → Reason → Missed
 missed_of id reason = record { id = id; reason = reason }

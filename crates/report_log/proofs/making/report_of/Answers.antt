@@ -19,7 +19,7 @@ use Rattle.report_log.proofs.InSize.{report_in_size}
 use Rattle.report_log.proofs.Listed.{ids_of, listed_first}
 use Rattle.report_log.proofs.Outcomes.{is_outcome}
 use Rattle.report_log.proofs.Settled.{all_settled, missed_by_marks, settled}
-use Rattle.report_log.proofs.writing.report_of.Goals as goal
+use Rattle.report_log.proofs.making.report_of.Goals as goal
 
 -- the marks that were made
 made : (document : Document) (calls : List Entry) (room : ReportRoom) (marked seen : List Mark) → IsRoomFor document room
@@ -53,7 +53,7 @@ listed_of-requires-clause-settled c =
     let document = c.args.document.now in
     let calls = c.args.calls.now in
     let marks = made document calls c.args.room c.marked-marks.result.items c.deref-2.result.now c.requires.room c.deref-2.ensures.value c.marked-marks.ensures in
-    subst (All (λ mark. mark ≡ Unsettled → ⊥)) (sym marks) (all_settled document calls c.requires.memory c.requires.done)
+    subst (All (λ mark. mark ≡ Unsettled → ⊥)) (sym marks) (all_settled document calls c.requires.memory c.requires.settled)
 
 reported : goal.returns-clause-report
 reported c =
@@ -77,7 +77,7 @@ reported c =
       total = ap length c.as_slice.ensures;
       missed = counted document calls c.deref.result.now c.count_missed-missed.result marks c.count_missed-missed.ensures;
       listed = subst (λ (l : List Missed). AllZip (IsMissed document calls) (take listed_limit (missed_places document calls)) l) (sym listed)
-          (listed_first document calls rebooting says (settled document calls c.requires.memory c.requires.done));
+          (listed_first document calls rebooting says (settled document calls c.requires.memory c.requires.settled));
       parts = refl;
     }
 
