@@ -31,7 +31,9 @@ pub fn marked(mut marks: Vec<Mark>, calls: &[Entry]) -> Vec<Mark>
     ensures { result.items ≡ marks_of calls.now (length marks.items) }
 {
     for entry in calls {
-        marks[entry.place() as usize] = entry_mark(entry);
+        let place = entry.place() as usize;
+        let mark = entry_mark(entry);
+        marks[place] = mark;
     }
     marks
 }

@@ -17,7 +17,7 @@ loop-entry-preserved c =
     let e = c.entry-item.result in
     let lt = c.loop-entry-test.true in
     let within : place_of e < count = subst (λ (x : Entry). place_of x < count) (sym c.entry-item.is) (c.requires.known i e lt) in
-    rw (c.loop-entry.invariant, c.place.ensures, c.entry_mark.ensures) (
+    rw (c.loop-entry.invariant, c.place-place.ensures, c.entry_mark-mark.ensures) (
     marks_push mark_of (take i calls) e count within
     ∙ ap (λ (l : List Entry). marks_of l count) (ap (λ (x : Entry). take i calls ++ x ∷ []) c.entry-item.is ∙ sym (take_more calls i e lt))
     )
