@@ -1,5 +1,5 @@
 -- What a report lists, by the marks of its trace.
-use Rattle.std.proofs.Common.{◌≡◌, ◌⊎◌, inl, inr, ◌<◌, ◌≤◌, ◌+◌, ◌↔◌, ℕ, zero, suc, Bool, true, false, not, List, [], ◌∷◌, ◌++◌, Option, Some, None, IsTrue, IsSomeAnd, cond, filter, filter_map, length, map, get_or, option_map, slice_get, take, refl, sym, ◌∙◌, ap, subst, arith}
+use Rattle.std.proofs.Common.{◌≡◌, ◌⊎◌, inl, inr, ◌<◌, ◌≤◌, ◌+◌, ◌↔◌, ℕ, zero, suc, Bool, true, false, not, List, [], ◌∷◌, ◌++◌, Option, Some, None, IsTrue, IsSomeAnd, filter, filter_map, length, map, get_or, option_map, slice_get, take, refl, sym, ◌∙◌, ap, subst, arith}
 use Rattle.std.specs.List.{AllZip}
 use Rattle.std.proofs.lemmas.List.{get_or-map}
 use Rattle.std.proofs.lemmas.Option.{slice_get_cases}
@@ -14,7 +14,6 @@ use Rattle.resource_kinds.specs.declared.entry.Entry.TheVariants.{Tested, Set}
 use Rattle.resource_kinds.specs.Trace.{has_succeeded, is_yes, last_entry}
 use Rattle.resource_kinds.proofs.Marks.{get_or-marks, length-marks}
 use Rattle.report_log.proofs.Grown.{filter_none, filter_one, made_none, made_one}
-use Rattle.report_log.specs.declared.marks.Mark.{Mark}
 use Rattle.report_log.specs.declared.marks.Mark.TheVariants as marks
 use Rattle.report_log.specs.declared.report.Missed.{Missed}
 use Rattle.report_log.specs.declared.report.Reason.{Reason}

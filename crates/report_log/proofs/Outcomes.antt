@@ -1,5 +1,5 @@
 -- What a run came to.
-use Rattle.std.proofs.Common.{◌≡◌, inl, inr, ◌<◌, ◌↔◌, ℕ, Bool, true, false, if◌then◌else◌, List, IsTrue, refl, sym, subst, arith}
+use Rattle.std.proofs.Common.{◌≡◌, inl, inr, ◌↔◌, ℕ, Bool, true, false, if◌then◌else◌, List, IsTrue, refl, sym, subst, arith}
 use Rattle.std.proofs.lemmas.Bool.Decides.{eqb_tells}
 use Rattle.resource_kinds.specs.declared.entry.Entry.{Entry}
 use Rattle.report_log.specs.declared.report.Outcome.TheVariants.{Success, Failure}

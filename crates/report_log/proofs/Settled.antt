@@ -1,5 +1,5 @@
 -- Marks of a trace in which no last entry leaves its resource unsettled.
-use Rattle.std.proofs.Common.{◌≡◌, ◌==◌, ◌<◌, ◌+◌, ◌-◌, ℕ, Bool, true, false, List, [], ◌∷◌, Option, Some, None, All, cond, length, get_or, refl, sym, ◌∙◌, ap, subst, arith}
+use Rattle.std.proofs.Common.{◌≡◌, ◌==◌, ◌<◌, ◌-◌, ℕ, Bool, true, false, List, [], ◌∷◌, Option, Some, None, All, cond, length, refl, sym, ◌∙◌, ap, subst, arith}
 use Rattle.std.specs.Prelude.{count_by, find, reverse}
 use Rattle.std.specs.List.{AllByRecursion}
 use Rattle.std.proofs.lemmas.List.{get_or-reverse, length-reverse}
@@ -12,7 +12,6 @@ use Rattle.resource_kinds.specs.declared.entry.Entry.{Entry}
 use Rattle.resource_kinds.specs.declared.entry.Entry.TheVariants.{Tested, Set}
 use Rattle.resource_kinds.specs.Trace.{has_succeeded, is_yes, last_entry, missed_count, place_of}
 use Rattle.resource_kinds.proofs.Marks.{count_mapped, get_or-marks, length-marks}
-use Rattle.report_log.specs.declared.marks.Mark.{Mark}
 use Rattle.report_log.specs.declared.marks.Mark.TheVariants as marks
 use Rattle.report_log.specs.Marks.{is_success, mark_of, marks_of}
 use Rattle.report_log.specs.Report.{AnswersMemory, IsSettled}

@@ -1,5 +1,5 @@
 -- The room of a report.
-use Rattle.std.specs.Prelude.{◌≡◌, ℕ, ◌≤◌, [], length, map, replicate, vec_capacity}
+use Rattle.std.specs.Prelude.{◌≡◌, ◌≤◌, [], length, map, replicate, vec_capacity}
 use Rattle.dsc_document.specs.declared.document.Document.{Document}
 use Rattle.report_log.specs.declared.marks.Mark.TheVariants.{NotCalled}
 use Rattle.report_log.specs.declared.room.ReportRoom.{ReportRoom}

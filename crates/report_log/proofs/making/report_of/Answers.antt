@@ -1,4 +1,4 @@
-use Rattle.std.proofs.Common.{rules, ◌≡◌, ◌≤◌, ◌-◌, ◌∙◌, ℕ, List, All, length, map, take, sym, ap, subst, arith, refl}
+use Rattle.std.proofs.Common.{rules, ◌≡◌, ◌≤◌, ◌-◌, ◌∙◌, ℕ, List, All, length, take, sym, ap, subst, arith, refl}
 use Rattle.std.specs.Prelude.{count_by}
 use Rattle.std.specs.List.{AllZip}
 use Rattle.std.proofs.lemmas.List.{length-map, length-replicate}
@@ -10,10 +10,9 @@ use Rattle.resource_kinds.proofs.Marks.{length-marks}
 use Rattle.report_log.specs.declared.marks.Mark.{Mark}
 use Rattle.report_log.specs.declared.marks.Mark.TheVariants.{NotCalled, Unsettled}
 use Rattle.report_log.specs.declared.report.Missed.{Missed}
-use Rattle.report_log.specs.declared.report.Report.{Report}
 use Rattle.report_log.specs.declared.room.ReportRoom.{ReportRoom}
 use Rattle.report_log.specs.Marks.{is_success, listed_of, mark_of, marks_of}
-use Rattle.report_log.specs.Report.{IsMissed, IsOutcome, IsReport, listed_limit, missed_places}
+use Rattle.report_log.specs.Report.{IsMissed, IsOutcome, listed_limit, missed_places}
 use Rattle.report_log.specs.Room.{IsRoomFor}
 use Rattle.report_log.proofs.InSize.{report_in_size}
 use Rattle.report_log.proofs.Listed.{ids_of, listed_first}

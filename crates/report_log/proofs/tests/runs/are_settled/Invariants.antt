@@ -1,4 +1,4 @@
-use Rattle.std.proofs.Common.{◌≡◌, ◌<◌, All, take}
+use Rattle.std.proofs.Common.{◌≡◌, All, take}
 use Rattle.report_log.specs.declared.marks.Mark.{Mark}
 use Rattle.report_log.specs.declared.marks.Mark.TheVariants.{Unsettled}
 use Rattle.report_log.proofs.tests.runs.are_settled.Given as goal

@@ -1,4 +1,4 @@
-use Rattle.std.proofs.Common.{rules, ◌≡◌, ◌<◌, All, arith, subst}
+use Rattle.std.proofs.Common.{rules, All, arith, subst}
 use Rattle.std.proofs.lemmas.List.{take_all}
 use Rattle.std.proofs.lemmas.List.Elements.{All-more}
 use Rattle.resource_kinds.specs.declared.entry.Entry.{Entry}

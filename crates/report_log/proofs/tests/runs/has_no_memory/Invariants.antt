@@ -1,4 +1,4 @@
-use Rattle.std.proofs.Common.{◌≡◌, ◌<◌, All, take}
+use Rattle.std.proofs.Common.{All, take}
 use Rattle.resource_kinds.specs.declared.entry.Entry.{Entry}
 use Rattle.report_log.specs.Report.{AnswersMemory}
 use Rattle.report_log.proofs.tests.runs.has_no_memory.Given as goal

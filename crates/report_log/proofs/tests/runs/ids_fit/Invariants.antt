@@ -1,4 +1,4 @@
-use Rattle.std.proofs.Common.{◌≡◌, ◌<◌, All, take}
+use Rattle.std.proofs.Common.{All, take}
 use Rattle.dsc_document.specs.declared.document.Resource.{Resource}
 use Rattle.report_log.specs.Sizes.{Fits}
 use Rattle.report_log.proofs.tests.runs.ids_fit.Given as goal

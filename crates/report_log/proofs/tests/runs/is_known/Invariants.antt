@@ -1,4 +1,4 @@
-use Rattle.std.proofs.Common.{◌≡◌, ◌<◌, All, take}
+use Rattle.std.proofs.Common.{◌<◌, All, take}
 use Rattle.resource_kinds.specs.declared.entry.Entry.{Entry}
 use Rattle.resource_kinds.specs.Trace.{place_of}
 use Rattle.report_log.proofs.tests.runs.is_known.Given as goal

@@ -1,9 +1,6 @@
-use Rattle.std.proofs.Common.{rules, ◌≡◌, ◌∙◌, Bool, true, false, List, All, length, ap, subst}
+use Rattle.std.proofs.Common.{rules, ◌≡◌, ◌∙◌, Bool, true, false, All, length, ap, subst}
 use Rattle.std.specs.Bool.{OnTrue}
-use Rattle.std.proofs.lemmas.List.{length-replicate}
-use Rattle.resource_kinds.specs.declared.entry.Entry.{Entry}
-use Rattle.report_log.specs.declared.marks.Mark.{Mark}
-use Rattle.report_log.specs.declared.marks.Mark.TheVariants.{NotCalled, Unsettled}
+use Rattle.report_log.specs.declared.marks.Mark.TheVariants.{Unsettled}
 use Rattle.report_log.specs.Marks.{marks_of}
 use Rattle.report_log.specs.Report.{IsSettled}
 use Rattle.report_log.proofs.Settled.{none_done}
