@@ -13,9 +13,9 @@ use Rattle.resource_kinds.specs.declared.entry.SetAnswer.{SetAnswer}
 use Rattle.resource_kinds.specs.declared.entry.SetAnswer.TheVariants as sets
 use Rattle.resource_kinds.specs.declared.entry.Entry.{Entry}
 use Rattle.resource_kinds.specs.declared.entry.Entry.TheVariants.{Tested, Set}
-use Rattle.resource_kinds.specs.Trace.{Chain, EndsWith, HasEntry, IsFinal, WantsMemory, entry_is_yes, has_succeeded, place_of}
+use Rattle.resource_kinds.specs.Trace.{Chain, EndsWith, HasEntry, IsFinal, WantsMemory, entry_is_yes, has_succeeded, is_yes, place_of}
 use Rattle.resource_kinds.proofs.Chains.{chain_append}
-use Rattle.resource_kinds.proofs.Marks.{succeeded_elsewhere, succeeded_here}
+use Rattle.resource_kinds.proofs.Marks.{last_elsewhere, last_here}
 use Rattle.lcm_core.specs.Legal.{GoesOn}
 use Rattle.lcm_core.specs.declared.turns.Stop.{Stop}
 use Rattle.lcm_core.specs.declared.turns.Stop.TheVariants as stops
@@ -47,6 +47,9 @@ of_contained r q (e ∷ es) are has = elim (eqb_tells (place_of e) q) [
 ]
 
 -- what other resources show stays
+pub succeeded_elsewhere : (t : List Entry) (e : Entry) (q : ℕ) → eqb (place_of e) q ≡ false → has_succeeded (t ++ e ∷ []) q ≡ has_succeeded t q
+succeeded_elsewhere t e q apart = ap is_yes (last_elsewhere t e q apart)
+
 pub elsewhere : (t es : List Entry) (r q : ℕ) → AreOf r es → eqb r q ≡ false → has_succeeded (t ++ es) q ≡ has_succeeded t q
 elsewhere t [] r q are other = ap (λ (l : List Entry). has_succeeded l q) (append-nil t)
 elsewhere t (e ∷ es) r q are other =
@@ -59,7 +62,7 @@ pub shows_last : (t turn : List Entry) (r : ℕ) (last : Entry) → AreOf r turn
 shows_last t turn r last are ends =
     ap (λ (l : List Entry). has_succeeded (t ++ l) r) ends.1
     ∙ ap (λ (l : List Entry). has_succeeded l r) (sym (append_assoc t ends.0 (last ∷ [])))
-    ∙ succeeded_here (t ++ ends.0) last r (of_split r ends.0 last [] (subst (AreOf r) ends.1 are))
+    ∙ ap is_yes (last_here (t ++ ends.0) last r (of_split r ends.0 last [] (subst (AreOf r) ends.1 are)))
 
 -- ---- splits
 

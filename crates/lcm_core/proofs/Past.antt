@@ -17,13 +17,12 @@ use Rattle.resource_kinds.specs.declared.entry.SetAnswer.TheVariants as sets
 use Rattle.resource_kinds.specs.declared.entry.Entry.{Entry}
 use Rattle.resource_kinds.specs.declared.entry.Entry.TheVariants.{Tested, Set}
 use Rattle.resource_kinds.specs.Trace.{EndsWith, HasEntry, IsFinal, has_succeeded, place_of}
-use Rattle.resource_kinds.proofs.Marks.{succeeded_elsewhere}
 use Rattle.lcm_core.specs.declared.modes.RunMode.TheVariants.{Repair}
 use Rattle.lcm_core.specs.Legal.{GoesOn, IsReady, Legal, MaySet, MayTest}
 use Rattle.lcm_core.specs.Turn.{IsTurn}
 use Rattle.lcm_core.specs.Whole.{BeginsWithSet, BeginsWithTest, IsReached, Whole}
 use Rattle.lcm_core.proofs.Traces.{ends_with_push, legal_push}
-use Rattle.lcm_core.proofs.OneTurn.{AreOf, again_in_turn, are_of_turn, elsewhere, has_split, of_contained, of_split, repaired_in_turn, set_begins, test_begins}
+use Rattle.lcm_core.proofs.OneTurn.{AreOf, again_in_turn, are_of_turn, elsewhere, has_split, of_contained, of_split, repaired_in_turn, set_begins, succeeded_elsewhere, test_begins}
 
 -- one of its dependencies, whose turn is past too, did not succeed
 abbrev pub IsHeldBack : Document → List ℕ → List Entry → ℕ → Type 0

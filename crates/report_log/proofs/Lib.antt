@@ -1,0 +1,5 @@
+pub mod Grown
+pub mod InSize
+pub mod Listed
+pub mod Outcomes
+pub mod Settled

@@ -1,0 +1,4 @@
+pub mod Marks
+pub mod Report
+pub mod Room
+pub mod Sizes

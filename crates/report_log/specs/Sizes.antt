@@ -1,0 +1,39 @@
+-- Reports in size.
+use Rattle.std.specs.Prelude.{ℕ, ◌≤◌, List, length, All, encode_utf8_all}
+use Rattle.dsc_document.specs.declared.document.Document.{Document}
+use Rattle.report_log.specs.declared.report.PartMark.{PartMark}
+use Rattle.report_log.specs.declared.report.Frame.{Frame}
+use Rattle.report_log.specs.declared.report.Report.{Report}
+use Rattle.report_log.specs.Report.{listed_limit}
+
+-- 9999-12-30T22:00:00Z, in seconds since 1970-01-01
+abbrev pub last_second : ℕ
+last_second = 253402207200
+
+-- at most so many bytes of UTF-8
+abbrev pub Fits : ℕ → List ℕ → Type 0
+Fits limit text = length (encode_utf8_all text) ≤ limit
+
+pub record PartsInSize (parts : List PartMark) : Type 0 where
+  pub count : length parts ≤ 8
+  pub names : All (λ part. Fits 255 part.name) parts
+
+pub record TimesInSize (from to : ℕ) : Type 0 where
+  pub start : from ≤ last_second
+  pub end : to ≤ last_second
+
+pub record FrameInSize (frame : Frame) : Type 0 where
+  pub parts : PartsInSize frame.parts
+  pub times : TimesInSize frame.start frame.end
+
+pub record DocumentInSize (document : Document) : Type 0 where
+  pub resources : length document.resources ≤ 4096
+  pub ids : All (λ resource. Fits 256 resource.id) document.resources
+  pub version : length document.version ≤ 64
+
+pub record ReportInSize (report : Report) : Type 0 where
+  pub version : length report.version ≤ 64
+  pub listed : length report.listed ≤ listed_limit
+  pub ids : All (λ missed. Fits 256 missed.id) report.listed
+  pub parts : PartsInSize report.parts
+  pub times : TimesInSize report.start report.end

@@ -1,0 +1,19 @@
+//! The report of a run.
+//!
+//! `report_of` makes it of the run's trace: how many resources the document has, how many of them did not succeed, the
+//! first 64 of these in document order with the reason of each, and what the run came to. It takes no memory: all that
+//! it holds was made by `room_for` before the run. The layer above may rely on it that each reason is that of the
+//! resource's last entry, and that the report is in size.
+#![tactic(auto)]
+
+mod making;
+mod marks;
+mod report;
+mod room;
+
+pub use making::report_of;
+pub use report::{FailureKind, Frame, Missed, Outcome, PartMark, Reason, Report};
+pub use room::{ReportRoom, room_for};
+
+#[cfg(test)]
+mod tests;
