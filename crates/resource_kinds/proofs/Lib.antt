@@ -1,11 +1,15 @@
 pub mod Barred
 pub mod Changed
+pub mod EarlierResources
 pub mod EntryLists
 pub mod HostPaths
 pub mod JoinedPaths
 pub mod Looked
 pub mod Meets
+pub mod PathCharacters
+pub mod PathOrders
 pub mod PathSets
 pub mod RunLaws
 pub mod SetLaws
+pub mod SubjectsMeet
 pub mod WhyMemory
