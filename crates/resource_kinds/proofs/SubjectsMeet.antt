@@ -21,9 +21,9 @@ use Rattle.resource_kinds.specs.declared.wanted.Wanted.TheVariants.{File, Folder
 use Rattle.resource_kinds.specs.Apart.{Target, Path, Variable, LogEntry}
 use Rattle.resource_kinds.specs.PathOrder.{order_of}
 use Rattle.resource_kinds.specs.Paths.{if_filled, is_parent, joined_path, kept_segments, names_of, path_of, rooted}
-use Rattle.resource_kinds.specs.Subjects.{AsksMeeting, IsAround, Matter, MattersMeet, is_closed, matter_of, path_matter}
+use Rattle.resource_kinds.specs.Subjects.{AsksMeeting, IsAround, Matter, MattersMeet, entry_matter, is_closed, matter_of, path_matter, variable_matter}
 use Rattle.resource_kinds.specs.Tables.{first_wrong, is_absent, is_directory, key_of, kind_of, rows_of, says_yes, text_named}
-use Rattle.resource_kinds.specs.Wanted.{by_key, by_table, contents_of, folded_utf8, of_kind, on_path, wanted_of}
+use Rattle.resource_kinds.specs.Wanted.{by_key, by_table, contents_of, of_kind, on_path, wanted_of}
 use Rattle.resource_kinds.proofs.PathOrders.{IsOrder, below_bytes, below_chars, is_order, order_above, order_below, order_same}
 
 -- ---- paths
@@ -106,22 +106,19 @@ entry_same x y i j same =
     let messages : i ≡ j = cc (same) in
     (ids, messages)
 
-pub names_met : (name other : List ℕ) (same : Bool) → IsTrue same ↔ SameName name other → IsTrue same ↔ MattersMeet (about (Variable (folded_utf8 name))) (about (Variable (folded_utf8 other)))
-names_met name other same is = (
-  λ holds. inl (ap (λ folded. Variable (encode_utf8_all folded)) (is.0 holds)),
-  λ meet. is.1 (encodes_same _ _ (variable_same _ _ (same_target _ _ meet))),
-)
+pub same_names_meet : (name other : List ℕ) → SameName name other → MattersMeet (variable_matter name) (variable_matter other)
+same_names_meet name other same = inl (ap (λ folded. Variable (encode_utf8_all folded)) same)
 
-abbrev entry : List ℕ → List ℕ → Matter
-entry id message = about (LogEntry (folded_utf8 id) (encode_utf8_all message))
+pub met_names_same : (name other : List ℕ) → MattersMeet (variable_matter name) (variable_matter other) → SameName name other
+met_names_same name other meet = encodes_same _ _ (variable_same _ _ (same_target _ _ meet))
 
-pub entries_met : (id other_id message other : List ℕ) (same : Bool) → message ≡ other → IsTrue same ↔ SameName id other_id → IsTrue same ↔ MattersMeet (entry id message) (entry other_id other)
+pub entries_met : (id other_id message other : List ℕ) (same : Bool) → message ≡ other → IsTrue same ↔ SameName id other_id → IsTrue same ↔ MattersMeet (entry_matter id message) (entry_matter other_id other)
 entries_met id other_id message other same messages is = (
   λ holds. inl (λ i. LogEntry (encode_utf8_all (is.0 holds i)) (encode_utf8_all (messages i))),
   λ meet. is.1 (encodes_same _ _ (entry_same _ _ _ _ (same_target _ _ meet)).0),
 )
 
-pub entries_unmet : (id other_id message other : List ℕ) (same : Bool) → same ≡ false → (message ≡ other → ⊥) → IsTrue same ↔ MattersMeet (entry id message) (entry other_id other)
+pub entries_unmet : (id other_id message other : List ℕ) (same : Bool) → same ≡ false → (message ≡ other → ⊥) → IsTrue same ↔ MattersMeet (entry_matter id message) (entry_matter other_id other)
 entries_unmet id other_id message other same fails differ = (
   λ holds. absurd (false≢true (sym fails ∙ holds)),
   λ meet. absurd (differ (encodes_same message other (entry_same _ _ _ _ (same_target _ _ meet)).1)),

@@ -37,10 +37,16 @@ AsksMeeting (Some wanted) matter = MattersMeet (matter_of wanted) matter
 abbrev pub path_matter : List ℕ → Bool → Matter
 path_matter path closed = record { target = Path path; closed = if closed then Some path else None }
 
+abbrev pub variable_matter : List ℕ → Matter
+variable_matter name = record { target = Variable (folded_utf8 name); closed = None }
+
+abbrev pub entry_matter : List ℕ → List ℕ → Matter
+entry_matter id message = record { target = LogEntry (folded_utf8 id) (encode_utf8_all message); closed = None }
+
 abbrev pub subject_matter : Subject → Matter
 subject_matter (subjects.Path path closed) = path_matter (encode_utf8_all (path_left path)) closed
-subject_matter (subjects.Variable name) = record { target = Variable (folded_utf8 name.now); closed = None }
-subject_matter (subjects.Logged id message) = record { target = LogEntry (folded_utf8 id.now) (encode_utf8_all message.now); closed = None }
+subject_matter (subjects.Variable name) = variable_matter name.now
+subject_matter (subjects.Logged id message) = entry_matter id.now message.now
 
 -- the instance asks for no folder
 abbrev pub is_closed : Instance → Bool

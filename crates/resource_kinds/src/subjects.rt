@@ -3,7 +3,7 @@ ghost use Rattle.std.specs.Prelude.{◌≡◌, ◌↔◌, IfOk, IsTrue, None, So
 ghost use Rattle.std.specs.Result.{is_err, result_ok};
 ghost use Rattle.resource_kinds.specs.PathOrder.{path_left};
 ghost use Rattle.resource_kinds.specs.Paths.{path_of};
-ghost use Rattle.resource_kinds.specs.Subjects.{AsksMeeting, MattersMeet, is_closed, matter_of, path_matter, subject_matter};
+ghost use Rattle.resource_kinds.specs.Subjects.{AsksMeeting, MattersMeet, entry_matter, is_closed, matter_of, path_matter, subject_matter, variable_matter};
 ghost use Rattle.resource_kinds.specs.Tables.{key_of, text_named};
 ghost use Rattle.resource_kinds.specs.Wanted.{by_key, by_table, on_path, wanted_of};
 
@@ -120,14 +120,14 @@ fn meet(a: Subject, b: Subject) -> bool
                 closed: other_closed,
             },
         ) => paths_meet(path, closed, other, other_closed),
-        (Subject::Variable { name }, Subject::Variable { name: other }) => same_text(name, other),
+        (Subject::Variable { name }, Subject::Variable { name: other }) => names_meet(name, other),
         (
             Subject::Logged { id, message },
             Subject::Logged {
                 id: other_id,
                 message: other,
             },
-        ) => message.as_slice() == other.as_slice() && same_text(id, other_id),
+        ) => entries_meet(id, message, other_id, other),
         _ => false,
     }
 }
@@ -141,4 +141,17 @@ fn paths_meet(path: PathRest, closed: bool, other: PathRest, other_closed: bool)
         PathOrder::Below => other_closed,
         PathOrder::Apart => false,
     }
+}
+
+#[tactic(auto, using(crate::proofs::SubjectsMeet::same_names_meet, crate::proofs::SubjectsMeet::met_names_same))]
+fn names_meet(name: &Text, other: &Text) -> bool
+    ensures { IsTrue result ↔ MattersMeet (variable_matter name.now) (variable_matter other.now) }
+{
+    same_text(name, other)
+}
+
+fn entries_meet(id: &Text, message: &Text, other_id: &Text, other: &Text) -> bool
+    ensures { IsTrue result ↔ MattersMeet (entry_matter id.now message.now) (entry_matter other_id.now other.now) }
+{
+    message.as_slice() == other.as_slice() && same_text(id, other_id)
 }
