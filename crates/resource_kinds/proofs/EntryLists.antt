@@ -9,7 +9,7 @@ use Rattle.std.proofs.lemmas.List.Splits.{length-slice_split, slice_split-cons_n
 use Rattle.std.proofs.lemmas.List.Sums.{AllPass-from_list_all, list_all-from_AllPass}
 use Rattle.std.proofs.lemmas.Map.Views.{list_any-from_Contains, Contains-from_any}
 use Rattle.std.proofs.lemmas.Slice.Eq.{bytes_eq-Decides}
-use Rattle.std.specs.List.{filter, list_all, onto_first}
+use Rattle.std.specs.List.{filter, join_with_byte, list_all, onto_first}
 use Rattle.std.specs.Str.{bytes_eq}
 use Rattle.resource_kinds.specs.Entries.{entries, entries_of, joined, is_filled, wanted_entries, HasEntries, LacksEntries, is_among, each_once, appended}
 
@@ -55,14 +55,15 @@ entries-joined piece (next ∷ others) all =
     let rest = entries-joined next others (All-tail IsPiece piece (next ∷ others) all) in
     entries-append piece (joined (next ∷ others)) ∙ (λ i. first i ++ rest i)
 
-pub joined-behind : (piece : List ℕ) (pieces : List (List ℕ)) → joined (piece ∷ pieces) ≡ piece ++ flat_map (λ e. 59 ∷ e) pieces
-joined-behind piece [] = sym (append-nil piece)
-joined-behind piece (next ∷ others) = ap (λ (l : List ℕ). piece ++ 59 ∷ l) (joined-behind next others)
+-- what stands behind the first of joined pieces has the byte before each
+pub join-behind : (c : ℕ) (piece : List ℕ) (pieces : List (List ℕ)) → join_with_byte c (piece ∷ pieces) ≡ piece ++ flat_map (λ e. c ∷ e) pieces
+join-behind c piece [] = sym (append-nil piece)
+join-behind c piece (next ∷ others) = ap (λ (l : List ℕ). piece ++ c ∷ l) (join-behind c next others)
 
 pub appended-behind : (value : List ℕ) (more : List (List ℕ)) → (length value == 0) ≡ false → appended value more ≡ value ++ flat_map (λ e. 59 ∷ e) more
 appended-behind [] more filled = absurd (false≢true (sym filled))
 appended-behind (b ∷ bs) [] filled = sym (append-nil (b ∷ bs))
-appended-behind (b ∷ bs) (entry ∷ more) filled = ap (λ (l : List ℕ). (b ∷ bs) ++ 59 ∷ l) (joined-behind entry more)
+appended-behind (b ∷ bs) (entry ∷ more) filled = ap (λ (l : List ℕ). (b ∷ bs) ++ 59 ∷ l) (join-behind 59 entry more)
 
 -- ---- elements
 

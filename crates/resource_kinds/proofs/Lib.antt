@@ -1,13 +1,17 @@
 pub mod Barred
 pub mod Chains
 pub mod Changed
+pub mod EarlierResources
 pub mod EntryLists
 pub mod HostPaths
 pub mod JoinedPaths
 pub mod Looked
 pub mod Marks
 pub mod Meets
+pub mod PathCharacters
+pub mod PathOrders
 pub mod PathSets
 pub mod RunLaws
 pub mod SetLaws
+pub mod SubjectsMeet
 pub mod WhyMemory

@@ -5,6 +5,7 @@ use Rattle.std.specs.Prelude.{◌≡◌, ◌⊎◌, ◌<◌, ℕ, IsTrue, List, 
 use Rattle.std.specs.Result.{result_ok}
 use Rattle.dsc_outside.specs.Paths.{IsBelow}
 use Rattle.dsc_document.specs.declared.document.Document.{Document}
+use Rattle.dsc_document.specs.declared.document.Resource.{Resource}
 use Rattle.resource_kinds.specs.declared.wanted.Wanted.{Wanted}
 use Rattle.resource_kinds.specs.declared.wanted.Wanted.TheVariants as wants
 use Rattle.resource_kinds.specs.Wanted.{wanted_of}
@@ -68,6 +69,20 @@ pub record Overlap (document : Document) : Type 0 where
   pub meet : Meet a b
 
 -- ---- the code
+
+-- what the resource at a place of a list asks for
+abbrev pub asked_at : List Resource → ℕ → Option Wanted
+asked_at resources place = option_and_then (λ resource. result_ok (wanted_of resource)) (slice_get resources place)
+
+-- the resource at that place meets one before it
+pub record MeetsEarlier (resources : List Resource) (second : ℕ) : Type 0 where
+  pub first : ℕ
+  pub before : first < second
+  pub a : Wanted
+  pub b : Wanted
+  pub asks_first : asked_at resources first ≡ Some a
+  pub asks_second : asked_at resources second ≡ Some b
+  pub meet : Meet a b
 
 -- a target as a key; of two targets the keys differ
 abbrev pub entry_key : List ℕ → List ℕ → List ℕ

@@ -7,7 +7,9 @@ pub mod Laws
 pub mod Names
 pub mod PackageSteps
 pub mod Packages
+pub mod PathOrder
 pub mod Paths
+pub mod Subjects
 pub mod Tables
 pub mod Trace
 pub mod True

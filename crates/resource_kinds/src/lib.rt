@@ -6,7 +6,6 @@
 //! `Machine` is `Resources` with the calls on module packages.
 #![tactic(auto)]
 
-mod apart;
 mod entries;
 mod entry;
 mod keeping;
@@ -15,21 +14,24 @@ mod kinds;
 mod laws;
 mod machine;
 mod obstacles;
+mod overlap;
+mod path_order;
 mod paths;
 mod resources;
 mod setting;
+mod subjects;
 mod tables;
 mod testing;
 mod utf8;
 mod values;
 mod wanted;
 
-pub use apart::overlaps;
 pub use entries::entry_laws;
 pub use entry::{Entry, Failure, SetAnswer, TestAnswer};
 pub use kinds::Kinds;
 pub use laws::set_laws;
 pub use machine::Machine;
+pub use overlap::{apart, overlaps};
 pub use paths::path_of;
 pub use resources::Resources;
 

@@ -1,16 +1,17 @@
 //! The path that a text means as the destination of a file.
 ghost use Rattle.std.specs.Prelude.{◌≡◌, ◌≢◌, ◌<◌, true, length, IfOk, IfSome, OnErr, OnOk, is_some, option_map, string_bytes};
 ghost use Rattle.std.specs.List.{list_any};
-ghost use Rattle.resource_kinds.specs.Paths.{IsHostPath, all_segments, drive_segments, ends_drive, is_kept, is_parent, is_separator, joined_path, kept_segments, names_of, path_of, put, rooted, segments, separated};
+ghost use Rattle.resource_kinds.specs.Paths.{IsHostPath, all_segments, drive_segments, ends_drive, if_filled, is_kept, is_parent, is_separator, joined_path, kept_segments, names_of, path_of, put, rooted, segments, separated};
 
+use crate::path_order::skipped;
 use mof_values::Text;
 use std::alloc::{AllocError, Global};
 
-// What a path text begins with, and what is behind it: a drive, by its letter in upper case, or the first `/`.
+/// What a path text begins with, and what is behind it: a drive, by its letter in upper case, or the first `/`.
 #[derive(Clone, Copy)]
-struct PathText<'a> {
-    drive: Option<char>,
-    rest: &'a [char],
+pub struct PathText<'a> {
+    pub drive: Option<char>,
+    pub rest: &'a [char],
 }
 
 /// The path below the root of the machine that a text means, names with `/` between, in UTF-8; `None` where it means
@@ -34,7 +35,26 @@ pub fn path_of(alloc: Global, text: &Text) -> Result<Option<String>, AllocError>
     }
 }
 
-fn rooted<'a>(text: &'a [char]) -> Option<PathText<'a>>
+/// Tells whether the text means a path.
+pub fn is_path(text: &Text) -> bool
+    ensures { result ≡ is_some (path_of text.now) }
+{
+    let chars = text.as_slice();
+    match rooted(chars) {
+        Some(parts) => !chars.contains(&'\0') && !has_parent(parts.rest) && has_name(&parts),
+        None => false,
+    }
+}
+
+fn has_name(parts: &PathText) -> bool
+    requires { IfSome parts.now.drive (λ letter. letter ≢ 46) }
+    ensures { result ≡ is_some (if_filled (kept_segments (all_segments parts.now))) }
+{
+    parts.drive.is_some() || !skipped(parts.rest).is_empty()
+}
+
+/// The begin of a path text.
+pub fn rooted<'a>(text: &'a [char]) -> Option<PathText<'a>>
     ensures segments { option_map all_segments result ≡ rooted text.now }
     ensures letter { IfSome result (λ parts. IfSome parts.drive (λ letter. letter ≢ 46)) }
 {
@@ -59,7 +79,7 @@ fn ends_drive(rest: &[char]) -> bool
     }
 }
 
-fn is_separator(c: char) -> bool
+pub fn is_separator(c: char) -> bool
     ensures { result ≡ is_separator c }
 {
     c == '/' || c == '\\'

@@ -79,17 +79,27 @@ fn instance(rt: &impl AllocGlobal, declaration: &str) -> Result<Instance, Fail> 
     })
 }
 
-// resources of the id `[A]One`, with semicolons between
+// `[B]Two Class Name=value`; without an id in front it is `[A]One`
+fn resource(rt: &impl AllocGlobal, declaration: &str) -> Result<Resource, Fail> {
+    let declared = declaration.trim();
+    let (id, instance_words) = match declared.split_once(' ') {
+        Some((id, rest)) if id.starts_with('[') => (id, rest),
+        _ => ("[A]One", declared),
+    };
+    Ok(Resource {
+        id: text(rt, id)?,
+        part: 0,
+        index: 0,
+        instance: instance(rt, instance_words)?,
+        depends: Items::of(Vec::new(rt.alloc())),
+    })
+}
+
+// resources with semicolons between
 fn document(rt: &impl AllocGlobal, declarations: &str) -> Result<Document, Fail> {
     let mut resources = Vec::new(rt.alloc());
     for declaration in declarations.split(';') {
-        resources.push(Resource {
-            id: text(rt, "[A]One")?,
-            part: 0,
-            index: 0,
-            instance: instance(rt, declaration)?,
-            depends: Items::of(Vec::new(rt.alloc())),
-        })?;
+        resources.push(resource(rt, declaration)?)?;
     }
     Ok(Document {
         version: text(rt, "1.0.0")?,
@@ -150,6 +160,8 @@ fn resources_about_one_thing_overlap(rt: HostRuntime) -> Result<(), Fail> {
         ),
         ("Log Message=m; Log Message=m", true),
         ("Log Message=m; Log Message=M", false),
+        ("[A]One Log Message=m; [A]Two Log Message=m", false),
+        ("[A]One Log Message=m; [a]ONE Log Message=m", true),
         (
             "File DestinationPath=/a/b; File DestinationPath=\\a\\.\\b",
             false,
@@ -162,6 +174,18 @@ fn resources_about_one_thing_overlap(rt: HostRuntime) -> Result<(), Fail> {
         ("File DestinationPath=/a; File DestinationPath=/a/b", true),
         ("File DestinationPath=/a/b/c; File DestinationPath=/a", true),
         ("File DestinationPath=/a; File DestinationPath=/ab", false),
+        (
+            "File DestinationPath=/./C//a; File DestinationPath=c:\\a\\.",
+            true,
+        ),
+        ("File DestinationPath=c:; File DestinationPath=/C/a", true),
+        ("File DestinationPath=/c; File DestinationPath=c:/a", false),
+        ("File DestinationPath=/a/..; File DestinationPath=/a", false),
+        ("File DestinationPath=/a; File DestinationPath=/a/..", false),
+        (
+            "File DestinationPath=/a; Environment Name=A; File DestinationPath=/a/b Ensure=Absent",
+            true,
+        ),
         (
             "File DestinationPath=/a Type=Directory; File DestinationPath=/a/b",
             false,
@@ -178,6 +202,7 @@ fn resources_about_one_thing_overlap(rt: HostRuntime) -> Result<(), Fail> {
         let document = document(&rt, declarations)?;
         assert!(rt; document.resources.as_slice().len() < 4);
         assert_eq!(rt; overlaps(rt.alloc(), &document)?, wanted, "{declarations}");
+        assert!(rt; apart(&document) != wanted, "{declarations}");
     }
     Ok(())
 }

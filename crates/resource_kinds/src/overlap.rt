@@ -2,11 +2,12 @@
 ghost use Rattle.std.specs.Prelude.{◌≡◌, ◌<◌, ◌^◌, ◌↔◌, IfOk, OnOk, IsTrue, length, map, ◌∷◌, option_and_then, true, false};
 ghost use Rattle.std.specs.Option.{option_copied};
 ghost use Rattle.std.specs.Result.{result_ok};
-ghost use Rattle.resource_kinds.specs.Apart.{Apart, ArePlaces, IsClosed, IsClosedKey, IsInside, IsInsideIfAny, Overlap, closed_path, entry_key, key_if_any, key_of, target_of};
+ghost use Rattle.resource_kinds.specs.Apart.{Apart, ArePlaces, IsClosed, IsClosedKey, IsInside, IsInsideIfAny, MeetsEarlier, Overlap, closed_path, entry_key, key_if_any, key_of, target_of};
 ghost use Rattle.resource_kinds.specs.Keys.{PutsIfAny, place_of};
 ghost use Rattle.resource_kinds.specs.Wanted.{wanted_of};
 
 use crate::keys::Keys;
+use crate::subjects::{meets, subject_of};
 use crate::utf8::Utf8;
 use crate::wanted::{Wanted, WantedError, wanted_of};
 use dsc_document::{Document, Resource};
@@ -34,6 +35,36 @@ pub fn overlaps(alloc: Global, document: &Document) -> Result<bool, AllocError>
         }
     }
     Ok(false)
+}
+
+/// Tells whether no two resources without a fault meet; takes no memory, and compares each two.
+pub fn apart(document: &Document) -> bool
+    ensures apart { result ≡ true → Apart document.now }
+    ensures overlap { result ≡ false → Overlap document.now }
+{
+    let resources = document.resources.as_slice();
+    for second in 0..resources.len() {
+        if meets_earlier(resources, second) {
+            return false;
+        }
+    }
+    true
+}
+
+// Tells whether the resource at that place meets one before it.
+fn meets_earlier(resources: &[Resource], second: usize) -> bool
+    requires { second < length resources.now }
+    ensures { IsTrue result ↔ MeetsEarlier resources.now second }
+{
+    let Some(subject) = subject_of(&resources[second]) else {
+        return false;
+    };
+    for first in 0..second {
+        if meets(&resources[first], subject) {
+            return true;
+        }
+    }
+    false
 }
 
 // What each resource asks for, where it asks for anything.

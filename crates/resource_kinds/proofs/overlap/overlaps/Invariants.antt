@@ -1,7 +1,7 @@
 use Rattle.std.proofs.Common.{ℕ, ◌<◌, get_or, None}
 use Rattle.resource_kinds.specs.Apart.{IsInsideIfAny, key_if_any}
 use Rattle.resource_kinds.proofs.Meets.{Indexed}
-use Rattle.resource_kinds.proofs.apart.overlaps.Given as goal
+use Rattle.resource_kinds.proofs.overlap.overlaps.Given as goal
 
 -- the keys are those of the resources so far
 abbrev pub invariant-loop-place : goal.invariant-loop-place

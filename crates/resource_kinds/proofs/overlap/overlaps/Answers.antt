@@ -3,7 +3,7 @@ use Rattle.std.specs.Result.{result_ok}
 use Rattle.resource_kinds.specs.Apart.{IsInsideIfAny, key_if_any}
 use Rattle.resource_kinds.specs.Wanted.{wanted_of}
 use Rattle.resource_kinds.proofs.Meets.{all_apart, at_index, indexed_put, inside_meets, met, none_had}
-use Rattle.resource_kinds.proofs.apart.overlaps.Goals as goal
+use Rattle.resource_kinds.proofs.overlap.overlaps.Goals as goal
 
 pub returns-then-is_some-clause-overlap : goal.returns-then-is_some-clause-overlap
 returns-then-is_some-clause-overlap c = λ _.

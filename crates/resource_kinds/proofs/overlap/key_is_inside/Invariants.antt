@@ -1,6 +1,6 @@
 use Rattle.std.proofs.Common.{◌≡◌, ℕ, ◌<◌, get_or, take}
 use Rattle.resource_kinds.specs.Apart.{IsClosedKey}
-use Rattle.resource_kinds.proofs.apart.key_is_inside.Given as goal
+use Rattle.resource_kinds.proofs.overlap.key_is_inside.Given as goal
 
 -- up to none of the places so far does such a path reach
 abbrev pub invariant-loop-at : goal.invariant-loop-at

@@ -1,6 +1,6 @@
 use Rattle.std.proofs.Common.{get_or, ◌∷◌, ◌++◌, [], refl, ap, ◌∙◌}
 use Rattle.resource_kinds.proofs.Meets.{entry_done, entry_more}
-use Rattle.resource_kinds.proofs.apart.entry_key.Goals as goal
+use Rattle.resource_kinds.proofs.overlap.entry_key.Goals as goal
 
 pub loop-byte-preserved : goal.loop-byte-preserved
 loop-byte-preserved c =

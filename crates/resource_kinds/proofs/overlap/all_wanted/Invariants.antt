@@ -1,7 +1,7 @@
 use Rattle.std.proofs.Common.{◌≡◌, map, take}
 use Rattle.std.specs.Result.{result_ok}
 use Rattle.resource_kinds.specs.Wanted.{wanted_of}
-use Rattle.resource_kinds.proofs.apart.all_wanted.Given as goal
+use Rattle.resource_kinds.proofs.overlap.all_wanted.Given as goal
 
 -- what the resources so far ask for
 abbrev pub invariant-loop-resource : goal.invariant-loop-resource

@@ -1,0 +1,53 @@
+-- What matters of a resource where it meets others.
+use Rattle.std.specs.Prelude.{◌≡◌, ◌⊎◌, ℕ, Bool, not, ◌||◌, if◌then◌else◌, List, Option, Some, None, encode_utf8_all}
+use Rattle.dsc_outside.specs.Paths.{IsBelow}
+use Rattle.mof_values.specs.declared.instance.Instance.{Instance}
+use Rattle.resource_kinds.specs.Apart.{Target, Path, Variable, LogEntry, closed_path, target_of}
+use Rattle.resource_kinds.specs.PathOrder.{path_left}
+use Rattle.resource_kinds.specs.Tables.{is_absent, is_directory}
+use Rattle.resource_kinds.specs.Wanted.{folded_utf8}
+use Rattle.resource_kinds.specs.declared.subjects.Subject.{Subject}
+use Rattle.resource_kinds.specs.declared.subjects.Subject.TheVariants as subjects
+use Rattle.resource_kinds.specs.declared.wanted.Wanted.{Wanted}
+
+-- ---- the code
+
+-- what a resource is about, and the path at which it asks for no folder
+pub record Matter : Type 0 where
+  pub target : Target
+  pub closed : Option (List ℕ)
+
+abbrev pub matter_of : Wanted → Matter
+matter_of wanted = record { target = target_of wanted; closed = closed_path wanted }
+
+-- the second is about a path below that of the first, at which no folder is asked for
+abbrev pub IsAround : Matter → Matter → Type 0
+IsAround outer inner =
+    (path : List ℕ) × (below : List ℕ) × (outer.closed ≡ Some path) × (inner.target ≡ Path below) × IsBelow path below
+
+-- of what is asked for, this is that the two meet
+abbrev pub MattersMeet : Matter → Matter → Type 0
+MattersMeet a b = (a.target ≡ b.target) ⊎ (IsAround a b ⊎ IsAround b a)
+
+-- something is asked for, and it meets
+abbrev pub AsksMeeting : Option Wanted → Matter → Type 0
+AsksMeeting None matter = ⊥
+AsksMeeting (Some wanted) matter = MattersMeet (matter_of wanted) matter
+
+abbrev pub path_matter : List ℕ → Bool → Matter
+path_matter path closed = record { target = Path path; closed = if closed then Some path else None }
+
+abbrev pub variable_matter : List ℕ → Matter
+variable_matter name = record { target = Variable (folded_utf8 name); closed = None }
+
+abbrev pub entry_matter : List ℕ → List ℕ → Matter
+entry_matter id message = record { target = LogEntry (folded_utf8 id) (encode_utf8_all message); closed = None }
+
+abbrev pub subject_matter : Subject → Matter
+subject_matter (subjects.Path path closed) = path_matter (encode_utf8_all (path_left path)) closed
+subject_matter (subjects.Variable name) = variable_matter name.now
+subject_matter (subjects.Logged id message) = entry_matter id.now message.now
+
+-- the instance asks for no folder
+abbrev pub is_closed : Instance → Bool
+is_closed instance = is_absent instance || not (is_directory instance)
