@@ -5,8 +5,8 @@ use std::io::{ErrorKind, Read, Seek, SeekFrom, Write};
 use std::rt::Files;
 
 /// What fails, and in which way.
-#[derive(Clone, Copy, Debug, PartialEq, Eq)]
-pub enum Step {
+#[derive(Clone, Copy, PartialEq, Eq)]
+pub enum Fault {
     /// Each read but the first of a file, which gives one byte.
     Read,
 
@@ -20,28 +20,28 @@ pub enum Step {
 #[derive(Drop)]
 pub struct FaultyFiles<R: Files> {
     pub rt: R,
-    pub fails: Step,
+    pub fails: Fault,
 }
 
 #[derive(Drop)]
 pub struct FaultyFile<F: Read + Write + Seek + OpenFile + Drop> {
     file: F,
-    fails: Step,
+    fails: Fault,
     calls: u32,
 }
 
-fn fault() -> io::Error {
+fn storage_full() -> io::Error {
     io::Error::from(ErrorKind::StorageFull)
 }
 
 impl<F: Read + Write + Seek + OpenFile + Drop> Read for FaultyFile<F> {
     fn read(&mut self, buf: &mut [u8]) -> io::Result<usize> {
-        if self.fails != Step::Read {
+        if self.fails != Fault::Read {
             return self.file.read(buf);
         }
         self.calls = self.calls.saturating_add(1);
         if self.calls > 1 {
-            return Err(fault());
+            return Err(storage_full());
         }
         let room = buf.len().min(1);
         self.file.read(&mut buf[..room])
@@ -50,12 +50,12 @@ impl<F: Read + Write + Seek + OpenFile + Drop> Read for FaultyFile<F> {
 
 impl<F: Read + Write + Seek + OpenFile + Drop> Write for FaultyFile<F> {
     fn write(&mut self, buf: &[u8]) -> io::Result<usize> {
-        if self.fails != Step::Write {
+        if self.fails != Fault::Write {
             return self.file.write(buf);
         }
         self.calls = self.calls.saturating_add(1);
         if self.calls > 1 {
-            return Err(fault());
+            return Err(storage_full());
         }
         self.file.write(&buf[..buf.len().min(1)])
     }
@@ -81,8 +81,8 @@ impl<F: Read + Write + Seek + OpenFile + Drop> OpenFile for FaultyFile<F> {
     }
 
     fn sync_all(&self) -> io::Result<()> {
-        if self.fails == Step::Sync {
-            return Err(fault());
+        if self.fails == Fault::Sync {
+            return Err(storage_full());
         }
         self.file.sync_all()
     }
@@ -122,8 +122,8 @@ impl<R: Files> Files for FaultyFiles<R> {
     }
 
     fn rename(&self, from: &str, to: &str) -> io::Result<()> {
-        if self.fails == Step::Rename {
-            return Err(fault());
+        if self.fails == Fault::Rename {
+            return Err(storage_full());
         }
         self.rt.rename(from, to)
     }

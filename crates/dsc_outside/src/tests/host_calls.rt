@@ -1,88 +1,145 @@
-//! Calls of a host as rows of tables.
+//! Calls of a host, and what they are to answer, as rows of tables.
 use crate::{Host, HostError, PathState};
-use std::alloc::Global;
+use std::alloc::{AllocError, Global};
 use std::process::Abort;
 use std::test::Fail;
 
-/// A change: a path with a file's bytes, a path, a variable with its value, and so on.
-#[derive(Clone, Copy, Debug)]
-pub enum Change<'a> {
-    File(&'a str, &'a str),
-    Folder(&'a str),
+/// A call of a host.
+#[derive(Clone, Copy)]
+pub enum Call<'a> {
+    /// Looks at a path.
+    State(&'a str),
+
+    /// Asks for a file with these bytes.
+    Same(&'a str, &'a [u8]),
+    Put(&'a str, &'a [u8]),
+    Make(&'a str),
     Remove(&'a str),
-    Variable(&'a str, &'a str),
-    NoVariable(&'a str),
-    Entry(&'a str, &'a str),
-    Package(&'a str, &'a str, &'a str),
+
+    /// Looks up a variable, and is to append these bytes.
+    Value(&'a str, &'a [u8]),
+    Set(&'a str, &'a [u8]),
+    Unset(&'a str),
+    HasEntry(&'a str, &'a str),
+    AddEntry(&'a str, &'a str),
+    HasPackage(&'a str, &'a str),
+    AddPackage(&'a str, &'a str, &'a [u8]),
+
+    /// Asks whether the resource of that id wants a reboot.
+    Wanting(&'a str),
 }
 
-/// A look, and what it is to find.
-#[derive(Clone, Copy, Debug)]
-pub enum Look<'a> {
-    State(&'a str, PathState),
-    Same(&'a str, &'a str, bool),
-    Variable(&'a str, Option<&'a str>),
-    Entry(&'a str, &'a str, bool),
-    Package(&'a str, &'a str, bool),
-    Wanting(&'a str, bool),
+/// What a call answers.
+#[derive(Clone, Copy, Debug, PartialEq, Eq)]
+pub enum Answer {
+    Done,
+    Yes,
+    No,
+    Nothing,
+    File,
+    Empty,
+    Folder,
+    Other,
+    Failed,
+    Memory,
 }
 
-fn make_change<H: Host>(host: &mut H, change: &Change<'_>) -> Result<(), HostError> {
-    match change {
-        Change::File(path, held) => host.put_file(path, held.as_bytes()),
-        Change::Folder(path) => host.make_dir(path),
-        Change::Remove(path) => host.remove(path),
-        Change::Variable(name, value) => host.env_put(name, value.as_bytes()),
-        Change::NoVariable(name) => host.env_remove(name),
-        Change::Entry(id, message) => host.log_add(id, message),
-        Change::Package(name, version, held) => host.package_put(name, version, held.as_bytes()),
+/// A call, and what it is to answer.
+pub type Row<'a> = (Call<'a>, Answer);
+
+fn lost(error: HostError) -> Answer {
+    match error {
+        HostError::Failed => Answer::Failed,
+        HostError::Memory => Answer::Memory,
     }
 }
 
-fn finds<H: Host>(alloc: Global, host: &mut H, look: &Look<'_>) -> Result<bool, HostError> {
-    match look {
-        Look::State(path, state) => Ok(host.path_state(path)? == *state),
-        Look::Same(path, held, same) => Ok(host.file_equals(path, held.as_bytes())? == *same),
-        Look::Variable(name, value) => has_value(alloc, host, name, *value),
-        Look::Entry(id, message, there) => Ok(host.log_has(id, message)? == *there),
-        Look::Package(name, version, there) => Ok(host.package_has(name, version)? == *there),
-        Look::Wanting(id, wanted) => Ok(host.reboot_wanted(id)? == *wanted),
+fn done(outcome: Result<(), HostError>) -> Answer {
+    match outcome {
+        Ok(()) => Answer::Done,
+        Err(error) => lost(error),
     }
 }
 
-fn has_value<H: Host>(
+fn told(outcome: Result<bool, HostError>) -> Answer {
+    match outcome {
+        Ok(true) => Answer::Yes,
+        Ok(false) => Answer::No,
+        Err(error) => lost(error),
+    }
+}
+
+fn seen(outcome: Result<PathState, HostError>) -> Answer {
+    match outcome {
+        Ok(PathState::Nothing) => Answer::Nothing,
+        Ok(PathState::File) => Answer::File,
+        Ok(PathState::EmptyFolder) => Answer::Empty,
+        Ok(PathState::Folder) => Answer::Folder,
+        Ok(PathState::Other) => Answer::Other,
+        Err(error) => lost(error),
+    }
+}
+
+// Makes the call; a value goes behind what the buffer has.
+fn make_call<H: Host>(host: &mut H, call: &Call<'_>, into: &mut Vec<u8>) -> Answer {
+    match call {
+        Call::State(path) => seen(host.path_state(path)),
+        Call::Same(path, bytes) => told(host.file_equals(path, bytes)),
+        Call::Put(path, bytes) => done(host.put_file(path, bytes)),
+        Call::Make(path) => done(host.make_dir(path)),
+        Call::Remove(path) => done(host.remove(path)),
+        Call::Value(name, _) => told(host.env_state(name, into)),
+        Call::Set(name, value) => done(host.env_put(name, value)),
+        Call::Unset(name) => done(host.env_remove(name)),
+        Call::HasEntry(id, message) => told(host.log_has(id, message)),
+        Call::AddEntry(id, message) => done(host.log_add(id, message)),
+        Call::HasPackage(name, version) => told(host.package_has(name, version)),
+        Call::AddPackage(name, version, bytes) => done(host.package_put(name, version, bytes)),
+        Call::Wanting(id) => told(host.reboot_wanted(id)),
+    }
+}
+
+// What the call is to append to a buffer.
+fn appended<'a>(call: &Call<'a>) -> &'a [u8] {
+    match call {
+        Call::Value(_, value) => value,
+        _ => b"",
+    }
+}
+
+// The path, name or id.
+fn subject<'a>(call: &Call<'a>) -> &'a str {
+    match call {
+        Call::State(path) | Call::Make(path) | Call::Remove(path) => path,
+        Call::Same(path, _) | Call::Put(path, _) => path,
+        Call::Value(name, _) | Call::Set(name, _) => name,
+        Call::Unset(name) => name,
+        Call::HasEntry(id, _) | Call::AddEntry(id, _) => id,
+        Call::HasPackage(name, _) | Call::AddPackage(name, _, _) => name,
+        Call::Wanting(id) => id,
+    }
+}
+
+fn is_answered<H: Host>(
     alloc: Global,
     host: &mut H,
-    name: &str,
-    value: Option<&str>,
-) -> Result<bool, HostError> {
-    let mut held = Vec::new(alloc);
-    let there = host.env_state(name, &mut held)?;
-    match value {
-        None => Ok(!there && held.is_empty()),
-        Some(value) => Ok(there && held.as_slice() == value.as_bytes()),
-    }
+    call: &Call<'_>,
+    wanted: Answer,
+) -> Result<bool, AllocError> {
+    let mut buffer = b">".to_vec(alloc)?;
+    let answer = make_call(host, call, &mut buffer);
+    Ok(answer == wanted && buffer.strip_prefix(b">") == Some(appended(call)))
 }
 
-pub fn expect_changes<R: Abort, H: Host>(rt: &R, host: &mut H, changes: &[Change<'_>]) {
-    for row in changes {
-        assert!(rt; make_change(host, row) == Ok(()), "{row:?}");
-    }
-}
-
-pub fn expect_failures<R: Abort, H: Host>(rt: &R, host: &mut H, changes: &[Change<'_>]) {
-    for row in changes {
-        assert!(rt; make_change(host, row) == Err(HostError::Failed), "{row:?}");
-    }
-}
-
-pub fn expect_looks<R: Abort + AllocGlobal, H: Host>(
+/// Makes the calls, and expects of each its answer.
+pub fn expect<R: Abort + AllocGlobal, H: Host>(
     rt: &R,
     host: &mut H,
-    looks: &[Look<'_>],
+    rows: &[Row<'_>],
 ) -> Result<(), Fail> {
-    for row in looks {
-        assert!(rt; finds(rt.alloc(), host, row) == Ok(true), "{row:?}");
+    for (call, wanted) in rows {
+        let is_so = is_answered(rt.alloc(), host, call, *wanted)?;
+        assert!(rt; is_so, "{} is to be {wanted:?}", subject(call));
     }
     Ok(())
 }

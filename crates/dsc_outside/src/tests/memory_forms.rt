@@ -1,11 +1,12 @@
-use super::expect_variable;
+use super::host_calls::Answer::{Failed as Lost, No, Yes};
+use super::host_calls::Call::Value;
+use super::host_calls::{Row, expect};
 use crate::{
-    Absent, Clock, Disk, Failed, HostError, Link, LinkError, MemoryHost, MemorySink, MemorySource,
-    Peer, Sink, Source, Variable,
+    Absent, Clock, Disk, Failed, Link, LinkError, MemoryHost, MemorySink, MemorySource, Peer, Sink,
+    Source, Variable,
 };
 use mof_values::{Bytes, Text};
 use std::alloc::{AllocError, Global};
-use std::process::Abort;
 use std::test::Fail;
 
 // Reads until nothing is left or a read fails, and answers whether none failed.
@@ -21,94 +22,110 @@ fn drain<S: Source>(source: &mut S, room: usize, all: &mut Vec<u8>) -> Result<bo
     Ok(false)
 }
 
-// Expects of a source of `abcde` what is read up to the first failure, and that the rest comes behind it.
-fn expect_reads<R: Abort + AllocGlobal>(
-    rt: &R,
+// Answers whether these are read up to the first failure, and the rest of `abcde` behind them.
+fn is_read<S: Source>(
+    alloc: Global,
+    source: &mut S,
     room: usize,
-    failing: &[u64],
     first: &str,
     whole: bool,
-) -> Result<(), Fail> {
-    let bytes = b"abcde".to_vec(rt.alloc())?;
-    let mut source = MemorySource::new(bytes, failing.to_vec(rt.alloc())?);
-    let mut all = Vec::new(rt.alloc());
-    let complete = drain(&mut source, room, &mut all)?;
-    assert!(rt; complete == whole, "{room} {first}");
-    assert!(rt; all.as_slice() == first.as_bytes(), "{room} {first}");
-    let _rest = drain(&mut source, room, &mut all)?;
-    assert!(rt; all.as_slice() == b"abcde".as_slice(), "{room} {first}");
-    assert!(rt; !source.short());
-    Ok(())
+) -> Result<bool, AllocError> {
+    let mut all = Vec::new(alloc);
+    if drain(source, room, &mut all)? != whole || all.as_slice() != first.as_bytes() {
+        return Ok(false);
+    }
+    let _rest = drain(source, room, &mut all)?;
+    Ok(all.as_slice() == "abcde".as_bytes())
 }
+
+fn source(alloc: Global, failing: &[u64]) -> Result<MemorySource, AllocError> {
+    let failing = failing.to_vec(alloc)?;
+    Ok(MemorySource::new("abcde".as_bytes().to_vec(alloc)?, failing))
+}
+
+// The room for each read, the calls that fail, what is read up to the first failure, and whether there is none.
+const READS: &[(usize, &[u64], &str, bool)] = &[
+    (1, &[], "abcde", true),
+    (2, &[], "abcde", true),
+    (9, &[], "abcde", true),
+    (2, &[0], "", false),
+    (2, &[2], "abcd", false),
+    (2, &[7], "abcde", true),
+];
 
 #[test]
 fn a_source_gives_its_bytes_in_order_also_past_a_failure(rt: HostRuntime) -> Result<(), Fail> {
-    for (room, failing, first, whole) in [
-        (1, [].as_slice(), "abcde", true),
-        (2, &[], "abcde", true),
-        (9, &[], "abcde", true),
-        (2, &[0], "", false),
-        (2, &[2], "abcd", false),
-        (2, &[7], "abcde", true),
-    ] {
-        expect_reads(&rt, room, failing, first, whole)?;
+    for (room, failing, first, whole) in READS {
+        let mut source = source(rt.alloc(), failing)?;
+        let is_so = is_read(rt.alloc(), &mut source, *room, first, *whole)?;
+        assert!(rt; is_so && !source.short(), "{room} {first}");
     }
     Ok(())
 }
 
-// Expects of a sink which of the pieces `ab`, none, `cd` and `e` it takes, and what it then holds.
-fn expect_writes<R: Abort + AllocGlobal>(
-    rt: &R,
-    failing: &[u64],
-    taken: [bool; 4],
-    held: &str,
-) -> Result<(), Fail> {
-    let mut sink = MemorySink::new(rt.alloc(), failing.to_vec(rt.alloc())?);
-    for (piece, want) in ["ab", "", "cd", "e"].iter().zip(taken.iter()) {
-        let took = sink.write(piece.as_bytes()) == Ok(piece.len());
-        assert!(rt; took == *want, "{held} {piece}");
+// Answers whether the sink takes those pieces, and no other.
+fn takes<S: Sink>(sink: &mut S, pieces: &[(&str, bool)]) -> bool {
+    for (piece, taken) in pieces {
+        if (sink.write(piece.as_bytes()) == Ok(piece.len())) != *taken {
+            return false;
+        }
     }
-    assert!(rt; sink.bytes() == held.as_bytes(), "{held}");
-    assert!(rt; !sink.short());
-    Ok(())
+    true
 }
+
+// The calls that fail, the pieces, whether each is taken, and what the sink then holds.
+const WRITES: &[(&[u64], &[(&str, bool)], &str)] = &[
+    (
+        &[],
+        &[("ab", true), ("", true), ("cd", true), ("e", true)],
+        "abcde",
+    ),
+    (
+        &[0, 2],
+        &[("ab", false), ("", true), ("cd", false), ("e", true)],
+        "e",
+    ),
+    (
+        &[3, 3, 9],
+        &[("ab", true), ("", true), ("cd", true), ("e", false)],
+        "abcd",
+    ),
+];
 
 #[test]
 fn a_sink_keeps_what_it_took_and_nothing_of_a_failed_call(rt: HostRuntime) -> Result<(), Fail> {
-    for (failing, taken, held) in [
-        ([].as_slice(), [true, true, true, true], "abcde"),
-        (&[0, 2], [false, true, false, true], "e"),
-        (&[3, 3, 9], [true, true, true, false], "abcd"),
-    ] {
-        expect_writes(&rt, failing, taken, held)?;
+    for (failing, pieces, held) in WRITES {
+        let mut sink = MemorySink::new(rt.alloc(), failing.to_vec(rt.alloc())?);
+        let is_so = takes(&mut sink, pieces) && sink.bytes() == held.as_bytes();
+        assert!(rt; is_so && !sink.short(), "{held}");
     }
     Ok(())
 }
 
-fn variable(alloc: Global, name: &str, value: &str) -> Result<Variable, AllocError> {
-    Ok(Variable {
-        name: Bytes::of(name.as_bytes().to_vec(alloc)?),
-        value: Bytes::of(value.as_bytes().to_vec(alloc)?),
-    })
+fn variables(alloc: Global, rows: &[(&str, &str)]) -> Result<Vec<Variable>, AllocError> {
+    let mut variables = Vec::new(alloc);
+    for (name, value) in rows {
+        let name = Bytes::of(name.as_bytes().to_vec(alloc)?);
+        let value = Bytes::of(value.as_bytes().to_vec(alloc)?);
+        variables.push(Variable { name, value })?;
+    }
+    Ok(variables)
 }
 
 #[test]
 fn a_host_tells_the_first_variable_of_a_name(rt: HostRuntime) -> Result<(), Fail> {
-    let mut variables = Vec::new(rt.alloc());
-    for (name, value) in [("path", "/a;/b"), ("empty", ""), ("path", "/later")] {
-        variables.push(variable(rt.alloc(), name, value)?)?;
-    }
-    let mut host = MemoryHost::new(variables, [4].to_vec(rt.alloc())?);
-    for (name, answer, bytes) in [
-        ("path", Ok(true), "/a;/b"),
-        ("PATH", Ok(false), ""),
-        ("empty", Ok(true), ""),
-        ("pat", Ok(false), ""),
-        ("path", Err(HostError::Failed), ""),
-        ("path", Ok(true), "/a;/b"),
-    ] {
-        expect_variable(&rt, &mut host, name, answer, bytes.as_bytes())?;
-    }
+    const VARIABLES: &[(&str, &str)] = &[("path", "/a;/b"), ("empty", ""), ("path", "/later")];
+    const ROWS: &[Row<'_>] = &[
+        (Value("path", b"/a;/b"), Yes),
+        (Value("PATH", b""), No),
+        (Value("empty", b""), Yes),
+        (Value("pat", b""), No),
+        (Value("path", b""), Lost),
+        (Value("path", b"/a;/b"), Yes),
+    ];
+    let failing = [4].to_vec(rt.alloc())?;
+    let mut host = MemoryHost::new(variables(rt.alloc(), VARIABLES)?, failing);
+    expect(&rt, &mut host, ROWS)?;
     assert!(rt; !host.short());
     Ok(())
 }

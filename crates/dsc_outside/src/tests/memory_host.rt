@@ -1,7 +1,11 @@
-use super::expect_variable;
-use super::host_calls::{Change, Look, expect_changes, expect_failures, expect_looks};
+use super::host_calls::Answer::{Done, Empty, Failed, File, Folder, No, Nothing, Other, Yes};
+use super::host_calls::Call::{
+    AddEntry, AddPackage, HasEntry, HasPackage, Make, Put, Remove, Same, Set, State, Unset, Value,
+    Wanting,
+};
+use super::host_calls::{Row, expect};
 use crate::{
-    Absent, Done, HostContents, HostError, LogEntry, MemoryHost, Package, PathEntry, PathState,
+    Absent, Done as Part, HostContents, LogEntry, MemoryHost, Package, PathEntry, ReliableHost,
     Standing, Stop,
 };
 use mof_values::Bytes;
@@ -9,286 +13,269 @@ use std::alloc::{AllocError, Global};
 use std::process::Abort;
 use std::test::Fail;
 
-fn bytes(alloc: Global, text: &str) -> Result<Bytes, AllocError> {
-    Ok(Bytes::of(text.as_bytes().to_vec(alloc)?))
+// A host in memory that has nothing.
+fn empty_host(alloc: Global, failing: Vec<u64>, stop: Option<Stop>) -> MemoryHost {
+    MemoryHost::of(HostContents::empty(alloc), failing, stop)
 }
 
-fn empty(alloc: Global) -> HostContents {
-    HostContents {
-        paths: Vec::new(alloc),
-        variables: Vec::new(alloc),
-        log: Vec::new(alloc),
-        packages: Vec::new(alloc),
-        wanting: Vec::new(alloc),
-    }
-}
-
-fn empty_host(
-    alloc: Global,
-    failing: &[u64],
-    stop: Option<Stop>,
-) -> Result<MemoryHost, AllocError> {
-    Ok(MemoryHost::of(empty(alloc), failing.to_vec(alloc)?, stop))
-}
-
-// Expects that changes to an empty host succeed, and what looks then find.
-fn expect_made<R: Abort + AllocGlobal>(
-    rt: &R,
-    changes: &[Change<'_>],
-    looks: &[Look<'_>],
-) -> Result<(), Fail> {
-    let mut host = empty_host(rt.alloc(), &[], None)?;
-    expect_changes(rt, &mut host, changes);
-    expect_looks(rt, &mut host, looks)
+// Expects these answers of a host in memory that has nothing, and of one that never fails.
+fn expect_answers<R: Abort + AllocGlobal>(rt: &R, rows: &[Row<'_>]) -> Result<(), Fail> {
+    let alloc = rt.alloc();
+    expect(rt, &mut empty_host(alloc, Vec::new(alloc), None), rows)?;
+    expect(rt, &mut ReliableHost::of(HostContents::empty(alloc)), rows)
 }
 
 #[test]
 fn a_file_is_put_with_the_folders_above_it(rt: HostRuntime) -> Result<(), Fail> {
-    expect_made(
-        &rt,
-        &[Change::File("a/b/c", "hi")],
-        &[
-            Look::State("a", PathState::Folder),
-            Look::State("a/b", PathState::Folder),
-            Look::State("a/b/c", PathState::File),
-            Look::State("a/b/c/d", PathState::Nothing),
-            Look::State("a/bb", PathState::Nothing),
-            Look::State("b", PathState::Nothing),
-            Look::Same("a/b/c", "hi", true),
-            Look::Same("a/b/c", "h", false),
-            Look::Same("a/b", "", false),
-            Look::Same("c", "hi", false),
-        ],
-    )
+    const ROWS: &[Row<'_>] = &[
+        (Put("a/b/c", b"hi"), Done),
+        (State("a"), Folder),
+        (State("a/b"), Folder),
+        (State("a/b/c"), File),
+        (State("a/b/c/d"), Nothing),
+        (State("a/bb"), Nothing),
+        (State("b"), Nothing),
+        (Same("a/b/c", b"hi"), Yes),
+        (Same("a/b/c", b"h"), No),
+        (Same("a/b", b""), No),
+        (Same("c", b"hi"), No),
+    ];
+    expect_answers(&rt, ROWS)
 }
 
 #[test]
 fn a_file_takes_the_place_of_what_was_at_its_path(rt: HostRuntime) -> Result<(), Fail> {
-    expect_made(
-        &rt,
-        &[
-            Change::File("a/b/c", "one"),
-            Change::File("a/d", "two"),
-            Change::File("a/d", "three"),
-            Change::File("a/b", "four"),
-        ],
-        &[
-            Look::State("a", PathState::Folder),
-            Look::Same("a/d", "three", true),
-            Look::Same("a/b", "four", true),
-            Look::State("a/b/c", PathState::Nothing),
-        ],
-    )
+    const ROWS: &[Row<'_>] = &[
+        (Put("a/b/c", b"one"), Done),
+        (Put("a/d", b"two"), Done),
+        (Put("a/d", b"three"), Done),
+        (Put("a/b", b"four"), Done),
+        (State("a"), Folder),
+        (Same("a/d", b"three"), Yes),
+        (Same("a/b", b"four"), Yes),
+        (State("a/b/c"), Nothing),
+    ];
+    expect_answers(&rt, ROWS)
 }
 
 #[test]
 fn a_folder_is_made_with_what_is_in_it(rt: HostRuntime) -> Result<(), Fail> {
-    expect_made(
-        &rt,
-        &[
-            Change::Folder("a/b"),
-            Change::File("a/bc", ""),
-            Change::Folder("a"),
-        ],
-        &[
-            Look::State("a", PathState::Folder),
-            Look::State("a/b", PathState::EmptyFolder),
-            Look::State("a/bc", PathState::File),
-        ],
-    )
+    const ROWS: &[Row<'_>] = &[
+        (Make("a/b"), Done),
+        (Put("a/bc", b""), Done),
+        (Make("a"), Done),
+        (State("a"), Folder),
+        (State("a/b"), Empty),
+        (State("a/bc"), File),
+    ];
+    expect_answers(&rt, ROWS)
 }
 
 #[test]
 fn a_path_is_removed_with_what_is_below_it(rt: HostRuntime) -> Result<(), Fail> {
-    expect_made(
-        &rt,
-        &[
-            Change::File("a/b/c", "hi"),
-            Change::File("a/bb", ""),
-            Change::File("d/e", ""),
-            Change::Remove("a/b"),
-            Change::Remove("z"),
-            Change::Remove("d/e"),
-        ],
-        &[
-            Look::State("a", PathState::Folder),
-            Look::State("a/b", PathState::Nothing),
-            Look::State("a/b/c", PathState::Nothing),
-            Look::State("a/bb", PathState::File),
-            Look::State("d", PathState::EmptyFolder),
-        ],
-    )
+    const ROWS: &[Row<'_>] = &[
+        (Put("a/b/c", b"hi"), Done),
+        (Put("a/bb", b""), Done),
+        (Put("d/e", b""), Done),
+        (Remove("a/b"), Done),
+        (Remove("z"), Done),
+        (Remove("d/e"), Done),
+        (State("a"), Folder),
+        (State("a/b"), Nothing),
+        (State("a/b/c"), Nothing),
+        (State("a/bb"), File),
+        (State("d"), Empty),
+    ];
+    expect_answers(&rt, ROWS)
 }
 
 #[test]
 fn a_variable_has_the_value_that_was_put_last(rt: HostRuntime) -> Result<(), Fail> {
-    expect_made(
-        &rt,
-        &[
-            Change::Variable("path", "/a"),
-            Change::Variable("editor", "ed"),
-            Change::Variable("path", "/b"),
-            Change::Variable("gone", "x"),
-            Change::NoVariable("gone"),
-            Change::NoVariable("none"),
-        ],
-        &[
-            Look::Variable("path", Some("/b")),
-            Look::Variable("editor", Some("ed")),
-            Look::Variable("gone", None),
-        ],
-    )
+    const ROWS: &[Row<'_>] = &[
+        (Set("path", b"/a"), Done),
+        (Set("editor", b"ed"), Done),
+        (Set("path", b"/b"), Done),
+        (Set("gone", b"x"), Done),
+        (Unset("gone"), Done),
+        (Unset("none"), Done),
+        (Value("path", b"/b"), Yes),
+        (Value("editor", b"ed"), Yes),
+        (Value("gone", b""), No),
+    ];
+    expect_answers(&rt, ROWS)
 }
 
 #[test]
 fn entries_and_packages_are_found_by_all_their_names(rt: HostRuntime) -> Result<(), Fail> {
-    expect_made(
-        &rt,
-        &[
-            Change::Entry("[log]a", "one"),
-            Change::Package("xWeb", "1.0", "zip"),
-        ],
-        &[
-            Look::Entry("[log]a", "one", true),
-            Look::Entry("[log]a", "two", false),
-            Look::Entry("[log]b", "one", false),
-            Look::Package("xWeb", "1.0", true),
-            Look::Package("xWeb", "1.1", false),
-            Look::Package("xweb", "1.0", false),
-            Look::Wanting("[log]a", false),
-        ],
-    )
+    const ROWS: &[Row<'_>] = &[
+        (AddEntry("[log]a", "one"), Done),
+        (AddPackage("xWeb", "1.0", b"zip"), Done),
+        (HasEntry("[log]a", "one"), Yes),
+        (HasEntry("[log]a", "two"), No),
+        (HasEntry("[log]b", "one"), No),
+        (HasPackage("xWeb", "1.0"), Yes),
+        (HasPackage("xWeb", "1.1"), No),
+        (HasPackage("xweb", "1.0"), No),
+        (Wanting("[log]a"), No),
+    ];
+    expect_answers(&rt, ROWS)
+}
+
+fn bytes(alloc: Global, text: &str) -> Result<Bytes, AllocError> {
+    Ok(Bytes::of(text.as_bytes().to_vec(alloc)?))
+}
+
+// One entry: `[log]a` and `one`.
+fn is_entry(log: &[LogEntry]) -> bool {
+    match log {
+        [entry] => entry.id.as_slice() == "[log]a".as_bytes()
+            && entry.message.as_slice() == "one".as_bytes(),
+        _ => false,
+    }
+}
+
+// One package: `xWeb`, `1.0` and `zip`.
+fn is_package(packages: &[Package]) -> bool {
+    match packages {
+        [package] => package.name.as_slice() == "xWeb".as_bytes()
+            && package.version.as_slice() == "1.0".as_bytes()
+            && package.bytes.as_slice() == "zip".as_bytes(),
+        _ => false,
+    }
 }
 
 #[test]
 fn entries_and_packages_are_added_once(rt: HostRuntime) -> Result<(), Fail> {
-    let mut host = empty_host(rt.alloc(), &[], None)?;
-    expect_changes(
-        &rt,
-        &mut host,
-        &[
-            Change::Entry("[log]a", "one"),
-            Change::Package("xWeb", "1.0", "zip"),
-        ],
-    );
-    let entry = LogEntry {
-        id: bytes(rt.alloc(), "[log]a")?,
-        message: bytes(rt.alloc(), "one")?,
-    };
-    let package = Package {
-        name: bytes(rt.alloc(), "xWeb")?,
-        version: bytes(rt.alloc(), "1.0")?,
-        bytes: bytes(rt.alloc(), "zip")?,
-    };
-    assert!(rt; host.contents().log.as_slice() == [entry].as_slice());
-    assert!(rt; host.into_contents().packages.as_slice() == [package].as_slice());
+    const ROWS: &[Row<'_>] = &[
+        (AddEntry("[log]a", "one"), Done),
+        (AddPackage("xWeb", "1.0", b"zip"), Done),
+    ];
+    let mut host = empty_host(rt.alloc(), Vec::new(rt.alloc()), None);
+    expect(&rt, &mut host, ROWS)?;
+    assert!(rt; is_entry(&host.contents().log) && is_package(&host.contents().packages));
     Ok(())
+}
+
+// A link at `link`, and `[log]a` wants a reboot.
+fn linked(alloc: Global) -> Result<HostContents, AllocError> {
+    let mut contents = HostContents::empty(alloc);
+    contents.wanting.push(bytes(alloc, "[log]a")?)?;
+    let path = bytes(alloc, "link")?;
+    let stands = Standing::Other;
+    contents.paths.push(PathEntry { path, stands })?;
+    Ok(contents)
 }
 
 #[test]
 fn a_host_holds_the_contents_that_it_is_made_of(rt: HostRuntime) -> Result<(), Fail> {
-    let mut contents = empty(rt.alloc());
-    contents.wanting.push(bytes(rt.alloc(), "[log]a")?)?;
-    contents.paths.push(PathEntry {
-        path: bytes(rt.alloc(), "link")?,
-        stands: Standing::Other,
-    })?;
-    let mut host = MemoryHost::of(contents, Vec::new(rt.alloc()), None);
-    expect_changes(&rt, &mut host, &[Change::File("link/a", "hi")]);
-    expect_looks(
-        &rt,
-        &mut host,
-        &[
-            Look::Wanting("[log]a", true),
-            Look::Wanting("[log]b", false),
-            Look::State("link", PathState::Other),
-            Look::State("link/a", PathState::File),
-        ],
-    )
+    const ROWS: &[Row<'_>] = &[
+        (Put("link/a", b"hi"), Done),
+        (Wanting("[log]a"), Yes),
+        (Wanting("[log]b"), No),
+        (State("link"), Other),
+        (State("link/a"), File),
+    ];
+    let mut reliable = ReliableHost::of(linked(rt.alloc())?);
+    expect(&rt, &mut reliable, ROWS)?;
+    let mut host = MemoryHost::of(reliable.into_contents(), Vec::new(rt.alloc()), None);
+    expect(&rt, &mut host, ROWS)
 }
 
 #[test]
 fn a_host_fails_in_the_calls_of_its_list(rt: HostRuntime) -> Result<(), Fail> {
-    let mut host = empty_host(rt.alloc(), &[1, 2], None)?;
-    expect_changes(&rt, &mut host, &[Change::Variable("v", "1")]);
-    expect_failures(
-        &rt,
-        &mut host,
-        &[Change::Variable("v", "2"), Change::File("a", "")],
-    );
-    expect_looks(
-        &rt,
-        &mut host,
-        &[
-            Look::Variable("v", Some("1")),
-            Look::State("a", PathState::Nothing),
-        ],
-    )
+    const ROWS: &[Row<'_>] = &[
+        (Set("v", b"1"), Done),
+        (Set("v", b"2"), Failed),
+        (Put("a", b""), Failed),
+        (Value("v", b"1"), Yes),
+        (State("a"), Nothing),
+    ];
+    let failing = [1, 2].to_vec(rt.alloc())?;
+    expect(&rt, &mut empty_host(rt.alloc(), failing, None), ROWS)
 }
 
-// Expects what looks find after a host stopped in its call 1, and that each call from there on failed.
+// Expects of a host that stops in its call 1 these answers, and others of one that starts with its contents again.
 fn expect_stopped<R: Abort + AllocGlobal>(
     rt: &R,
-    done: Done,
-    stopped: Change<'_>,
-    looks: &[Look<'_>],
+    done: Part,
+    stopped: &[Row<'_>],
+    looks: &[Row<'_>],
 ) -> Result<(), Fail> {
-    let mut host = empty_host(rt.alloc(), &[], Some(Stop { call: 1, done }))?;
-    expect_changes(rt, &mut host, &[Change::Variable("v", "1")]);
-    let later = [Change::NoVariable("v"), Change::File("b", "")];
-    expect_failures(rt, &mut host, &[stopped]);
-    expect_failures(rt, &mut host, &later);
-    expect_variable(rt, &mut host, "v", Err(HostError::Failed), b"")?;
+    let stop = Some(Stop { call: 1, done });
+    let mut host = empty_host(rt.alloc(), Vec::new(rt.alloc()), stop);
+    expect(rt, &mut host, stopped)?;
     assert!(rt; !host.short());
-    let mut started = MemoryHost::of(host.into_contents(), Vec::new(rt.alloc()), None);
-    expect_looks(rt, &mut started, looks)?;
-    expect_looks(rt, &mut started, &[Look::State("b", PathState::Nothing)])
+    expect(rt, &mut ReliableHost::of(host.into_contents()), looks)
 }
 
 #[test]
 fn a_stop_leaves_its_part_of_a_file(rt: HostRuntime) -> Result<(), Fail> {
-    for (done, look) in [
-        (Done::Nothing, Look::State("a", PathState::Nothing)),
-        (Done::Half, Look::Same("a", "ab", true)),
-        (Done::All, Look::Same("a", "abcde", true)),
-    ] {
-        expect_stopped(&rt, done, Change::File("a", "abcde"), &[look])?;
+    const STOPPED: &[Row<'_>] = &[
+        (Set("v", b"1"), Done),
+        (Put("a", b"abcde"), Failed),
+        (Unset("v"), Failed),
+        (Put("b", b""), Failed),
+        (Value("v", b""), Failed),
+    ];
+    const PARTS: &[(Part, &[Row<'_>])] = &[
+        (
+            Part::Nothing,
+            &[(State("a"), Nothing), (State("b"), Nothing)],
+        ),
+        (
+            Part::Half,
+            &[(Same("a", b"ab"), Yes), (State("b"), Nothing)],
+        ),
+        (
+            Part::All,
+            &[(Same("a", b"abcde"), Yes), (State("b"), Nothing)],
+        ),
+    ];
+    for (done, looks) in PARTS {
+        expect_stopped(&rt, *done, STOPPED, looks)?;
     }
     Ok(())
 }
 
 #[test]
 fn a_stop_leaves_another_change_whole_or_undone(rt: HostRuntime) -> Result<(), Fail> {
-    for (done, value) in [
-        (Done::Nothing, Some("1")),
-        (Done::Half, None),
-        (Done::All, None),
-    ] {
-        expect_stopped(
-            &rt,
-            done,
-            Change::NoVariable("v"),
-            &[Look::Variable("v", value)],
-        )?;
+    const STOPPED: &[Row<'_>] = &[
+        (Set("v", b"1"), Done),
+        (Unset("v"), Failed),
+        (Unset("v"), Failed),
+        (Put("b", b""), Failed),
+        (Value("v", b""), Failed),
+    ];
+    const PARTS: &[(Part, &[Row<'_>])] = &[
+        (
+            Part::Nothing,
+            &[(Value("v", b"1"), Yes), (State("b"), Nothing)],
+        ),
+        (Part::Half, &[(Value("v", b""), No), (State("b"), Nothing)]),
+        (Part::All, &[(Value("v", b""), No), (State("b"), Nothing)]),
+    ];
+    for (done, looks) in PARTS {
+        expect_stopped(&rt, *done, STOPPED, looks)?;
     }
     Ok(())
 }
 
 #[test]
 fn a_host_that_is_not_there_fails(rt: HostRuntime) -> Result<(), Fail> {
-    let mut absent = Absent::new();
-    expect_failures(
-        &rt,
-        &mut absent,
-        &[
-            Change::File("a", ""),
-            Change::Folder("a"),
-            Change::Remove("a"),
-            Change::Variable("v", ""),
-            Change::NoVariable("v"),
-            Change::Entry("i", "m"),
-            Change::Package("n", "1", ""),
-        ],
-    );
-    expect_variable(&rt, &mut absent, "v", Err(HostError::Failed), b"")
+    const ROWS: &[Row<'_>] = &[
+        (State("a"), Failed),
+        (Same("a", b""), Failed),
+        (Put("a", b""), Failed),
+        (Make("a"), Failed),
+        (Remove("a"), Failed),
+        (Value("v", b""), Failed),
+        (Set("v", b""), Failed),
+        (Unset("v"), Failed),
+        (HasEntry("i", "m"), Failed),
+        (AddEntry("i", "m"), Failed),
+        (HasPackage("n", "1"), Failed),
+        (AddPackage("n", "1", b""), Failed),
+        (Wanting("i"), Failed),
+    ];
+    expect(&rt, &mut Absent::new(), ROWS)
 }

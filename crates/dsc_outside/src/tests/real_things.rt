@@ -1,16 +1,12 @@
 ghost use Rattle.std.specs.Prelude.{◌≤◌, length};
 
-use super::expect_variable;
-use crate::real::{FolderHost, InSource, OutSink};
-use crate::{Failed, HostError, Sink, Source};
+use crate::real::{InSource, OutSink};
+use crate::{Failed, Sink, Source};
 use std::cell::Cell;
 use std::fmt::Display;
+use std::io;
 use std::io::{ErrorKind, Print, Read};
-use std::rt::Files;
 use std::test::Fail;
-use std::{fs, io};
-
-const FOLDER: &str = "folder_host_test";
 
 // A reader that is interrupted, gives `ab`, fails, gives `c`, and then is at its end.
 #[derive(Drop)]
@@ -97,42 +93,5 @@ fn standard_output_answers_what_was_taken(rt: HostRuntime) -> Result<(), Fail> {
     let mut system = OutSink::new(&rt);
     assert!(rt; system.write(b"") == Ok(0));
     assert!(rt; system.write(b"\n") == Ok(1));
-    Ok(())
-}
-
-// Makes a host's folder with plain files, a folder and a link in it.
-fn make_folder<R: Files>(rt: &R, large: &[u8]) -> io::Result<()> {
-    fs::create_dir(rt, "folder_host_test/env")?;
-    fs::write(rt, "folder_host_test/env/70617468", "/a;/b")?;
-    fs::write(rt, "folder_host_test/env/C3A96B7E", "")?;
-    fs::write(rt, "folder_host_test/env/6C", large)?;
-    fs::create_dir(rt, "folder_host_test/env/64")?;
-    rt.symlink("70617468", "folder_host_test/env/6E")
-}
-
-#[test]
-fn a_folder_host_reads_the_file_of_the_names_digits(rt: HostRuntime) -> Result<(), Fail> {
-    let _ = fs::remove_dir_all(&rt, FOLDER);
-    fs::create_dir(&rt, FOLDER)?;
-    let mut host = FolderHost::new(&rt, String::from_str(rt.alloc(), FOLDER)?);
-    expect_variable(&rt, &mut host, "path", Ok(false), b"")?;
-    let large = vec![in rt.alloc(); 0xa5u8; 100_000]?;
-    make_folder(&rt, &large)?;
-    let long = "n".repeat(rt.alloc(), 200)?;
-    for (name, answer, bytes) in [
-        ("path", Ok(true), b"/a;/b".as_slice()),
-        ("ék~", Ok(true), b""),
-        ("Path", Ok(false), b""),
-        ("l", Ok(true), large.as_slice()),
-        ("d", Err(HostError::Failed), b""),
-        ("n", Err(HostError::Failed), b""),
-        (long.as_str(), Err(HostError::Failed), b""),
-    ] {
-        expect_variable(&rt, &mut host, name, answer, bytes)?;
-    }
-    let file = String::from_str(rt.alloc(), "folder_host_test/env/6C")?;
-    let mut inside_a_file = FolderHost::new(&rt, file);
-    expect_variable(&rt, &mut inside_a_file, "path", Err(HostError::Failed), b"")?;
-    fs::remove_dir_all(&rt, FOLDER)?;
     Ok(())
 }

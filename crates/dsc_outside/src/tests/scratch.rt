@@ -1,44 +1,171 @@
+//! A scratch folder with a host in it, and what is done there, as rows of tables.
+use super::faulty_files::{Fault, FaultyFiles};
+use super::host_calls::{Row, expect};
+use crate::Host;
+use crate::real::FolderHost;
 use std::alloc::AllocError;
+use std::process::Abort;
 use std::rt::{Env, Files};
+use std::test::Fail;
 use std::{env, fs, io};
 
-/// A new folder below the system's folder for temporary files, with `outside/kept` in it.
-pub fn make_scratch<R: Files + Env + AllocGlobal>(rt: &R) -> io::Result<String> {
+/// What is done in a scratch folder. Each path is below it.
+#[derive(Clone, Copy)]
+pub enum Step<'a> {
+    /// Calls of the host.
+    Calls(&'a [Row<'a>]),
+
+    /// Calls of another host in the same folder, where that fails.
+    Faulty(Fault, &'a [Row<'a>]),
+
+    /// What the system does or finds at a path.
+    At(&'a str, Act<'a>),
+}
+
+/// What the system does or finds at a path.
+#[derive(Clone, Copy)]
+pub enum Act<'a> {
+    Write(&'a str),
+    MakeFolder,
+
+    /// Makes a link to that path.
+    Link(&'a str),
+    Delete,
+
+    /// Finds so many names in a folder.
+    Names(usize),
+
+    /// Finds a file with these bytes.
+    Holds(&'a [u8]),
+
+    /// Finds nothing.
+    Missing,
+}
+
+/// A name of 256 bytes, one more than the system takes.
+pub const LONG: &str =
+    "éééééééééééééééééééééééééééééééééééééééééééééééééééééééééééééééééééééééééééééééééééééééééééééééééééééééééééééééééééééééééééééééé";
+
+// A new folder below the system's folder for temporary files.
+fn make_folder<R: Files + Env + AllocGlobal>(rt: &R) -> io::Result<String> {
     let temporary = env::temp_dir(rt)?.into_string();
     for number in 0..10_000u32 {
         let folder = format!(in rt.alloc(); "{temporary}/folder_host_{number}")?;
         if fs::create_dir(rt, folder.as_str()).is_ok() {
-            fs::create_dir(rt, below(rt, &folder, "outside")?)?;
-            fs::write(rt, below(rt, &folder, "outside/kept")?, "kept")?;
             return Ok(folder);
         }
     }
     Err(io::Error::from(io::ErrorKind::AlreadyExists))
 }
 
-pub fn below<R: AllocGlobal>(rt: &R, folder: &str, path: &str) -> Result<String, AllocError> {
+fn below<R: AllocGlobal>(rt: &R, folder: &str, path: &str) -> Result<String, AllocError> {
     format!(in rt.alloc(); "{folder}/{path}")
 }
 
-/// Answers whether `outside` holds what it held at first.
-pub fn is_outside_kept<R: Files + AllocGlobal + Clone + Drop>(
-    rt: &R,
-    scratch: &str,
-) -> io::Result<bool> {
-    let bytes = fs::read(rt, below(rt, scratch, "outside/kept")?)?;
-    let count = count_names(rt, below(rt, scratch, "outside")?.as_str())?;
-    Ok(bytes.as_slice() == b"kept".as_slice() && count == 1)
-}
-
-/// How many things are in a folder.
-pub fn count_names<R: Files + AllocGlobal + Clone + Drop>(
-    rt: &R,
-    folder: &str,
-) -> io::Result<usize> {
+// How many things are in a folder.
+fn count_names<R: Files + AllocGlobal + Clone + Drop>(rt: &R, folder: &str) -> io::Result<usize> {
     let mut count = 0usize;
     for entry in fs::read_dir(rt, folder)? {
         let _ = entry?;
         count = count.saturating_add(1);
     }
     Ok(count)
+}
+
+fn holds<R: Files + AllocGlobal>(rt: &R, place: &str, bytes: &[u8]) -> io::Result<bool> {
+    Ok(fs::read(rt, place)?.as_slice() == bytes)
+}
+
+// Does it, and answers whether it finds what it is to find.
+fn is_done<R: Files + AllocGlobal + Clone + Drop>(
+    rt: &R,
+    place: &str,
+    act: &Act<'_>,
+) -> io::Result<bool> {
+    match act {
+        Act::Write(text) => fs::write(rt, place, *text)?,
+        Act::MakeFolder => fs::create_dir(rt, place)?,
+        Act::Link(to) => rt.symlink(to, place)?,
+        Act::Delete => fs::remove_file(rt, place)?,
+        Act::Names(count) => return Ok(count_names(rt, place)? == *count),
+        Act::Holds(bytes) => return holds(rt, place, bytes),
+        Act::Missing => return Ok(!fs::exists(rt, place)?),
+    }
+    Ok(true)
+}
+
+fn expect_done<R: Files + AllocGlobal + Clone + Drop + Abort>(
+    rt: &R,
+    place: &str,
+    act: &Act<'_>,
+) -> Result<(), Fail> {
+    assert!(rt; is_done(rt, place, act)?, "{place}");
+    Ok(())
+}
+
+fn expect_faulty<R: Files + AllocGlobal + Clone + Drop + Abort>(
+    rt: &R,
+    folder: String,
+    fails: Fault,
+    rows: &[Row<'_>],
+) -> Result<(), Fail> {
+    let mut host = FolderHost::new(FaultyFiles { rt, fails }, folder);
+    expect(rt, &mut host, rows)
+}
+
+fn take_step<R: Files + AllocGlobal + Clone + Drop + Abort, H: Host>(
+    rt: &R,
+    folders: (&str, &str),
+    host: &mut H,
+    step: &Step<'_>,
+) -> Result<(), Fail> {
+    let (scratch, folder) = folders;
+    match step {
+        Step::Calls(rows) => expect(rt, host, rows),
+        Step::Faulty(fails, rows) => {
+            expect_faulty(rt, below(rt, scratch, folder)?, *fails, rows)
+        }
+        Step::At(path, act) => expect_done(rt, &below(rt, scratch, path)?, act),
+    }
+}
+
+fn take_steps<R: Files + AllocGlobal + Clone + Drop + Abort>(
+    rt: &R,
+    scratch: &str,
+    folder: &str,
+    steps: &[Step<'_>],
+) -> Result<(), Fail> {
+    let mut host = FolderHost::new(rt, below(rt, scratch, folder)?);
+    for step in steps {
+        take_step(rt, (scratch, folder), &mut host, step)?;
+    }
+    Ok(())
+}
+
+// What is in the scratch folder beside the host.
+const OUTSIDE: &[Step<'_>] = &[
+    Step::At("outside", Act::MakeFolder),
+    Step::At("outside/kept", Act::Write("kept")),
+];
+
+const KEPT: &[Step<'_>] = &[
+    Step::At("outside", Act::Names(1)),
+    Step::At("outside/kept", Act::Holds(b"kept")),
+];
+
+/// Takes the steps in a scratch folder with a host in that folder of it, the first ones to make what is there before.
+/// Beside it is `outside/kept`, which is to stay as it is.
+pub fn play<R: Files + Env + AllocGlobal + Clone + Drop + Abort>(
+    rt: &R,
+    folder: &str,
+    before: &[Step<'_>],
+    steps: &[Step<'_>],
+) -> Result<(), Fail> {
+    let scratch = make_folder(rt)?;
+    take_steps(rt, &scratch, folder, OUTSIDE)?;
+    take_steps(rt, &scratch, folder, before)?;
+    take_steps(rt, &scratch, folder, steps)?;
+    take_steps(rt, &scratch, folder, KEPT)?;
+    fs::remove_dir_all(rt, scratch)?;
+    Ok(())
 }
