@@ -4,7 +4,8 @@ use Rattle.mof_syntax.specs.Canonical.{canonical_bytes}
 use Rattle.partial_merge.specs.declared.error.MergeError.{MergeError}
 use Rattle.partial_merge.specs.declared.error.MergeError.TheVariants.{Memory}
 use Rattle.partial_merge.specs.Refused.{Refused}
-use Rattle.generated_document.specs.Generated.{generated_instances, unnamed_part}
+use Rattle.generated_document.specs.Generated.{generated_instances}
+use Rattle.partial_merge.specs.Parts.{unnamed_part}
 
 -- no refusal but want of memory applies to the text of that count
 abbrev pub IsNeverRefused : ℕ → Type 0

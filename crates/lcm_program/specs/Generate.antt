@@ -1,5 +1,5 @@
 -- The word `generate`: the repair of a document that is made of a number, on an empty machine.
-use Rattle.std.specs.Prelude.{◌≡◌, ◌⊎◌, ℕ, ◌-◌, Bool, true, false, not, List, ◌++◌, length, Option, Some, codes, count_by, get_or}
+use Rattle.std.specs.Prelude.{◌≡◌, ◌⊎◌, ℕ, ◌-◌, Bool, true, false, List, ◌++◌, length, Option, Some, codes, count_by, get_or}
 use Rattle.std.specs.Fmt.{decimal}
 use Rattle.dsc_outside.specs.Host.{HostState, empty_host}
 use Rattle.dsc_document.specs.declared.document.Document.{Document}
@@ -19,9 +19,13 @@ abbrev pub is_test : Entry → Bool
 is_test (Tested place answer) = true
 is_test (Set place answer) = false
 
+abbrev pub is_set : Entry → Bool
+is_set (Tested place answer) = false
+is_set (Set place answer) = true
+
 -- how many Tests and Sets there were
 abbrev pub calls_line : List Entry → List ℕ
-calls_line trace = codes "tests " ++ decimal (count_by is_test trace) ++ codes " sets " ++ decimal (count_by (λ e. not (is_test e)) trace) ++ codes "\n"
+calls_line trace = codes "tests " ++ decimal (count_by is_test trace) ++ codes " sets " ++ decimal (count_by is_set trace) ++ codes "\n"
 
 -- the first and the last id of the order
 abbrev pub ends_line : Document → List ℕ → List ℕ

@@ -1,7 +1,7 @@
 //! The word `generate`: the repair of a document that is made of a number, on an empty machine in memory.
-ghost use Rattle.std.specs.Prelude.{◌≡◌, ◌<◌, ◌≤◌, ◌-◌, ◌++◌, All, IfOk, OnOk, count_by, length, not, string_bytes};
+ghost use Rattle.std.specs.Prelude.{◌≡◌, ◌<◌, ◌≤◌, ◌-◌, ◌++◌, All, IfOk, OnOk, count_by, length, string_bytes};
 ghost use Rattle.resource_kinds.specs.Trace.{place_of};
-ghost use Rattle.lcm_program.specs.Generate.{TellsGenerated, calls_line, ends_line, generated_lines, is_test};
+ghost use Rattle.lcm_program.specs.Generate.{TellsGenerated, calls_line, ends_line, generated_lines, is_set, is_test};
 
 use crate::lines::{count_succeeded, id, push_resources};
 use crate::merged_run::run_merged;
@@ -53,15 +53,33 @@ fn lines(
 fn push_calls(text: &mut String, calls: &[Entry]) -> Result<(), AllocError>
     ensures { OnOk result (string_bytes text.new ≡ string_bytes text.old ++ calls_line calls.now) }
 {
-    let tests = calls.iter().filter(|entry| is_test(entry)).count();
-    let sets = calls.iter().filter(|entry| !is_test(entry)).count();
+    let tests = count_tests(calls);
+    let sets = count_sets(calls);
     write!(text, "tests {tests} sets {sets}\n")
+}
+
+fn count_tests(calls: &[Entry]) -> usize
+    ensures { result ≡ count_by is_test calls.now }
+{
+    calls.iter().filter(|entry| is_test(entry)).count()
+}
+
+fn count_sets(calls: &[Entry]) -> usize
+    ensures { result ≡ count_by is_set calls.now }
+{
+    calls.iter().filter(|entry| is_set(entry)).count()
 }
 
 fn is_test(entry: &Entry) -> bool
     ensures { result ≡ is_test entry.now }
 {
     matches!(entry, Entry::Tested { .. })
+}
+
+fn is_set(entry: &Entry) -> bool
+    ensures { result ≡ is_set entry.now }
+{
+    matches!(entry, Entry::Set { .. })
 }
 
 fn push_ends(text: &mut String, document: &Document, order: &[u32]) -> Result<(), AllocError>

@@ -1,6 +1,7 @@
 use Rattle.std.proofs.Common.{refl}
 use Rattle.mof_syntax.specs.Canonical.{canonical_bytes}
-use Rattle.generated_document.specs.Generated.{generated_instances, unnamed_part}
+use Rattle.generated_document.specs.Generated.{generated_instances}
+use Rattle.partial_merge.specs.Parts.{unnamed_part}
 use Rattle.generated_document.proofs.NeverRefused.{only_memory}
 use Rattle.generated_document.proofs.Reading.{generated_reads}
 use Rattle.generated_document.proofs.laws.generated_laws.Goals as goal
