@@ -1,5 +1,5 @@
 -- The forms of the command line.
-use Rattle.std.specs.Prelude.{◌≡◌, ℕ, ⊤, ◌+◌, ◌<◌, ◌≤◌, List, [], ◌∷◌, ◌++◌, length, take, codes}
+use Rattle.std.specs.Prelude.{◌≡◌, ℕ, ◌+◌, ◌<◌, ◌≤◌, List, [], ◌∷◌, ◌++◌, length, take, codes}
 use Rattle.std.specs.Fmt.{decimal}
 use Rattle.lcm_program.specs.declared.words.Command.{Command}
 use Rattle.lcm_program.specs.declared.words.Command.TheVariants.{Test, Check, Order, Canon, Checksum, Generate}
@@ -12,36 +12,14 @@ generated_limit = 4096
 abbrev pub IsCount : List ℕ → ℕ → Type 0
 IsCount word count = (word ≡ decimal count) × (0 < count) × (count ≤ generated_limit)
 
--- the word that a command begins with
-abbrev pub word_of : Command → List ℕ
-word_of Test = codes "test"
-word_of Check = codes "check"
-word_of Order = codes "order"
-word_of Canon = codes "canon"
-word_of Checksum = codes "checksum"
-word_of (Generate count) = codes "generate"
-
--- what stands behind it
-abbrev pub AreRest : Command → List (List ℕ) → Type 0
-AreRest Test rest = rest ≡ []
-AreRest Check rest = rest ≡ []
-AreRest Order rest = rest ≡ []
-AreRest Canon rest = rest ≡ []
-AreRest Checksum rest = rest ≡ []
-AreRest (Generate count) rest = (word : List ℕ) × (rest ≡ word ∷ []) × IsCount word count
-
--- the command has no other word
-abbrev pub StandsAlone : Command → Type 0
-StandsAlone Test = ⊤
-StandsAlone Check = ⊤
-StandsAlone Order = ⊤
-StandsAlone Canon = ⊤
-StandsAlone Checksum = ⊤
-StandsAlone (Generate count) = ⊥
-
 -- the words, each in UTF-8, ask for the command
 abbrev pub IsForm : Command → List (List ℕ) → Type 0
-IsForm command words = (rest : List (List ℕ)) × (words ≡ word_of command ∷ rest) × AreRest command rest
+IsForm Test words = words ≡ codes "test" ∷ []
+IsForm Check words = words ≡ codes "check" ∷ []
+IsForm Order words = words ≡ codes "order" ∷ []
+IsForm Canon words = words ≡ codes "canon" ∷ []
+IsForm Checksum words = words ≡ codes "checksum" ∷ []
+IsForm (Generate count) words = (word : List ℕ) × (words ≡ codes "generate" ∷ word ∷ []) × IsCount word count
 
 -- some form begins with these words
 abbrev pub BeginsForm : List (List ℕ) → Type 0

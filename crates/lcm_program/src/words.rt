@@ -1,6 +1,6 @@
 //! The words of the command line.
-ghost use Rattle.std.specs.Prelude.{◌≡◌, ℕ, ◌∷◌, IfOk, IfErr, IfSome, IfNone, codes, map, string_bytes};
-ghost use Rattle.lcm_program.specs.Words.{IsCount, IsForm, IsUsage, StandsAlone, word_of};
+ghost use Rattle.std.specs.Prelude.{ℕ, [], ◌∷◌, IfOk, IfErr, IfSome, IfNone, codes, map, string_bytes};
+ghost use Rattle.lcm_program.specs.Words.{IsCount, IsForm, IsUsage};
 
 /// The most resources of a generated document.
 const GENERATED_LIMIT: u32 = 4096;
@@ -53,10 +53,10 @@ pub fn read_words(words: &[String]) -> Result<Command, UsageError>
     }
 }
 
-// The command of that word, which stands alone.
+// The command that the word asks for alone.
 fn command_of(word: &str) -> Option<Command>
-    ensures some { IfSome result (λ command. (word.now ≡ word_of command) × StandsAlone command) }
-    ensures none { IfNone result ((command : Command) → StandsAlone command → word.now ≡ word_of command → ⊥) }
+    ensures some { IfSome result (λ command. IsForm command (word.now ∷ [])) }
+    ensures none { IfNone result ((command : Command) → IsForm command (word.now ∷ []) → ⊥) }
 {
     match word {
         "test" => Some(Command::Test),
