@@ -158,7 +158,7 @@ fn what_does_not_hold_is_set_and_tested_again_in_a_repair(rt: HostRuntime) -> Re
 
 #[test]
 fn a_fault_ends_no_repair_and_what_depends_on_it_is_skipped(rt: HostRuntime) -> Result<(), Fail> {
-    let rows: [(&str, Words, Words, &str); 10] = [
+    let rows: [(&str, Words, Words, &str); 11] = [
         (
             TREE,
             &["NoSuchResource"],
@@ -218,6 +218,12 @@ fn a_fault_ends_no_repair_and_what_depends_on_it_is_skipped(rt: HostRuntime) -> 
             &["no", "yes", "no", "no"],
             &["done", "HostFailed"],
             "A?no A!done A?yes B?no B!HostFailed D?no D!done D?yes E?yes finished",
+        ),
+        (
+            "[L]A; [L]B; [L]C [L]A [L]B; [L]D [L]A",
+            &["yes", "HostFailed"],
+            &[],
+            "A?yes B?HostFailed D?yes finished",
         ),
     ];
     expect(&rt, RunMode::Repair, &rows)
