@@ -53,6 +53,7 @@ fn ran(
     let document = document(rt, declarations)?;
     let order = order(rt.alloc(), &document)?;
     let mut script = Script::new(rt.alloc(), tests, sets);
+    // three entries for each of five resources
     script.reserve(15)?;
     let end = run(rt.alloc(), &document, &order, mode, &mut script);
     shown(rt, &document, script.calls(), end)
