@@ -1,13 +1,13 @@
+use super::folder_paths::large;
 use super::host_calls::Answer::{Done, Failed, No, Yes};
 use super::host_calls::Call::{
     AddEntry, AddPackage, HasEntry, HasPackage, Make, Put, Remove, Set, State, Unset, Value,
     Wanting,
 };
-use super::host_calls::{Row, expect};
+use super::host_calls::Row;
 use super::scratch::Act::{Delete, Holds, Link, MakeFolder, Missing, Names, Write};
 use super::scratch::Step::{At, Calls};
-use super::scratch::{LONG, Step, play};
-use crate::real::FolderHost;
+use super::scratch::{LONG, Step, expect_in, play};
 use std::test::Fail;
 
 const ENTRY: &str = "host/log/CACAEDB9BDBF8656A835D69BA7E61CB352D5F8351DFD6449B1C279A204D1142B";
@@ -66,7 +66,7 @@ fn a_variable_is_read_from_the_file_of_its_names_digits(rt: HostRuntime) -> Resu
 
 #[test]
 fn a_variable_of_several_pieces_is_kept_whole(rt: HostRuntime) -> Result<(), Fail> {
-    let large = vec![in rt.alloc(); 0xa5u8; 100_000]?;
+    let large = large(rt.alloc(), 100_000, b"")?;
     let rows = [(Set("l", &large), Done), (Value("l", &large), Yes)];
     let held = At("host/env/6C", Holds(&large));
     play(&rt, "host", &[Calls(&rows)], &[held])
@@ -227,8 +227,7 @@ fn changes_fail_where_nothing_can_be_made(rt: HostRuntime) -> Result<(), Fail> {
         (HasEntry("a", "b"), No),
     ];
     for folder in ["/proc/folder_host", "/proc/self"] {
-        let mut host = FolderHost::new(&rt, String::from_str(rt.alloc(), folder)?);
-        expect(&rt, &mut host, ROWS)?;
+        expect_in(rt.alloc(), &rt, String::from_str(rt.alloc(), folder)?, ROWS)?;
     }
     Ok(())
 }

@@ -5,8 +5,6 @@ use super::scratch::Act::{Holds, Link, MakeFolder, Names, Write};
 use super::scratch::Step::{At, Calls};
 use super::scratch::{LONG, Step, play};
 use std::alloc::{AllocError, Global};
-use std::process::Abort;
-use std::rt::{Env, Files};
 use std::test::Fail;
 
 #[test]
@@ -61,16 +59,16 @@ fn files_and_folders_are_made_and_removed_under_the_root(rt: HostRuntime) -> Res
     play(&rt, "host", &[], STEPS)
 }
 
-// So many bytes, and these behind them.
-fn large(alloc: Global, count: usize, last: &[u8]) -> Result<Vec<u8>, AllocError> {
+/// So many bytes, and these behind them.
+pub fn large(alloc: Global, count: usize, last: &[u8]) -> Result<Vec<u8>, AllocError> {
     let mut bytes = vec![in alloc; 0xa5u8; count]?;
     bytes.extend_from_slice(last)?;
     Ok(bytes)
 }
 
 // Expects what a file of so many bytes and one more is found to be beside one that ends in these.
-fn expect_compared<R: Files + Env + AllocGlobal + Clone + Drop + Abort>(
-    rt: &R,
+fn expect_compared(
+    rt: &HostRuntime,
     count: usize,
     last: &[u8],
     answer: Answer,
@@ -208,10 +206,7 @@ const NO_PATHS: &[&str] = &[
     BELOW_LONG,
 ];
 
-fn expect_refused<R: Files + Env + AllocGlobal + Clone + Drop + Abort>(
-    rt: &R,
-    path: &str,
-) -> Result<(), Fail> {
+fn expect_refused(rt: &HostRuntime, path: &str) -> Result<(), Fail> {
     let rows = [
         (Put(path, b"new"), Failed),
         (Make(path), Failed),

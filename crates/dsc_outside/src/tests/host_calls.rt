@@ -1,7 +1,6 @@
 //! Calls of a host, and what they are to answer, as rows of tables.
 use crate::{Host, HostError, PathState};
 use std::alloc::{AllocError, Global};
-use std::process::Abort;
 use std::test::Fail;
 
 /// A call of a host.
@@ -132,14 +131,12 @@ fn is_answered<H: Host>(
 }
 
 /// Makes the calls, and expects of each its answer.
-pub fn expect<R: Abort + AllocGlobal, H: Host>(
-    rt: &R,
-    host: &mut H,
-    rows: &[Row<'_>],
-) -> Result<(), Fail> {
+pub fn expect<H: Host>(alloc: Global, host: &mut H, rows: &[Row<'_>]) -> Result<(), Fail> {
     for (call, wanted) in rows {
-        let is_so = is_answered(rt.alloc(), host, call, *wanted)?;
-        assert!(rt; is_so, "{} is to be {wanted:?}", subject(call));
+        if !is_answered(alloc, host, call, *wanted)? {
+            let name = subject(call);
+            return Err(Fail::new(format_args!("{name} is to be {wanted:?}")));
+        }
     }
     Ok(())
 }

@@ -1,11 +1,12 @@
 use super::host_calls::Answer::{Failed as Lost, No, Yes};
 use super::host_calls::Call::Value;
 use super::host_calls::{Row, expect};
+use super::memory_host::bytes;
 use crate::{
     Absent, Clock, Disk, Failed, Link, LinkError, MemoryHost, MemorySink, MemorySource, Peer, Sink,
     Source, Variable,
 };
-use mof_values::{Bytes, Text};
+use mof_values::Text;
 use std::alloc::{AllocError, Global};
 use std::test::Fail;
 
@@ -102,12 +103,17 @@ fn a_sink_keeps_what_it_took_and_nothing_of_a_failed_call(rt: HostRuntime) -> Re
     Ok(())
 }
 
+fn variable(alloc: Global, name: &str, value: &str) -> Result<Variable, AllocError> {
+    Ok(Variable {
+        name: bytes(alloc, name)?,
+        value: bytes(alloc, value)?,
+    })
+}
+
 fn variables(alloc: Global, rows: &[(&str, &str)]) -> Result<Vec<Variable>, AllocError> {
     let mut variables = Vec::new(alloc);
     for (name, value) in rows {
-        let name = Bytes::of(name.as_bytes().to_vec(alloc)?);
-        let value = Bytes::of(value.as_bytes().to_vec(alloc)?);
-        variables.push(Variable { name, value })?;
+        variables.push(variable(alloc, name, value)?)?;
     }
     Ok(variables)
 }
@@ -125,7 +131,7 @@ fn a_host_tells_the_first_variable_of_a_name(rt: HostRuntime) -> Result<(), Fail
     ];
     let failing = [4].to_vec(rt.alloc())?;
     let mut host = MemoryHost::new(variables(rt.alloc(), VARIABLES)?, failing);
-    expect(&rt, &mut host, ROWS)?;
+    expect(rt.alloc(), &mut host, ROWS)?;
     assert!(rt; !host.short());
     Ok(())
 }

@@ -1,10 +1,8 @@
 //! A scratch folder with a host in it, and what is done there, as rows of tables.
 use super::faulty_files::{Fault, FaultyFiles};
 use super::host_calls::{Row, expect};
-use crate::Host;
 use crate::real::FolderHost;
-use std::alloc::AllocError;
-use std::process::Abort;
+use std::alloc::{AllocError, Global};
 use std::rt::{Env, Files};
 use std::test::Fail;
 use std::{env, fs, io};
@@ -12,10 +10,10 @@ use std::{env, fs, io};
 /// What is done in a scratch folder. Each path is below it.
 #[derive(Clone, Copy)]
 pub enum Step<'a> {
-    /// Calls of the host.
+    /// Calls of a host in the folder of the host.
     Calls(&'a [Row<'a>]),
 
-    /// Calls of another host in the same folder, where that fails.
+    /// The same, where that fails.
     Faulty(Fault, &'a [Row<'a>]),
 
     /// What the system does or finds at a path.
@@ -64,12 +62,7 @@ fn below<R: AllocGlobal>(rt: &R, folder: &str, path: &str) -> Result<String, All
 
 // How many things are in a folder.
 fn count_names<R: Files + AllocGlobal + Clone + Drop>(rt: &R, folder: &str) -> io::Result<usize> {
-    let mut count = 0usize;
-    for entry in fs::read_dir(rt, folder)? {
-        let _ = entry?;
-        count = count.saturating_add(1);
-    }
-    Ok(count)
+    Ok(fs::read_dir(rt, folder)?.count())
 }
 
 fn holds<R: Files + AllocGlobal>(rt: &R, place: &str, bytes: &[u8]) -> io::Result<bool> {
@@ -94,50 +87,51 @@ fn is_done<R: Files + AllocGlobal + Clone + Drop>(
     Ok(true)
 }
 
-fn expect_done<R: Files + AllocGlobal + Clone + Drop + Abort>(
+fn expect_done<R: Files + AllocGlobal + Clone + Drop>(
     rt: &R,
     place: &str,
     act: &Act<'_>,
 ) -> Result<(), Fail> {
-    assert!(rt; is_done(rt, place, act)?, "{place}");
-    Ok(())
+    if is_done(rt, place, act)? {
+        return Ok(());
+    }
+    Err(Fail::new(format_args!("{place} is not as it is to be")))
 }
 
-fn expect_faulty<R: Files + AllocGlobal + Clone + Drop + Abort>(
-    rt: &R,
+/// Expects these answers of a host in that folder.
+pub fn expect_in<F: Files + Drop>(
+    alloc: Global,
+    files: F,
     folder: String,
-    fails: Fault,
     rows: &[Row<'_>],
 ) -> Result<(), Fail> {
-    let mut host = FolderHost::new(FaultyFiles { rt, fails }, folder);
-    expect(rt, &mut host, rows)
+    expect(alloc, &mut FolderHost::new(files, folder), rows)
 }
 
-fn take_step<R: Files + AllocGlobal + Clone + Drop + Abort, H: Host>(
+fn take_step<R: Files + AllocGlobal + Clone + Drop>(
     rt: &R,
-    folders: (&str, &str),
-    host: &mut H,
+    scratch: &str,
+    folder: &str,
     step: &Step<'_>,
 ) -> Result<(), Fail> {
-    let (scratch, folder) = folders;
     match step {
-        Step::Calls(rows) => expect(rt, host, rows),
+        Step::Calls(rows) => expect_in(rt.alloc(), rt, below(rt, scratch, folder)?, rows),
         Step::Faulty(fails, rows) => {
-            expect_faulty(rt, below(rt, scratch, folder)?, *fails, rows)
+            let files = FaultyFiles { rt, fails: *fails };
+            expect_in(rt.alloc(), files, below(rt, scratch, folder)?, rows)
         }
         Step::At(path, act) => expect_done(rt, &below(rt, scratch, path)?, act),
     }
 }
 
-fn take_steps<R: Files + AllocGlobal + Clone + Drop + Abort>(
-    rt: &R,
+fn take_steps(
+    rt: &HostRuntime,
     scratch: &str,
     folder: &str,
     steps: &[Step<'_>],
 ) -> Result<(), Fail> {
-    let mut host = FolderHost::new(rt, below(rt, scratch, folder)?);
     for step in steps {
-        take_step(rt, (scratch, folder), &mut host, step)?;
+        take_step(rt, scratch, folder, step)?;
     }
     Ok(())
 }
@@ -155,8 +149,8 @@ const KEPT: &[Step<'_>] = &[
 
 /// Takes the steps in a scratch folder with a host in that folder of it, the first ones to make what is there before.
 /// Beside it is `outside/kept`, which is to stay as it is.
-pub fn play<R: Files + Env + AllocGlobal + Clone + Drop + Abort>(
-    rt: &R,
+pub fn play(
+    rt: &HostRuntime,
     folder: &str,
     before: &[Step<'_>],
     steps: &[Step<'_>],
