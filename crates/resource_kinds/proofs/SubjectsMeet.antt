@@ -21,7 +21,7 @@ use Rattle.resource_kinds.specs.declared.wanted.Wanted.TheVariants.{File, Folder
 use Rattle.resource_kinds.specs.Apart.{Target, Path, Variable, LogEntry}
 use Rattle.resource_kinds.specs.PathOrder.{order_of}
 use Rattle.resource_kinds.specs.Paths.{if_filled, is_parent, joined_path, kept_segments, names_of, path_of, rooted}
-use Rattle.resource_kinds.specs.Subjects.{AsksMeeting, IsAround, Matter, MattersMeet, entry_matter, is_closed, matter_of, path_matter, variable_matter}
+use Rattle.resource_kinds.specs.Subjects.{AsksMeeting, IsAround, Matter, MattersMeet, entry_matter, is_closed, matter_of, matter_at, variable_matter}
 use Rattle.resource_kinds.specs.Tables.{first_wrong, is_absent, is_directory, key_of, kind_of, rows_of, says_yes, text_named}
 use Rattle.resource_kinds.specs.Wanted.{by_key, by_table, contents_of, of_kind, on_path, wanted_of}
 use Rattle.resource_kinds.proofs.PathOrders.{IsOrder, below_bytes, below_chars, is_order, order_above, order_below, order_same}
@@ -42,18 +42,18 @@ closed_is : (closed : Bool) (bytes path : List ℕ) → cond closed (Some bytes)
 closed_is true bytes path is = (refl, same_Some bytes path is)
 closed_is false bytes path is = absurd (none-some path is)
 
-around : (a b : List ℕ) (closed other_closed : Bool) → closed ≡ true → IsBelow a b → IsAround (path_matter (encode_utf8_all a) closed) (path_matter (encode_utf8_all b) other_closed)
+around : (a b : List ℕ) (closed other_closed : Bool) → closed ≡ true → IsBelow a b → IsAround (matter_at (encode_utf8_all a) closed) (matter_at (encode_utf8_all b) other_closed)
 around a b closed other_closed is below =
     (encode_utf8_all a, encode_utf8_all b, ap (λ test. cond test (Some (encode_utf8_all a)) None) is, refl, below_bytes a b below)
 
 -- the one is around the other: it is closed, and above it
-around_is : (a b : List ℕ) (closed other_closed : Bool) → IsAround (path_matter (encode_utf8_all a) closed) (path_matter (encode_utf8_all b) other_closed) → (closed ≡ true) × IsBelow a b
+around_is : (a b : List ℕ) (closed other_closed : Bool) → IsAround (matter_at (encode_utf8_all a) closed) (matter_at (encode_utf8_all b) other_closed) → (closed ≡ true) × IsBelow a b
 around_is a b closed other_closed is =
     let parts = closed_is closed (encode_utf8_all a) is.0 is.2 in
     (parts.0, below_chars a b (subst (λ x. IsBelow x (encode_utf8_all b)) (sym parts.1) (subst (IsBelow is.0) (sym (path_same (encode_utf8_all b) is.1 is.3)) is.4)))
 
 order_meets : (a b : List ℕ) (closed other_closed : Bool) (order : PathOrder) → IsOrder order a b → IsTrue (told order closed other_closed)
-    → MattersMeet (path_matter (encode_utf8_all a) closed) (path_matter (encode_utf8_all b) other_closed)
+    → MattersMeet (matter_at (encode_utf8_all a) closed) (matter_at (encode_utf8_all b) other_closed)
 order_meets a b closed other_closed orders.Same is holds = inl (ap (λ chars. Path (encode_utf8_all chars)) is)
 order_meets a b closed other_closed orders.Above is holds = inr (inl (around a b closed other_closed holds is))
 order_meets a b closed other_closed orders.Below is holds = inr (inr (around b a other_closed closed holds is))
@@ -68,7 +68,7 @@ is_beneath a b is = subst (λ x. order_of x b ≡ orders.Below) (sym is.1) (orde
 is_same : (a b : List ℕ) → a ≡ b → order_of a b ≡ orders.Same
 is_same a b same = subst (λ x. order_of a x ≡ orders.Same) same (order_same a)
 
-meets_order : (a b : List ℕ) (closed other_closed : Bool) → MattersMeet (path_matter (encode_utf8_all a) closed) (path_matter (encode_utf8_all b) other_closed)
+meets_order : (a b : List ℕ) (closed other_closed : Bool) → MattersMeet (matter_at (encode_utf8_all a) closed) (matter_at (encode_utf8_all b) other_closed)
     → IsTrue (told (order_of a b) closed other_closed)
 meets_order a b closed other_closed (inl same) =
     ap (λ order. told order closed other_closed) (is_same a b (encodes_same a b (path_same (encode_utf8_all a) (encode_utf8_all b) same)))
@@ -80,7 +80,7 @@ meets_order a b closed other_closed (inr (inr inside)) =
     ap (λ order. told order closed other_closed) (is_beneath a b parts.1) ∙ parts.0
 
 pub paths_met : (a b : List ℕ) (closed other_closed : Bool) (order : PathOrder) → order ≡ order_of a b
-    → IsTrue (told order closed other_closed) ↔ MattersMeet (path_matter (encode_utf8_all a) closed) (path_matter (encode_utf8_all b) other_closed)
+    → IsTrue (told order closed other_closed) ↔ MattersMeet (matter_at (encode_utf8_all a) closed) (matter_at (encode_utf8_all b) other_closed)
 paths_met a b closed other_closed order is = (
   order_meets a b closed other_closed order (subst (λ o. IsOrder o a b) (sym is) (is_order a b)),
   λ meet. ap (λ o. told o closed other_closed) is ∙ meets_order a b closed other_closed meet,
@@ -127,22 +127,21 @@ entries_unmet id other_id message other same fails differ = (
 -- ---- what a resource is about
 
 standing_matter : (path : List ℕ) (forced : Bool) (contents : Option (List ℕ)) (directory absent : Bool)
-    → path_matter path (absent || not directory) ≡ matter_of (cond directory (cond absent (NoFolder path forced) (Folder path)) (cond absent (NoFile path) (File path contents)))
+    → matter_at path (absent || not directory) ≡ matter_of (cond directory (cond absent (NoFolder path forced) (Folder path)) (cond absent (NoFile path) (File path contents)))
 standing_matter path forced contents true true = refl
 standing_matter path forced contents true false = refl
 standing_matter path forced contents false true = refl
 standing_matter path forced contents false false = refl
 
-module _ (instance : Instance) (chars : List ℕ) (closed : Bool) (is : closed ≡ is_closed instance) where
+module _ (instance : Instance) (chars : List ℕ) where
   -- the matter is that of what is asked for
   abbrev IsMatter : Wanted → Type 0
-  IsMatter wanted = Some (path_matter (encode_utf8_all chars) closed) ≡ Some (matter_of wanted)
+  IsMatter wanted = Some (matter_at (encode_utf8_all chars) (is_closed instance)) ≡ Some (matter_of wanted)
 
   of_names : (names : List (List ℕ)) → chars ≡ join_with_byte 47 names → IfOk (on_path instance (option_map joined_path (if_filled names))) IsMatter
   of_names [] spelled = tt
   of_names (name ∷ names) spelled =
-      ap (λ x. Some (path_matter (encode_utf8_all x) closed)) spelled
-      ∙ ap (λ x. Some (path_matter (joined_path (name ∷ names)) x)) is
+      ap (λ x. Some (matter_at (encode_utf8_all x) (is_closed instance))) spelled
       ∙ ap Some (standing_matter (joined_path (name ∷ names)) (says_yes (codes "Force") instance) (contents_of instance) (is_directory instance) (is_absent instance))
 
   of_segments : (all : List (List ℕ)) (parent : Bool) → chars ≡ join_with_byte 47 (kept_segments all)

@@ -1,7 +1,6 @@
 //! What resources are about, told without memory.
-ghost use Rattle.std.specs.Prelude.{◌≡◌, ◌↔◌, IfOk, IsTrue, None, Some, encode_utf8_all, option_map};
+ghost use Rattle.std.specs.Prelude.{◌≡◌, ◌↔◌, IfOk, IsTrue, None, Some, option_map};
 ghost use Rattle.std.specs.Result.{is_err, result_ok};
-ghost use Rattle.resource_kinds.specs.PathOrder.{path_left};
 ghost use Rattle.resource_kinds.specs.Paths.{path_of};
 ghost use Rattle.resource_kinds.specs.Subjects.{AsksMeeting, MattersMeet, entry_matter, is_closed, matter_of, path_matter, subject_matter, variable_matter};
 ghost use Rattle.resource_kinds.specs.Tables.{key_of, text_named};
@@ -17,12 +16,20 @@ use mof_values::{Instance, Text, same_text};
 /// What a resource is about.
 #[derive(Clone, Copy)]
 pub enum Subject<'a> {
-    /// A path; a closed one is that of a resource that asks for no folder there.
-    Path { path: PathRest<'a>, closed: bool },
-    Variable { name: &'a Text },
+    /// A path, and the instance, which tells whether a folder is asked for there.
+    Path {
+        path: PathRest<'a>,
+        instance: &'a Instance,
+    },
+    Variable {
+        name: &'a Text,
+    },
 
     /// An entry of the log.
-    Logged { id: &'a Text, message: &'a Text },
+    Logged {
+        id: &'a Text,
+        message: &'a Text,
+    },
 }
 
 /// What the resource is about, where it has no fault.
@@ -90,23 +97,13 @@ fn by_key<'a>(kind: Kind, resource: &'a Resource, text: &'a Text) -> Option<Subj
     }
 }
 
-fn on_path<'a>(instance: &Instance, text: &'a Text) -> Option<Subject<'a>>
+fn on_path<'a>(instance: &'a Instance, text: &'a Text) -> Option<Subject<'a>>
     ensures { IfOk (on_path instance.now (path_of text.now)) (λ wanted. option_map subject_matter result ≡ Some (matter_of wanted)) }
 {
     match path_in(text.as_slice()) {
-        Some(path) => Some(Subject::Path {
-            path,
-            closed: is_closed(instance),
-        }),
+        Some(path) => Some(Subject::Path { path, instance }),
         None => None,
     }
-}
-
-// Tells whether the instance asks for no folder.
-fn is_closed(instance: &Instance) -> bool
-    ensures { result ≡ is_closed instance.now }
-{
-    says(instance, "Ensure", "Absent") || !says(instance, "Type", "Directory")
 }
 
 fn meet(a: Subject, b: Subject) -> bool
@@ -114,12 +111,12 @@ fn meet(a: Subject, b: Subject) -> bool
 {
     match (a, b) {
         (
-            Subject::Path { path, closed },
+            Subject::Path { path, instance },
             Subject::Path {
                 path: other,
-                closed: other_closed,
+                instance: other_instance,
             },
-        ) => paths_meet(path, closed, other, other_closed),
+        ) => paths_meet(path, instance, other, other_instance),
         (Subject::Variable { name }, Subject::Variable { name: other }) => names_meet(name, other),
         (
             Subject::Logged { id, message },
@@ -132,15 +129,27 @@ fn meet(a: Subject, b: Subject) -> bool
     }
 }
 
-fn paths_meet(path: PathRest, closed: bool, other: PathRest, other_closed: bool) -> bool
-    ensures { IsTrue result ↔ MattersMeet (path_matter (encode_utf8_all (path_left path.entry)) closed) (path_matter (encode_utf8_all (path_left other.entry)) other_closed) }
+fn paths_meet(
+    path: PathRest,
+    instance: &Instance,
+    other: PathRest,
+    other_instance: &Instance,
+) -> bool
+    ensures { IsTrue result ↔ MattersMeet (path_matter path.entry instance.now) (path_matter other.entry other_instance.now) }
 {
     match compare(path, other) {
         PathOrder::Same => true,
-        PathOrder::Above => closed,
-        PathOrder::Below => other_closed,
+        PathOrder::Above => is_closed(instance),
+        PathOrder::Below => is_closed(other_instance),
         PathOrder::Apart => false,
     }
+}
+
+// Tells whether the instance asks for no folder.
+fn is_closed(instance: &Instance) -> bool
+    ensures { result ≡ is_closed instance.now }
+{
+    says(instance, "Ensure", "Absent") || !says(instance, "Type", "Directory")
 }
 
 #[tactic(auto, using(crate::proofs::SubjectsMeet::same_names_meet, crate::proofs::SubjectsMeet::met_names_same))]
