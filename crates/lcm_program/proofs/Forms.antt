@@ -1,12 +1,12 @@
 -- Words ask for at most one command; where words in no form go wrong.
-use Rattle.std.proofs.Common.{◌≡◌, ℕ, ◌+◌, ◌<◌, ◌≤◌, ◌^◌, List, [], ◌∷◌, ◌++◌, ◌⊎◌, inl, inr, length, take, drop, get_or, codes, sum, bytes_eq, if◌then◌else◌, refl, sym, ap, ◌∙◌, subst, arith}
+use Rattle.std.proofs.Common.{◌≡◌, ℕ, ◌-◌, ◌<◌, ◌≤◌, List, [], ◌∷◌, ◌⊎◌, inl, inr, length, take, drop, get_or, codes, sum, map, bytes_eq, if◌then◌else◌, refl, sym, ap, ap₂, ◌∙◌, subst, take_all, arith}
 use Rattle.std.specs.Fmt.{decimal}
 use Rattle.std.specs.Str.Parse.{digits_value}
 use Rattle.std.proofs.lemmas.Str.Parse.{numerals_by_value, tells_digits}
 use Rattle.std.proofs.lemmas.Fmt.{digits_value-decimal}
 use Rattle.lcm_program.specs.declared.words.Command.{Command}
 use Rattle.lcm_program.specs.declared.words.Command.TheVariants.{Test, Check, Order, Canon, Checksum, Generate}
-use Rattle.lcm_program.specs.Words.{BeginsForm, IsCount, IsForm, IsUsage, generated_limit}
+use Rattle.lcm_program.specs.Words.{IsCount, IsForm, IsUsage}
 
 -- the command that words in a form ask for
 asked : List (List ℕ) → Command
@@ -78,29 +78,18 @@ no_word = record {
 pub wrong_first : (first : List ℕ) (rest : List (List ℕ)) → ((command : Command) → IsForm command (first ∷ []) → ⊥) → (first ≡ codes "generate" → ⊥)
     → IsUsage (first ∷ rest) 0
 wrong_first first rest alone other =
-    let never : (command : Command) (more : List (List ℕ)) → IsForm command (first ∷ more) → ⊥ = λ command more form.
-        elim (form_parts command first more form) [ | inl is ↦ alone command is.0 | inr is ↦ other is ] in
     record {
       no_form = λ command form. never command rest form;
       within = omega arith;
       begins = (Test, codes "test" ∷ [], refl);
       stops = λ below begins. never begins.0 begins.1 begins.2;
     }
-
--- a word follows one that stands alone
-pub word_too_many : (command : Command) (first second : List ℕ) (rest : List (List ℕ)) → IsForm command (first ∷ []) → IsUsage (first ∷ second ∷ rest) 1
-word_too_many command first second rest alone =
-    let other : first ≡ codes "generate" → ⊥ = λ is.
-        let form = generate_form command [] (subst (λ word. IsForm command (word ∷ [])) is alone) in
-        omega (arith, ap length form.3) in
-    let never : (wanted : Command) (more : List (List ℕ)) → IsForm wanted (first ∷ second ∷ more) → ⊥ = λ wanted more form.
-        elim (form_parts wanted first (second ∷ more) form) [ | inl is ↦ omega (arith, ap length is.1) | inr is ↦ other is ] in
-    record {
-      no_form = λ wanted form. never wanted rest form;
-      within = omega arith;
-      begins = (command, [], alone);
-      stops = λ below begins. never begins.0 begins.1 begins.2;
-    }
+  where
+    never : (command : Command) (more : List (List ℕ)) → IsForm command (first ∷ more) → ⊥
+    never command more form = elim (form_parts command first more form) [
+      | inl is ↦ alone command is.0
+      | inr is ↦ other is
+    ]
 
 -- `generate` stands alone
 pub no_count : IsUsage (codes "generate" ∷ []) 1
@@ -114,25 +103,41 @@ no_count = record {
 -- the word behind `generate` is no count
 pub wrong_count : (word : List ℕ) (rest : List (List ℕ)) → ((count : ℕ) → IsCount word count → ⊥) → IsUsage (codes "generate" ∷ word ∷ rest) 1
 wrong_count word rest not_count =
-    let never : (command : Command) (more : List (List ℕ)) → IsForm command (codes "generate" ∷ word ∷ more) → ⊥ = λ command more form.
-        let parts = generate_form command (word ∷ more) form in
-        let same : parts.2 ≡ word = ap (λ words. get_or words 0 []) (sym parts.3) in
-        not_count parts.0 (subst (λ w. IsCount w parts.0) same parts.4) in
     record {
       no_form = λ command form. never command rest form;
       within = omega arith;
       begins = (Generate 1, decimal 1 ∷ [], (decimal 1, refl, (refl, omega arith, omega arith)));
       stops = λ below begins. never begins.0 begins.1 begins.2;
     }
+  where
+    never : (command : Command) (more : List (List ℕ)) → IsForm command (codes "generate" ∷ word ∷ more) → ⊥
+    never command more form =
+        let parts = generate_form command (word ∷ more) form in
+        let same : parts.2 ≡ word = ap (λ words. get_or words 0 []) (sym parts.3) in
+        not_count parts.0 (subst (λ w. IsCount w parts.0) same parts.4)
 
 -- a word follows the count
-pub word_behind_count : (word third : List ℕ) (rest : List (List ℕ)) (count : ℕ) → IsCount word count → IsUsage (codes "generate" ∷ word ∷ third ∷ rest) 2
-word_behind_count word third rest count counted =
-    let never : (command : Command) (more : List (List ℕ)) → IsForm command (codes "generate" ∷ word ∷ third ∷ more) → ⊥ = λ command more form.
-        omega (arith, ap length (generate_form command (word ∷ third ∷ more) form).3) in
+pub word_behind_count : (word : List ℕ) (more : List (List ℕ)) (count : ℕ) → 0 < length more → IsCount word count → IsUsage (codes "generate" ∷ word ∷ more) 2
+word_behind_count word [] count some counted = absurd (omega (arith, some))
+word_behind_count word (third ∷ rest) count some counted =
     record {
       no_form = λ command form. never command rest form;
       within = omega arith;
       begins = (Generate count, [], (word, refl, counted));
       stops = λ below begins. never begins.0 begins.1 begins.2;
     }
+  where
+    never : (command : Command) (others : List (List ℕ)) → IsForm command (codes "generate" ∷ word ∷ third ∷ others) → ⊥
+    never command others form = omega (arith, ap length (generate_form command (word ∷ third ∷ others) form).3)
+
+-- words as the bytes of the texts that were handed over
+module _ {X : Type 0} (f : X → List ℕ) where
+  pub no_texts : (texts : List X) → length texts < 1 → map f texts ≡ []
+  no_texts [] below = refl
+  no_texts (text ∷ more) below = absurd (omega (arith, below))
+
+  pub first_and_rest : (texts : List X) (first : X) (word : List ℕ) → 1 ≤ length texts → first ≡ get_or texts 0 first → word ≡ f first
+      → word ∷ map f (take (length texts - 1) (drop 1 texts)) ≡ map f texts
+  first_and_rest [] first word some is same = absurd (omega (arith, some))
+  first_and_rest (text ∷ more) first word some is same =
+      ap₂ (λ (w : List ℕ) (ws : List X). w ∷ map f ws) (same ∙ ap f is) (take_all (length (text ∷ more) - 1) more (omega arith))

@@ -1,4 +1,5 @@
 pub mod Answered
+pub mod Counts
 pub mod Forms
 pub mod Inputs
 pub mod Monitored

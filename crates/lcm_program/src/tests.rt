@@ -2,6 +2,7 @@ mod canon;
 mod checksum;
 mod documents;
 mod kinds;
+mod words;
 
 use super::*;
 use dsc_outside::{Ends, Failed, MemoryHost, MemorySink, MemorySource, Sink, Source, Variable};
