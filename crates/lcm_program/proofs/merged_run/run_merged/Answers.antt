@@ -1,7 +1,4 @@
-use Rattle.std.proofs.Common.{◌≡◌, ◌∙◌, inl, inr, ap, sym, subst}
-use Rattle.lcm_core.specs.declared.modes.RunEnd.{RunEnd}
-use Rattle.lcm_core.specs.declared.modes.RunEnd.TheVariants as ends
-use Rattle.lcm_core.specs.Ends.{IsEnd}
+use Rattle.std.proofs.Common.{inr}
 use Rattle.lcm_core.proofs.Traces.{legal_places}
 use Rattle.resource_kinds.specs.Kinds.{calls_of}
 use Rattle.lcm_program.proofs.Monitored.{begun, came_to, not_memory, ran, ran_if_any}
