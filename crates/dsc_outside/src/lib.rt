@@ -6,9 +6,9 @@
 //! know which of the two it was given.
 //!
 //! `MemorySource`, `MemorySink` and `MemoryHost` are exact: they fail in the calls that they were told to fail in,
-//! the host also from its stop on, and in no other but where they find no memory for what they keep. `Absent` fails in
-//! each call. The module `real` has standard input and output and the folder that stands for the machine; it is the
-//! edge that is trusted.
+//! the host also from its stop on, and in no other but where they find no memory for what they keep. `ReliableHost`
+//! fails in none, and `Absent` in each. The module `real` has standard input and output and the folder that stands for
+//! the machine; it is the edge that is trusted.
 #![tactic(auto)]
 
 mod absent;

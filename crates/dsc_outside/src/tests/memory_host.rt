@@ -207,7 +207,7 @@ fn expect_stopped(
     let mut host = empty_host(alloc, Vec::new(alloc), stop);
     expect(alloc, &mut host, stopped)?;
     if host.short() {
-        return Err(Fail::new("no memory is told"));
+        return Err(Fail::new("want of memory is told"));
     }
     expect(alloc, &mut ReliableHost::of(host.into_contents()), looks)
 }
