@@ -1,5 +1,5 @@
 -- The turn of a resource in a repair.
-use Rattle.std.specs.Prelude.{◌≡◌, ◌≢◌, ◌⊎◌, ℕ, Bool, false, List, [], ◌∷◌, ◌++◌, get_or, Result, Ok, Err}
+use Rattle.std.specs.Prelude.{◌≡◌, ◌≢◌, ◌⊎◌, ℕ, ◌+◌, ◌≤◌, Bool, false, List, [], ◌∷◌, ◌++◌, get_or, length, Result, Ok, Err}
 use Rattle.std.specs.List.{list_all}
 use Rattle.dsc_terms.specs.Counts.{RoseBy}
 use Rattle.dsc_document.specs.declared.document.Document.{Document}
@@ -52,7 +52,7 @@ abbrev pub all_held : List Bool → List ℕ → Bool
 all_held held places = list_all (λ q. get_or held q false) places
 
 -- the entries of a turn are behind those that were there, by steps from the one value to the other
-pub record TookTurn {S : Type 0} (kept : S → List Entry) (does : S → Document → Entry → S → Type 0) (still : S → S → Type 0) (faults : S → ℕ)
+pub record TookTurn {S : Type 0} (kept : S → List Entry) (spare : S → ℕ) (does : S → Document → Entry → S → Type 0) (still : S → S → Type 0) (faults : S → ℕ)
     (document : Document) (r : ℕ) (before after : S) (result : Result Bool Stop) : Type 0 where
   pub turn : List Entry
   pub is_turn : IsTurn r turn
@@ -62,9 +62,11 @@ pub record TookTurn {S : Type 0} (kept : S → List Entry) (does : S → Documen
   pub shows : Shows last result r
   pub chain : Chain does still document before turn after
   pub failures : RoseBy (host_failures turn) (faults before) (faults after)
+  pub later : faults before ≤ faults after
+  pub room : spare before ≤ spare after + length turn
 
 -- the same of what follows the first Test, which answered no
-pub record TookRest {S : Type 0} (kept : S → List Entry) (does : S → Document → Entry → S → Type 0) (still : S → S → Type 0) (faults : S → ℕ)
+pub record TookRest {S : Type 0} (kept : S → List Entry) (spare : S → ℕ) (does : S → Document → Entry → S → Type 0) (still : S → S → Type 0) (faults : S → ℕ)
     (document : Document) (r : ℕ) (before after : S) (result : Result Bool Stop) : Type 0 where
   pub rest : List Entry
   pub is_turn : IsTurn r (Tested r tests.No ∷ rest)
@@ -74,3 +76,5 @@ pub record TookRest {S : Type 0} (kept : S → List Entry) (does : S → Documen
   pub shows : Shows last result r
   pub chain : Chain does still document before rest after
   pub failures : RoseBy (host_failures rest) (faults before) (faults after)
+  pub later : faults before ≤ faults after
+  pub room : spare before ≤ spare after + length rest

@@ -4,7 +4,7 @@ ghost use Rattle.resource_kinds.specs.Trace.{entry_is_yes, has_succeeded};
 
 use resource_kinds::{Entry, TestAnswer};
 
-/// Tells whether the last entry of the resource at that place is a Test that answered yes.
+/// Tells whether the last entry of the resource at that place is a Test that answered yes; takes no memory.
 pub fn succeeded(calls: &[Entry], place: u32) -> bool
     ensures { result ≡ has_succeeded calls.now place }
 {

@@ -1,5 +1,5 @@
 //! Runs in both modes.
-ghost use Rattle.std.specs.Prelude.{◌≡◌, ◌⊎◌, ◌<◌, ◌≤◌, ◌*◌, ◌^◌, [], length, replicate, All, false};
+ghost use Rattle.std.specs.Prelude.{◌≡◌, ◌⊎◌, ◌<◌, ◌≤◌, ◌+◌, ◌*◌, ◌^◌, [], length, replicate, All, false};
 ghost use Rattle.dsc_terms.specs.Counts.{RoseBy};
 ghost use Rattle.dsc_document.specs.Dependencies.{HasDistinctIds, NamesResources};
 ghost use Rattle.depend_order.specs.Documents.{AreDependencies, IsOrderOfDocument};
@@ -19,7 +19,8 @@ use std::alloc::{AllocError, Global};
 /// Tests each resource of the document in the order of dependencies, and in a repair sets what does not hold.
 ///
 /// In a repair a resource is tested only where the last Test of each of its dependencies answered yes; where its own answers
-/// no it is set, and tested again where that was done. A fault of one resource does not end the run.
+/// no it is set, and tested again where that was done. A fault of one resource does not end the run. A repair takes memory of
+/// its own before its first Test, and then none but what a Test or a Set takes.
 pub fn run<R: Resources>(
     alloc: Global,
     document: &Document,
@@ -39,6 +40,8 @@ pub fn run<R: Resources>(
     ensures end { IsEnd mode result (R.kept resources.new) }
     ensures chain { Chain R.does R.still document.now resources.old (R.kept resources.new) resources.new }
     ensures faults { RoseBy (host_failures (R.kept resources.new)) (R.faults resources.old) (R.faults resources.new) }
+    ensures later { R.faults resources.old ≤ R.faults resources.new }
+    ensures room { R.spare resources.old ≤ R.spare resources.new + length (R.kept resources.new) }
 {
     match mode {
         RunMode::Monitor => monitor(document, order, resources),
@@ -57,6 +60,8 @@ fn monitor<R: Resources>(document: &Document, order: &[u32], resources: &mut R) 
     ensures end { IsEnd RunMode.Monitor result (R.kept resources.new) }
     ensures chain { Chain R.does R.still document.now resources.old (R.kept resources.new) resources.new }
     ensures faults { RoseBy (host_failures (R.kept resources.new)) (R.faults resources.old) (R.faults resources.new) }
+    ensures later { R.faults resources.old ≤ R.faults resources.new }
+    ensures room { R.spare resources.old ≤ R.spare resources.new + length (R.kept resources.new) }
 {
     for place in order {
         if let TestAnswer::Memory = resources.test(document, *place) {
@@ -85,6 +90,8 @@ fn repair<R: Resources>(
     ensures end { IsEnd RunMode.Repair result (R.kept resources.new) }
     ensures chain { Chain R.does R.still document.now resources.old (R.kept resources.new) resources.new }
     ensures faults { RoseBy (host_failures (R.kept resources.new)) (R.faults resources.old) (R.faults resources.new) }
+    ensures later { R.faults resources.old ≤ R.faults resources.new }
+    ensures room { R.spare resources.old ≤ R.spare resources.new + length (R.kept resources.new) }
 {
     let Ok(depends) = dependencies(alloc, document) else {
         return RunEnd::Memory;
@@ -118,6 +125,8 @@ fn take_turns<R: Resources>(
     ensures end { IsStop result (R.kept resources.new) }
     ensures chain { Chain R.does R.still document.now resources.old (R.kept resources.new) resources.new }
     ensures faults { RoseBy (host_failures (R.kept resources.new)) (R.faults resources.old) (R.faults resources.new) }
+    ensures later { R.faults resources.old ≤ R.faults resources.new }
+    ensures room { R.spare resources.old ≤ R.spare resources.new + length (R.kept resources.new) }
 {
     for place in order {
         let at = *place as usize;

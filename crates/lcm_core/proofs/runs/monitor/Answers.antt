@@ -20,6 +20,8 @@ loop-place-init g c =
       goes_on = λ e ends last. absurd (omega (arith, ap length ends.1, length-append ends.0 (e ∷ [])));
       chain = g.met.R.Resources.stays _;
       faults = omega arith;
+      later = omega arith;
+      used = omega arith;
       room = omega (arith, c.requires.room, order_count c.args.document.now c.args.order.now c.requires.order);
     })
 
@@ -65,6 +67,8 @@ loop-place-preserved g c =
       goes_on = λ e ends last. c.in_default.not-Memory (subst IsFinal (sym (ends_with_push kept entry e ends)) last);
       chain = chain_push g.R.Resources.does g.R.Resources.still _ _ _ _ _ _ g.met.R.Resources.still_does g.met.R.Resources.stays so_far.chain c.test.ensures.does;
       faults = omega (arith, host_failures_push kept entry, so_far.faults, c.test.ensures.cause);
+      later = omega (arith, so_far.later, c.test.ensures.later);
+      used = omega (arith, so_far.used, c.test.ensures.room, length-append kept (entry ∷ []));
       room = omega (arith, so_far.room, c.test.ensures.room);
     })
 

@@ -14,5 +14,7 @@ invariant-loop-place g l =
       goes_on : GoesOn kept;
       chain : Chain g.R.Resources.does g.R.Resources.still l.document l.fn.resources kept l.resources;
       faults : RoseBy (host_failures kept) (g.R.Resources.faults l.fn.resources) (g.R.Resources.faults l.resources);
+      later : g.R.Resources.faults l.fn.resources ≤ g.R.Resources.faults l.resources;
+      used : g.R.Resources.spare l.fn.resources ≤ g.R.Resources.spare l.resources + length kept;
       room : length l.order ≤ g.R.Resources.spare l.resources + l.place-index;
     }

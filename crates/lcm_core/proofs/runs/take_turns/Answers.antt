@@ -25,6 +25,8 @@ loop-place-init g c =
       marks = λ q lt. ap (λ (l : List Bool). get_or l q false) c.requires.none ∙ get_or-replicate count q false false lt;
       chain = g.met.R.Resources.stays _;
       faults = omega arith;
+      later = omega arith;
+      used = omega arith;
       room = omega (arith, c.requires.room);
     })
 
@@ -74,6 +76,8 @@ loop-place-preserved-then-not-all_held g c =
       marks = so_far.marks;
       chain = so_far.chain;
       faults = so_far.faults;
+      later = so_far.later;
+      used = so_far.used;
       room = omega (arith, so_far.room);
     }
 
@@ -155,6 +159,8 @@ loop-place-preserved g c =
       ];
       chain = chain_turn g.R.Resources.does g.R.Resources.still document _ kept _ r took.turn _ g.met.R.Resources.still_does took.is_turn so_far.chain took.chain;
       faults = omega (arith, so_far.faults, took.failures, sum_by-append entry_failures kept took.turn);
+      later = omega (arith, so_far.later, took.later);
+      used = omega (arith, so_far.used, took.room, length-append kept took.turn);
       room = omega (arith, so_far.room, c.in_ok-held.ensures.room);
     })
 

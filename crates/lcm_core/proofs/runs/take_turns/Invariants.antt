@@ -16,5 +16,7 @@ invariant-loop-place g l =
       marks : (q : ℕ) → q < count → get_or l.held q false ≡ has_succeeded kept q;
       chain : Chain g.R.Resources.does g.R.Resources.still l.document l.fn.resources kept l.resources;
       faults : RoseBy (host_failures kept) (g.R.Resources.faults l.fn.resources) (g.R.Resources.faults l.resources);
+      later : g.R.Resources.faults l.fn.resources ≤ g.R.Resources.faults l.resources;
+      used : g.R.Resources.spare l.fn.resources ≤ g.R.Resources.spare l.resources + length kept;
       room : 3 * count ≤ g.R.Resources.spare l.resources + 3 * l.place-index;
     }

@@ -25,4 +25,6 @@ returns-in-No-clause-turn g c =
       shows = rest.shows;
       chain = (c.test.new.self, subst (λ (a : TestAnswer). g.R.Resources.does c.args.resources.now c.args.document.now (Tested place a) c.test.new.self) c.in-No.is c.test.ensures.does, rest.chain);
       failures = omega (arith, rest.failures, sum_by-cons entry_failures first rest.rest, ap (λ (a : TestAnswer). entry_failures (Tested place a)) c.in-No.is, c.test.ensures.cause);
+      later = omega (arith, rest.later, c.test.ensures.later);
+      room = omega (arith, rest.room, c.test.ensures.room);
     }
