@@ -12,7 +12,7 @@ use Rattle.lcm_program.specs.declared.status.Status.{Status}
 use Rattle.lcm_program.specs.declared.status.Status.TheVariants.{Memory}
 use Rattle.lcm_program.specs.Lines.{id_at, resources_line}
 use Rattle.lcm_program.specs.Quoted.{quoted}
-use Rattle.lcm_program.specs.Ran.{RanWhole}
+use Rattle.lcm_program.specs.Ran.{RanToLast}
 use Rattle.lcm_program.specs.Tool.{TellsText}
 
 abbrev pub is_test : Entry → Bool
@@ -43,7 +43,7 @@ pub record TellsGenerated (count : ℕ) (text : List ℕ) : Type 0 where
   pub order : List ℕ
   pub trace : List Entry
   pub after : HostState
-  pub run : RanWhole document Repair order trace (Some empty_host) (Some after) 0 0
+  pub run : RanToLast document Repair order trace (Some empty_host) (Some after) 0 0
   pub blameless : host_failures trace ≡ 0
   pub lines : text ≡ generated_lines count document order trace
 

@@ -19,8 +19,8 @@ pub record Ran (document : Document) (mode : RunMode) (order : List ℕ) (trace 
   pub is_true : TellsTrue document before trace after
   pub failures : RoseBy (host_failures trace) faults_before faults_after
 
--- the run came to its last resource, or to a Set for which the machine wants a reboot
-pub record RanWhole (document : Document) (mode : RunMode) (order : List ℕ) (trace : List Entry) (before after : Option HostState) (faults_before faults_after : ℕ) : Type 0 where
+-- the run came to its last resource, or to a Set behind which the machine wants a reboot
+pub record RanToLast (document : Document) (mode : RunMode) (order : List ℕ) (trace : List Entry) (before after : Option HostState) (faults_before faults_after : ℕ) : Type 0 where
   pub run : Ran document mode order trace before after faults_before faults_after
   pub came : GoesOn trace ⊎ EndsInReboot trace
 

@@ -33,7 +33,7 @@ use std::alloc::Global;
 
 /// Does what the words ask for, and tells how it ended.
 ///
-/// The input is read to its end first, and the output is written after all other work.
+/// Where the command takes an input, it is read to its end first. The output is written after all other work.
 pub fn node<S: Source, K: Sink, D: Disk, H: Host, L: Link, C: Clock>(
     alloc: Global,
     words: &[String],

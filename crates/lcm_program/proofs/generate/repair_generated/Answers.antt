@@ -5,19 +5,19 @@ use Rattle.depend_order.proofs.DocumentOrders.{order_below}
 use Rattle.lcm_core.specs.declared.modes.RunMode.TheVariants.{Repair}
 use Rattle.resource_kinds.specs.Kinds.{calls_of, host_of}
 use Rattle.lcm_program.specs.Generate.{generated_lines}
-use Rattle.lcm_program.specs.Ran.{RanWhole}
+use Rattle.lcm_program.specs.Ran.{RanToLast}
 use Rattle.lcm_program.proofs.generate.repair_generated.Goals as goal
 
 pub lines-requires-clause-order : goal.lines-requires-clause-order
 lines-requires-clause-order c =
-    rw c.deref.ensures.value (order_below c.in_ok-document.document c.in_ok-order.order.items c.in_ok-order.ensures.whole.run.is_order)
+    rw c.deref.ensures.value (order_below c.in_ok-document.document c.in_ok-order.order.items c.in_ok-order.ensures.to_last.run.is_order)
 
 pub returns : goal.returns
 returns c =
     let document = c.in_ok-document.document in
     let order = c.in_ok-order.order.items in
     let trace = calls_of c.run_merged.new.kinds in
-    let run = c.in_ok-order.ensures.whole in
+    let run = c.in_ok-order.ensures.to_last in
     let after = told_by (host_of c.run_merged.new.kinds) in
     record {
       document = document;
@@ -25,7 +25,7 @@ returns c =
       order = order;
       trace = trace;
       after = after;
-      run = subst (λ (h : HostState). RanWhole document Repair order trace (Some h) (Some after) 0 0)
+      run = subst (λ (h : HostState). RanToLast document Repair order trace (Some h) (Some after) 0 0)
           (ap told_by (c.new-kinds.ensures.host ∙ c.of.ensures) ∙ c.empty.ensures) run;
       blameless = omega (arith, run.run.failures);
       lines = c.in_ok-lines.ensures

@@ -1,6 +1,8 @@
-use Rattle.std.proofs.Common.{inr}
+use Rattle.std.proofs.Common.{rules, subst, inl, inr}
 use Rattle.lcm_core.proofs.Traces.{legal_places}
 use Rattle.resource_kinds.specs.Kinds.{calls_of}
+use Rattle.lcm_core.specs.declared.modes.RunEnd.{RunEnd}
+use Rattle.lcm_core.specs.Ends.{IsEnd}
 use Rattle.lcm_program.proofs.Monitored.{begun, came_to, not_memory, ran, ran_if_any}
 use Rattle.lcm_program.proofs.merged_run.run_merged.Goals as goal
 
@@ -15,7 +17,8 @@ returns-in-Finished g c =
     given.legal whole given.chain given.faults in
     record {
       any = inr (order, run);
-      whole = record { run = run; came = came_to c.args.mode c.run.result trace c.in-Finished.is given.end };
+      to_last = record { run = run; came = came_to c.args.mode c.run.result trace c.in-Finished.is given.end };
+      memory = search rules;
       known = legal_places document c.args.mode order trace given.legal;
     }
 
@@ -29,3 +32,11 @@ returns-in-Memory-clause-any g c =
 
 pub returns-in-Memory-clause-known : goal.returns-in-Memory-clause-known
 returns-in-Memory-clause-known g c = legal_places c.args.document.now c.args.mode c.deref.result.now (calls_of c.run.new.resources) c.run.ensures.legal
+
+pub returns-in-Memory-clause-memory : goal.returns-in-Memory-clause-memory
+returns-in-Memory-clause-memory g c =
+    let ends = subst (λ (e : RunEnd). IsEnd c.args.mode e (calls_of c.run.new.resources)) c.in-Memory.is c.run.ensures.end in
+    elim ends [
+      | inl wants ↦ inr wants
+      | inr none ↦ inl none.nothing
+    ]

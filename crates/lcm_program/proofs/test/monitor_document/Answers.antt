@@ -24,5 +24,5 @@ returns-clause-host g c = monitored_keeps c.args.document.now (calls_of c.run_me
 
 pub returns-clause-finished : goal.returns-clause-finished
 returns-clause-finished g c =
-    let run = c.in_ok-_order.ensures.whole in
+    let run = c.in_ok-_order.ensures.to_last in
     monitored_goes_on c.args.document.now _ (calls_of c.run_merged.new.kinds) run.run.legal run.came
