@@ -1,5 +1,5 @@
 //! The generated document.
-ghost use Rattle.std.specs.Prelude.{◌≡◌, ◌<◌, ◌≤◌, [], IfOk};
+ghost use Rattle.std.specs.Prelude.{◌≡◌, ◌≤◌, [], IfOk};
 ghost use Rattle.generated_document.specs.Contents.{HasContents};
 ghost use Rattle.generated_document.specs.Generated.{IsGenerated, generated_instances};
 ghost use Rattle.mof_syntax.specs.Canonical.{canonical_bytes};
@@ -11,13 +11,12 @@ use mof_values::{Memory, Text};
 use partial_merge::{MergeError, Part, merge, part_of};
 use std::alloc::{AllocError, Global};
 
-/// The document of that many resources, 1 to 4096.
+/// The document of that many resources, at most 4,096.
 ///
 /// The resources stand by falling number. That of number i, 0 to `count` - 1, is an environment resource of the id
 /// `[Environment]Ri`, the name `Vi` and the value i, and depends on that of number (i - 1) / 2, rounded down, where i
 /// is above 0. The version is `2.0.0`.
 pub fn generated_document(alloc: Global, count: u32) -> Result<Document, AllocError>
-    requires some { 0 < count }
     requires few { count ≤ 4096 }
     ensures generated { IfOk result (IsGenerated count) }
     ensures contents { IfOk result (HasContents count) }

@@ -14,7 +14,7 @@ use Rattle.resource_kinds.specs.Trace.{WantsMemory, has_succeeded, is_yes, last_
 use Rattle.resource_kinds.proofs.Marks.{count_mapped, get_or-marks, length-marks}
 use Rattle.report_log.specs.declared.marks.Mark.TheVariants as marks
 use Rattle.report_log.specs.Marks.{is_success, mark_of, marks_of}
-use Rattle.report_log.specs.Report.{IsSettled}
+use Rattle.report_log.specs.Report.{HasNoUntestedSet}
 
 -- ---- what holds of each entry holds of a last one
 
@@ -38,7 +38,7 @@ last_holds P t r e all is = found_holds P (λ x. place_of x == r) (reverse t) e 
 
 -- ---- marks
 
-module _ (document : Document) (t : List Entry) (memory : All (λ e. WantsMemory e → ⊥) t) (done : IsSettled document t) where
+module _ (document : Document) (t : List Entry) (memory : All (λ e. WantsMemory e → ⊥) t) (done : HasNoUntestedSet document t) where
   settled_entry : (r : ℕ) → r < length document.resources → (o : Option Entry) → last_entry t r ≡ o → mark_of o ≡ marks.Unsettled → ⊥
   settled_entry r below None is mark = cc
   settled_entry r below (Some (Tested place tests.Yes)) is mark = cc
@@ -59,7 +59,7 @@ module _ (document : Document) (t : List Entry) (memory : All (λ e. WantsMemory
       settled k below (sym (get_or-marks mark_of t (length document.resources) k d below) ∙ is)
 
 -- a trace of which no mark is unsettled ends with no Set that was done
-pub none_done : (document : Document) (t : List Entry) → All (λ mark. mark ≡ marks.Unsettled → ⊥) (marks_of t (length document.resources)) → IsSettled document t
+pub none_done : (document : Document) (t : List Entry) → All (λ mark. mark ≡ marks.Unsettled → ⊥) (marks_of t (length document.resources)) → HasNoUntestedSet document t
 none_done document t all r place below is =
     let n = length document.resources in
     all r marks.NotCalled (omega (arith, below, length-marks mark_of t n)) (get_or-marks mark_of t n r marks.NotCalled below ∙ ap mark_of is)

@@ -87,5 +87,5 @@ pub record IsReport (document : Document) (trace : List Entry) (frame : Frame) (
 -- ---- traces of runs that are reported
 
 -- no resource's last entry is a Set that was done
-abbrev pub IsSettled : Document → List Entry → Type 0
-IsSettled document trace = (r place : ℕ) → r < length document.resources → last_entry trace r ≡ Some (Set place sets.Done) → ⊥
+abbrev pub HasNoUntestedSet : Document → List Entry → Type 0
+HasNoUntestedSet document trace = (r place : ℕ) → r < length document.resources → last_entry trace r ≡ Some (Set place sets.Done) → ⊥

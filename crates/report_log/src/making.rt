@@ -3,7 +3,7 @@ ghost use Rattle.std.specs.Prelude.{◌≡◌, ◌<◌, ◌≤◌, ◌↔◌, �
 ghost use Rattle.resource_kinds.specs.Trace.{EndsInReboot, WantsMemory, place_of};
 ghost use Rattle.report_log.specs.declared.marks.Mark.TheVariants.{Unsettled};
 ghost use Rattle.report_log.specs.Marks.{listed_of, outcome_of, reason_of};
-ghost use Rattle.report_log.specs.Report.{IsSettled, IsReport, listed_limit};
+ghost use Rattle.report_log.specs.Report.{HasNoUntestedSet, IsReport, listed_limit};
 ghost use Rattle.report_log.specs.Room.{IsRoomFor};
 ghost use Rattle.report_log.specs.Sizes.{DocumentInSize, FrameInSize, ReportInSize};
 
@@ -21,7 +21,7 @@ pub fn report_of(room: ReportRoom, document: &Document, calls: &[Entry], frame: 
     requires document { DocumentInSize document.now }
     requires known { All (λ e. place_of e < length document.now.resources) calls.now }
     requires memory { All (λ e. WantsMemory e → ⊥) calls.now }
-    requires settled { IsSettled document.now calls.now }
+    requires settled { HasNoUntestedSet document.now calls.now }
     requires frame { FrameInSize frame }
 
     ensures report { IsReport document.now calls.now frame result }

@@ -49,12 +49,14 @@ pub struct Missed {
     /// Its ResourceID, as spelled.
     pub id: Text,
 
+    /// Why it did not.
     pub reason: Reason,
 }
 
 /// A part of the run's document.
 #[derive(Debug, Drop)]
 pub struct PartMark {
+    /// Its name, as spelled.
     pub name: Text,
 
     /// The SHA-256 digest of its bytes.
@@ -67,14 +69,16 @@ pub struct Frame {
     /// The number of the job.
     pub job: u64,
 
-    /// The run is the first one of its document.
+    /// The run is of the document that is pending.
     pub initial: bool,
 
-    /// The node pulls its documents.
+    /// The refresh mode is Pull.
     pub pull: bool,
 
-    /// When the run started and ended, in seconds since 1970-01-01.
+    /// When the run started, in seconds since 1970-01-01T00:00:00Z.
     pub start: u64,
+
+    /// When it ended, in the same seconds.
     pub end: u64,
 
     pub parts: Items<PartMark>,
@@ -86,14 +90,16 @@ pub struct Report {
     /// The number of the job.
     pub job: u64,
 
-    /// The run is the first one of its document.
+    /// The run is of the document that is pending.
     pub initial: bool,
 
-    /// The node pulls its documents.
+    /// The refresh mode is Pull.
     pub pull: bool,
 
-    /// When the run started and ended, in seconds since 1970-01-01.
+    /// When the run started, in seconds since 1970-01-01T00:00:00Z.
     pub start: u64,
+
+    /// When it ended, in the same seconds.
     pub end: u64,
 
     /// The document's version.

@@ -38,4 +38,3 @@ tells_true document (e ∷ t) (Some s) b chain =
     let step = chain.1 in
     let rest = tells_true document t (Some step.0) b (subst (λ (m : Option HostState). Chain TellsEntry (λ x y. x ≡ y) document m t b) step.1 chain.2) in
     (rest.0, rest.1, (step.0, step.2, rest.2))
-

@@ -3,7 +3,7 @@ ghost use Rattle.std.specs.Prelude.{◌≡◌, ◌<◌, ◌↔◌, All, IsTrue, 
 ghost use Rattle.std.specs.Bool.{OnTrue};
 ghost use Rattle.resource_kinds.specs.Trace.{WantsMemory, place_of};
 ghost use Rattle.report_log.specs.declared.marks.Mark.TheVariants.{Unsettled};
-ghost use Rattle.report_log.specs.Report.{IsSettled};
+ghost use Rattle.report_log.specs.Report.{HasNoUntestedSet};
 ghost use Rattle.report_log.specs.Sizes.{DocumentInSize, Fits};
 
 use super::*;
@@ -119,7 +119,7 @@ fn is_memory(entry: &Entry) -> bool
 /// Tells whether no resource's last entry is a Set that was done.
 pub fn is_settled(alloc: Global, document: &Document, calls: &[Entry]) -> Result<bool, AllocError>
     requires { All (λ e. place_of e < length document.now.resources) calls.now }
-    ensures { IfOk result (λ told. OnTrue told (IsSettled document.now calls.now)) }
+    ensures { IfOk result (λ told. OnTrue told (HasNoUntestedSet document.now calls.now)) }
 {
     let count = document.resources.as_slice().len();
     let marks = marked(vec![in alloc; Mark::NotCalled; count]?, calls);
