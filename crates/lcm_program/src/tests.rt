@@ -1,6 +1,7 @@
 mod canon;
 mod checksum;
 mod documents;
+mod generate;
 mod kinds;
 mod words;
 
