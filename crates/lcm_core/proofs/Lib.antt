@@ -1,3 +1,4 @@
+pub mod Bounded
 pub mod OneTurn
 pub mod Past
 pub mod Ready

@@ -1,9 +1,10 @@
 //! Runs in both modes.
-ghost use Rattle.std.specs.Prelude.{◌≡◌, ◌⊎◌, ◌<◌, ◌≤◌, ◌+◌, ◌*◌, ◌^◌, [], length, replicate, All, false};
+ghost use Rattle.std.specs.Prelude.{◌≡◌, ◌⊎◌, ◌<◌, ◌≤◌, ◌+◌, ◌*◌, ◌^◌, ℕ, [], length, replicate, All, false};
 ghost use Rattle.dsc_terms.specs.Counts.{RoseBy};
 ghost use Rattle.dsc_document.specs.Dependencies.{HasDistinctIds, NamesResources};
 ghost use Rattle.depend_order.specs.Documents.{AreDependencies, IsOrderOfDocument};
 ghost use Rattle.resource_kinds.specs.Trace.{Chain, host_failures};
+ghost use Rattle.lcm_core.specs.Bounds.{sets_of, tests_of};
 ghost use Rattle.lcm_core.specs.Ends.{IsEnd, IsUnbegun};
 ghost use Rattle.lcm_core.specs.Legal.{Legal};
 ghost use Rattle.lcm_core.specs.Turn.{IsStop, all_held};
@@ -42,6 +43,7 @@ pub fn run<R: Resources>(
     ensures faults { RoseBy (host_failures (R.kept resources.new)) (R.faults resources.old) (R.faults resources.new) }
     ensures later { R.faults resources.old ≤ R.faults resources.new }
     ensures room { R.spare resources.old ≤ R.spare resources.new + length (R.kept resources.new) }
+    ensures bound { (r : ℕ) → (tests_of (R.kept resources.new) r ≤ 2) × (sets_of (R.kept resources.new) r ≤ 1) }
 {
     match mode {
         RunMode::Monitor => monitor(document, order, resources),
