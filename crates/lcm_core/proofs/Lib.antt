@@ -1,4 +1,5 @@
 pub mod OneTurn
 pub mod Past
 pub mod Ready
+pub mod Repaired
 pub mod Traces

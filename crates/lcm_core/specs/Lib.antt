@@ -1,4 +1,5 @@
 pub mod Ends
 pub mod Legal
+pub mod RepairLaws
 pub mod Turn
 pub mod Whole

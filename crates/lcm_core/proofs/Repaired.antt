@@ -1,0 +1,254 @@
+-- Why a resource without faults ends with a Test that answered yes.
+use Rattle.std.proofs.Common.{◌≡◌, ◌⊎◌, inl, inr, ℕ, zero, suc, ◌+◌, ◌<◌, ◌≤◌, true, List, [], ◌∷◌, ◌++◌, length, take, get_or, map, slice_get, Option, Some, None, Result, Ok, Err, option_and_then, refl, sym, ◌∙◌, ap, subst, arith, append-nil}
+use Rattle.std.specs.Prelude.{Contains}
+use Rattle.std.specs.Option.{IsSomeAnd}
+use Rattle.std.specs.Result.{result_ok}
+use Rattle.std.proofs.Math.Dec.{eqb}
+use Rattle.std.proofs.lemmas.Bool.Decides.{eqb_tells}
+use Rattle.std.proofs.lemmas.List.{append_assoc, take_all, take_more}
+use Rattle.std.proofs.lemmas.List.Elements.{All-head, All-tail, Contains-append_cases}
+use Rattle.std.proofs.lemmas.Map.Made.{Contains-tail}
+use Rattle.std.proofs.lemmas.Option.{none-some, same_Some}
+use Rattle.dsc_terms.proofs.Splits.{contains_cons, contains_front}
+use Rattle.dsc_outside.specs.Host.{HostState}
+use Rattle.dsc_document.specs.declared.document.Document.{Document}
+use Rattle.dsc_document.specs.declared.document.Resource.{Resource}
+use Rattle.dsc_document.specs.Dependencies.{IsDependency}
+use Rattle.resource_kinds.specs.declared.entry.Failure.{Failure}
+use Rattle.resource_kinds.specs.declared.entry.Failure.TheVariants as faults
+use Rattle.resource_kinds.specs.declared.entry.TestAnswer.{TestAnswer}
+use Rattle.resource_kinds.specs.declared.entry.TestAnswer.TheVariants as tests
+use Rattle.resource_kinds.specs.declared.entry.SetAnswer.{SetAnswer}
+use Rattle.resource_kinds.specs.declared.entry.SetAnswer.TheVariants as sets
+use Rattle.resource_kinds.specs.declared.entry.Entry.{Entry}
+use Rattle.resource_kinds.specs.declared.entry.Entry.TheVariants.{Tested, Set}
+use Rattle.resource_kinds.specs.declared.wanted.Wanted.{Wanted}
+use Rattle.resource_kinds.specs.Apart.{wanted_at}
+use Rattle.resource_kinds.specs.Holds.{Holds}
+use Rattle.resource_kinds.specs.Laws.{SetMakesHold}
+use Rattle.resource_kinds.specs.Trace.{EndsWith, HasEntry, IsFinal, Succeeded, entry_is_yes, is_yes, last_entry, place_of}
+use Rattle.resource_kinds.specs.True.{AnswersKnown, AnswersTrue, IsTrueEntry, LeavesFaulty, SetsKnown, SetsTrue, True}
+use Rattle.resource_kinds.specs.Wanted.{wanted_of}
+use Rattle.resource_kinds.proofs.Marks.{last_elsewhere, last_here}
+use Rattle.lcm_core.specs.declared.modes.RunMode.TheVariants.{Repair}
+use Rattle.lcm_core.specs.Legal.{GoesOn, IsFirstTest, Legal, MayFollow}
+use Rattle.lcm_core.specs.RepairLaws.{BlamesNothing, ComesTo, EntryBlames, IsKnown, IsOfMachine, IsSmooth, IsSound, RepairSucceeds, itself, through}
+use Rattle.lcm_core.specs.Whole.{BeginsWithSet, BeginsWithTest}
+use Rattle.lcm_core.proofs.Past.{next_of}
+
+-- ---- the last entry
+
+-- behind this entry the resource has none
+pub record IsLastOf (trace : List Entry) (r : ℕ) : Type 0 where
+  pub front : List Entry
+  pub entry : Entry
+  pub rest : List Entry
+  pub is : trace ≡ front ++ entry ∷ rest
+  pub of : place_of entry ≡ r
+  pub last : HasEntry rest r → ⊥
+
+behind : (x : Entry) (xs : List Entry) (r : ℕ) → IsLastOf xs r → IsLastOf (x ∷ xs) r
+behind x xs r l = record {
+  front = x ∷ l.front;
+  entry = l.entry;
+  rest = l.rest;
+  is = ap (λ (es : List Entry). x ∷ es) l.is;
+  of = l.of;
+  last = l.last;
+}
+
+pub last_of : (trace : List Entry) (r : ℕ) → IsLastOf trace r ⊎ (HasEntry trace r → ⊥)
+last_of [] r = inr (λ has. omega (arith, has.1))
+last_of (x ∷ xs) r = elim (last_of xs r) [
+  | inl later ↦ inl (behind x xs r later)
+  | inr none ↦ elim (eqb_tells (place_of x) r) [
+    | inl same ↦ inl (record { front = []; entry = x; rest = xs; is = refl; of = same.1; last = none })
+    | inr apart ↦ inr (λ has. none (Contains-tail (place_of x) (map place_of xs) r apart.1 has))
+  ]
+]
+
+head_has : (e : Entry) (es : List Entry) (r : ℕ) → place_of e ≡ r → HasEntry (e ∷ es) r
+head_has e es r same = subst (HasEntry (e ∷ es)) same (contains_front (place_of e) [] (map place_of es))
+
+-- entries of others change nothing of what its last entry is
+last_over : (t es : List Entry) (r : ℕ) → (HasEntry es r → ⊥) → last_entry (t ++ es) r ≡ last_entry t r
+last_over t [] r none = ap (λ (l : List Entry). last_entry l r) (append-nil t)
+last_over t (e ∷ es) r none = elim (eqb_tells (place_of e) r) [
+  | inl same ↦ absurd (none (head_has e es r same.1))
+  | inr apart ↦
+      ap (λ (l : List Entry). last_entry l r) (sym (append_assoc t (e ∷ []) es))
+      ∙ last_over (t ++ e ∷ []) es r (λ has. none (contains_cons (place_of e) (map place_of es) r has)) ∙ last_elsewhere t e r apart.0
+]
+
+pub last_succeeds : (trace : List Entry) (r : ℕ) (l : IsLastOf trace r) → entry_is_yes l.entry ≡ true → Succeeded trace r
+last_succeeds trace r l yes =
+    ap (λ (t : List Entry). is_yes (last_entry t r)) (l.is ∙ sym (append_assoc l.front (l.entry ∷ []) l.rest))
+    ∙ ap is_yes (last_over (l.front ++ l.entry ∷ []) l.rest r l.last ∙ last_here l.front l.entry r l.of) ∙ yes
+
+-- ---- what its entries tell of a resource without a fault of its own
+
+result_is : (asks : Result Wanted Failure) (wanted : Wanted) → result_ok asks ≡ Some wanted → asks ≡ Ok wanted
+result_is (Ok known) wanted is = ap (λ (w : Wanted). Ok w) (same_Some known wanted is)
+result_is (Err failure) wanted is = absurd (none-some wanted is)
+
+told_answer : (a : HostState) (resource : Option Resource) (wanted : Wanted) (answer : TestAnswer)
+    → option_and_then (λ r. result_ok (wanted_of r)) resource ≡ Some wanted
+    → IsSomeAnd resource (λ x. AnswersTrue a (wanted_of x) answer) → AnswersKnown a wanted answer
+told_answer a None wanted answer is told = absurd (none-some wanted is)
+told_answer a (Some resource) wanted answer is told =
+    subst (λ (asks : Result Wanted Failure). AnswersTrue a asks answer) (result_is (wanted_of resource) wanted is) told
+
+told_set : (a b : HostState) (resource : Option Resource) (wanted : Wanted) (answer : SetAnswer)
+    → option_and_then (λ r. result_ok (wanted_of r)) resource ≡ Some wanted
+    → IsSomeAnd resource (λ x. SetsTrue a x.id (wanted_of x) answer b) → (id : List ℕ) × SetsKnown a id wanted answer b
+told_set a b None wanted answer is told = absurd (none-some wanted is)
+told_set a b (Some resource) wanted answer is told =
+    (resource.id, subst (λ (asks : Result Wanted Failure). SetsTrue a resource.id asks answer b) (result_is (wanted_of resource) wanted is) told)
+
+answer_known : (document : Document) (a b : HostState) (p : ℕ) (wanted : Wanted) (answer : TestAnswer) → wanted_at document p ≡ Some wanted
+    → IsTrueEntry a document (Tested p answer) b → AnswersKnown a wanted answer
+answer_known document a b p wanted answer asks told = told_answer a (slice_get document.resources p) wanted answer asks told.1
+
+set_known : (document : Document) (a b : HostState) (p : ℕ) (wanted : Wanted) (answer : SetAnswer) → wanted_at document p ≡ Some wanted
+    → IsTrueEntry a document (Set p answer) b → (id : List ℕ) × SetsKnown a id wanted answer b
+set_known document a b p wanted answer asks told = told_set a b (slice_get document.resources p) wanted answer asks told
+
+-- the faults of such a resource are the machine's
+test_blames : (failure : Failure) → failure ≡ faults.HostFailed → IsOfMachine failure
+test_blames failure is = subst IsOfMachine (sym is) tt
+
+set_blames : (a b : HostState) (wanted : Wanted) (failure : Failure) → LeavesFaulty a wanted failure b → IsOfMachine failure
+set_blames a b wanted faults.NoSuchResource leaves = absurd leaves
+set_blames a b wanted (faults.OutOfProfile name) leaves = absurd leaves
+set_blames a b wanted faults.BadPath leaves = absurd leaves
+set_blames a b wanted faults.InTheWay leaves = tt
+set_blames a b wanted faults.HostFailed leaves = tt
+
+-- ---- along the trace
+
+-- the states before and behind an entry
+pub true_split : (document : Document) (a b : HostState) (front : List Entry) (e : Entry) (rest : List Entry) → True document a (front ++ e ∷ rest) b
+    → (x y : HostState) × IsTrueEntry x document e y × True document y rest b
+true_split document a b [] e rest chain = (a, chain.0, chain.1, chain.2)
+true_split document a b (f ∷ front) e rest chain = true_split document chain.0 b front e rest chain.2
+
+blameless : (front : List Entry) (e : Entry) (rest : List Entry) → BlamesNothing (front ++ e ∷ rest) → EntryBlames e → ⊥
+blameless [] e rest none = All-head (λ (x : Entry). EntryBlames x → ⊥) e rest none
+blameless (f ∷ front) e rest none = blameless front e rest (All-tail (λ (x : Entry). EntryBlames x → ⊥) f (front ++ e ∷ rest) none)
+
+may_goes_on : (document : Document) (order : List ℕ) (before : List Entry) (e : Entry) → MayFollow document Repair order before e → GoesOn before
+may_goes_on document order before (Tested r answer) may = may.goes_on
+may_goes_on document order before (Set r answer) may = may.goes_on
+
+-- no entry is final: something follows it, or the run came to its last resource
+never_final : (document : Document) (order : List ℕ) (trace front : List Entry) (e : Entry) (rest : List Entry) → Legal document Repair order trace → GoesOn trace
+    → trace ≡ front ++ e ∷ rest → IsFinal e → ⊥
+never_final document order trace front e [] legal finished is final = finished e (front, is) final
+never_final document order trace front e (x ∷ rest) legal finished is final =
+    let may = legal (front ++ e ∷ []) x rest (is ∙ sym (append_assoc front (e ∷ []) (x ∷ rest))) in
+    may_goes_on document order (front ++ e ∷ []) x may e (front, refl) final
+
+test_has : (rest : List Entry) (r : ℕ) → BeginsWithTest rest r → HasEntry rest r
+test_has [] r begins = absurd begins
+test_has (Tested place answer ∷ rest) r begins = head_has (Tested place answer) rest r begins
+test_has (Set place answer ∷ rest) r begins = absurd begins
+
+set_has : (rest : List Entry) (r : ℕ) → BeginsWithSet rest r → HasEntry rest r
+set_has [] r begins = absurd begins
+set_has (Tested place answer ∷ rest) r begins = absurd begins
+set_has (Set place answer ∷ rest) r begins = head_has (Set place answer) rest r begins
+
+-- behind a Set that was done the resource holds, so its Test does not answer no
+never_no : (document : Document) (a b : HostState) (front : List Entry) (p : ℕ) (rest : List Entry) (wanted : Wanted) → SetMakesHold → wanted_at document p ≡ Some wanted
+    → True document a (front ++ Set p sets.Done ∷ Tested p tests.No ∷ rest) b → ⊥
+never_no document a b front p rest wanted makes asks chain =
+    let at = true_split document a b front (Set p sets.Done) (Tested p tests.No ∷ rest) chain in
+    let (x, y, step, behind_set) = at in
+    let set = set_known document x y p wanted sets.Done asks step in
+    let holds = subst (λ (h : HostState). Holds h wanted) (sym set.1.0.applied) (makes x wanted) in
+    answer_known document y behind_set.0 p wanted tests.No asks behind_set.1 holds
+
+-- ---- one resource
+
+module _ (makes : SetMakesHold) (document : Document) (order : List ℕ) (before after : HostState) (trace : List Entry) (smooth : IsSmooth document order before trace after) where
+  reached : (r : ℕ) (e : Entry) → EndsWith trace e → IsFinal e → ⊥
+  reached r e ends final = smooth.finished e ends final
+
+  module _ (front rest : List Entry) where
+    step_at : (e : Entry) → trace ≡ front ++ e ∷ rest → (x y : HostState) × IsTrueEntry x document e y × True document y rest after
+    step_at e is = true_split document before after front e rest (subst (λ (t : List Entry). True document before t after) is smooth.is_true)
+
+    innocent : (e : Entry) → trace ≡ front ++ e ∷ rest → EntryBlames e → ⊥
+    innocent e is = blameless front e rest (subst BlamesNothing is smooth.blames)
+
+    not_final : (e : Entry) → trace ≡ front ++ e ∷ rest → IsFinal e → ⊥
+    not_final e is = never_final document order trace front e rest smooth.legal smooth.finished is
+
+    no_again : (p : ℕ) (wanted : Wanted) → wanted_at document p ≡ Some wanted → trace ≡ front ++ Tested p tests.No ∷ rest
+        → (HasEntry rest p → ⊥) → IsFirstTest order front p ⊎ EndsWith front (Set p sets.Done) → ⊥
+    no_again p wanted asks is last (inl first) =
+        last (set_has rest p (smooth.whole.repaired front p rest refl (λ e ends final. absurd (reached p e ends final)) is first.once))
+    no_again p wanted asks is last (inr ends) =
+        let split = is ∙ ap (λ (l : List Entry). l ++ Tested p tests.No ∷ rest) ends.1 ∙ append_assoc ends.0 (Set p sets.Done ∷ []) (Tested p tests.No ∷ rest) in
+        never_no document before after ends.0 p rest wanted makes asks (subst (λ (t : List Entry). True document before t after) split smooth.is_true)
+
+    -- the last entry of a resource without a fault of its own
+    answers_yes : (e : Entry) (wanted : Wanted) → wanted_at document (place_of e) ≡ Some wanted → trace ≡ front ++ e ∷ rest → (HasEntry rest (place_of e) → ⊥)
+        → entry_is_yes e ≡ true
+    answers_yes (Tested p tests.Yes) wanted asks is last = refl
+    answers_yes (Tested p tests.No) wanted asks is last =
+        absurd (no_again p wanted asks is last (smooth.legal front (Tested p tests.No) rest is).in_turn)
+    answers_yes (Tested p (tests.Fault failure)) wanted asks is last =
+        let (x, y, step, more) = step_at (Tested p (tests.Fault failure)) is in
+        absurd (innocent (Tested p (tests.Fault failure)) is (test_blames failure (answer_known document x y p wanted (tests.Fault failure) asks step)))
+    answers_yes (Tested p tests.Memory) wanted asks is last = absurd (not_final (Tested p tests.Memory) is refl)
+    answers_yes (Set p sets.Done) wanted asks is last =
+        absurd (last (test_has rest p (smooth.whole.again front p rest (λ e ends final. absurd (reached p e ends final)) is)))
+    answers_yes (Set p sets.Reboot) wanted asks is last = absurd (not_final (Set p sets.Reboot) is tt)
+    answers_yes (Set p (sets.Fault failure)) wanted asks is last =
+        let (x, y, step, more) = step_at (Set p (sets.Fault failure)) is in
+        let known = set_known document x y p wanted (sets.Fault failure) asks step in
+        absurd (innocent (Set p (sets.Fault failure)) is (set_blames x y wanted failure known.1))
+    answers_yes (Set p sets.Memory) wanted asks is last = absurd (not_final (Set p sets.Memory) is tt)
+
+  -- a resource whose dependencies succeeded
+  one_succeeds : (r : ℕ) → Contains order r → IsKnown document r → ((q : ℕ) → IsDependency document r q → Succeeded trace q) → Succeeded trace r
+  one_succeeds r listed known met =
+      let has = smooth.whole.tested r listed (λ e ends final. absurd (reached r e ends final)) (λ same q depends. met q depends) in
+      elim (last_of trace r) [
+        | inl l ↦
+            last_succeeds trace r l
+            (answers_yes l.front l.rest l.entry known.0 (ap (wanted_at document) l.of ∙ known.1) l.is (λ later. l.last (subst (HasEntry l.rest) l.of later)))
+        | inr none ↦ absurd (none has)
+      ]
+
+  -- ---- along the order
+
+  below : (r q : ℕ) → IsDependency document r q → IsSound document r → IsSound document q
+  below r q depends sound s comes = sound s (through r q s depends comes)
+
+  is_one : (x q : ℕ) → Contains (x ∷ []) q → x ≡ q
+  is_one x q has = elim (eqb_tells x q) [
+    | inl same ↦ same.1
+    | inr apart ↦ absurd (omega (arith, (Contains-tail x [] q apart.1 has).1))
+  ]
+
+  along : (i : ℕ) → i ≤ length order → (q : ℕ) → Contains (take i order) q → IsSound document q → Succeeded trace q
+  along zero le q has sound = absurd (omega (arith, has.1))
+  along (suc i) le q has sound =
+      let lt : i < length order = omega (arith, le) in
+      let r = get_or order i 0 in
+      let next = next_of document order i smooth.ordered lt in
+      elim (Contains-append_cases (take i order) (r ∷ []) q (subst (λ (l : List ℕ). Contains l q) (take_more order i 0 lt) has)) [
+        | inl earlier ↦ along i (omega (arith, le)) q earlier sound
+        | inr now ↦
+            let same = is_one r q now in
+            let sound_r = subst (IsSound document) (sym same) sound in
+            subst (Succeeded trace) same
+            (one_succeeds r next.listed (sound_r r (itself r)) (λ s depends. along i (omega (arith, le)) s (next.met s depends) (below r s depends sound_r)))
+      ]
+
+pub repair_succeeds : SetMakesHold → RepairSucceeds
+repair_succeeds makes document order before after trace r smooth is_place sound =
+    let all = subst (λ (l : List ℕ). Contains l r) (sym (take_all (length order) order (omega arith))) (smooth.ordered.all r is_place) in
+    along makes document order before after trace smooth (length order) (omega arith) r all sound
