@@ -3,7 +3,6 @@ use Rattle.std.proofs.Common.{◌≡◌, ◌⊎◌, inl, inr, ℕ, zero, suc, �
 use Rattle.std.specs.Prelude.{Contains}
 use Rattle.std.specs.Option.{IsSomeAnd}
 use Rattle.std.specs.Result.{result_ok}
-use Rattle.std.proofs.Math.Dec.{eqb}
 use Rattle.std.proofs.lemmas.Bool.Decides.{eqb_tells}
 use Rattle.std.proofs.lemmas.List.{append_assoc, take_all, take_more}
 use Rattle.std.proofs.lemmas.List.Elements.{All-head, All-tail, Contains-append_cases}
@@ -32,8 +31,8 @@ use Rattle.resource_kinds.specs.Wanted.{wanted_of}
 use Rattle.resource_kinds.proofs.Marks.{last_elsewhere, last_here}
 use Rattle.lcm_core.specs.declared.modes.RunMode.TheVariants.{Repair}
 use Rattle.lcm_core.specs.Legal.{GoesOn, IsFirstTest, Legal, MayFollow}
-use Rattle.lcm_core.specs.RepairLaws.{BlamesNothing, ComesTo, EntryBlames, IsKnown, IsOfMachine, IsSmooth, IsSound, RepairSucceeds, itself, through}
-use Rattle.lcm_core.specs.Whole.{BeginsWithSet, BeginsWithTest}
+use Rattle.lcm_core.specs.RepairLaws.{BlamesNothing, EntryBlames, IsKnown, IsOfMachine, IsUnhindered, IsSound, RepairSucceeds, itself, through}
+use Rattle.lcm_core.specs.Whole.{BeginsWithSet, BeginsWithTest, IsReached}
 use Rattle.lcm_core.proofs.Past.{next_of}
 
 -- ---- the last entry
@@ -81,9 +80,9 @@ last_over t (e ∷ es) r none = elim (eqb_tells (place_of e) r) [
 ]
 
 pub last_succeeds : (trace : List Entry) (r : ℕ) (l : IsLastOf trace r) → entry_is_yes l.entry ≡ true → Succeeded trace r
-last_succeeds trace r l yes =
+last_succeeds trace r l passes =
     ap (λ (t : List Entry). is_yes (last_entry t r)) (l.is ∙ sym (append_assoc l.front (l.entry ∷ []) l.rest))
-    ∙ ap is_yes (last_over (l.front ++ l.entry ∷ []) l.rest r l.last ∙ last_here l.front l.entry r l.of) ∙ yes
+    ∙ ap is_yes (last_over (l.front ++ l.entry ∷ []) l.rest r l.last ∙ last_here l.front l.entry r l.of) ∙ passes
 
 -- ---- what its entries tell of a resource without a fault of its own
 
@@ -170,40 +169,40 @@ never_no document a b front p rest wanted makes asks chain =
 
 -- ---- one resource
 
-module _ (makes : SetMakesHold) (document : Document) (order : List ℕ) (before after : HostState) (trace : List Entry) (smooth : IsSmooth document order before trace after) where
-  reached : (r : ℕ) (e : Entry) → EndsWith trace e → IsFinal e → ⊥
-  reached r e ends final = smooth.finished e ends final
+module _ (makes : SetMakesHold) (document : Document) (order : List ℕ) (before after : HostState) (trace : List Entry) (run : IsUnhindered document order before trace after) where
+  reached : (r : ℕ) → IsReached order trace r
+  reached r e ends final = absurd (run.finished e ends final)
 
   module _ (front rest : List Entry) where
     step_at : (e : Entry) → trace ≡ front ++ e ∷ rest → (x y : HostState) × IsTrueEntry x document e y × True document y rest after
-    step_at e is = true_split document before after front e rest (subst (λ (t : List Entry). True document before t after) is smooth.is_true)
+    step_at e is = true_split document before after front e rest (subst (λ (t : List Entry). True document before t after) is run.is_true)
 
     innocent : (e : Entry) → trace ≡ front ++ e ∷ rest → EntryBlames e → ⊥
-    innocent e is = blameless front e rest (subst BlamesNothing is smooth.blames)
+    innocent e is = blameless front e rest (subst BlamesNothing is run.blames_nothing)
 
     not_final : (e : Entry) → trace ≡ front ++ e ∷ rest → IsFinal e → ⊥
-    not_final e is = never_final document order trace front e rest smooth.legal smooth.finished is
+    not_final e is = never_final document order trace front e rest run.legal run.finished is
 
     no_again : (p : ℕ) (wanted : Wanted) → wanted_at document p ≡ Some wanted → trace ≡ front ++ Tested p tests.No ∷ rest
         → (HasEntry rest p → ⊥) → IsFirstTest order front p ⊎ EndsWith front (Set p sets.Done) → ⊥
     no_again p wanted asks is last (inl first) =
-        last (set_has rest p (smooth.whole.repaired front p rest refl (λ e ends final. absurd (reached p e ends final)) is first.once))
+        last (set_has rest p (run.whole.repaired front p rest refl (reached p) is first.once))
     no_again p wanted asks is last (inr ends) =
         let split = is ∙ ap (λ (l : List Entry). l ++ Tested p tests.No ∷ rest) ends.1 ∙ append_assoc ends.0 (Set p sets.Done ∷ []) (Tested p tests.No ∷ rest) in
-        never_no document before after ends.0 p rest wanted makes asks (subst (λ (t : List Entry). True document before t after) split smooth.is_true)
+        never_no document before after ends.0 p rest wanted makes asks (subst (λ (t : List Entry). True document before t after) split run.is_true)
 
     -- the last entry of a resource without a fault of its own
     answers_yes : (e : Entry) (wanted : Wanted) → wanted_at document (place_of e) ≡ Some wanted → trace ≡ front ++ e ∷ rest → (HasEntry rest (place_of e) → ⊥)
         → entry_is_yes e ≡ true
     answers_yes (Tested p tests.Yes) wanted asks is last = refl
     answers_yes (Tested p tests.No) wanted asks is last =
-        absurd (no_again p wanted asks is last (smooth.legal front (Tested p tests.No) rest is).in_turn)
+        absurd (no_again p wanted asks is last (run.legal front (Tested p tests.No) rest is).in_turn)
     answers_yes (Tested p (tests.Fault failure)) wanted asks is last =
         let (x, y, step, more) = step_at (Tested p (tests.Fault failure)) is in
         absurd (innocent (Tested p (tests.Fault failure)) is (test_blames failure (answer_known document x y p wanted (tests.Fault failure) asks step)))
     answers_yes (Tested p tests.Memory) wanted asks is last = absurd (not_final (Tested p tests.Memory) is refl)
     answers_yes (Set p sets.Done) wanted asks is last =
-        absurd (last (test_has rest p (smooth.whole.again front p rest (λ e ends final. absurd (reached p e ends final)) is)))
+        absurd (last (test_has rest p (run.whole.again front p rest (reached p) is)))
     answers_yes (Set p sets.Reboot) wanted asks is last = absurd (not_final (Set p sets.Reboot) is tt)
     answers_yes (Set p (sets.Fault failure)) wanted asks is last =
         let (x, y, step, more) = step_at (Set p (sets.Fault failure)) is in
@@ -214,7 +213,7 @@ module _ (makes : SetMakesHold) (document : Document) (order : List ℕ) (before
   -- a resource whose dependencies succeeded
   one_succeeds : (r : ℕ) → Contains order r → IsKnown document r → ((q : ℕ) → IsDependency document r q → Succeeded trace q) → Succeeded trace r
   one_succeeds r listed known met =
-      let has = smooth.whole.tested r listed (λ e ends final. absurd (reached r e ends final)) (λ same q depends. met q depends) in
+      let has = run.whole.tested r listed (reached r) (λ same q depends. met q depends) in
       elim (last_of trace r) [
         | inl l ↦
             last_succeeds trace r l
@@ -238,8 +237,10 @@ module _ (makes : SetMakesHold) (document : Document) (order : List ℕ) (before
   along (suc i) le q has sound =
       let lt : i < length order = omega (arith, le) in
       let r = get_or order i 0 in
-      let next = next_of document order i smooth.ordered lt in
-      elim (Contains-append_cases (take i order) (r ∷ []) q (subst (λ (l : List ℕ). Contains l q) (take_more order i 0 lt) has)) [
+      let next = next_of document order i run.ordered lt in
+      let up : suc i ≡ i + 1 = omega arith in
+      let one_more = ap (λ (n : ℕ). take n order) up ∙ take_more order i 0 lt in
+      elim (Contains-append_cases (take i order) (r ∷ []) q (subst (λ (l : List ℕ). Contains l q) one_more has)) [
         | inl earlier ↦ along i (omega (arith, le)) q earlier sound
         | inr now ↦
             let same = is_one r q now in
@@ -249,6 +250,6 @@ module _ (makes : SetMakesHold) (document : Document) (order : List ℕ) (before
       ]
 
 pub repair_succeeds : SetMakesHold → RepairSucceeds
-repair_succeeds makes document order before after trace r smooth is_place sound =
-    let all = subst (λ (l : List ℕ). Contains l r) (sym (take_all (length order) order (omega arith))) (smooth.ordered.all r is_place) in
-    along makes document order before after trace smooth (length order) (omega arith) r all sound
+repair_succeeds makes document order before after trace r run is_place sound =
+    let all = subst (λ (l : List ℕ). Contains l r) (sym (take_all (length order) order (omega arith))) (run.ordered.all r is_place) in
+    along makes document order before after trace run (length order) (omega arith) r all sound

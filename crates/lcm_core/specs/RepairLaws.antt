@@ -26,7 +26,7 @@ use Rattle.lcm_core.specs.Whole.{Whole}
 abbrev pub IsKnown : Document → ℕ → Type 0
 IsKnown document r = (wanted : Wanted) × (wanted_at document r ≡ Some wanted)
 
--- the dependencies of a resource, followed down, come to that one: none of them to the resource itself
+-- followed down, the first comes to the second: they are one, or a dependency of the first comes to it
 pub data ComesTo (document : Document) : ℕ → ℕ → Type 0 where
   itself : (r : ℕ) → ComesTo document r r
   through : (r q s : ℕ) → IsDependency document r q → ComesTo document q s → ComesTo document r s
@@ -68,16 +68,16 @@ BlamesNothing trace = All (λ e. EntryBlames e → ⊥) trace
 -- ---- the law
 
 -- a repair of a document that came to its last resource, on a host that tells, without a fault of the machine
-pub record IsSmooth (document : Document) (order : List ℕ) (before : HostState) (trace : List Entry) (after : HostState) : Type 0 where
+pub record IsUnhindered (document : Document) (order : List ℕ) (before : HostState) (trace : List Entry) (after : HostState) : Type 0 where
   pub ordered : IsOrderOfDocument document order
   pub legal : Legal document Repair order trace
   pub whole : Whole document Repair order trace
   pub finished : GoesOn trace
   pub is_true : True document before trace after
-  pub blames : BlamesNothing trace
+  pub blames_nothing : BlamesNothing trace
 
 -- each resource that is sound ends with a Test that answered yes
 abbrev pub RepairSucceeds : Type 0
 RepairSucceeds =
     (document : Document) (order : List ℕ) (before after : HostState) (trace : List Entry) (r : ℕ)
-    → IsSmooth document order before trace after → r < length document.resources → IsSound document r → Succeeded trace r
+    → IsUnhindered document order before trace after → r < length document.resources → IsSound document r → Succeeded trace r
