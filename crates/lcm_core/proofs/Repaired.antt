@@ -1,5 +1,5 @@
 -- Why a resource without faults ends with a Test that answered yes.
-use Rattle.std.proofs.Common.{◌≡◌, ◌⊎◌, inl, inr, ℕ, zero, suc, ◌+◌, ◌<◌, ◌≤◌, true, List, [], ◌∷◌, ◌++◌, length, take, get_or, map, slice_get, Option, Some, None, Result, Ok, Err, option_and_then, refl, sym, ◌∙◌, ap, subst, arith, append-nil}
+use Rattle.std.proofs.Common.{◌≡◌, ◌⊎◌, inl, inr, ℕ, zero, suc, ◌+◌, ◌<◌, ◌≤◌, true, List, [], ◌∷◌, ◌++◌, length, take, get_or, slice_get, Option, Some, None, Result, Ok, Err, option_and_then, refl, sym, ◌∙◌, ap, subst, arith}
 use Rattle.std.specs.Prelude.{Contains}
 use Rattle.std.specs.Option.{IsSomeAnd}
 use Rattle.std.specs.Result.{result_ok}
@@ -8,7 +8,6 @@ use Rattle.std.proofs.lemmas.List.{append_assoc, take_all, take_more}
 use Rattle.std.proofs.lemmas.List.Elements.{All-head, All-tail, Contains-append_cases}
 use Rattle.std.proofs.lemmas.Map.Made.{Contains-tail}
 use Rattle.std.proofs.lemmas.Option.{none-some, same_Some}
-use Rattle.dsc_terms.proofs.Splits.{contains_cons, contains_front}
 use Rattle.dsc_outside.specs.Host.{HostState}
 use Rattle.dsc_document.specs.declared.document.Document.{Document}
 use Rattle.dsc_document.specs.declared.document.Resource.{Resource}
@@ -25,64 +24,15 @@ use Rattle.resource_kinds.specs.declared.wanted.Wanted.{Wanted}
 use Rattle.resource_kinds.specs.Apart.{wanted_at}
 use Rattle.resource_kinds.specs.Holds.{Holds}
 use Rattle.resource_kinds.specs.Laws.{SetMakesHold}
-use Rattle.resource_kinds.specs.Trace.{EndsWith, HasEntry, IsFinal, Succeeded, entry_is_yes, is_yes, last_entry, place_of}
+use Rattle.resource_kinds.specs.Trace.{EndsWith, HasEntry, IsFinal, Succeeded, entry_is_yes, is_yes, place_of}
 use Rattle.resource_kinds.specs.True.{AnswersKnown, AnswersTrue, IsTrueEntry, LeavesFaulty, SetsKnown, SetsTrue, True}
 use Rattle.resource_kinds.specs.Wanted.{wanted_of}
-use Rattle.resource_kinds.proofs.Marks.{last_elsewhere, last_here}
 use Rattle.lcm_core.specs.declared.modes.RunMode.TheVariants.{Repair}
-use Rattle.lcm_core.specs.Legal.{GoesOn, IsFirstTest, Legal, MayFollow}
+use Rattle.lcm_core.specs.Legal.{IsFirstTest}
 use Rattle.lcm_core.specs.RepairLaws.{BlamesNothing, EntryBlames, IsKnown, IsOfMachine, IsUnhindered, IsSound, RepairSucceeds, itself, through}
-use Rattle.lcm_core.specs.Whole.{BeginsWithSet, BeginsWithTest, IsReached}
+use Rattle.lcm_core.specs.Whole.{IsReached}
 use Rattle.lcm_core.proofs.Past.{next_of}
-
--- ---- the last entry
-
--- behind this entry the resource has none
-pub record IsLastOf (trace : List Entry) (r : ℕ) : Type 0 where
-  pub front : List Entry
-  pub entry : Entry
-  pub rest : List Entry
-  pub is : trace ≡ front ++ entry ∷ rest
-  pub of : place_of entry ≡ r
-  pub last : HasEntry rest r → ⊥
-
-behind : (x : Entry) (xs : List Entry) (r : ℕ) → IsLastOf xs r → IsLastOf (x ∷ xs) r
-behind x xs r l = record {
-  front = x ∷ l.front;
-  entry = l.entry;
-  rest = l.rest;
-  is = ap (λ (es : List Entry). x ∷ es) l.is;
-  of = l.of;
-  last = l.last;
-}
-
-pub last_of : (trace : List Entry) (r : ℕ) → IsLastOf trace r ⊎ (HasEntry trace r → ⊥)
-last_of [] r = inr (λ has. omega (arith, has.1))
-last_of (x ∷ xs) r = elim (last_of xs r) [
-  | inl later ↦ inl (behind x xs r later)
-  | inr none ↦ elim (eqb_tells (place_of x) r) [
-    | inl same ↦ inl (record { front = []; entry = x; rest = xs; is = refl; of = same.1; last = none })
-    | inr apart ↦ inr (λ has. none (Contains-tail (place_of x) (map place_of xs) r apart.1 has))
-  ]
-]
-
-head_has : (e : Entry) (es : List Entry) (r : ℕ) → place_of e ≡ r → HasEntry (e ∷ es) r
-head_has e es r same = subst (HasEntry (e ∷ es)) same (contains_front (place_of e) [] (map place_of es))
-
--- entries of others change nothing of what its last entry is
-last_over : (t es : List Entry) (r : ℕ) → (HasEntry es r → ⊥) → last_entry (t ++ es) r ≡ last_entry t r
-last_over t [] r none = ap (λ (l : List Entry). last_entry l r) (append-nil t)
-last_over t (e ∷ es) r none = elim (eqb_tells (place_of e) r) [
-  | inl same ↦ absurd (none (head_has e es r same.1))
-  | inr apart ↦
-      ap (λ (l : List Entry). last_entry l r) (sym (append_assoc t (e ∷ []) es))
-      ∙ last_over (t ++ e ∷ []) es r (λ has. none (contains_cons (place_of e) (map place_of es) r has)) ∙ last_elsewhere t e r apart.0
-]
-
-pub last_succeeds : (trace : List Entry) (r : ℕ) (l : IsLastOf trace r) → entry_is_yes l.entry ≡ true → Succeeded trace r
-last_succeeds trace r l passes =
-    ap (λ (t : List Entry). is_yes (last_entry t r)) (l.is ∙ sym (append_assoc l.front (l.entry ∷ []) l.rest))
-    ∙ ap is_yes (last_over (l.front ++ l.entry ∷ []) l.rest r l.last ∙ last_here l.front l.entry r l.of) ∙ passes
+use Rattle.lcm_core.proofs.RepairedEntries.{final_ends, last_is, last_of, set_has, test_has}
 
 -- ---- what its entries tell of a resource without a fault of its own
 
@@ -135,28 +85,6 @@ blameless : (front : List Entry) (e : Entry) (rest : List Entry) → BlamesNothi
 blameless [] e rest none = All-head (λ (x : Entry). EntryBlames x → ⊥) e rest none
 blameless (f ∷ front) e rest none = blameless front e rest (All-tail (λ (x : Entry). EntryBlames x → ⊥) f (front ++ e ∷ rest) none)
 
-may_goes_on : (document : Document) (order : List ℕ) (before : List Entry) (e : Entry) → MayFollow document Repair order before e → GoesOn before
-may_goes_on document order before (Tested r answer) may = may.goes_on
-may_goes_on document order before (Set r answer) may = may.goes_on
-
--- no entry is final: something follows it, or the run came to its last resource
-never_final : (document : Document) (order : List ℕ) (trace front : List Entry) (e : Entry) (rest : List Entry) → Legal document Repair order trace → GoesOn trace
-    → trace ≡ front ++ e ∷ rest → IsFinal e → ⊥
-never_final document order trace front e [] legal finished is final = finished e (front, is) final
-never_final document order trace front e (x ∷ rest) legal finished is final =
-    let may = legal (front ++ e ∷ []) x rest (is ∙ sym (append_assoc front (e ∷ []) (x ∷ rest))) in
-    may_goes_on document order (front ++ e ∷ []) x may e (front, refl) final
-
-test_has : (rest : List Entry) (r : ℕ) → BeginsWithTest rest r → HasEntry rest r
-test_has [] r begins = absurd begins
-test_has (Tested place answer ∷ rest) r begins = head_has (Tested place answer) rest r begins
-test_has (Set place answer ∷ rest) r begins = absurd begins
-
-set_has : (rest : List Entry) (r : ℕ) → BeginsWithSet rest r → HasEntry rest r
-set_has [] r begins = absurd begins
-set_has (Tested place answer ∷ rest) r begins = absurd begins
-set_has (Set place answer ∷ rest) r begins = head_has (Set place answer) rest r begins
-
 -- behind a Set that was done the resource holds, so its Test does not answer no
 never_no : (document : Document) (a b : HostState) (front : List Entry) (p : ℕ) (rest : List Entry) (wanted : Wanted) → SetMakesHold → wanted_at document p ≡ Some wanted
     → True document a (front ++ Set p sets.Done ∷ Tested p tests.No ∷ rest) b → ⊥
@@ -181,7 +109,7 @@ module _ (makes : SetMakesHold) (document : Document) (order : List ℕ) (before
     innocent e is = blameless front e rest (subst BlamesNothing is run.blames_nothing)
 
     not_final : (e : Entry) → trace ≡ front ++ e ∷ rest → IsFinal e → ⊥
-    not_final e is = never_final document order trace front e rest run.legal run.finished is
+    not_final e is final = run.finished e (final_ends document Repair order trace front e rest run.legal is final) final
 
     no_again : (p : ℕ) (wanted : Wanted) → wanted_at document p ≡ Some wanted → trace ≡ front ++ Tested p tests.No ∷ rest
         → (HasEntry rest p → ⊥) → IsFirstTest order front p ⊎ EndsWith front (Set p sets.Done) → ⊥
@@ -216,8 +144,8 @@ module _ (makes : SetMakesHold) (document : Document) (order : List ℕ) (before
       let has = run.whole.tested r listed (reached r) (λ same q depends. met q depends) in
       elim (last_of trace r) [
         | inl l ↦
-            last_succeeds trace r l
-            (answers_yes l.front l.rest l.entry known.0 (ap (wanted_at document) l.of ∙ known.1) l.is (λ later. l.last (subst (HasEntry l.rest) l.of later)))
+            ap is_yes (last_is trace r l)
+            ∙ (answers_yes l.front l.rest l.entry known.0 (ap (wanted_at document) l.of ∙ known.1) l.is (λ later. l.last (subst (HasEntry l.rest) l.of later)))
         | inr none ↦ absurd (none has)
       ]
 

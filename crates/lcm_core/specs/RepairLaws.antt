@@ -1,4 +1,4 @@
--- What a repair without faults leaves: its resources hold.
+-- Laws of runs: where a repair succeeds, and what can be reported.
 use Rattle.std.specs.Prelude.{◌≡◌, ℕ, ◌<◌, ⊤, List, length, Some, All}
 use Rattle.dsc_outside.specs.Host.{HostState}
 use Rattle.dsc_document.specs.declared.document.Document.{Document}
@@ -14,8 +14,9 @@ use Rattle.resource_kinds.specs.declared.entry.Entry.{Entry}
 use Rattle.resource_kinds.specs.declared.entry.Entry.TheVariants.{Tested, Set}
 use Rattle.resource_kinds.specs.declared.wanted.Wanted.{Wanted}
 use Rattle.resource_kinds.specs.Apart.{wanted_at}
-use Rattle.resource_kinds.specs.Trace.{Succeeded}
+use Rattle.resource_kinds.specs.Trace.{EndsInMemory, Succeeded, WantsMemory, last_entry, place_of}
 use Rattle.resource_kinds.specs.True.{True}
+use Rattle.lcm_core.specs.declared.modes.RunMode.{RunMode}
 use Rattle.lcm_core.specs.declared.modes.RunMode.TheVariants.{Repair}
 use Rattle.lcm_core.specs.Legal.{GoesOn, Legal}
 use Rattle.lcm_core.specs.Whole.{Whole}
@@ -65,7 +66,7 @@ EntryBlames (Set place answer) = SetBlames answer
 abbrev pub BlamesNothing : List Entry → Type 0
 BlamesNothing trace = All (λ e. EntryBlames e → ⊥) trace
 
--- ---- the law
+-- ---- repairs that succeed
 
 -- a repair of a document that came to its last resource, on a host that tells, without a fault of the machine
 pub record IsUnhindered (document : Document) (order : List ℕ) (before : HostState) (trace : List Entry) (after : HostState) : Type 0 where
@@ -81,3 +82,17 @@ abbrev pub RepairSucceeds : Type 0
 RepairSucceeds =
     (document : Document) (order : List ℕ) (before after : HostState) (trace : List Entry) (r : ℕ)
     → IsUnhindered document order before trace after → r < length document.resources → IsSound document r → Succeeded trace r
+
+-- ---- runs that are reported
+
+-- the entries are of resources of the document, none was refused memory, and no resource's last entry is a Set that was done
+pub record IsReportable (document : Document) (trace : List Entry) : Type 0 where
+  pub known : All (λ e. place_of e < length document.resources) trace
+  pub memory : All (λ e. WantsMemory e → ⊥) trace
+  pub settled : (r place : ℕ) → last_entry trace r ≡ Some (Set place sets.Done) → ⊥
+
+-- so is the trace of each run that does not end in a want of memory
+abbrev pub RunsAreReportable : Type 0
+RunsAreReportable =
+    (document : Document) (mode : RunMode) (order : List ℕ) (trace : List Entry)
+    → Legal document mode order trace → Whole document mode order trace → (EndsInMemory trace → ⊥) → IsReportable document trace

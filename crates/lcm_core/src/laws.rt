@@ -1,5 +1,5 @@
-//! The law of a repair without faults. The call does nothing; its clause is the law.
-ghost use Rattle.lcm_core.specs.RepairLaws.{RepairSucceeds};
+//! Laws of runs. The calls do nothing; their clauses are the laws.
+ghost use Rattle.lcm_core.specs.RepairLaws.{RepairSucceeds, RunsAreReportable};
 
 use resource_kinds::set_laws;
 
@@ -11,3 +11,9 @@ pub fn repair_laws()
 {
     set_laws();
 }
+
+/// A run that does not end in a want of memory can be reported: its entries are of resources of the document, none of them was
+/// refused memory, and no resource's last entry is a Set that was done, since the Test behind it is another.
+pub fn report_laws()
+    ensures reportable { RunsAreReportable }
+{}

@@ -11,7 +11,7 @@ mod runs;
 mod turns;
 
 pub use last_entries::succeeded;
-pub use laws::repair_laws;
+pub use laws::{repair_laws, report_laws};
 pub use modes::{RunEnd, RunMode};
 pub use runs::run;
 
