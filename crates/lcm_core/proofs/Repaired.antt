@@ -1,13 +1,12 @@
 -- Why a resource without faults ends with a Test that answered yes.
-use Rattle.std.proofs.Common.{◌≡◌, ◌⊎◌, inl, inr, ℕ, zero, suc, ◌+◌, ◌<◌, ◌≤◌, true, List, [], ◌∷◌, ◌++◌, length, take, get_or, slice_get, Option, Some, None, Result, Ok, Err, option_and_then, refl, sym, ◌∙◌, ap, subst, arith}
+use Rattle.std.proofs.Common.{◌≡◌, ◌⊎◌, inl, inr, ℕ, zero, suc, ◌+◌, ◌<◌, true, List, [], ◌∷◌, ◌++◌, length, slice_get, Option, Some, None, Result, Ok, Err, option_and_then, refl, sym, ◌∙◌, ap, subst, arith, length-append}
 use Rattle.std.specs.Prelude.{Contains}
 use Rattle.std.specs.Option.{IsSomeAnd}
 use Rattle.std.specs.Result.{result_ok}
-use Rattle.std.proofs.lemmas.Bool.Decides.{eqb_tells}
-use Rattle.std.proofs.lemmas.List.{append_assoc, take_all, take_more}
-use Rattle.std.proofs.lemmas.List.Elements.{All-head, All-tail, Contains-append_cases}
-use Rattle.std.proofs.lemmas.Map.Made.{Contains-tail}
+use Rattle.std.proofs.lemmas.List.{append_assoc}
+use Rattle.std.proofs.lemmas.List.Elements.{All-head, All-tail}
 use Rattle.std.proofs.lemmas.Option.{none-some, same_Some}
+use Rattle.dsc_terms.proofs.Splits.{contains_front, split_of}
 use Rattle.dsc_outside.specs.Host.{HostState}
 use Rattle.dsc_document.specs.declared.document.Document.{Document}
 use Rattle.dsc_document.specs.declared.document.Resource.{Resource}
@@ -29,9 +28,8 @@ use Rattle.resource_kinds.specs.True.{AnswersKnown, AnswersTrue, IsTrueEntry, Le
 use Rattle.resource_kinds.specs.Wanted.{wanted_of}
 use Rattle.lcm_core.specs.declared.modes.RunMode.TheVariants.{Repair}
 use Rattle.lcm_core.specs.Legal.{IsFirstTest}
-use Rattle.lcm_core.specs.RepairLaws.{BlamesNothing, EntryBlames, IsKnown, IsOfMachine, IsUnhindered, IsSound, RepairSucceeds, itself, through}
+use Rattle.lcm_core.specs.RepairLaws.{ComesTo, EntryBlames, FaultsAreContained, IsFullRepair, IsKnown, IsOfMachine, IsSpared, RepairSucceeds, itself, through}
 use Rattle.lcm_core.specs.Whole.{IsReached}
-use Rattle.lcm_core.proofs.Past.{next_of}
 use Rattle.lcm_core.proofs.RepairedEntries.{final_ends, last_is, last_of, set_has, test_has}
 
 -- ---- what its entries tell of a resource without a fault of its own
@@ -76,28 +74,28 @@ set_blames a b wanted faults.HostFailed leaves = tt
 -- ---- along the trace
 
 -- the states before and behind an entry
-pub true_split : (document : Document) (a b : HostState) (front : List Entry) (e : Entry) (rest : List Entry) → True document a (front ++ e ∷ rest) b
+true_split : (document : Document) (a b : HostState) (front : List Entry) (e : Entry) (rest : List Entry) → True document a (front ++ e ∷ rest) b
     → (x y : HostState) × IsTrueEntry x document e y × True document y rest b
 true_split document a b [] e rest chain = (a, chain.0, chain.1, chain.2)
 true_split document a b (f ∷ front) e rest chain = true_split document chain.0 b front e rest chain.2
 
-blameless : (front : List Entry) (e : Entry) (rest : List Entry) → BlamesNothing (front ++ e ∷ rest) → EntryBlames e → ⊥
-blameless [] e rest none = All-head (λ (x : Entry). EntryBlames x → ⊥) e rest none
-blameless (f ∷ front) e rest none = blameless front e rest (All-tail (λ (x : Entry). EntryBlames x → ⊥) f (front ++ e ∷ rest) none)
+blameless : (front : List Entry) (e : Entry) (rest : List Entry) → IsSpared (front ++ e ∷ rest) (place_of e) → EntryBlames e → ⊥
+blameless [] e rest spared = All-head (λ (x : Entry). place_of x ≡ place_of e → EntryBlames x → ⊥) e rest spared refl
+blameless (f ∷ front) e rest spared =
+    blameless front e rest (All-tail (λ (x : Entry). place_of x ≡ place_of e → EntryBlames x → ⊥) f (front ++ e ∷ rest) spared)
 
 -- behind a Set that was done the resource holds, so its Test does not answer no
 never_no : (document : Document) (a b : HostState) (front : List Entry) (p : ℕ) (rest : List Entry) (wanted : Wanted) → SetMakesHold → wanted_at document p ≡ Some wanted
     → True document a (front ++ Set p sets.Done ∷ Tested p tests.No ∷ rest) b → ⊥
 never_no document a b front p rest wanted makes asks chain =
-    let at = true_split document a b front (Set p sets.Done) (Tested p tests.No ∷ rest) chain in
-    let (x, y, step, behind_set) = at in
+    let (x, y, step, behind_set) = true_split document a b front (Set p sets.Done) (Tested p tests.No ∷ rest) chain in
     let set = set_known document x y p wanted sets.Done asks step in
     let holds = subst (λ (h : HostState). Holds h wanted) (sym set.1.0.applied) (makes x wanted) in
     answer_known document y behind_set.0 p wanted tests.No asks behind_set.1 holds
 
 -- ---- one resource
 
-module _ (makes : SetMakesHold) (document : Document) (order : List ℕ) (before after : HostState) (trace : List Entry) (run : IsUnhindered document order before trace after) where
+module _ (makes : SetMakesHold) (document : Document) (order : List ℕ) (before after : HostState) (trace : List Entry) (run : IsFullRepair document order before trace after) where
   reached : (r : ℕ) → IsReached order trace r
   reached r e ends final = absurd (run.finished e ends final)
 
@@ -105,8 +103,8 @@ module _ (makes : SetMakesHold) (document : Document) (order : List ℕ) (before
     step_at : (e : Entry) → trace ≡ front ++ e ∷ rest → (x y : HostState) × IsTrueEntry x document e y × True document y rest after
     step_at e is = true_split document before after front e rest (subst (λ (t : List Entry). True document before t after) is run.is_true)
 
-    innocent : (e : Entry) → trace ≡ front ++ e ∷ rest → EntryBlames e → ⊥
-    innocent e is = blameless front e rest (subst BlamesNothing is run.blames_nothing)
+    innocent : (e : Entry) → trace ≡ front ++ e ∷ rest → IsSpared trace (place_of e) → EntryBlames e → ⊥
+    innocent e is spared = blameless front e rest (subst (λ (t : List Entry). IsSpared t (place_of e)) is spared)
 
     not_final : (e : Entry) → trace ≡ front ++ e ∷ rest → IsFinal e → ⊥
     not_final e is final = run.finished e (final_ends document Repair order trace front e rest run.legal is final) final
@@ -120,64 +118,61 @@ module _ (makes : SetMakesHold) (document : Document) (order : List ℕ) (before
         never_no document before after ends.0 p rest wanted makes asks (subst (λ (t : List Entry). True document before t after) split run.is_true)
 
     -- the last entry of a resource without a fault of its own
-    answers_yes : (e : Entry) (wanted : Wanted) → wanted_at document (place_of e) ≡ Some wanted → trace ≡ front ++ e ∷ rest → (HasEntry rest (place_of e) → ⊥)
-        → entry_is_yes e ≡ true
-    answers_yes (Tested p tests.Yes) wanted asks is last = refl
-    answers_yes (Tested p tests.No) wanted asks is last =
+    answers_yes : (e : Entry) (wanted : Wanted) → wanted_at document (place_of e) ≡ Some wanted → IsSpared trace (place_of e) → trace ≡ front ++ e ∷ rest
+        → (HasEntry rest (place_of e) → ⊥) → entry_is_yes e ≡ true
+    answers_yes (Tested p tests.Yes) wanted asks spared is last = refl
+    answers_yes (Tested p tests.No) wanted asks spared is last =
         absurd (no_again p wanted asks is last (run.legal front (Tested p tests.No) rest is).in_turn)
-    answers_yes (Tested p (tests.Fault failure)) wanted asks is last =
+    answers_yes (Tested p (tests.Fault failure)) wanted asks spared is last =
         let (x, y, step, more) = step_at (Tested p (tests.Fault failure)) is in
-        absurd (innocent (Tested p (tests.Fault failure)) is (test_blames failure (answer_known document x y p wanted (tests.Fault failure) asks step)))
-    answers_yes (Tested p tests.Memory) wanted asks is last = absurd (not_final (Tested p tests.Memory) is refl)
-    answers_yes (Set p sets.Done) wanted asks is last =
+        absurd (innocent (Tested p (tests.Fault failure)) is spared (test_blames failure (answer_known document x y p wanted (tests.Fault failure) asks step)))
+    answers_yes (Tested p tests.Memory) wanted asks spared is last = absurd (not_final (Tested p tests.Memory) is refl)
+    answers_yes (Set p sets.Done) wanted asks spared is last =
         absurd (last (test_has rest p (run.whole.again front p rest (reached p) is)))
-    answers_yes (Set p sets.Reboot) wanted asks is last = absurd (not_final (Set p sets.Reboot) is tt)
-    answers_yes (Set p (sets.Fault failure)) wanted asks is last =
+    answers_yes (Set p sets.Reboot) wanted asks spared is last = absurd (not_final (Set p sets.Reboot) is tt)
+    answers_yes (Set p (sets.Fault failure)) wanted asks spared is last =
         let (x, y, step, more) = step_at (Set p (sets.Fault failure)) is in
         let known = set_known document x y p wanted (sets.Fault failure) asks step in
-        absurd (innocent (Set p (sets.Fault failure)) is (set_blames x y wanted failure known.1))
-    answers_yes (Set p sets.Memory) wanted asks is last = absurd (not_final (Set p sets.Memory) is tt)
+        absurd (innocent (Set p (sets.Fault failure)) is spared (set_blames x y wanted failure known.1))
+    answers_yes (Set p sets.Memory) wanted asks spared is last = absurd (not_final (Set p sets.Memory) is tt)
 
   -- a resource whose dependencies succeeded
-  one_succeeds : (r : ℕ) → Contains order r → IsKnown document r → ((q : ℕ) → IsDependency document r q → Succeeded trace q) → Succeeded trace r
-  one_succeeds r listed known met =
+  one_succeeds : (r : ℕ) → Contains order r → IsKnown document r → IsSpared trace r → ((q : ℕ) → IsDependency document r q → Succeeded trace q) → Succeeded trace r
+  one_succeeds r listed known spared met =
       let has = run.whole.tested r listed (reached r) (λ same q depends. met q depends) in
       elim (last_of trace r) [
         | inl l ↦
             ap is_yes (last_is trace r l)
-            ∙ (answers_yes l.front l.rest l.entry known.0 (ap (wanted_at document) l.of ∙ known.1) l.is (λ later. l.last (subst (HasEntry l.rest) l.of later)))
+            ∙ answers_yes l.front l.rest l.entry known.0 (ap (wanted_at document) l.of ∙ known.1) (subst (IsSpared trace) (sym l.of) spared) l.is
+            (λ later. l.last (subst (HasEntry l.rest) l.of later))
         | inr none ↦ absurd (none has)
       ]
 
   -- ---- along the order
 
-  below : (r q : ℕ) → IsDependency document r q → IsSound document r → IsSound document q
-  below r q depends sound s comes = sound s (through r q s depends comes)
+  -- no fault touches the resource, or those that it comes to
+  abbrev IsUntouched : ℕ → Type 0
+  IsUntouched r = (q : ℕ) → ComesTo document r q → IsKnown document q × IsSpared trace q
 
-  is_one : (x q : ℕ) → Contains (x ∷ []) q → x ≡ q
-  is_one x q has = elim (eqb_tells x q) [
-    | inl same ↦ same.1
-    | inr apart ↦ absurd (omega (arith, (Contains-tail x [] q apart.1 has).1))
-  ]
+  below : (r q : ℕ) → IsDependency document r q → IsUntouched r → IsUntouched q
+  below r q depends untouched s comes = untouched s (through r q s depends comes)
 
-  along : (i : ℕ) → i ≤ length order → (q : ℕ) → Contains (take i order) q → IsSound document q → Succeeded trace q
-  along zero le q has sound = absurd (omega (arith, has.1))
-  along (suc i) le q has sound =
-      let lt : i < length order = omega (arith, le) in
-      let r = get_or order i 0 in
-      let next = next_of document order i run.ordered lt in
-      let up : suc i ≡ i + 1 = omega arith in
-      let one_more = ap (λ (n : ℕ). take n order) up ∙ take_more order i 0 lt in
-      elim (Contains-append_cases (take i order) (r ∷ []) q (subst (λ (l : List ℕ). Contains l q) one_more has)) [
-        | inl earlier ↦ along i (omega (arith, le)) q earlier sound
-        | inr now ↦
-            let same = is_one r q now in
-            let sound_r = subst (IsSound document) (sym same) sound in
-            subst (Succeeded trace) same
-            (one_succeeds r next.listed (sound_r r (itself r)) (λ s depends. along i (omega (arith, le)) s (next.met s depends) (below r s depends sound_r)))
-      ]
+  -- what r depends on stands before it
+  along : (n : ℕ) (front : List ℕ) (r : ℕ) (rest : List ℕ) → length front < n → order ≡ front ++ r ∷ rest → IsUntouched r → Succeeded trace r
+  along zero front r rest lt is untouched = absurd (omega (arith, lt))
+  along (suc n) front r rest lt is untouched =
+      let (known, spared) = untouched r (itself r) in
+      let listed = subst (λ (l : List ℕ). Contains l r) (sym is) (contains_front r front rest) in
+      one_succeeds r listed known spared (λ s depends.
+      let (lead, more, at) = split_of front s ((run.ordered.earliest front r rest is).ready.met s depends) in
+      along n lead s (more ++ r ∷ rest) (omega (arith, lt, ap length at, length-append lead (s ∷ more)))
+      (is ∙ ap (λ (l : List ℕ). l ++ r ∷ rest) at ∙ append_assoc lead (s ∷ more) (r ∷ rest)) (below r s depends untouched))
+
+pub faults_contained : SetMakesHold → FaultsAreContained
+faults_contained makes document order before after trace r run spared is_place sound =
+    let (front, rest, is) = split_of order r (run.ordered.all r is_place) in
+    along makes document order before after trace run (length front + 1) front r rest (omega arith) is (λ q comes. (sound q comes, spared q comes))
 
 pub repair_succeeds : SetMakesHold → RepairSucceeds
-repair_succeeds makes document order before after trace r run is_place sound =
-    let all = subst (λ (l : List ℕ). Contains l r) (sym (take_all (length order) order (omega arith))) (run.ordered.all r is_place) in
-    along makes document order before after trace run (length order) (omega arith) r all sound
+repair_succeeds makes document order before after trace r run blames_nothing is_place sound =
+    faults_contained makes document order before after trace r run (λ q comes k d lt same. blames_nothing k d lt) is_place sound

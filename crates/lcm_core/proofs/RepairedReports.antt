@@ -1,25 +1,26 @@
 -- Why the trace of a run to which no memory was refused can be reported.
-use Rattle.std.proofs.Common.{◌≡◌, inl, inr, ℕ, ◌+◌, ◌<◌, List, [], ◌∷◌, ◌++◌, length, take, get_or, Some, refl, sym, ◌∙◌, ap, subst}
+use Rattle.std.proofs.Common.{◌≡◌, inl, inr, ℕ, ◌+◌, ◌<◌, List, [], ◌∷◌, ◌++◌, length, take, drop, get_or, Some, refl, sym, ◌∙◌, ap, subst}
+use Rattle.std.specs.Prelude.{◌≢◌}
 use Rattle.std.proofs.lemmas.List.{append_assoc}
 use Rattle.std.proofs.lemmas.Option.{none-some, same_Some}
+use Rattle.dsc_terms.specs.Lists.{Precedes}
+use Rattle.dsc_terms.proofs.Splits.{split_at, split_push}
 use Rattle.dsc_document.specs.declared.document.Document.{Document}
 use Rattle.resource_kinds.specs.declared.entry.TestAnswer.TheVariants as tests
 use Rattle.resource_kinds.specs.declared.entry.SetAnswer.{SetAnswer}
 use Rattle.resource_kinds.specs.declared.entry.SetAnswer.TheVariants as sets
 use Rattle.resource_kinds.specs.declared.entry.Entry.{Entry}
 use Rattle.resource_kinds.specs.declared.entry.Entry.TheVariants.{Tested, Set}
-use Rattle.resource_kinds.specs.Trace.{HasEntry, IsFinal, last_entry, place_of}
+use Rattle.resource_kinds.specs.Trace.{EndsInMemory, HasEntry, IsFinal, WantsMemory, last_entry, place_of}
 use Rattle.lcm_core.specs.declared.modes.RunMode.{RunMode}
+use Rattle.lcm_core.specs.declared.modes.RunEnd.{RunEnd}
+use Rattle.lcm_core.specs.declared.modes.RunEnd.TheVariants as ends
+use Rattle.lcm_core.specs.Ends.{IsEnd}
 use Rattle.lcm_core.specs.Legal.{IsFirstTest, Legal}
-use Rattle.lcm_core.specs.Whole.{IsReached}
-use Rattle.std.proofs.Common.{drop}
-use Rattle.dsc_terms.specs.Lists.{Precedes}
-use Rattle.dsc_terms.proofs.Splits.{split_at, split_push}
-use Rattle.resource_kinds.specs.Trace.{EndsInMemory, WantsMemory}
-use Rattle.lcm_core.specs.RepairLaws.{RunsAreReportable}
-use Rattle.lcm_core.specs.Whole.{Whole}
+use Rattle.lcm_core.specs.RepairLaws.{RunsAreReportable, TracesAreReportable}
+use Rattle.lcm_core.specs.Whole.{IsReached, Whole}
 use Rattle.lcm_core.proofs.OneTurn.{has_split}
-use Rattle.lcm_core.proofs.Traces.{legal_places}
+use Rattle.lcm_core.proofs.Traces.{ends_with_push, legal_places}
 use Rattle.lcm_core.proofs.RepairedEntries.{IsLastOf, final_ends, last_is, last_of, last_over, test_has}
 
 wants_final : (e : Entry) → WantsMemory e → IsFinal e
@@ -84,9 +85,24 @@ module _ (document : Document) (mode : RunMode) (order : List ℕ) (trace : List
       | inr none ↦ none-some (Set place sets.Done) (sym (last_over [] trace r none) ∙ says)
     ]
 
-pub reportable : RunsAreReportable
-reportable document mode order trace legal whole fed = record {
+pub traces_reportable : TracesAreReportable
+traces_reportable document mode order trace legal whole fed = record {
   known = legal_places document mode order trace legal;
   memory = no_memory document mode order trace legal fed;
   settled = settled document mode order trace legal fed whole;
 }
+
+-- the end of a run tells whether its last entry is a want of memory
+end_tells : (mode : RunMode) (end : RunEnd) (trace : List Entry) → end ≢ ends.Memory → IsEnd mode end trace → EndsInMemory trace → ⊥
+end_tells mode ends.Finished trace other goes_on (e, last, wants) = goes_on e last (wants_final e wants)
+end_tells mode (ends.RebootAsked r) trace other (front, is) (e, last, wants) =
+    let same = ends_with_push front (Set r sets.Reboot) e (last.0, sym is ∙ last.1) in
+    absurd (no_reboot (subst WantsMemory (sym same) wants))
+  where
+    no_reboot : sets.Reboot ≡ sets.Memory → ⊥
+    no_reboot p = absurd cc
+end_tells mode ends.Memory trace other is_end in_memory = absurd (other refl)
+
+pub runs_reportable : RunsAreReportable
+runs_reportable document mode order end trace other legal (inl whole) is_end = traces_reportable document mode order trace legal whole (end_tells mode end trace other is_end)
+runs_reportable document mode order end trace other legal (inr unbegun) is_end = absurd (other unbegun.ended)

@@ -1,5 +1,5 @@
 -- Laws of runs: where a repair succeeds, and what can be reported.
-use Rattle.std.specs.Prelude.{◌≡◌, ℕ, ◌<◌, ⊤, List, length, Some, All}
+use Rattle.std.specs.Prelude.{◌≡◌, ◌≢◌, ◌⊎◌, ℕ, ◌<◌, ⊤, List, length, Some, All}
 use Rattle.dsc_outside.specs.Host.{HostState}
 use Rattle.dsc_document.specs.declared.document.Document.{Document}
 use Rattle.dsc_document.specs.Dependencies.{IsDependency}
@@ -18,6 +18,9 @@ use Rattle.resource_kinds.specs.Trace.{EndsInMemory, Succeeded, WantsMemory, las
 use Rattle.resource_kinds.specs.True.{True}
 use Rattle.lcm_core.specs.declared.modes.RunMode.{RunMode}
 use Rattle.lcm_core.specs.declared.modes.RunMode.TheVariants.{Repair}
+use Rattle.lcm_core.specs.declared.modes.RunEnd.{RunEnd}
+use Rattle.lcm_core.specs.declared.modes.RunEnd.TheVariants as ends
+use Rattle.lcm_core.specs.Ends.{IsEnd, IsUnbegun}
 use Rattle.lcm_core.specs.Legal.{GoesOn, Legal}
 use Rattle.lcm_core.specs.Whole.{Whole}
 
@@ -66,22 +69,32 @@ EntryBlames (Set place answer) = SetBlames answer
 abbrev pub BlamesNothing : List Entry → Type 0
 BlamesNothing trace = All (λ e. EntryBlames e → ⊥) trace
 
+-- no entry of the resource has
+abbrev pub IsSpared : List Entry → ℕ → Type 0
+IsSpared trace r = All (λ e. place_of e ≡ r → EntryBlames e → ⊥) trace
+
 -- ---- repairs that succeed
 
--- a repair of a document that came to its last resource, on a host that tells, without a fault of the machine
-pub record IsUnhindered (document : Document) (order : List ℕ) (before : HostState) (trace : List Entry) (after : HostState) : Type 0 where
+-- a repair that came to its last resource, on a host that tells
+pub record IsFullRepair (document : Document) (order : List ℕ) (before : HostState) (trace : List Entry) (after : HostState) : Type 0 where
   pub ordered : IsOrderOfDocument document order
   pub legal : Legal document Repair order trace
   pub whole : Whole document Repair order trace
   pub finished : GoesOn trace
   pub is_true : True document before trace after
-  pub blames_nothing : BlamesNothing trace
 
--- each resource that is sound ends with a Test that answered yes
+-- where no entry has a fault of the machine, each sound resource ends with a Test that answered yes
 abbrev pub RepairSucceeds : Type 0
 RepairSucceeds =
     (document : Document) (order : List ℕ) (before after : HostState) (trace : List Entry) (r : ℕ)
-    → IsUnhindered document order before trace after → r < length document.resources → IsSound document r → Succeeded trace r
+    → IsFullRepair document order before trace after → BlamesNothing trace → r < length document.resources → IsSound document r → Succeeded trace r
+
+-- a fault of the machine harms no resource but those that come to the one whose entry tells of it
+abbrev pub FaultsAreContained : Type 0
+FaultsAreContained =
+    (document : Document) (order : List ℕ) (before after : HostState) (trace : List Entry) (r : ℕ)
+    → IsFullRepair document order before trace after → ((q : ℕ) → ComesTo document r q → IsSpared trace q) → r < length document.resources → IsSound document r
+    → Succeeded trace r
 
 -- ---- runs that are reported
 
@@ -91,8 +104,14 @@ pub record IsReportable (document : Document) (trace : List Entry) : Type 0 wher
   pub memory : All (λ e. WantsMemory e → ⊥) trace
   pub settled : (r place : ℕ) → last_entry trace r ≡ Some (Set place sets.Done) → ⊥
 
--- so is the trace of each run that does not end in a want of memory
-abbrev pub RunsAreReportable : Type 0
-RunsAreReportable =
+-- so is each whole trace that does not end in a want of memory
+abbrev pub TracesAreReportable : Type 0
+TracesAreReportable =
     (document : Document) (mode : RunMode) (order : List ℕ) (trace : List Entry)
     → Legal document mode order trace → Whole document mode order trace → (EndsInMemory trace → ⊥) → IsReportable document trace
+
+-- and what a run leaves that ended otherwise
+abbrev pub RunsAreReportable : Type 0
+RunsAreReportable =
+    (document : Document) (mode : RunMode) (order : List ℕ) (end : RunEnd) (trace : List Entry) → end ≢ ends.Memory
+    → Legal document mode order trace → Whole document mode order trace ⊎ IsUnbegun mode end trace → IsEnd mode end trace → IsReportable document trace
