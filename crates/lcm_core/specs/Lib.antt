@@ -1,5 +1,6 @@
 pub mod Bounds
 pub mod Ends
 pub mod Legal
+pub mod RepairLaws
 pub mod Turn
 pub mod Whole

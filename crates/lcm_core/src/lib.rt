@@ -5,11 +5,13 @@
 #![tactic(auto)]
 
 mod last_entries;
+mod laws;
 mod modes;
 mod runs;
 mod turns;
 
 pub use last_entries::succeeded;
+pub use laws::{repair_laws, report_laws};
 pub use modes::{RunEnd, RunMode};
 pub use runs::run;
 

@@ -1,0 +1,22 @@
+//! Laws of runs. The calls do nothing; their clauses are the laws.
+ghost use Rattle.lcm_core.specs.RepairLaws.{FaultsAreContained, RepairSucceeds, RunsAreReportable, TracesAreReportable};
+
+use resource_kinds::set_laws;
+
+/// In a repair that came to its last resource, on a host that tells, where no entry blames the host and none says that something
+/// is in the way, each resource ends with a Test that answered yes, unless it or one of its dependencies, followed down, has a
+/// fault of its own. Where entries do blame the machine, this still holds of each resource of which, and of whose dependencies,
+/// followed down, none does.
+pub fn repair_laws()
+    ensures succeeds { RepairSucceeds }
+    ensures contained { FaultsAreContained }
+{
+    set_laws();
+}
+
+/// A run that does not end in a want of memory can be reported: its entries are of resources of the document, none of them was
+/// refused memory, and no resource's last entry is a Set that was done, since a Test of it follows.
+pub fn report_laws()
+    ensures traces { TracesAreReportable }
+    ensures runs { RunsAreReportable }
+{}
