@@ -1,6 +1,9 @@
 pub mod Answered
 pub mod Counts
 pub mod Forms
+pub mod GeneratedLaws
+pub mod GeneratedRuns
+pub mod GeneratedVariables
 pub mod Inputs
 pub mod Monitored
 pub mod Refusals

@@ -5,9 +5,10 @@ use Rattle.dsc_outside.specs.Host.{HostState, empty_host}
 use Rattle.dsc_document.specs.declared.document.Document.{Document}
 use Rattle.generated_document.specs.Generated.{IsGenerated}
 use Rattle.lcm_core.specs.declared.modes.RunMode.TheVariants.{Repair}
+use Rattle.lcm_core.specs.Legal.{GoesOn}
 use Rattle.resource_kinds.specs.declared.entry.Entry.{Entry}
 use Rattle.resource_kinds.specs.declared.entry.Entry.TheVariants.{Tested, Set}
-use Rattle.resource_kinds.specs.Trace.{host_failures, succeeded_count}
+use Rattle.resource_kinds.specs.Trace.{host_failures, missed_count, succeeded_count}
 use Rattle.lcm_program.specs.declared.status.Status.{Status}
 use Rattle.lcm_program.specs.declared.status.Status.TheVariants.{Memory}
 use Rattle.lcm_program.specs.Lines.{id_at, resources_line}
@@ -36,7 +37,8 @@ abbrev pub generated_lines : ℕ → Document → List ℕ → List Entry → Li
 generated_lines count document order trace =
     codes "generated " ++ decimal count ++ codes "\n" ++ resources_line (length document.resources) (succeeded_count document trace) ++ calls_line trace ++ ends_line document order
 
--- the text tells of the repair of the document of that count, on an empty machine that did not fail
+-- the text tells of the repair of the document of that count, on an empty machine that did not fail: it came to its last
+-- resource, and every resource succeeded
 pub record TellsGenerated (count : ℕ) (text : List ℕ) : Type 0 where
   pub document : Document
   pub generated : IsGenerated count document
@@ -44,7 +46,9 @@ pub record TellsGenerated (count : ℕ) (text : List ℕ) : Type 0 where
   pub trace : List Entry
   pub after : HostState
   pub run : RanToLast document Repair order trace (Some empty_host) (Some after) 0 0
+  pub finished : GoesOn trace
   pub blameless : host_failures trace ≡ 0
+  pub all : missed_count document trace ≡ 0
   pub lines : text ≡ generated_lines count document order trace
 
 -- such a text is printed, or a part from its front where the output failed; or memory was refused
