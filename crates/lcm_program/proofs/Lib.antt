@@ -1,7 +1,6 @@
 pub mod Answered
 pub mod Counts
 pub mod Forms
-pub mod GeneratedLaws
 pub mod GeneratedRuns
 pub mod GeneratedVariables
 pub mod Inputs

@@ -3,6 +3,7 @@ use Rattle.std.specs.Prelude.{◌≡◌, ◌⊎◌, ℕ, ◌-◌, Bool, true, fa
 use Rattle.std.specs.Fmt.{decimal}
 use Rattle.dsc_outside.specs.Host.{HostState, empty_host}
 use Rattle.dsc_document.specs.declared.document.Document.{Document}
+use Rattle.generated_document.specs.Contents.{HasContents}
 use Rattle.generated_document.specs.Generated.{IsGenerated}
 use Rattle.lcm_core.specs.declared.modes.RunMode.TheVariants.{Repair}
 use Rattle.lcm_core.specs.Legal.{GoesOn}
@@ -42,6 +43,7 @@ generated_lines count document order trace =
 pub record TellsGenerated (count : ℕ) (text : List ℕ) : Type 0 where
   pub document : Document
   pub generated : IsGenerated count document
+  pub contents : HasContents count document
   pub order : List ℕ
   pub trace : List Entry
   pub after : HostState

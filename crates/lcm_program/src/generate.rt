@@ -8,7 +8,7 @@ use crate::merged_run::run_merged;
 use dsc_document::Document;
 use dsc_outside::{HostContents, ReliableHost};
 use generated_document::generated_document;
-use lcm_core::RunMode;
+use lcm_core::{RunMode, repair_laws};
 use mof_codec::push_literal;
 use mof_values::Memory;
 use resource_kinds::{Entry, Kinds, Resources};
@@ -24,6 +24,7 @@ pub fn repair_generated(alloc: Global, count: u32) -> Result<String, Memory>
     let document = generated_document(alloc, count)?;
     let mut kinds = Kinds::new(alloc, ReliableHost::of(HostContents::empty(alloc)));
     let order = run_merged(alloc, &document, RunMode::Repair, &mut kinds)?;
+    repair_laws();
     Ok(lines(alloc, count, &document, &order, kinds.calls())?)
 }
 

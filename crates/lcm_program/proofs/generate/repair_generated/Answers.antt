@@ -7,7 +7,6 @@ use Rattle.resource_kinds.specs.Kinds.{calls_of, host_of}
 use Rattle.resource_kinds.specs.Trace.{host_failures}
 use Rattle.lcm_program.specs.Generate.{generated_lines}
 use Rattle.lcm_program.specs.Ran.{RanToLast}
-use Rattle.lcm_program.proofs.GeneratedLaws.{succeeds}
 use Rattle.lcm_program.proofs.GeneratedRuns.{finishes, none_missed}
 use Rattle.lcm_program.proofs.GeneratedVariables.{ask_variables}
 use Rattle.lcm_program.proofs.generate.repair_generated.Goals as goal
@@ -26,6 +25,7 @@ returns c =
     let none : host_failures trace ≡ 0 = omega (arith, run.run.failures) in
     let repair = subst (λ (h : HostState). RanToLast document Repair order trace (Some h) (Some after) 0 0)
     (ap told_by (c.new-kinds.ensures.host ∙ c.of.ensures) ∙ c.empty.ensures) run in
+    let succeeds = c.repair_laws.ensures.succeeds in
     let ask = ask_variables c.args.count document c.in_ok-document.ensures.contents in
     record {
       document = document;
@@ -36,6 +36,7 @@ returns c =
       run = repair;
       finished = finishes succeeds document order trace empty_host after ask refl repair none;
       blameless = none;
+      contents = c.in_ok-document.ensures.contents;
       all = none_missed succeeds document order trace empty_host after ask refl repair none;
       lines = c.in_ok-lines.ensures
           ∙ ap (λ places. generated_lines c.args.count document places c.calls.result.now) c.deref.ensures.value
