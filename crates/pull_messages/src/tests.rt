@@ -1,3 +1,4 @@
 //! Tables of bodies and targets.
 mod bodies;
 mod paths;
+mod pieces;
