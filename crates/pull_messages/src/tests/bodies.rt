@@ -27,13 +27,19 @@ fn is_registration(x: &Registration, wanted: &[&str]) -> bool {
     }
 }
 
-pub fn reads_registration(alloc: Global, body: &[u8], wanted: &Wanted<&[&str]>) -> bool {
-    let outcome = read_registration(alloc, body);
-    match (&outcome, wanted) {
+fn is_registration_outcome(
+    outcome: &Result<Registration, MessageError>,
+    wanted: &Wanted<&[&str]>,
+) -> bool {
+    match (outcome, wanted) {
         (Ok(x), Ok(wanted)) => is_registration(x, wanted),
         (Err(error), Err(wanted)) => error == wanted,
         _ => false,
     }
+}
+
+pub fn reads_registration(alloc: Global, body: &[u8], wanted: &Wanted<&[&str]>) -> bool {
+    is_registration_outcome(&read_registration(alloc, body), wanted)
 }
 
 #[test]
@@ -163,15 +169,15 @@ fn registrations_are_read_by_their_table(rt: HostRuntime) -> Result<(), Fail> {
         (r#"{"Agent\u0049nformation":{}}"#, Ok(&["", "", ""])),
         ("\u{FEFF}{\"AgentInformation\":{}}", Err(Json)),
     ];
+    const NO_UTF8: &[u8] = b"{\"AgentInformation\":{\"NodeName\":\"\xFF\"}}";
     for (body, wanted) in ROWS {
         expect(
             reads_registration(rt.alloc(), body.as_bytes(), wanted),
             body,
         )?;
     }
-    let body = b"{\"AgentInformation\":{\"NodeName\":\"\xFF\"}}";
     expect(
-        reads_registration(rt.alloc(), body, &Err(Json)),
+        reads_registration(rt.alloc(), NO_UTF8, &Err(Json)),
         "a byte FF",
     )
 }
@@ -190,13 +196,19 @@ fn are_clients(clients: &[Client], wanted: &[(&str, &str)]) -> bool {
             .all(|(client, wanted)| is_client(client, wanted))
 }
 
-pub fn reads_query(alloc: Global, body: &[u8], wanted: &Wanted<&[(&str, &str)]>) -> bool {
-    let outcome = read_query(alloc, body);
-    match (&outcome, wanted) {
+fn is_query_outcome(
+    outcome: &Result<ActionQuery, MessageError>,
+    wanted: &Wanted<&[(&str, &str)]>,
+) -> bool {
+    match (outcome, wanted) {
         (Ok(x), Ok(wanted)) => are_clients(x.clients.as_slice(), wanted),
         (Err(error), Err(wanted)) => error == wanted,
         _ => false,
     }
+}
+
+pub fn reads_query(alloc: Global, body: &[u8], wanted: &Wanted<&[(&str, &str)]>) -> bool {
+    is_query_outcome(&read_query(alloc, body), wanted)
 }
 
 #[test]
@@ -278,13 +290,19 @@ fn is_answer(x: &ActionAnswer, wanted: &(&str, &[(&str, &str)])) -> bool {
     is_text(&x.node, node) && are_details(x.details.as_slice(), details)
 }
 
-fn reads_answer(alloc: Global, body: &[u8], wanted: &Wanted<(&str, &[(&str, &str)])>) -> bool {
-    let outcome = read_action(alloc, body);
-    match (&outcome, wanted) {
+fn is_answer_outcome(
+    outcome: &Result<ActionAnswer, MessageError>,
+    wanted: &Wanted<(&str, &[(&str, &str)])>,
+) -> bool {
+    match (outcome, wanted) {
         (Ok(x), Ok(wanted)) => is_answer(x, wanted),
         (Err(error), Err(wanted)) => error == wanted,
         _ => false,
     }
+}
+
+fn reads_answer(alloc: Global, body: &[u8], wanted: &Wanted<(&str, &[(&str, &str)])>) -> bool {
+    is_answer_outcome(&read_action(alloc, body), wanted)
 }
 
 #[test]
@@ -367,13 +385,19 @@ fn is_report(x: &ReportMessage, wanted: &Told<'_>) -> bool {
         && are_texts(&x.status_data, wanted.status_data)
 }
 
-fn reads_report(alloc: Global, body: &[u8], wanted: &Wanted<Told<'_>>) -> bool {
-    let outcome = read_report(alloc, body);
-    match (&outcome, wanted) {
+fn is_report_outcome(
+    outcome: &Result<ReportMessage, MessageError>,
+    wanted: &Wanted<Told<'_>>,
+) -> bool {
+    match (outcome, wanted) {
         (Ok(x), Ok(wanted)) => is_report(x, wanted),
         (Err(error), Err(wanted)) => error == wanted,
         _ => false,
     }
+}
+
+fn reads_report(alloc: Global, body: &[u8], wanted: &Wanted<Told<'_>>) -> bool {
+    is_report_outcome(&read_report(alloc, body), wanted)
 }
 
 #[test]

@@ -5,12 +5,23 @@ use mof_values::{Items, Text};
 use std::alloc::{AllocError, Global};
 use std::test::Fail;
 
+fn push_text(out: &mut Vec<Text>, alloc: Global, spelled: &str) -> Result<(), AllocError> {
+    Ok(out.push(text(alloc, spelled)?)?)
+}
+
 fn texts(alloc: Global, spelled: &[&str]) -> Result<Items<Text>, AllocError> {
     let mut texts = Vec::new(alloc);
     for spelled in spelled {
-        texts.push(text(alloc, spelled)?)?;
+        push_text(&mut texts, alloc, spelled)?;
     }
     Ok(Items::of(texts))
+}
+
+fn is_same<T: PartialEq>(outcome: &Result<T, MessageError>, wanted: &T) -> bool {
+    match outcome {
+        Ok(x) => x == wanted,
+        Err(_) => false,
+    }
 }
 
 fn registration(alloc: Global) -> Result<Registration, AllocError> {
@@ -35,8 +46,10 @@ fn a_registration_is_written_compact_with_members_in_byte_order(
         r#""RegistrationInformation":{"RegistrationMessageType":"ConfigurationRepository"}}"#
     );
     expect(body.as_slice() == expected.as_bytes(), expected)?;
-    let again = read_registration(rt.alloc(), &body)?;
-    expect(again == registration, "the registration read again")
+    expect(
+        is_same(&read_registration(rt.alloc(), &body), &registration),
+        "the registration read again",
+    )
 }
 
 fn query(alloc: Global, checksum: &str, name: &str) -> Result<ActionQuery, AllocError> {
@@ -80,18 +93,28 @@ fn an_answer_is_written_with_its_details(rt: HostRuntime) -> Result<(), Fail> {
     expect(body.as_slice() == expected.as_bytes(), expected)
 }
 
+fn is_read_report(alloc: Global, body: &[u8], wanted: &ReportMessage) -> bool {
+    is_same(&read_report(alloc, body), wanted)
+}
+
+fn expect_report(alloc: Global, report: &ReportMessage, expected: &str) -> Result<(), Fail> {
+    let body = write_report(alloc, report)?;
+    expect(body.as_slice() == expected.as_bytes(), expected)?;
+    expect(
+        is_read_report(alloc, &body, report),
+        "the report read again",
+    )
+}
+
 #[test]
 fn a_report_is_written_with_its_job_hyphenated(rt: HostRuntime) -> Result<(), Fail> {
     let body =
         r#"{"JobId":"000000000000000000000000000000FF","Status":"s","OperationType":"o","Errors":["x"]}"#;
-    let report = read_report(rt.alloc(), body.as_bytes())?;
-    let written = write_report(rt.alloc(), &report)?;
     let expected = concat!(
         r#"{"ConfigurationVersion":"","EndTime":"","Errors":["x"],"JobId":"00000000-0000-0000-0000-0000000000ff","#,
         r#""OperationType":"o","RebootRequested":"","RefreshMode":"","ReportFormatVersion":"","StartTime":"","#,
         r#""Status":"s","StatusData":[]}"#
     );
-    expect(written.as_slice() == expected.as_bytes(), expected)?;
-    let again = read_report(rt.alloc(), &written)?;
-    expect(again == report, "the report read again")
+    let report = read_report(rt.alloc(), body.as_bytes())?;
+    expect_report(rt.alloc(), &report, expected)
 }
