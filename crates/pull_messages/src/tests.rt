@@ -1,3 +1,6 @@
 //! Tables of bodies and targets.
 mod bodies;
+mod limits;
 mod paths;
+mod pieces;
+mod written;
