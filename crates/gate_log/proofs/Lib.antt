@@ -1,0 +1,10 @@
+pub mod Holds
+pub mod Cells
+pub mod Steps
+pub mod Switch
+pub mod Rewrites
+pub mod WhatIsRead
+pub mod Unique
+pub mod Opened
+pub mod Failing
+pub mod Both

@@ -1,0 +1,117 @@
+-- What was read is what stands there.
+use Rattle.std.proofs.Common.{◌≡◌, ◌≢◌, ℕ, Bool, true, false, zero, suc, ◌+◌, ◌≤◌, ◌<◌, List, [], ◌∷◌, ◌++◌, length, get_or, take, drop, refl, sym, ◌∙◌, ap, subst, arith, Option, Some, None}
+use Rattle.std.specs.Prelude.{IfSome, option_map}
+use Rattle.std.specs.Int.{w32, to_be_bytes}
+use Rattle.std.proofs.lemmas.List.{take_at, drop_more, take_all}
+use Rattle.gate_log.specs.declared.shape.Shape.{Shape}
+use Rattle.gate_log.specs.Text.{Holds, Selects, behind, begin, cells, magic, IsLive, IsBank}
+use Rattle.gate_log.specs.Steps.{StandsAt, ReadUpTo}
+use Rattle.gate_log.proofs.Holds.{holds_both}
+use Rattle.gate_log.proofs.Cells.{cells-push, length-cells-push, fit-push}
+use Rattle.std.proofs.Math.Dec.{eqb}
+use Rattle.std.proofs.lemmas.Bool.{eqb-true, eqb-false}
+
+cell_here : (largest at : ℕ) (held head body : List ℕ) (n got : ℕ) → length head ≡ 5 → 5 ≤ n → get_or head 0 0 ≡ 165 → to_be_bytes w32 (length body) ≡ drop 1 head → length body ≤ got → length body ≤ largest
+    → take n head ≡ take (length head) (drop at held) → take got body ≡ take (length body) (drop (at + 5) held) → StandsAt largest at held (Some body)
+unfolding behind
+cell_here largest at held head body n got five enough gate size all fits first second =
+    let is_head : take (length head) (drop at held) ≡ head = sym first ∙ take_all n head (omega arith) in
+    let is_body : Holds (at + 5) body held = sym second ∙ take_all got body all in
+    let opens : head ≡ 165 ∷ to_be_bytes w32 (length body) = drop_more head 0 0 (omega arith) ∙ ap (λ (g : ℕ). g ∷ drop 1 head) gate ∙ ap (λ (l : List ℕ). 165 ∷ l) (sym size) in
+    let there : Holds at (165 ∷ to_be_bytes w32 (length body)) held = subst (λ (l : List ℕ). Holds at l held) opens is_head in
+    (fits, holds_both at (165 ∷ to_be_bytes w32 (length body)) body held there is_body)
+
+pub cell_told : (largest at : ℕ) (seen mid : Option (List ℕ)) (head body : List ℕ) (n got : ℕ) → length head ≡ 5 → 5 ≤ n → get_or head 0 0 ≡ 165 → to_be_bytes w32 (length body) ≡ drop 1 head → length body ≤ got → length body ≤ largest
+    → IfSome seen (λ held. take n head ≡ take (length head) (drop at held)) → mid ≡ seen → IfSome mid (λ held. take got body ≡ take (length body) (drop (at + 5) held)) → IfSome seen (λ held. StandsAt largest at held (Some body))
+cell_told largest at None mid head body n got five enough gate size all fits first same second = tt
+cell_told largest at (Some held) mid head body n got five enough gate size all fits first same second =
+    cell_here largest at held head body n got five enough gate size all fits first (subst (λ (o : Option (List ℕ)). IfSome o (λ held. take got body ≡ take (length body) (drop (at + 5) held))) same second)
+
+pub all_of : (n : ℕ) (into items : List ℕ) → length into ≡ n → take n (into ++ drop (length into) items) ≡ into
+all_of n into items is = take_at into (drop (length into) items) n is
+
+read_more : (shape : Shape) (second : Bool) (at : ℕ) (held : List ℕ) (bodies : List (List ℕ)) (body : List ℕ) → at + 5 + length body < begin shape second + shape.bank → ReadUpTo shape second at held bodies → StandsAt shape.largest at held (Some body)
+    → ReadUpTo shape second (at + (length body + 5)) held (bodies ++ body ∷ [])
+read_more shape second at held bodies body inside so_far here =
+    let from = begin shape second in
+    record {
+      place = omega (arith, so_far.place, length-cells-push bodies body);
+      read = record {
+        is = subst (λ (l : List ℕ). Holds from l held) (sym (cells-push bodies body)) (holds_both from (cells bodies) (165 ∷ behind body) held so_far.read.is (subst (λ (n : ℕ). Holds n (165 ∷ behind body) held) so_far.place here.1));
+        within = omega (arith, so_far.place, inside, length-cells-push bodies body);
+        fit = fit-push shape.largest bodies body so_far.read.fit here.0;
+      };
+    }
+
+read_all : (shape : Shape) (second : Bool) (at : ℕ) (held : List ℕ) (bodies : List (List ℕ)) → ReadUpTo shape second at held bodies → StandsAt shape.largest at held None → IsBank shape second at held bodies
+read_all shape second at held bodies so_far here = record {
+  cells = so_far.read;
+  gate = here.0;
+  shut = here.1;
+  closes = here.2;
+  place = so_far.place;
+}
+
+pub told_none : (shape : Shape) (second : Bool) (at : ℕ) (seen : Option (List ℕ)) (bodies : List (List ℕ)) → 1 ≤ shape.bank → at ≡ begin shape second → bodies ≡ [] → IfSome seen (λ held. ReadUpTo shape second at held bodies)
+told_none shape second at None bodies some is none = tt
+told_none shape second at (Some held) bodies some is none = subst (λ (l : List (List ℕ)). ReadUpTo shape second at held l) (sym none) (record { place = omega (arith, is); read = record { is = refl; within = some; fit = tt } })
+
+pub told_more : (shape : Shape) (second : Bool) (at m : ℕ) (seen mid : Option (List ℕ)) (bodies more : List (List ℕ)) (body : List ℕ) → more ≡ bodies ++ body ∷ [] → length body + 5 ≡ m → at + 5 + length body < begin shape second + shape.bank → IfSome seen (λ held. ReadUpTo shape second at held bodies)
+    → mid ≡ seen → IfSome mid (λ held. StandsAt shape.largest at held (Some body)) → IfSome seen (λ held. ReadUpTo shape second (at + m) held more)
+told_more shape second at m None mid bodies more body is size inside so_far same here = tt
+told_more shape second at m (Some held) mid bodies more body is size inside so_far same here =
+    let there = subst (λ (o : Option (List ℕ)). IfSome o (λ held. StandsAt shape.largest at held (Some body))) same here in
+    let done = read_more shape second at held bodies body inside so_far there in
+    subst (λ (l : List (List ℕ)). ReadUpTo shape second (at + m) held l) (sym is) (subst (λ (n : ℕ). ReadUpTo shape second (at + n) held (bodies ++ body ∷ [])) size done)
+
+pub told_all : {V : Type 0} (f : V → List ℕ) (shape : Shape) (second : Bool) (at : ℕ) (seen mid : Option (List ℕ)) (bodies : List (List ℕ)) (o : Option V) → o ≡ None → IfSome seen (λ held. ReadUpTo shape second at held bodies)
+    → mid ≡ seen → IfSome mid (λ held. StandsAt shape.largest at held (option_map f o)) → IfSome seen (λ held. IsBank shape second at held bodies)
+told_all f shape second at None mid bodies o none so_far same here = tt
+told_all {V} f shape second at (Some held) mid bodies o none so_far same here =
+    let there = subst (λ (m : Option (List ℕ)). IfSome m (λ held. StandsAt shape.largest at held (option_map f o))) same here in
+    let gate = subst (λ (p : Option V). StandsAt shape.largest at held (option_map f p)) none there in
+    read_all shape second at held bodies so_far gate
+
+-- the gate that was read
+pub gate_told : (largest at : ℕ) (seen : Option (List ℕ)) (head : List ℕ) (n : ℕ) → length head ≡ 5 → 1 ≤ n → get_or head 0 0 ≢ 165
+    → IfSome seen (λ held. take n head ≡ take (length head) (drop at held)) → IfSome seen (λ held. StandsAt largest at held None)
+gate_told largest at None head n five some shut first = tt
+gate_told largest at (Some held) head n five some shut first = (get_or head 0 0, shut, gate_here at held head n five some first)
+  where
+    gate_here : (at : ℕ) (held head : List ℕ) (n : ℕ) → length head ≡ 5 → 1 ≤ n → take n head ≡ take (length head) (drop at held) → Holds at (get_or head 0 0 ∷ []) held
+    gate_here at held [] n five some first = absurd (cc five)
+    gate_here at held (x ∷ xs) n five some first = one (drop at held) n some first
+      where
+        one : (l : List ℕ) (n : ℕ) → 1 ≤ n → take n (x ∷ xs) ≡ take (length (x ∷ xs)) l → take 1 l ≡ x ∷ []
+        one [] zero some is = absurd (omega arith)
+        one [] (suc n) some is = cc is
+        one (y ∷ l) zero some is = absurd (omega arith)
+        one (y ∷ l) (suc n) some is = ap (λ (z : ℕ). z ∷ []) (cc is)
+
+-- the head that was read
+pub head_told : (seen mid : Option (List ℕ)) (head into : List ℕ) (n m : ℕ) (second : Bool) → head ≡ magic → 7 ≤ n → IfSome seen (λ held. take n head ≡ take (length head) (drop 0 held)) → mid ≡ seen
+    → length into ≡ 1 → 1 ≤ m → IfSome mid (λ held. take m into ≡ take (length into) (drop 7 held)) → Selects (get_or into 0 0) second → IfSome seen (IsLive second)
+head_told None mid head into n m second is enough first same one some next selects = tt
+head_told (Some held) mid head into n m second is enough first same one some next selects =
+    let there = subst (λ (o : Option (List ℕ)). IfSome o (λ held. take m into ≡ take (length into) (drop 7 held))) same next in
+    let seven : length head ≡ 7 = ap length is in
+    let whole : take (length into) (drop 7 held) ≡ into = sym there ∙ take_all m into (omega arith) in
+    let single : into ≡ get_or into 0 0 ∷ [] = alone into one in
+    record {
+      selector = get_or into 0 0;
+      head = ap (λ (k : ℕ). take k held) (sym seven) ∙ sym first ∙ take_all n head (omega arith) ∙ is;
+      selected = subst (λ (l : List ℕ). Holds 7 l held) single whole;
+      selects = selects;
+    }
+  where
+    alone : (l : List ℕ) → length l ≡ 1 → l ≡ get_or l 0 0 ∷ []
+    alone [] is = absurd (cc is)
+    alone (x ∷ []) is = refl
+    alone (x ∷ y ∷ l) is = absurd (omega arith)
+
+selects_by : (selector : ℕ) (test : Bool) → eqb selector 50 ≡ test → Selects selector test
+selects_by selector true is = eqb-true selector 50 is
+selects_by selector false is = eqb-false selector 50 is
+
+pub selects_tested : (selector : ℕ) → Selects selector (eqb selector 50)
+selects_tested selector = selects_by selector (eqb selector 50) refl

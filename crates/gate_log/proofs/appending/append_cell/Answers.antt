@@ -1,0 +1,24 @@
+use Rattle.std.proofs.Common.{◌≡◌, ◌+◌, ◌∷◌, [], ◌++◌, ℕ, List, length, arith, length-append, ap, subst, max, OnOk}
+use Rattle.std.specs.Prelude.{IfSome}
+use Rattle.dsc_outside.specs.Disk.{Each}
+use Rattle.gate_log.specs.Text.{IsText, behind, need_of}
+use Rattle.gate_log.proofs.Cells.{length-behind}
+use Rattle.gate_log.proofs.appending.append_cell.Goals as goal
+
+cell_size : (cell body : List ℕ) → cell ≡ behind body ++ 0 ∷ [] → length cell ≡ need_of body
+cell_size cell body is = omega (arith, ap length is, length-append (behind body) (0 ∷ []), length-behind body)
+
+pub returns-clause-any_moment : goal.returns-clause-any_moment
+returns-clause-any_moment g c = λ shape second bodies le room texts. c.write_cell.ensures.any_moment shape second bodies c.args.body.now texts le room c.fill-size.ensures.cell
+
+pub returns-clause-ok : goal.returns-clause-ok
+returns-clause-ok g c = λ shape second bodies le room texts.
+    subst (λ (n : ℕ). OnOk c.write_cell.result (Each (g.D.Disk.images c.write_cell.new.disk) (λ f. IsText shape second (c.args.closed + n) f (bodies ++ c.args.body.now ∷ []))))
+    (cell_size _ c.args.body.now c.fill-size.ensures.cell)
+    (c.write_cell.ensures.ok shape second bodies c.args.body.now texts le room c.fill-size.ensures.cell)
+
+pub returns-clause-long : goal.returns-clause-long
+returns-clause-long g c = λ n long.
+    subst (λ (m : ℕ). OnOk c.write_cell.result (IfSome (g.D.Disk.seen c.write_cell.new.disk) (λ now. max n (c.args.closed + 1 + m) ≡ length now)))
+    (cell_size _ c.args.body.now c.fill-size.ensures.cell)
+    (c.write_cell.ensures.long n long)

@@ -1,0 +1,13 @@
+-- Laws of the text of a store.
+use Rattle.std.specs.Prelude.{◌≡◌, ◌<◌, ◌^◌, ℕ, List}
+use Rattle.gate_log.specs.declared.shape.Shape.{Shape}
+use Rattle.gate_log.specs.Text.{Gives}
+use Rattle.gate_log.specs.Log.{IsNoStore}
+
+-- an image gives at most one list of bodies
+abbrev pub OneList : Type 0
+OneList = (shape : Shape) (image : List ℕ) (one other : List (List ℕ)) → shape.largest < 2 ^ 32 → Gives shape image one → Gives shape image other → one ≡ other
+
+-- what gives bodies is a store
+abbrev pub NeverBoth : Type 0
+NeverBoth = (shape : Shape) (image : List ℕ) (bodies : List (List ℕ)) (at : ℕ) → shape.largest < 2 ^ 32 → Gives shape image bodies → IsNoStore shape image at → ⊥

@@ -1,0 +1,65 @@
+//! A cell is written after the closed gate of the live bank.
+ghost use Rattle.std.specs.Prelude.{◌≡◌, [], ◌∷◌, ◌++◌, ℕ, ◌+◌, ◌≤◌, ◌<◌, ◌^◌, max, take, Bool, List, length, IfSome, OnOk};
+ghost use Rattle.dsc_outside.specs.Causes.{HasCause};
+ghost use Rattle.dsc_outside.specs.Disk.{Each, AnyMoment};
+ghost use Rattle.gate_log.specs.declared.shape.Shape.{Shape};
+ghost use Rattle.gate_log.specs.Text.{IsText, behind, begin, need_of};
+ghost use Rattle.gate_log.specs.Steps.{TextBeforeOrAfter};
+
+use crate::through::write_through;
+use dsc_outside::{Disk, Failed};
+
+/// Writes the length, the body and a closed gate into the buffer, and gives how many bytes these are.
+pub(crate) fn fill(buffer: &mut [u8], body: &[u8]) -> usize
+    requires room { length body.now + 5 ≤ length buffer.old }
+    requires size { length body.now < 2 ^ 32 }
+    ensures size { result ≡ length body.now + 5 }
+    ensures cell { take result buffer.new ≡ behind body.now ++ 0 ∷ [] }
+{
+    let end = body.len() + 4;
+    buffer[..4].copy_from_slice(&(body.len() as u32).to_be_bytes());
+    buffer[4..end].copy_from_slice(body);
+    buffer[end] = 0;
+    end + 1
+}
+
+/// Adds the cell of a body after the closed gate at this place, by way of the buffer.
+pub(crate) fn append_cell<D: Disk>(
+    disk: &mut D,
+    closed: u64,
+    buffer: &mut [u8],
+    body: &[u8],
+) -> Result<(), Failed>
+    requires fits { closed + 1 < 2 ^ 64 }
+    requires size { length body.now < 2 ^ 32 }
+    requires buffer { length body.now + 5 ≤ length buffer.old }
+    requires room { IfSome (D.seen disk.old) (λ held. closed + 1 ≤ length held) }
+    ensures ok { (shape : Shape) (second : Bool) (bodies : List (List ℕ)) → length body.now ≤ shape.largest → closed + 1 + need_of body.now ≤ begin shape second + shape.bank → Each (D.images disk.old) (λ c. IsText shape second closed c bodies)
+        → OnOk result (Each (D.images disk.new) (λ c. IsText shape second (closed + need_of body.now) c (bodies ++ body.now ∷ []))) }
+    ensures any_moment { (shape : Shape) (second : Bool) (bodies : List (List ℕ)) → length body.now ≤ shape.largest → closed + 1 + need_of body.now ≤ begin shape second + shape.bank → Each (D.images disk.old) (λ c. IsText shape second closed c bodies)
+        → AnyMoment D.moment D.left_since disk.old disk.new (TextBeforeOrAfter shape second closed bodies body.now) }
+    ensures long { (n : ℕ) → IfSome (D.seen disk.old) (λ held. n ≡ length held)
+        → OnOk result (IfSome (D.seen disk.new) (λ now. max n (closed + 1 + need_of body.now) ≡ length now)) }
+    ensures cause { HasCause (D.faults disk.old) (D.faults disk.new) result }
+{
+    let size = fill(buffer, body);
+    write_cell(disk, closed, &buffer[..size])
+}
+
+// The cell is written after the closed gate, and its own gate is opened once it is on the disk.
+fn write_cell<D: Disk>(disk: &mut D, closed: u64, cell: &[u8]) -> Result<(), Failed>
+    requires fits { closed + 1 < 2 ^ 64 }
+    requires room { IfSome (D.seen disk.old) (λ held. closed + 1 ≤ length held) }
+    ensures ok { (shape : Shape) (second : Bool) (bodies : List (List ℕ)) (body : List ℕ)
+        → ((c : List ℕ) → D.images disk.old c → IsText shape second closed c bodies) → length body ≤ shape.largest → closed + 1 + need_of body ≤ begin shape second + shape.bank → cell.now ≡ behind body ++ 0 ∷ []
+        → OnOk result ((c : List ℕ) → D.images disk.new c → IsText shape second (closed + length cell.now) c (bodies ++ body ∷ [])) }
+    ensures any_moment { (shape : Shape) (second : Bool) (bodies : List (List ℕ)) (body : List ℕ)
+        → ((c : List ℕ) → D.images disk.old c → IsText shape second closed c bodies) → length body ≤ shape.largest → closed + 1 + need_of body ≤ begin shape second + shape.bank → cell.now ≡ behind body ++ 0 ∷ []
+        → AnyMoment D.moment D.left_since disk.old disk.new (TextBeforeOrAfter shape second closed bodies body) }
+    ensures long { (n : ℕ) → IfSome (D.seen disk.old) (λ held. n ≡ length held)
+        → OnOk result (IfSome (D.seen disk.new) (λ now. max n (closed + 1 + length cell.now) ≡ length now)) }
+    ensures cause { HasCause (D.faults disk.old) (D.faults disk.new) result }
+{
+    write_through(disk, closed + 1, cell)?;
+    write_through(disk, closed, &[0xA5])
+}

@@ -1,0 +1,182 @@
+//! A log of bodies in the live one of two banks.
+ghost use Rattle.std.specs.Prelude.{◌≡◌, [], ◌∷◌, ◌++◌, ℕ, ◌+◌, ◌-◌, ◌≤◌, ◌<◌, ◌^◌, leb, Bool, List, length, OnOk, true, false};
+ghost use Rattle.gate_log.specs.Text.{need_of, IsLive};
+
+use crate::appending::append_cell;
+use crate::bodies::Bodies;
+use crate::error::LogError;
+use crate::rewriting::{finish_cells, put_cell};
+use crate::shape::{Shape, begin};
+use dsc_outside::Disk;
+use std::cmp::max;
+use std::marker::Model;
+
+/// A log, without the disk that it is of.
+#[derive(Drop)]
+pub struct Log {
+    shape: Shape,
+    // whether the second bank is live
+    second: bool,
+    // the place of the live bank's closed gate
+    closed: u64,
+    // the disk's length
+    long: u64,
+    spent: bool,
+    // room for the longest cell and a gate
+    buffer: Vec<u8>,
+    found: Vec<Vec<u8>>,
+    // up to where the other bank is filled, where a rewrite is begun
+    filled: Option<u64>,
+}
+
+impl Model for Log {
+    ghost use Rattle.std.specs.Prelude.{◌≡◌, ◌≤◌, ◌^◌, ◌+◌, length, map};
+    ghost use Rattle.gate_log.specs.Log.{LogTerm};
+
+    ghost Value = { LogTerm };
+
+    ghost view = { λ l. record { shape = l.shape; second = l.second; closed = l.closed; long = l.long; spent = l.spent; found = map (λ v. v.items) l.found.items; filled = l.filled } };
+
+    ghost invariant = { λ l. (length l.buffer.items ≡ l.shape.largest + 6) × (l.shape.bank ≤ 2 ^ 62) × (l.closed + 1 ≤ l.long) };
+}
+
+impl Log {
+    ghost use Rattle.gate_log.specs.Text.{Gives};
+    ghost use Rattle.gate_log.specs.Log.{LogTerm, IsLogOf, HasPutOn, AtAnyMoment, BeforeOrAfter, OldOrNew, Appended, Put, Finished, begun, room_in, room_to_put, log_at};
+    ghost use Rattle.std.specs.Prelude.{map, Option};
+
+    /// A log whose closed gate stands at the disk's end.
+    pub(crate) fn of(
+        shape: Shape,
+        second: bool,
+        closed: u64,
+        buffer: Vec<u8>,
+        found: Vec<Vec<u8>>,
+    ) -> Log
+        requires fits { closed + 1 < 2 ^ 64 }
+        requires buffer { length buffer.items ≡ shape.largest + 6 }
+        requires bank { shape.bank ≤ 2 ^ 62 }
+        ensures { result ≡ log_at shape second closed (map (λ v. v.items) found.items) }
+    {
+        Log {
+            shape,
+            second,
+            closed,
+            long: closed + 1,
+            spent: false,
+            buffer,
+            found,
+            filled: None,
+        }
+    }
+
+    /// The bodies that the opening found, in order; later ones are not added to it.
+    pub fn bodies(&self) -> Bodies<'_>
+        ensures { result ≡ self.now.found }
+    {
+        Bodies::of(&self.found)
+    }
+
+    /// Whether a call answered `Disk`. Then no call that changes the disk may follow.
+    pub fn is_spent(&self) -> bool
+        ensures { result ≡ self.now.spent }
+    {
+        self.spent
+    }
+
+    /// Whether a body of this length has room in the live bank.
+    pub fn has_room(&self, length: u32) -> bool
+        ensures { result ≡ leb (5 + length) (room_in self.now) }
+    {
+        let end = begin(self.shape, self.second) + self.shape.bank;
+        length as u64 + 5 <= end.saturating_sub(self.closed).saturating_sub(1)
+    }
+
+    /// Adds a body to the live bank. A rewrite that was begun is given up.
+    ///
+    /// A crash at any moment leaves the bodies with the new one or without it; after `Ok` it leaves them with the new one.
+    /// After an error the log is spent.
+    pub fn append<D: Disk>(&mut self, disk: &mut D, body: &[u8]) -> Result<(), LogError>
+        requires size { length body.now ≤ self.old.shape.largest }
+        requires room { need_of body.now ≤ room_in self.old }
+        requires unspent { self.old.spent ≡ false }
+        requires of { (bodies : List (List ℕ)) × IsLogOf D.Disk disk.old self.old bodies }
+        ensures answer { Appended self.old body.now (D.faults disk.old) (D.faults disk.new) result self.new }
+        ensures ok { (bodies : List (List ℕ)) → IsLogOf D.Disk disk.old self.old bodies → OnOk result (IsLogOf D.Disk disk.new self.new (bodies ++ body.now ∷ [])) }
+        ensures any_moment { (bodies : List (List ℕ)) → IsLogOf D.Disk disk.old self.old bodies → AtAnyMoment D.Disk disk.old disk.new (BeforeOrAfter self.old.shape bodies body.now) }
+        ensures same_bank { (bodies : List (List ℕ)) → IsLogOf D.Disk disk.old self.old bodies → AtAnyMoment D.Disk disk.old disk.new (IsLive self.old.second) }
+        ensures count { D.faults disk.old ≤ D.faults disk.new }
+    {
+        let need = body.len() as u64 + 5;
+        self.spent = true; // until the cell is on the disk
+        append_cell(disk, self.closed, &mut self.buffer, body)?;
+        self.spent = false;
+        self.filled = None;
+        self.long = max(self.long, self.closed + 1 + need);
+        self.closed += need;
+        Ok(())
+    }
+
+    /// Begins to write the other bank anew. What was put into it before is given up.
+    pub fn begin_rewrite(&mut self)
+        requires { self.old.spent ≡ false }
+        ensures { self.new ≡ begun self.old }
+    {
+        self.filled = Some(begin(self.shape, !self.second));
+    }
+
+    /// Puts a body into the other bank, after those that were put since the rewrite was begun.
+    ///
+    /// A crash at any moment leaves the bodies of the live bank. After an error the log is spent.
+    pub fn put<D: Disk>(&mut self, disk: &mut D, body: &[u8]) -> Result<(), LogError>
+        requires size { length body.now ≤ self.old.shape.largest }
+        requires room { need_of body.now ≤ room_to_put self.old }
+        requires unspent { self.old.spent ≡ false }
+        requires of { (bodies : List (List ℕ)) × IsLogOf D.Disk disk.old self.old bodies }
+        requires begun { (put : List (List ℕ)) × HasPutOn D.Disk disk.old self.old put }
+        ensures answer { Put self.old body.now (D.faults disk.old) (D.faults disk.new) result self.new }
+        ensures ok { (bodies : List (List ℕ)) → IsLogOf D.Disk disk.old self.old bodies → OnOk result (IsLogOf D.Disk disk.new self.new bodies) }
+        ensures put { (put : List (List ℕ)) → HasPutOn D.Disk disk.old self.old put → OnOk result (HasPutOn D.Disk disk.new self.new (put ++ body.now ∷ [])) }
+        ensures any_moment { (bodies : List (List ℕ)) → IsLogOf D.Disk disk.old self.old bodies → AtAnyMoment D.Disk disk.old disk.new (λ c. Gives self.old.shape c bodies) }
+        ensures count { D.faults disk.old ≤ D.faults disk.new }
+    {
+        let Some(at) = self.filled else {
+            unreachable!()
+        };
+        let end = at + 5 + body.len() as u64;
+        self.spent = true;
+        put_cell(disk, &mut self.buffer, self.long, at, body)?;
+        self.spent = false;
+        self.long = max(max(self.long, at), end + 1);
+        self.filled = Some(end);
+        Ok(())
+    }
+
+    /// Makes the other bank live, with the bodies that were put.
+    ///
+    /// A crash at any moment leaves the old bodies or those that were put; after `Ok` it leaves these. After an error
+    /// the log is spent.
+    pub fn finish_rewrite<D: Disk>(&mut self, disk: &mut D) -> Result<(), LogError>
+        requires unspent { self.old.spent ≡ false }
+        requires of { (bodies : List (List ℕ)) × IsLogOf D.Disk disk.old self.old bodies }
+        requires begun { (put : List (List ℕ)) × HasPutOn D.Disk disk.old self.old put }
+        ensures answer { Finished self.old (D.faults disk.old) (D.faults disk.new) result self.new }
+        ensures ok { (bodies put : List (List ℕ)) → IsLogOf D.Disk disk.old self.old bodies → HasPutOn D.Disk disk.old self.old put
+            → OnOk result (IsLogOf D.Disk disk.new self.new put) }
+        ensures any_moment { (bodies put : List (List ℕ)) → IsLogOf D.Disk disk.old self.old bodies → HasPutOn D.Disk disk.old self.old put
+            → AtAnyMoment D.Disk disk.old disk.new (OldOrNew self.old.shape bodies put) }
+        ensures count { D.faults disk.old ≤ D.faults disk.new }
+    {
+        let Some(at) = self.filled else {
+            unreachable!()
+        };
+        self.spent = true;
+        finish_cells(disk, &mut self.buffer, self.long, at, self.second)?;
+        self.spent = false;
+        self.second = !self.second;
+        self.closed = at;
+        self.long = max(self.long, at + 1);
+        self.filled = None;
+        Ok(())
+    }
+}

@@ -1,0 +1,121 @@
+//! A store is opened.
+ghost use Rattle.std.specs.Prelude.{◌≡◌, ◌≢◌, ◌+◌, ◌≤◌, ◌<◌, ◌^◌, [], ◌∷◌, ◌++◌, ℕ, List, length, take, get_or, map, IfOk, IfErr, OnOk, IfSome, IfNone};
+ghost use Rattle.dsc_terms.specs.Counts.{Rose};
+ghost use Rattle.dsc_outside.specs.Causes.{HasCause};
+ghost use Rattle.dsc_outside.specs.Disk.{Each, From, Only, AnyMoment, Still};
+ghost use Rattle.gate_log.specs.Text.{IsText, IsLive, Gives, FailsAt, magic};
+ghost use Rattle.gate_log.specs.Log.{AtAnyMoment, Keeps, Opened, Unopened};
+ghost use Rattle.gate_log.specs.Steps.{Unread};
+
+use crate::error::LogError;
+use crate::log::Log;
+use crate::reading::read_cells;
+use crate::shape::Shape;
+use crate::through::{cut_through, length_of, read_from, settle};
+use dsc_outside::{Disk, Failed};
+use std::alloc::Global;
+
+// "DSCSTOR"
+const MAGIC: [u8; 7] = [0x44, 0x53, 0x43, 0x53, 0x54, 0x4F, 0x52];
+
+// These, the selector of the first bank, and a closed gate.
+const NEW: [u8; 9] = [0x44, 0x53, 0x43, 0x53, 0x54, 0x4F, 0x52, 0x31, 0x00];
+
+// A new file.
+fn make_new<D: Disk>(disk: &mut D) -> Result<(), Failed>
+    ensures ok { OnOk result (Each (D.images disk.new) (λ c. c ≡ magic ++ 49 ∷ 0 ∷ [])) }
+    ensures seen { OnOk result (IfSome (D.seen disk.new) (λ held. 9 ≡ length held)) }
+    ensures any_moment { Each (D.images disk.old) (λ c. length c ≤ 9) → AnyMoment D.moment D.left_since disk.old disk.new (From (λ d c. length c ≤ 9) (D.images disk.old)) }
+    ensures cause { HasCause (D.faults disk.old) (D.faults disk.new) result }
+{
+    disk.write_at(0, &NEW)?;
+    cut_through(disk, 9)
+}
+
+// The place of the first byte that is none of the seven.
+fn wrong_magic(head: &[u8]) -> Option<u64>
+    requires { length head.now ≡ 7 }
+    ensures none { IfNone result (head.now ≡ magic) }
+    ensures some { IfSome result (λ at. (at < 7) × (take at head.now ≡ take at magic) × (get_or head.now at 0 ≢ get_or magic at 0)) }
+{
+    for at in 0..7 {
+        if head[at] != MAGIC[at] {
+            return Some(at as u64);
+        }
+    }
+    None
+}
+
+// Which bank the store makes live.
+fn read_head<D: Disk>(disk: &mut D, shape: Shape) -> Result<bool, LogError>
+    requires long { IfSome (D.seen disk.old) (λ held. 9 < length held) }
+    ensures still { Still D.seen D.images D.moment D.left_since disk.old disk.new }
+    ensures head { IfOk result (λ second. IfSome (D.seen disk.old) (IsLive second)) }
+    ensures cause { IfErr result (Unread (Rose (D.faults disk.old) (D.faults disk.new)) (D.seen disk.old) (FailsAt shape)) }
+    ensures count { D.faults disk.old ≤ D.faults disk.new }
+{
+    let mut head = [0; 7];
+    let n = read_from(disk, 0, &mut head)?;
+    if n < 7 {
+        return Err(LogError::NotAStore { at: n as u64 });
+    }
+    if let Some(at) = wrong_magic(&head) {
+        return Err(LogError::NotAStore { at });
+    }
+    let mut selector = [0; 1];
+    let n = read_from(disk, 7, &mut selector)?;
+    if n < 1 {
+        return Err(LogError::NotAStore { at: 7 });
+    }
+    Ok(selector[0] == 0x32)
+}
+
+// The bodies of a store, whose end is cut after the closed gate.
+fn read_old<D: Disk>(
+    alloc: Global,
+    disk: &mut D,
+    shape: Shape,
+    end: u64,
+) -> Result<(Vec<Vec<u8>>, bool, u64), LogError>
+    requires only { Only (D.seen disk.old) (D.images disk.old) }
+    requires end { IfSome (D.seen disk.old) (λ held. end ≡ length held) }
+    requires long { 9 < end }
+    requires small { shape.largest < 2 ^ 32 }
+    requires some { 1 ≤ shape.bank }
+    requires bank { shape.bank ≤ 2 ^ 62 }
+    ensures ok { IfOk result (λ r. Each (D.images disk.new) (λ c. IsText shape r.1 r.2 c (map (λ v. v.items) r.0.items))) }
+    ensures seen { IfOk result (λ r. IfSome (D.seen disk.new) (λ held. r.2 + 1 ≡ length held)) }
+    ensures found { IfOk result (λ r. IfSome (D.seen disk.old) (λ held. Gives shape held (map (λ v. v.items) r.0.items))) }
+    ensures within { IfOk result (λ r. r.2 + 1 < 2 ^ 64) }
+    ensures any_moment { AnyMoment D.moment D.left_since disk.old disk.new (From (Keeps shape) (D.images disk.old)) }
+    ensures cause { IfErr result (Unread (Rose (D.faults disk.old) (D.faults disk.new)) (D.seen disk.old) (FailsAt shape)) }
+    ensures count { D.faults disk.old ≤ D.faults disk.new }
+{
+    let second = read_head(disk, shape)?;
+    let (found, closed) = read_cells(alloc, disk, shape, second, end)?;
+    cut_through(disk, closed + 1)?;
+    Ok((found, second, closed))
+}
+
+/// Opens the store of a disk; a file of at most nine bytes becomes a new one.
+///
+/// The log is of the disk afterwards, and its bodies are those that the disk read as. A crash at any moment leaves what an
+/// image gave before.
+pub fn open_log<D: Disk>(alloc: Global, disk: &mut D, shape: Shape) -> Result<Log, LogError>
+    requires some { 1 ≤ shape.bank }
+    requires bank { shape.bank ≤ 2 ^ 62 }
+    ensures ok { IfOk result (Opened D.Disk disk.old disk.new shape) }
+    ensures refused { IfErr result (Unopened D.Disk disk.old disk.new shape) }
+    ensures any_moment { AtAnyMoment D.Disk disk.old disk.new (From (Keeps shape) (D.images disk.old)) }
+    ensures count { D.faults disk.old ≤ D.faults disk.new }
+{
+    let buffer = vec![in alloc; 0u8; shape.largest as usize + 6]?;
+    settle(disk)?;
+    let end = length_of(disk)?;
+    if end <= 9 {
+        make_new(disk)?;
+        return Ok(Log::of(shape, false, 8, buffer, Vec::new(alloc)));
+    }
+    let (found, second, closed) = read_old(alloc, disk, shape, end)?;
+    Ok(Log::of(shape, second, closed, buffer, found))
+}
