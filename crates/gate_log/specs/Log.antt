@@ -43,6 +43,10 @@ IsLogOf d disk log bodies = IsOf (d.seen disk) (d.images disk) log bodies
 abbrev pub HasPutOn : {D : Type 0} → Ghosts D → D → LogTerm → List (List ℕ) → Type 0
 HasPutOn d disk log bodies = HasPut (d.seen disk) log bodies
 
+-- the log is of the disk with some bodies, or it is spent
+abbrev pub IsReady : {D : Type 0} → Ghosts D → D → LogTerm → Type 0
+IsReady {D} d disk log = (log.spent ≡ true) ⊎ ((bodies : List (List ℕ)) × IsLogOf d disk log bodies)
+
 -- every image at a moment since old has P
 abbrev pub AtAnyMoment : {D : Type 0} → Ghosts D → D → D → (List ℕ → Type 0) → Type 0
 AtAnyMoment d old new P = AnyMoment d.moment d.left_since old new P

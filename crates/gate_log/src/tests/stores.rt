@@ -1,0 +1,86 @@
+//! Small stores, and changes of them.
+ghost use Rattle.std.specs.Prelude.{◌≡◌, IfOk};
+ghost use Rattle.gate_log.specs.declared.shape.Shape.{Shape};
+ghost use Rattle.gate_log.specs.Log.{IsReady};
+
+use crate::{Log, LogError, Shape, open_log};
+use dsc_outside::{Disk, Memory};
+use std::alloc::Global;
+
+impl From<Memory> for LogError {
+    fn from(_: Memory) -> Self {
+        LogError::Memory
+    }
+}
+
+/// Two banks of 64 bytes, and bodies of at most 32.
+pub fn small() -> Shape
+    ensures { result ≡ record { bank = 64; largest = 32 } }
+{
+    Shape {
+        bank: 64,
+        largest: 32,
+    }
+}
+
+/// Opens a small store.
+pub fn open<D: Disk>(alloc: Global, disk: &mut D) -> Result<Log, LogError>
+    ensures shape { IfOk result (λ log. log.shape ≡ record { bank = 64; largest = 32 }) }
+    ensures of { IfOk result (IsReady D.Disk disk.new) }
+{
+    open_log(alloc, disk, small())
+}
+
+/// Appends a body where it has room.
+pub fn add<D: Disk>(log: &mut Log, disk: &mut D, body: &[u8]) -> Result<(), LogError>
+    requires shape { log.old.shape ≡ record { bank = 64; largest = 32 } }
+    requires of { IsReady D.Disk disk.old log.old }
+    ensures shape { log.new.shape ≡ record { bank = 64; largest = 32 } }
+    ensures of { IsReady D.Disk disk.new log.new }
+{
+    if log.is_spent() || body.len() > 32 || !log.has_room(body.len() as u32) {
+        return Ok(());
+    }
+    log.append(disk, body)
+}
+
+/// Rewrites a store to one body.
+#[tactic(auto, using(crate::proofs::Rewrites::begun_of, crate::proofs::Rewrites::begun_put))]
+pub fn rewrite<D: Disk>(log: &mut Log, disk: &mut D, body: &[u8]) -> Result<(), LogError>
+    requires shape { log.old.shape ≡ record { bank = 64; largest = 32 } }
+    requires of { IsReady D.Disk disk.old log.old }
+    ensures shape { log.new.shape ≡ record { bank = 64; largest = 32 } }
+    ensures of { IsReady D.Disk disk.new log.new }
+{
+    if log.is_spent() || body.len() > 32 {
+        return Ok(());
+    }
+    log.begin_rewrite();
+    log.put(disk, body)?;
+    log.finish_rewrite(disk)
+}
+
+/// Appends two bodies of twenty bytes, `a` and `b`.
+pub fn add_two<D: Disk>(alloc: Global, disk: &mut D) -> Result<Log, LogError>
+    ensures shape { IfOk result (λ log. log.shape ≡ record { bank = 64; largest = 32 }) }
+    ensures of { IfOk result (IsReady D.Disk disk.new) }
+{
+    let mut log = open(alloc, disk)?;
+    let body = vec![in alloc; b'a'; 20]?;
+    add(&mut log, disk, &body)?;
+    let body = vec![in alloc; b'b'; 20]?;
+    add(&mut log, disk, &body)?;
+    Ok(log)
+}
+
+/// Whether the log's bodies are each twenty times these bytes, in order.
+pub fn holds(log: &Log, bytes: &[u8]) -> bool {
+    let mut at = 0;
+    for body in log.bodies() {
+        if at >= bytes.len() || body.len() != 20 || body[0] != bytes[at] || body[19] != bytes[at] {
+            return false;
+        }
+        at += 1;
+    }
+    at == bytes.len()
+}
