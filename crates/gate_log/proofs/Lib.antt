@@ -8,3 +8,4 @@ pub mod Unique
 pub mod Opened
 pub mod Failing
 pub mod Both
+pub mod Answer

@@ -1,5 +1,5 @@
 -- Laws of the text of a store.
-use Rattle.std.specs.Prelude.{◌≡◌, ◌<◌, ◌^◌, ℕ, List}
+use Rattle.std.specs.Prelude.{◌≡◌, ◌⊎◌, ◌<◌, ◌≤◌, ◌^◌, ℕ, List, get_or}
 use Rattle.gate_log.specs.declared.shape.Shape.{Shape}
 use Rattle.gate_log.specs.Text.{Gives}
 use Rattle.gate_log.specs.Log.{IsNoStore}
@@ -11,3 +11,11 @@ OneList = (shape : Shape) (image : List ℕ) (one other : List (List ℕ)) → s
 -- what gives bodies is a store
 abbrev pub NeverBoth : Type 0
 NeverBoth = (shape : Shape) (image : List ℕ) (bodies : List (List ℕ)) (at : ℕ) → shape.largest < 2 ^ 32 → Gives shape image bodies → IsNoStore shape image at → ⊥
+
+abbrev pub AreBytes : List ℕ → Type 0
+AreBytes image = (at : ℕ) → get_or image at 0 < 256
+
+-- bytes give bodies, or they fail
+abbrev pub AnswerExists : Type 0
+AnswerExists = (shape : Shape) (image : List ℕ) → 1 ≤ shape.bank → AreBytes image
+    → ((bodies : List (List ℕ)) × Gives shape image bodies) ⊎ ((at : ℕ) × IsNoStore shape image at)
