@@ -3,9 +3,13 @@ pub mod Changes
 pub mod Clock
 pub mod Disk
 pub mod Folders
+pub mod HonestDisk
 pub mod Host
+pub mod Images
 pub mod Link
 pub mod Memory
+pub mod MemoryClock
+pub mod MemoryDisk
 pub mod MemoryHost
 pub mod Paths
 pub mod Real

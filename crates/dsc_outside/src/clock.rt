@@ -5,6 +5,10 @@ ghost use Rattle.dsc_outside.specs.Clock.{TakesReading, last_moment};
 
 use crate::Failed;
 
+/// The greatest moment, in seconds since 1970-01-01T00:00:00Z.
+pub const LAST_MOMENT: u64 = 253_402_207_200;
+
+/// A clock. A reading that it cannot give is a failure.
 pub trait Clock {
     /// The readings that it still gives, in order, where they are told; one that is none is a failure.
     ghost coming: { Self → Option (List (Option ℕ)) };

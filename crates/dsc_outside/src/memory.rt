@@ -1,7 +1,11 @@
 //! The outside in memory: forms that tell what they hold, and that fail where they are told to, or never.
 
 mod calls;
+mod clock;
 mod contents;
+mod disk;
+mod disk_calls;
+mod disk_parts;
 mod host;
 mod lists;
 mod paths;
@@ -11,7 +15,10 @@ mod source;
 mod stop;
 mod variable;
 
+pub use clock::MemoryClock;
 pub use contents::HostContents;
+pub use disk::MemoryDisk;
+pub use disk_calls::{CallOutcome, DiskCall, DiskPart, DiskStop, RecordedCall};
 pub use host::MemoryHost;
 pub use paths::{PathEntry, Standing};
 pub use reliable::ReliableHost;

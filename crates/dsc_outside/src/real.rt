@@ -5,6 +5,7 @@
 
 mod comparing;
 mod errors;
+mod file_disk;
 mod folder_host;
 mod in_source;
 mod lists;
@@ -14,9 +15,12 @@ mod paths;
 mod places;
 mod plain_files;
 mod reading;
+mod system_clock;
 mod tree;
 mod walking;
 
+pub use file_disk::FileDisk;
 pub use folder_host::FolderHost;
 pub use in_source::InSource;
 pub use out_sink::OutSink;
+pub use system_clock::SystemClock;
