@@ -29,14 +29,14 @@ pub if_gives : {T : Type 0} (P : T → Type 0) (answer given : Result T MessageE
 if_gives P (Ok x) given gives holds = holds x gives
 if_gives P (Err e) given gives holds = tt
 
-ok_same : {T : Type 0} (x y : T) → ◌≡◌ {A = Result T MessageError} (Ok x) (Ok y) → x ≡ y
+pub ok_same : {T : Type 0} (x y : T) → ◌≡◌ {A = Result T MessageError} (Ok x) (Ok y) → x ≡ y
 ok_same x y is = cc is
 
-guard_ok : {A : Type 0} (b : Bool) (x : A) (e : MessageError) (y : A) → cond b (Ok x) (Err e) ≡ Ok y → (b ≡ true) × (x ≡ y)
+pub guard_ok : {A : Type 0} (b : Bool) (x : A) (e : MessageError) (y : A) → cond b (Ok x) (Err e) ≡ Ok y → (b ≡ true) × (x ≡ y)
 guard_ok true x e y is = (refl, cc is)
 guard_ok false x e y is = cc is
 
-within_ok : (size : Limit) (name : Field) (text y : List ℕ) → within size name text ≡ Ok y → (is_within size (length (encode_utf8_all text)) ≡ true) × (text ≡ y)
+pub within_ok : (size : Limit) (name : Field) (text y : List ℕ) → within size name text ≡ Ok y → (is_within size (length (encode_utf8_all text)) ≡ true) × (text ≡ y)
 unfolding within
 within_ok size name text y is = guard_ok (is_within size (length (encode_utf8_all text))) text (error.Wrong name) y is
 

@@ -1,5 +1,5 @@
 -- Sizes of registrations.
-use Rattle.std.specs.Prelude.{ℕ, ◌≤◌, List, length, encode_utf8_all}
+use Rattle.std.specs.Prelude.{ℕ, ◌+◌, ◌≤◌, List, length, sum_by, encode_utf8_all}
 use Rattle.std.specs.List.{AllByRecursion}
 use Rattle.pull_messages.specs.declared.registration.Registration.{Registration}
 
@@ -17,3 +17,11 @@ pub record IsSized (x : Registration) : Type 0 where
   pub address : IsShort x.ip_address
   pub few : length x.names ≤ 16
   pub named : AllByRecursion IsName x.names
+
+-- the bytes of UTF-8 of a text
+abbrev pub text_size : List ℕ → ℕ
+text_size text = length (encode_utf8_all text)
+
+-- the bytes of UTF-8 of all texts of a registration
+abbrev pub registration_size : Registration → ℕ
+registration_size x = text_size x.lcm_version + text_size x.node_name + text_size x.ip_address + sum_by text_size x.names

@@ -9,7 +9,7 @@ use Rattle.pull_messages.specs.declared.target_kinds.Target.TheVariants.{Node, A
 use Rattle.pull_messages.specs.Escapes.{AreChars}
 use Rattle.pull_messages.specs.Spelling.{Spells}
 
--- A part of a target: a word, the identifier of an agent, or a text in quotes and the character behind it.
+-- A part of a target: a word, the identifier of an agent, or a text in quotes and the character after it.
 pub data Part : Type 0 where
   word : List ℕ → Part
   agent : ℕ → Part

@@ -16,7 +16,7 @@ pub enum Limit {
 }
 
 impl Limit {
-    /// Tells whether a text of so many bytes is allowed.
+    /// Whether a text of so many bytes is allowed.
     pub fn allows(self, size: usize) -> bool
         ensures { result ≡ is_within self size }
     {

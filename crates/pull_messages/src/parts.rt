@@ -144,7 +144,7 @@ fn fits_cell(c: char, place: usize) -> bool
     }
 }
 
-/// A text in quotes, and the character that stands behind it, `)` or `,`.
+/// A text in quotes, and the character that stands after it, `)` or `,`.
 pub fn quoted(alloc: Global, chars: &[char], end: char) -> Result<(Text, &[char]), Stop>
     requires { IsEnd end }
     ensures taken { IfOk result (λ x. Takes (IsQuoted x.0 end) chars.now x.1.now) }
@@ -188,7 +188,7 @@ fn value_char(chars: &[char], room: usize) -> Option<(char, &[char])>
     }
 }
 
-// What stands behind that character.
+// What stands after that character.
 fn behind(chars: &[char], first: char) -> Option<&[char]>
     ensures some { IfSome result (λ rest. chars.now ≡ first ∷ rest.now) }
     ensures none { IfNone result ((rest : List ℕ) → chars.now ≡ first ∷ rest → ⊥) }

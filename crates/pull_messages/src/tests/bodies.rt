@@ -16,7 +16,7 @@ pub struct Told<'a> {
     status_data: &'a [&'a str],
 }
 
-// The three texts of the agent, and the names behind them.
+// The three texts of the agent, and the names after them.
 fn is_registration(x: &Registration, wanted: &[&str]) -> bool {
     match wanted {
         [version, node, address, names @ ..] => is_text(&x.lcm_version, version)

@@ -14,7 +14,7 @@ const CLIENTS: &str = r#"{"ClientStatus":[{}"#;
 
 type Pieces<'a> = &'a [(&'a str, usize)];
 
-// Tells whether it is read, or has that wrong field.
+// Whether it is read, or has that wrong field.
 fn has_wrong<T>(outcome: &Result<T, MessageError>, wanted: &Option<Field>) -> bool {
     match (outcome, wanted) {
         (Ok(_), None) => true,

@@ -52,7 +52,7 @@ fn push_spelled(out: &mut String, c: char) -> Result<(), AllocError> {
     }
 }
 
-// The text behind the server's path, with `#` for the identifier of number 1.
+// The text after the server's path, with `#` for the identifier of number 1.
 fn path(alloc: Global, text: &str) -> Result<String, AllocError> {
     let mut out = String::from_str(alloc, SERVER)?;
     for c in text.chars() {
@@ -70,7 +70,7 @@ fn expect_whole(alloc: Global, rows: &[Row<'_>]) -> Result<(), Fail> {
     Ok(())
 }
 
-// The same of texts behind the server's path.
+// The same of texts after the server's path.
 fn expect_behind(alloc: Global, rows: &[Row<'_>]) -> Result<(), Fail> {
     for (text, wanted) in rows {
         expect(reads(alloc, path(alloc, text)?.as_bytes(), wanted), text)?;
@@ -93,7 +93,7 @@ fn a_bad_target_names_the_longest_front_of_a_target(rt: HostRuntime) -> Result<(
 const CONTENT: &str =
     "/PSDSCPullServer.svc/Nodes(AgentId='00000000-0000-0000-0000-000000000001')/Configurations(ConfigurationName='";
 
-// Tells whether it is a target, or none from that byte on.
+// Whether it is a target, or none from that byte on.
 fn is_bad(outcome: &Result<Target, TargetError>, wanted: &Option<usize>) -> bool {
     match (outcome, wanted) {
         (Ok(_), None) => true,
