@@ -13,8 +13,8 @@ use Rattle.pull_messages.specs.declared.registration.Registration.{Registration}
 use Rattle.pull_messages.specs.declared.query.ActionQuery.{ActionQuery}
 use Rattle.pull_messages.specs.declared.field.Field.{Field}
 use Rattle.pull_messages.specs.declared.field.Field.TheVariants as field
-use Rattle.pull_messages.specs.declared.limit.Limit.{Limit}
-use Rattle.pull_messages.specs.declared.limit.Limit.TheVariants as limit
+use Rattle.pull_messages.specs.declared.limits.Limit.{Limit}
+use Rattle.pull_messages.specs.declared.limits.Limit.TheVariants as limit
 use Rattle.pull_messages.specs.Limits.{is_within}
 use Rattle.pull_messages.specs.Members.{an_object, a_list, a_text, each, few, few_objects, objects, names, member_of, present, required, optional, sha256, within}
 use Rattle.pull_messages.specs.Results.{◌>>=◌, Gives}

@@ -14,8 +14,8 @@ use Rattle.pull_messages.specs.declared.error.MessageError.TheVariants as error
 use Rattle.pull_messages.specs.declared.registration.Registration.{Registration}
 use Rattle.pull_messages.specs.declared.field.Field.{Field}
 use Rattle.pull_messages.specs.declared.field.Field.TheVariants as field
-use Rattle.pull_messages.specs.declared.limit.Limit.{Limit}
-use Rattle.pull_messages.specs.declared.limit.Limit.TheVariants as limit
+use Rattle.pull_messages.specs.declared.limits.Limit.{Limit}
+use Rattle.pull_messages.specs.declared.limits.Limit.TheVariants as limit
 use Rattle.pull_messages.specs.Members.{an_object, a_text, each, few, names, not_null, required, optional}
 use Rattle.pull_messages.specs.Names.{name_of}
 use Rattle.pull_messages.specs.Sizes.{text_size, registration_size}

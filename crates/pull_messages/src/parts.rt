@@ -8,6 +8,7 @@ ghost use Rattle.pull_messages.specs.Stops.{StopsAt, IfLeft, IsWord, IsAgent, Is
 ghost use Rattle.pull_messages.specs.declared.parts.Stop.TheVariants.{Memory as OutOfMemory};
 ghost use Rattle.pull_messages.specs.Cells.{is_cell, AreAllCells};
 
+use crate::limits::NAME_BYTES;
 use mof_values::Text;
 use std::alloc::{AllocError, AllocFailed, Global};
 use uuid::fmt::Hyphenated;
@@ -154,7 +155,7 @@ pub fn quoted(alloc: Global, chars: &[char], end: char) -> Result<(Text, &[char]
         return Err(Stop::Left(chars.len()))
     };
     let mut text = Vec::new(alloc);
-    let mut room = 255;
+    let mut room = NAME_BYTES;
     while let Some((c, rest)) = value_char(left, room) {
         text.push(c)?;
         room -= c.len_utf8();

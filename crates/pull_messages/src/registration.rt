@@ -9,7 +9,7 @@ ghost use Rattle.pull_messages.specs.Tables.{registration_of};
 ghost use Rattle.pull_messages.specs.Writing.{registration_data, registration_text};
 
 use crate::body::value_of;
-use crate::limit::Limit;
+use crate::limits::Limit;
 use crate::lists::optional_names;
 use crate::members::{object, optional_text, required_member};
 use crate::values::{text_value, texts_value};
