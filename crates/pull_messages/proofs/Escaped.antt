@@ -13,7 +13,7 @@ split_first (x ∷ text) some = ap (λ (l : List ℕ). x ∷ l) (sym (take_all (
 pub plain_front : (text rest : List ℕ) (byte : ℕ) → text ≡ byte ∷ rest → byte ≢ 37 → (front : List ℕ) × (text ≡ front ++ rest) × IsWritten byte front
 plain_front text rest byte split other = (byte ∷ [], split, inl (refl, other))
 
--- an escape behind its sign
+-- an escape after its sign
 pub escape_front : (text behind rest : List ℕ) (byte : ℕ) → text ≡ 37 ∷ behind → IsEscapeOf behind byte rest
     → (front : List ℕ) × (text ≡ front ++ rest) × IsWritten byte front
 escape_front text behind rest byte split (high, low, a, b, is, first, second, value) =

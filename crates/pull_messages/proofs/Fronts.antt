@@ -7,7 +7,7 @@ use Rattle.pull_messages.specs.declared.error.MessageError.{MessageError}
 use Rattle.pull_messages.specs.Members.{each}
 use Rattle.pull_messages.specs.Results.{◌>>=◌}
 
--- what is read behind a front
+-- what is read after a front
 abbrev pub with_front : {A : Type 0} → List A → Result (List A) MessageError → Result (List A) MessageError
 with_front front given = given >>= (λ xs. Ok (front ++ xs))
 

@@ -14,5 +14,6 @@ pub mod Reading
 pub mod Scalars
 pub mod SizedMessages
 pub mod TargetLaws
+pub mod WeighedMessages
 pub mod Words
 pub mod WrittenTargets

@@ -168,7 +168,7 @@ closing_scalars end is = elim is [ inl a ↦ rw a refl | inr b ↦ rw b refl ]
 end_scalars : (end : ℕ) → IsEnd end → all_scalars (end ∷ []) ≡ true
 end_scalars end is = elim is [ inl a ↦ rw a refl | inr b ↦ rw b refl ]
 
--- the front of a quoted text, where nothing behind it goes on in one
+-- the front of a quoted text, where nothing after it goes on in one
 quoted_stops : (end : ℕ) → IsEnd end → (chars t f rest : List ℕ) → chars ≡ (39 ∷ (doubled t ++ f)) ++ rest → length f ≤ 1
     → Begins (IsAnyQuoted end) (39 ∷ (doubled t ++ f))
     → ((s : List ℕ) (c : ℕ) (u tail behind : List ℕ) → IsValue (t ++ s) → rest ≡ c ∷ (u ++ behind) → doubled s ++ closing end ≡ f ++ c ∷ (u ++ tail) → ⊥)
@@ -264,7 +264,7 @@ begins_closed end is (c ∷ t) few = (
   ),
 )
 
--- a quote closes the value, and what stands behind it is wrong, or the value is empty
+-- a quote closes the value, and what stands after it is wrong, or the value is empty
 pub no_end : (end : ℕ) → IsEnd end → (chars t left rest : List ℕ) (room : ℕ) → chars ≡ (39 ∷ doubled t) ++ left → length (encode_utf8_all t) + room ≡ 255
     → ((c : ℕ) (rest : List ℕ) → IsValueChar left room c rest → ⊥) → left ≡ 39 ∷ rest
     → ((behind : List ℕ) → IsValue t → rest ≡ end ∷ behind → ⊥) → StopsAt (IsAnyQuoted end) chars (length rest)

@@ -15,7 +15,7 @@ use Rattle.pull_messages.specs.declared.action.Detail.{Detail}
 use Rattle.pull_messages.specs.declared.report.ReportMessage.{ReportMessage}
 use Rattle.pull_messages.specs.declared.field.Field.{Field}
 use Rattle.pull_messages.specs.declared.field.Field.TheVariants as field
-use Rattle.pull_messages.specs.declared.limit.Limit.TheVariants as limit
+use Rattle.pull_messages.specs.declared.limits.Limit.TheVariants as limit
 use Rattle.pull_messages.specs.Members.{optional, required, a_text, sha256, each, an_object, within}
 use Rattle.pull_messages.specs.Recoding.{recoded, recoded_client, recoded_detail, IsRecodedReport}
 use Rattle.pull_messages.specs.Sizes.{IsShort, IsName, IsSized}

@@ -13,8 +13,8 @@ use Rattle.pull_messages.specs.declared.registration.Registration.{Registration}
 use Rattle.pull_messages.specs.declared.query.ActionQuery.{ActionQuery}
 use Rattle.pull_messages.specs.declared.field.Field.{Field}
 use Rattle.pull_messages.specs.declared.field.Field.TheVariants as field
-use Rattle.pull_messages.specs.declared.limit.Limit.{Limit}
-use Rattle.pull_messages.specs.declared.limit.Limit.TheVariants as limit
+use Rattle.pull_messages.specs.declared.limits.Limit.{Limit}
+use Rattle.pull_messages.specs.declared.limits.Limit.TheVariants as limit
 use Rattle.pull_messages.specs.Limits.{is_within}
 use Rattle.pull_messages.specs.Members.{an_object, a_list, a_text, each, few, few_objects, objects, names, member_of, present, required, optional, sha256, within}
 use Rattle.pull_messages.specs.Results.{◌>>=◌, Gives}
@@ -29,14 +29,14 @@ pub if_gives : {T : Type 0} (P : T → Type 0) (answer given : Result T MessageE
 if_gives P (Ok x) given gives holds = holds x gives
 if_gives P (Err e) given gives holds = tt
 
-ok_same : {T : Type 0} (x y : T) → ◌≡◌ {A = Result T MessageError} (Ok x) (Ok y) → x ≡ y
+pub ok_same : {T : Type 0} (x y : T) → ◌≡◌ {A = Result T MessageError} (Ok x) (Ok y) → x ≡ y
 ok_same x y is = cc is
 
-guard_ok : {A : Type 0} (b : Bool) (x : A) (e : MessageError) (y : A) → cond b (Ok x) (Err e) ≡ Ok y → (b ≡ true) × (x ≡ y)
+pub guard_ok : {A : Type 0} (b : Bool) (x : A) (e : MessageError) (y : A) → cond b (Ok x) (Err e) ≡ Ok y → (b ≡ true) × (x ≡ y)
 guard_ok true x e y is = (refl, cc is)
 guard_ok false x e y is = cc is
 
-within_ok : (size : Limit) (name : Field) (text y : List ℕ) → within size name text ≡ Ok y → (is_within size (length (encode_utf8_all text)) ≡ true) × (text ≡ y)
+pub within_ok : (size : Limit) (name : Field) (text y : List ℕ) → within size name text ≡ Ok y → (is_within size (length (encode_utf8_all text)) ≡ true) × (text ≡ y)
 unfolding within
 within_ok size name text y is = guard_ok (is_within size (length (encode_utf8_all text))) text (error.Wrong name) y is
 

@@ -298,7 +298,7 @@ decoded_front bytes text n is utf8 valid =
         absurd (valid.longest (length (encode_utf8_all more)) longer (more, (scalars, sym front)))
     at_most more left split scalars (inr within) size = omega (arith, within, size, length-take n bytes, valid.short)
 
--- the characters that are not left behind
+-- the characters that are not left after
 pub front_taken : (cs front rest : List ℕ) (left : ℕ) → cs ≡ front ++ rest → length rest ≡ left → take (length cs - left) cs ≡ front
 front_taken cs front rest left split size =
     let n : length cs - left ≡ length front = omega (arith, ap length split, length-append front rest, size) in

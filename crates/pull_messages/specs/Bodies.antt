@@ -13,7 +13,7 @@ IsJson body value = IsUtf8 body × (read body ≡ Some value)
 abbrev pub Says : {T : Type 0} → (Data → Result T MessageError) → List ℕ → Result T MessageError → Type 0
 Says table body said = (value : Data) × IsJson body value × (table value ≡ said)
 
--- what a reader answers: what the table says of the value, Json exactly where there is none; with want of memory in its place
+-- what a reader answers: what the table says of the value, Json exactly where there is none; or Memory in its place
 abbrev pub ReadsBy : {T : Type 0} → (Data → Result T MessageError) → List ℕ → Result T MessageError → Type 0
 ReadsBy table body (Ok message) = Says table body (Ok message)
 ReadsBy table body (Err Json) = (value : Data) → IsJson body value → ⊥

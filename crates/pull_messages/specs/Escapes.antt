@@ -29,7 +29,7 @@ AreChars chars text = (all_scalars chars ≡ true) × Spells IsWritten (encode_u
 abbrev pub HasNoByte : List ℕ → Type 0
 HasNoByte text = (byte : ℕ) (front rest : List ℕ) → text ≡ front ++ rest → IsWritten byte front → ⊥
 
--- the bytes are written at the front of the text, and no other behind them
+-- the bytes are written at the front of the text, and no other after them
 pub record IsUnescaped (text bytes : List ℕ) : Type 0 where
   pub front : List ℕ
   pub rest : List ℕ

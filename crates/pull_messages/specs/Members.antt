@@ -10,9 +10,9 @@ use Rattle.uuid.specs.Text.{parsed}
 use Rattle.pull_messages.specs.declared.error.MessageError.{MessageError}
 use Rattle.pull_messages.specs.declared.error.MessageError.TheVariants.{Missing, Wrong}
 use Rattle.pull_messages.specs.declared.field.Field.{Field}
-use Rattle.pull_messages.specs.declared.limit.Limit.{Limit}
-use Rattle.pull_messages.specs.declared.limit.Limit.TheVariants.{Free, Name}
-use Rattle.pull_messages.specs.Limits.{is_within}
+use Rattle.pull_messages.specs.declared.limits.Limit.{Limit}
+use Rattle.pull_messages.specs.declared.limits.Limit.TheVariants.{Free, Name}
+use Rattle.pull_messages.specs.Limits.{is_within, list_items}
 use Rattle.pull_messages.specs.Names.{name_of}
 use Rattle.pull_messages.specs.Results.{◌>>=◌}
 
@@ -81,7 +81,7 @@ a_list field value = ok_or (as_array value) (Wrong field)
 
 -- at most 16 elements
 abbrev pub few : Field → Items → Result Items MessageError
-few field values = if nat_le (items_len values) 16 then Ok values else Err (Wrong field)
+few field values = if nat_le (items_len values) list_items then Ok values else Err (Wrong field)
 
 abbrev pub texts : Field → Data → Result (List (List ℕ)) MessageError
 texts field value = do

@@ -30,7 +30,7 @@ pub record IsRecodedReport (x : ReportMessage) : Type 0 where
   pub errors : map recoded x.errors ≡ x.errors
   pub status_data : map recoded x.status_data ≡ x.status_data
 
--- the members of a report, one put behind the other
+-- the members of a report, one put after the other
 abbrev pub with_first : ReportMessage → Members → Members
 with_first x members =
     put (codes "OperationType") (text_data x.operation)

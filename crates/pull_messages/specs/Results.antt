@@ -8,7 +8,7 @@ abbrev pub ◌>>=◌ : {A B : Type 0} → Result A MessageError → (A → Resul
 (Ok x) >>= f = f x
 (Err e) >>= f = Err e
 
--- what was answered, seen by view, is what the table gives, with want of memory in its place
+-- what was answered, seen by view, is what the table gives, or Memory in its place
 abbrev pub Gives : {X Y : Type 0} → (X → Y) → Result X MessageError → Result Y MessageError → Type 0
 Gives view (Ok x) given = given ≡ Ok (view x)
 Gives view (Err Json) given = ⊥

@@ -1,19 +1,28 @@
 -- Sizes of registrations.
-use Rattle.std.specs.Prelude.{ℕ, ◌≤◌, List, length, encode_utf8_all}
+use Rattle.std.specs.Prelude.{ℕ, ◌+◌, ◌≤◌, List, length, sum_by, encode_utf8_all}
 use Rattle.std.specs.List.{AllByRecursion}
 use Rattle.pull_messages.specs.declared.registration.Registration.{Registration}
+use Rattle.pull_messages.specs.Limits.{list_items, name_bytes, text_bytes}
 
 -- the text has so many bytes of UTF-8 at most
 abbrev pub IsShort : List ℕ → Type 0
-IsShort text = length (encode_utf8_all text) ≤ 65_535
+IsShort text = length (encode_utf8_all text) ≤ text_bytes
 
 abbrev pub IsName : List ℕ → Type 0
-IsName text = (1 ≤ length (encode_utf8_all text)) × (length (encode_utf8_all text) ≤ 255)
+IsName text = (1 ≤ length (encode_utf8_all text)) × (length (encode_utf8_all text) ≤ name_bytes)
 
 -- the sizes that a registration which was read has
 pub record IsSized (x : Registration) : Type 0 where
   pub version : IsShort x.lcm_version
   pub node : IsShort x.node_name
   pub address : IsShort x.ip_address
-  pub few : length x.names ≤ 16
+  pub few : length x.names ≤ list_items
   pub named : AllByRecursion IsName x.names
+
+-- the bytes of UTF-8 of a text
+abbrev pub text_size : List ℕ → ℕ
+text_size text = length (encode_utf8_all text)
+
+-- the bytes of UTF-8 of all texts of a registration
+abbrev pub registration_size : Registration → ℕ
+registration_size x = text_size x.lcm_version + text_size x.node_name + text_size x.ip_address + sum_by text_size x.names

@@ -11,7 +11,7 @@ use Rattle.pull_messages.specs.declared.target_kinds.Target.{Target}
 abbrev pub Begins : (List ℕ → Type 0) → List ℕ → Type 0
 Begins language front = (tail : List ℕ) × (all_scalars tail ≡ true) × language (front ++ tail)
 
--- so many characters are left behind the longest front with which some text of the language begins; it is none itself
+-- so many characters are left after the longest front with which some text of the language begins; it is none itself
 pub record StopsAt (language : List ℕ → Type 0) (chars : List ℕ) (left : ℕ) : Type 0 where
   pub front : List ℕ
   pub rest : List ℕ
@@ -47,7 +47,7 @@ IsAgent text = (id : ℕ) × (agent_of text ≡ Some id)
 abbrev pub IsAnyQuoted : ℕ → List ℕ → Type 0
 IsAnyQuoted end text = (value : List ℕ) × IsQuoted value end text
 
--- what may stand behind a quoted text
+-- what may stand after a quoted text
 abbrev pub IsEnd : ℕ → Type 0
 IsEnd end = (end ≡ 41) ⊎ (end ≡ 44)
 
@@ -55,7 +55,7 @@ IsEnd end = (end ≡ 41) ⊎ (end ≡ 44)
 abbrev pub IsValueChar : List ℕ → ℕ → ℕ → List ℕ → Type 0
 IsValueChar chars room c rest = (chars ≡ doubled (c ∷ []) ++ rest) × (length (encode_utf8 c) ≤ room)
 
--- a text of one, and behind it one of the other
+-- a text of one, and after it one of the other
 abbrev pub Then : (List ℕ → Type 0) → (List ℕ → Type 0) → List ℕ → Type 0
 Then one other text = (a : List ℕ) × (b : List ℕ) × (text ≡ a ++ b) × one a × other b
 

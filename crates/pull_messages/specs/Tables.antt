@@ -5,7 +5,7 @@ use Rattle.serde_json.specs.Data.{Data, no_items}
 use Rattle.pull_messages.specs.declared.error.MessageError.{MessageError}
 use Rattle.pull_messages.specs.declared.field.Field.{Field}
 use Rattle.pull_messages.specs.declared.field.Field.TheVariants.{AgentInformation, LCMVersion, NodeName, IPAddress, ConfigurationNames, ClientStatus, Checksum, ConfigurationName, ChecksumAlgorithm, NodeStatus, Details, Status, JobId, OperationType, RefreshMode, ReportFormatVersion, ConfigurationVersion, StartTime, EndTime, RebootRequested, Errors, StatusData, Body}
-use Rattle.pull_messages.specs.declared.limit.Limit.TheVariants.{Free, Short}
+use Rattle.pull_messages.specs.declared.limits.Limit.TheVariants.{Free, Short}
 use Rattle.pull_messages.specs.declared.registration.Registration.{Registration}
 use Rattle.pull_messages.specs.declared.query.ActionQuery.{ActionQuery}
 use Rattle.pull_messages.specs.declared.query.Client.{Client}

@@ -6,10 +6,11 @@ use Rattle.uuid.specs.Text.{parsed_hyphenated}
 use Rattle.mof_values.specs.Fold.{SameName}
 use Rattle.pull_messages.specs.declared.target_kinds.Target.{Target}
 use Rattle.pull_messages.specs.declared.target_kinds.Target.TheVariants.{Node, Action, Content, Module, SendReport}
+use Rattle.pull_messages.specs.Limits.{name_bytes}
 use Rattle.pull_messages.specs.Escapes.{AreChars}
 use Rattle.pull_messages.specs.Spelling.{Spells}
 
--- A part of a target: a word, the identifier of an agent, or a text in quotes and the character behind it.
+-- A part of a target: a word, the identifier of an agent, or a text in quotes and the character after it.
 pub data Part : Type 0 where
   word : List ℕ → Part
   agent : ℕ → Part
@@ -26,7 +27,7 @@ doubled (c ∷ cs) = if c == 39 then 39 ∷ 39 ∷ doubled cs else c ∷ doubled
 
 -- a text value has 1 to 255 bytes of UTF-8
 abbrev pub IsValue : List ℕ → Type 0
-IsValue text = (1 ≤ length (encode_utf8_all text)) × (length (encode_utf8_all text) ≤ 255)
+IsValue text = (1 ≤ length (encode_utf8_all text)) × (length (encode_utf8_all text) ≤ name_bytes)
 
 abbrev pub IsQuoted : List ℕ → ℕ → List ℕ → Type 0
 IsQuoted text end chars = IsValue text × (chars ≡ 39 ∷ (doubled text ++ 39 ∷ end ∷ []))

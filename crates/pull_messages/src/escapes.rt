@@ -47,7 +47,7 @@ fn first_byte(text: &[u8]) -> Option<(u8, &[u8])>
     }
 }
 
-// The byte whose digits stand behind a `%`.
+// The byte whose digits stand after a `%`.
 fn escaped(text: &[u8]) -> Option<(u8, &[u8])>
     ensures some { IfSome result (λ x. IsEscapeOf text.now x.0 x.1.now) }
     ensures none { IfNone result ((byte : ℕ) (rest : List ℕ) → IsEscapeOf text.now byte rest → ⊥) }

@@ -82,7 +82,7 @@ fn module(alloc: Global, chars: &[char]) -> Result<Target, Stop>
     finished(Target::Module(name, version), rest)
 }
 
-// The target, where nothing stands behind it.
+// The target, where nothing stands after it.
 fn finished(target: Target, rest: &[char]) -> Result<Target, Stop>
     ensures { result ≡ (if length rest.now == 0 then Ok target else Err (Stop.Left (length rest.now))) }
 {

@@ -12,7 +12,7 @@ mod error;
 mod escapes;
 mod field;
 mod forms;
-mod limit;
+mod limits;
 mod lists;
 mod members;
 mod parts;

@@ -5,7 +5,7 @@ ghost use Rattle.serde_json.specs.View.{view, items_view};
 ghost use Rattle.pull_messages.specs.Members.{required, optional, an_object, a_text, sha256, each, few, texts, names, objects, few_objects};
 ghost use Rattle.pull_messages.specs.Results.{Gives, Tests};
 
-use crate::limit::Limit;
+use crate::limits::{LIST_ITEMS, Limit};
 use crate::members::{
     list, member, object, optional_sha256, optional_text, required_member, required_text, text,
 };
@@ -73,7 +73,7 @@ fn objects_of(value: &Value, field: Field) -> Result<&[Value], MessageError>
 fn few_of(values: &[Value], field: Field) -> Result<&[Value], MessageError>
     ensures { Gives (λ v. items_view v.now) result (few field (items_view values.now)) }
 {
-    if values.len() <= 16 {
+    if values.len() <= LIST_ITEMS {
         Ok(values)
     } else {
         Err(MessageError::Wrong(field))

@@ -5,7 +5,7 @@ ghost use Rattle.serde_json.specs.View.{view, items_view};
 ghost use Rattle.pull_messages.specs.Members.{member_of, present, required, optional, an_object, a_string, within, a_text, an_id, id_of, is_sha256, sha256, a_list};
 ghost use Rattle.pull_messages.specs.Results.{Gives};
 
-use crate::limit::Limit;
+use crate::limits::Limit;
 use crate::{Field, MessageError};
 use mof_values::Text;
 use serde_json::Value;

@@ -8,6 +8,7 @@ ghost use Rattle.pull_messages.specs.Stops.{StopsAt, IfLeft, IsWord, IsAgent, Is
 ghost use Rattle.pull_messages.specs.declared.parts.Stop.TheVariants.{Memory as OutOfMemory};
 ghost use Rattle.pull_messages.specs.Cells.{is_cell, AreAllCells};
 
+use crate::limits::NAME_BYTES;
 use mof_values::Text;
 use std::alloc::{AllocError, AllocFailed, Global};
 use uuid::fmt::Hyphenated;
@@ -144,7 +145,7 @@ fn fits_cell(c: char, place: usize) -> bool
     }
 }
 
-/// A text in quotes, and the character that stands behind it, `)` or `,`.
+/// A text in quotes, and the character that stands after it, `)` or `,`.
 pub fn quoted(alloc: Global, chars: &[char], end: char) -> Result<(Text, &[char]), Stop>
     requires { IsEnd end }
     ensures taken { IfOk result (λ x. Takes (IsQuoted x.0 end) chars.now x.1.now) }
@@ -154,7 +155,7 @@ pub fn quoted(alloc: Global, chars: &[char], end: char) -> Result<(Text, &[char]
         return Err(Stop::Left(chars.len()))
     };
     let mut text = Vec::new(alloc);
-    let mut room = 255;
+    let mut room = NAME_BYTES;
     while let Some((c, rest)) = value_char(left, room) {
         text.push(c)?;
         room -= c.len_utf8();
@@ -188,7 +189,7 @@ fn value_char(chars: &[char], room: usize) -> Option<(char, &[char])>
     }
 }
 
-// What stands behind that character.
+// What stands after that character.
 fn behind(chars: &[char], first: char) -> Option<&[char]>
     ensures some { IfSome result (λ rest. chars.now ≡ first ∷ rest.now) }
     ensures none { IfNone result ((rest : List ℕ) → chars.now ≡ first ∷ rest → ⊥) }

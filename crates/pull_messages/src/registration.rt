@@ -1,15 +1,15 @@
 //! Registrations of agents.
-ghost use Rattle.std.specs.Prelude.{◌≡◌, IfOk, OnOk, map};
+ghost use Rattle.std.specs.Prelude.{◌≡◌, ◌≤◌, IfOk, OnOk, length, map};
 ghost use Rattle.serde_json.specs.View.{view};
 ghost use Rattle.pull_messages.specs.Bodies.{ReadsBy, Says};
 ghost use Rattle.pull_messages.specs.Recoding.{recoded};
 ghost use Rattle.pull_messages.specs.Results.{Gives};
-ghost use Rattle.pull_messages.specs.Sizes.{IsSized};
+ghost use Rattle.pull_messages.specs.Sizes.{IsSized, registration_size};
 ghost use Rattle.pull_messages.specs.Tables.{registration_of};
 ghost use Rattle.pull_messages.specs.Writing.{registration_data, registration_text};
 
 use crate::body::value_of;
-use crate::limit::Limit;
+use crate::limits::Limit;
 use crate::lists::optional_names;
 use crate::members::{object, optional_text, required_member};
 use crate::values::{text_value, texts_value};
@@ -18,7 +18,7 @@ use mof_values::{Items, Memory, Text};
 use serde_json::{Value, json};
 use std::alloc::{AllocError, Global};
 
-/// What an agent tells of itself, and the names of the configurations that it asks for.
+/// What an agent says of itself, and the names of the configurations that it asks for.
 #[derive(Clone, Debug, Drop, PartialEq)]
 pub struct Registration {
     pub lcm_version: Text,
@@ -31,6 +31,7 @@ pub struct Registration {
 pub fn read_registration(alloc: Global, body: &[u8]) -> Result<Registration, MessageError>
     ensures answers { ReadsBy registration_of body.now result }
     ensures sized { IfOk result IsSized }
+    ensures weighed { IfOk result (λ x. registration_size x ≤ length body.now) }
 {
     registration_in(alloc, &value_of(alloc, body)?)
 }

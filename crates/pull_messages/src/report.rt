@@ -10,7 +10,7 @@ ghost use Rattle.pull_messages.specs.Tables.{report_of};
 ghost use Rattle.pull_messages.specs.Writing.{report_data, report_text, text_data, texts_data};
 
 use crate::body::value_of;
-use crate::limit::Limit;
+use crate::limits::Limit;
 use crate::lists::optional_texts;
 use crate::members::{object, optional_text, required_id};
 use crate::values::{id_value, text_value, texts_value};

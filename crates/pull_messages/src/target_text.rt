@@ -10,7 +10,7 @@ use mof_values::{Memory, Text};
 use std::alloc::{AllocError, Global};
 use uuid::Uuid;
 
-/// Writes a target behind the prefix of a server's URL, such as `/PSDSCPullServer.svc`; behind that prefix it reads
+/// Writes a target after the prefix of a server's URL, such as `/PSDSCPullServer.svc`; after that prefix it reads
 /// back, where its texts have 1 to 255 bytes of UTF-8.
 pub fn write_target(alloc: Global, prefix: &Text, target: &Target) -> Result<Vec<u8>, Memory>
     ensures text { IfOk result (λ text. text.items ≡ target_text prefix.now target.now) }

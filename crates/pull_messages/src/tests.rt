@@ -1,6 +1,6 @@
-//! Tables of bodies and targets.
-mod bodies;
-mod limits;
-mod paths;
-mod pieces;
-mod written;
+mod errors;
+mod made;
+mod messages;
+mod rows;
+mod sizes;
+mod targets;

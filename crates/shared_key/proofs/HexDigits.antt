@@ -72,7 +72,7 @@ pair_values a b i v (Some h) (Some l) e = (h, l, refl, refl, cc e)
 pair_values a b i v (Some h) None e = cc e
 pair_values a b i v None low e = cc e
 
--- the byte and the bytes behind it that read
+-- the byte and the bytes after it that read
 byte_values : (first : Result ℕ FromHexError) (others : Result (List ℕ) FromHexError) (bytes : List ℕ)
     → (first >>= λ byte. others >>= λ rest. Ok (byte ∷ rest)) ≡ Ok bytes
     → (byte : ℕ) × (rest : List ℕ) × (first ≡ Ok byte) × (others ≡ Ok rest) × (byte ∷ rest ≡ bytes)

@@ -62,7 +62,7 @@ fn base64_text(bytes: &[u8; 32]) -> [u8; 44]
     text
 }
 
-// Tells whether the two are equal. Where their lengths are, it looks at every byte.
+// Whether the two are equal. Where their lengths are, it looks at every byte.
 fn is_equal(signature: &[u8; 44], given: &[u8]) -> bool
     ensures { result ≡ bytes_eq signature.now given.now }
 {

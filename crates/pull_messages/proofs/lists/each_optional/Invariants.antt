@@ -1,6 +1,6 @@
 use Rattle.std.proofs.Common.{◌≡◌, [], length}
 use Rattle.serde_json.specs.View.{items_view}
-use Rattle.pull_messages.specs.declared.limit.Limit.TheVariants.{Free}
+use Rattle.pull_messages.specs.declared.limits.Limit.TheVariants.{Free}
 use Rattle.pull_messages.specs.Members.{optional, a_text, each}
 use Rattle.pull_messages.proofs.Fronts.{with_front}
 use Rattle.pull_messages.proofs.lists.each_optional.Given as goal
