@@ -1,15 +1,22 @@
 -- Where a folder that stands for a machine keeps what it holds. Names, folders and paths are their bytes in UTF-8.
 use Rattle.std.specs.Prelude.{ℕ, List, [], ◌∷◌, ◌++◌, Bool, not, ◌==◌, ◌&&◌, ◌||◌, codes}
-use Rattle.std.specs.List.{list_all, list_any, slice_split}
-use Rattle.std.specs.Path.{path_join}
+use Rattle.std.specs.List.{list_all, list_any, slice_split, starts_with}
+use Rattle.std.specs.Path.{path_join, path_with_file_name}
 use Rattle.std.specs.Str.{bytes_eq}
 use Rattle.hex.specs.Hex.{encode_upper}
 use Rattle.sha2.specs.Sha256.{sha256}
 use Rattle.dsc_outside.specs.Host.{wants_reboot}
 
--- a name that stays in the folder it is looked for in: neither empty, nor `.`, nor `..`, and without a NUL
+-- the front of the names that are reserved for files that are being written, and the name of such a file
+abbrev pub staging_name : List ℕ
+staging_name = codes ".nimchout-staged"
+
+abbrev pub is_staging_name : List ℕ → Bool
+is_staging_name name = starts_with ◌==◌ name staging_name
+
+-- a name that stays in the folder it is looked for in: neither empty, nor `.`, nor `..`, without a NUL, and not reserved
 abbrev pub is_plain_name : List ℕ → Bool
-is_plain_name name = not (bytes_eq name []) && (not (bytes_eq name (codes ".")) && (not (bytes_eq name (codes "..")) && not (list_any (λ b. b == 0) name)))
+is_plain_name name = not (bytes_eq name []) && (not (bytes_eq name (codes ".")) && (not (bytes_eq name (codes "..")) && (not (list_any (λ b. b == 0) name) && not (is_staging_name name))))
 
 -- each name of the path is plain
 abbrev pub is_plain_path : List ℕ → Bool
@@ -43,9 +50,13 @@ package_place host name version = file_in host (codes "packages") (encode_upper 
 abbrev pub has_line : List ℕ → List ℕ → Bool
 has_line text id = wants_reboot (slice_split (λ b. b == 10) text) id
 
--- the name of something in a folder: neither empty, nor that of the folder itself, nor that of the one above
+-- where a file is written before it takes its place: beside it
+abbrev pub staging_place : List ℕ → List ℕ
+staging_place place = path_with_file_name place staging_name
+
+-- the name of something in a folder: neither empty, nor that of the folder itself, nor that of the one above, nor reserved
 abbrev pub is_entry_name : List ℕ → Bool
-is_entry_name name = not ((bytes_eq name [] || bytes_eq name (codes ".")) || bytes_eq name (codes ".."))
+is_entry_name name = not (((bytes_eq name [] || bytes_eq name (codes ".")) || bytes_eq name (codes "..")) || is_staging_name name)
 
 -- one of the names, each with a NUL behind it, is that of something in the folder
 abbrev pub has_entry_name : List ℕ → Bool

@@ -37,9 +37,9 @@ ComesTo (Ok done) old new Failed = ⊥
 ComesTo (Ok done) old new TooLong = ⊥
 ComesTo (Err error) old new outcome = IsFault error outcome
 
--- where the exchanges are told, the call adds its own at the end; with want of memory it adds at most its own
+-- where the exchanges are told, the call adds its own at the end; out of memory, it adds at most its own. A link that does not tell them tells nothing afterwards either
 abbrev pub AddsExchange : Option (List Exchange) → Option (List Exchange) → Peer → List ℕ → Result (Unit {0}) LinkError → List ℕ → List ℕ → Type 0
-AddsExchange None after to request result old new = ⊤
+AddsExchange None after to request result old new = after ≡ None
 AddsExchange (Some before) after to request result old new =
     ((outcome : Outcome) × ComesTo result old new outcome × (after ≡ Some (before ++ record { peer = to; request = request; outcome = outcome } ∷ [])))
     ⊎ (IsErrOf result errors.Memory × (after ≡ Some before))

@@ -13,6 +13,7 @@ mod machine_folder;
 mod out_sink;
 mod paths;
 mod places;
+mod placing;
 mod plain_files;
 mod reading;
 mod system_clock;

@@ -1,4 +1,3 @@
-mod faulty_files;
 mod folder_faults;
 mod folder_lists;
 mod folder_paths;
@@ -7,3 +6,4 @@ mod memory_forms;
 mod memory_host;
 mod real_things;
 mod scratch;
+mod watched_files;

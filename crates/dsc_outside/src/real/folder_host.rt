@@ -16,14 +16,22 @@ use std::rt::Files;
 /// - `env` has a plain file for each variable, named by the upper-case hexadecimal digits of its name's bytes;
 /// - `log` has a plain file for each entry, named by the digits of the SHA-256 of id, LF, message, which it holds;
 /// - `packages` has a plain file with each package's bytes, named by the digits of the SHA-256 of name, LF, version;
-/// - `reboot` is a text of the folded ids that want a reboot, one a line;
-/// - `staged` is a file that is being written.
+/// - `reboot` is a text of the folded ids that want a reboot, one a line.
+///
+/// HOST/root may be the machine itself, bound there, with other file systems mounted below it: a mount is no link. A
+/// file is written beside its target, in one file system with it, under a name that begins with `.nimchout-staged`.
+/// Names that begin so are reserved: a call on a path that has one fails, a folder with nothing else in it is empty,
+/// and the next file that is placed in a folder takes the place of one that a stop left there.
+///
+/// A file is placed whole or not at all: it is written, synced, given the mode of the file that it replaces, and its
+/// owner and group where they may be set, and renamed. Each change then syncs the folders whose names it changed. Where
+/// that sync fails, the change was done, but the call failed. Access lists and extended attributes are not kept.
 ///
 /// A file or a folder that is missing means that what it would hold is not there; a change makes the folders that it
 /// needs, HOST too. Every other failure counts, and so does a link, a folder or anything else in the place of one of
-/// these files or folders. HOST itself may be a link; those under the root are `Other` and never followed: a look
-/// finds nothing below them, and a change there fails. A file is placed whole or not at all. Nothing is touched before
-/// the first call. A clause sees a host as the number of its calls that failed.
+/// these files or folders. A folder that may not be read counts as one with something in it. HOST itself may be a
+/// link; those under the root are `Other` and never followed: a look finds nothing below them, and a change there
+/// fails. Nothing is touched before the first call. A clause sees a host as the number of its calls that failed.
 #[derive(Drop)]
 pub struct FolderHost<R: Files> {
     machine: MachineFolder<R>,

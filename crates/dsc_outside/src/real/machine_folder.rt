@@ -1,6 +1,7 @@
 //! A folder that stands for a machine.
-use super::places::{STAGED, path_in};
-use super::plain_files::place_file;
+use super::places::{folder_of, staging_path};
+use super::placing::place_file;
+use super::walking::sync_folder;
 use crate::HostError;
 use std::alloc::Global;
 use std::fs;
@@ -21,15 +22,17 @@ impl<R: Files> MachineFolder<R> {
 
     /// Makes the host's folder where nothing is. Unlike what is in it, it may be a link.
     pub(super) fn make_host(&self) -> Result<(), HostError> {
-        match fs::create_dir(&self.rt, self.host.as_str()) {
-            Err(e) if e.kind() != ErrorKind::AlreadyExists => Err(HostError::from(e)),
-            _ => Ok(()),
+        let host = self.host.as_str();
+        match fs::create_dir(&self.rt, host) {
+            Ok(()) => Ok(sync_folder(&self.rt, folder_of(host))?),
+            Err(e) if e.kind() == ErrorKind::AlreadyExists => Ok(()),
+            Err(e) => Err(HostError::from(e)),
         }
     }
 
-    /// Places a file in the host's folder so that each reader sees all of it or nothing.
+    /// Places a file so that each reader sees all of it or nothing, also after a loss of power.
     pub(super) fn place(&self, place: &str, bytes: &[u8]) -> Result<(), HostError> {
-        let staged = path_in(self.alloc(), &self.host, STAGED)?;
+        let staged = staging_path(self.alloc(), place)?;
         place_file(&self.rt, staged.as_str(), place, bytes)
     }
 }

@@ -1,6 +1,6 @@
 //! Paths of the machine.
 ghost use Rattle.std.specs.Prelude.{◌≡◌};
-ghost use Rattle.dsc_outside.specs.Folders.{is_plain_name, is_plain_path};
+ghost use Rattle.dsc_outside.specs.Folders.{is_plain_name, is_plain_path, is_staging_name};
 
 /// Answers whether each name of the path is plain. What has another one, as `..`, may lead out of the root.
 pub fn is_plain_path(path: &str) -> bool
@@ -9,9 +9,21 @@ pub fn is_plain_path(path: &str) -> bool
     path.split('/').all(|name| is_plain_name(name))
 }
 
-// Neither empty, nor `.`, nor `..`, and without a NUL.
+// Neither empty, nor `.`, nor `..`, without a NUL, and none that is reserved for staging.
 fn is_plain_name(name: &str) -> bool
     ensures { result ≡ is_plain_name name.now }
 {
-    !name.is_empty() && name != "." && name != ".." && !name.as_bytes().contains(&0)
+    !name.is_empty()
+        && name != "."
+        && name != ".."
+        && !name.as_bytes().contains(&0)
+        && !is_staging_name(name.as_bytes())
+}
+
+/// Answers whether the name is reserved for files that are being written. No path of the machine has such a name, and
+/// a folder with nothing else in it is empty.
+pub fn is_staging_name(name: &[u8]) -> bool
+    ensures { result ≡ is_staging_name name.now }
+{
+    name.starts_with(b".nimchout-staged")
 }

@@ -3,7 +3,7 @@ ghost use Rattle.std.specs.Prelude.{◌≡◌, Err, IfOk, codes, false, string_b
 ghost use Rattle.std.specs.Path.{path_buf_bytes, path_join};
 ghost use Rattle.hex.specs.Hex.{encode_upper};
 ghost use Rattle.sha2.specs.Sha256.{sha256};
-ghost use Rattle.dsc_outside.specs.Folders.{file_in, is_plain_path, package_place, root_place, two_lines, variable_place};
+ghost use Rattle.dsc_outside.specs.Folders.{file_in, is_plain_path, package_place, root_place, staging_place, two_lines, variable_place};
 ghost use Rattle.dsc_outside.specs.declared.host.HostError.TheVariants as errors;
 
 use super::paths::is_plain_path;
@@ -27,8 +27,8 @@ pub const PACKAGES: &str = "packages";
 /// The text of the ids that want a reboot.
 pub const REBOOT: &str = "reboot";
 
-/// A file that is being written, before it takes its place.
-pub const STAGED: &str = "staged";
+/// A file that is being written, before it takes its place in the same folder. Names that begin so are reserved.
+pub const STAGED: &str = ".nimchout-staged";
 
 /// What has that name in the host's folder.
 pub fn path_in(alloc: Global, host: &str, name: &str) -> Result<PathBuf, AllocError>
@@ -51,6 +51,24 @@ pub fn root_path(alloc: Global, host: &str, path: &str) -> Result<PathBuf, HostE
     let mut place = path_in(alloc, host, ROOT)?;
     place.push(path)?;
     Ok(place)
+}
+
+/// Where the file of that place is written first: in its folder, since no file is moved from one file system to another.
+pub fn staging_path(alloc: Global, place: &str) -> Result<PathBuf, AllocError>
+    ensures { IfOk result (λ staged. path_buf_bytes staged ≡ staging_place place.now) }
+{
+    let mut staged = PathBuf::from_str(alloc, place)?;
+    staged.set_file_name(STAGED)?;
+    Ok(staged)
+}
+
+/// The folder of what stands at the place.
+pub fn folder_of(place: &str) -> &str {
+    match place.trim_end_matches('/').rsplit_once('/') {
+        None => ".",
+        Some(("", _)) => "/",
+        Some((folder, _)) => folder,
+    }
 }
 
 /// The file of the variable: its name is the upper-case hexadecimal digits of the variable's.

@@ -1,14 +1,14 @@
-//! Plain files: reading them, and placing them whole.
+//! Plain files: reading them, and taking them away.
 ghost use Rattle.dsc_outside.specs.Host.{LeavesBuffer};
 
 use super::comparing::gives_exactly;
+use super::places::folder_of;
 use super::reading::read_rest;
-use super::walking::{Kind, kind_at};
+use super::walking::{Kind, kind_at, sync_folder};
 use crate::HostError;
-use std::fs::{File, OpenFile};
-use std::io::{ErrorKind, Write};
+use std::fs;
+use std::io::ErrorKind;
 use std::rt::Files;
-use std::{fs, io};
 
 /// Appends the bytes of the plain file at the place, and answers whether it is there. A link, a folder, or anything
 /// else in its place is a failure.
@@ -53,33 +53,12 @@ fn open_plain<R: Files>(rt: &R, place: &str) -> Result<Option<R::File>, HostErro
     Ok(Some(fs::open(rt, place)?))
 }
 
-/// Places a file with these bytes: it is written and synced at the other place, and takes its own in one step, also
-/// that of a file or a link. A folder in its place is a failure.
-pub fn place_file<R: Files>(
-    rt: &R,
-    staged: &str,
-    place: &str,
-    bytes: &[u8],
-) -> Result<(), HostError> {
-    take_away(rt, staged)?;
-    let outcome = write_then_move(rt, staged, place, bytes);
-    if outcome.is_err() {
-        let _ = fs::remove_file(rt, staged);
-    }
-    Ok(outcome?)
-}
-
-fn write_then_move<R: Files>(rt: &R, staged: &str, place: &str, bytes: &[u8]) -> io::Result<()> {
-    let mut file = File::create_new(rt, staged)?;
-    file.write_all(bytes)?;
-    file.sync_all()?;
-    fs::rename(rt, staged, place)
-}
-
-/// Takes the file or the link at the place away, where one is there. A folder in its place is a failure.
+/// Takes the file or the link at the place away, where one is there, and syncs its folder. A folder in its place is a
+/// failure.
 pub fn take_away<R: Files>(rt: &R, place: &str) -> Result<(), HostError> {
     match fs::remove_file(rt, place) {
-        Err(e) if e.kind() != ErrorKind::NotFound => Err(HostError::from(e)),
-        _ => Ok(()),
+        Ok(()) => Ok(sync_folder(rt, folder_of(place))?),
+        Err(e) if e.kind() == ErrorKind::NotFound => Ok(()),
+        Err(e) => Err(HostError::from(e)),
     }
 }

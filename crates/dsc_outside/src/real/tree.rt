@@ -4,9 +4,9 @@ ghost use Rattle.dsc_outside.specs.Folders.{is_plain_path};
 ghost use Rattle.dsc_outside.specs.declared.host.HostError.TheVariants as errors;
 
 use super::machine_folder::MachineFolder;
-use super::places::{ROOT, path_in, root_path};
+use super::places::{ROOT, folder_of, path_in, root_path};
 use super::plain_files::{file_holds, take_away};
-use super::walking::{Kind, is_folder, is_inhabited, kind_at, make_folder};
+use super::walking::{Kind, is_folder, is_inhabited, kind_at, make_folder, sync_folder};
 use crate::{HostError, PathState};
 use std::rt::Files;
 
@@ -72,9 +72,14 @@ impl<R: Files> MachineFolder<R> {
         match self.look_for(path)? {
             Found::Missing | Found::At(Kind::Nothing) => Ok(()),
             Found::Blocked => Err(HostError::Failed),
-            Found::At(Kind::Folder) => Ok(self.rt.remove_dir_all(self.alloc(), place.as_str())?),
+            Found::At(Kind::Folder) => self.remove_folder(place.as_str()),
             Found::At(Kind::File | Kind::Other) => take_away(&self.rt, place.as_str()),
         }
+    }
+
+    fn remove_folder(&self, place: &str) -> Result<(), HostError> {
+        self.rt.remove_dir_all(self.alloc(), place)?;
+        Ok(sync_folder(&self.rt, folder_of(place))?)
     }
 
     // Looks name by name, from the root on.

@@ -2,11 +2,14 @@
 ghost use Rattle.std.specs.Prelude.{◌≡◌};
 ghost use Rattle.dsc_outside.specs.Folders.{has_entry_name, is_entry_name};
 
+use super::paths::is_staging_name;
+use super::places::folder_of;
 use super::reading::read_some;
 use crate::{Failed, HostError};
-use std::fs;
+use std::fs::OpenFile;
 use std::io::{ErrorKind, Read};
 use std::rt::Files;
+use std::{fs, io};
 
 const BUFFER_SIZE: usize = 4096;
 
@@ -41,18 +44,33 @@ pub fn is_folder<R: Files>(rt: &R, place: &str) -> Result<bool, HostError> {
     }
 }
 
-/// Makes a folder at the place where nothing is. Anything but a folder there is a failure.
+/// Makes a folder at the place where nothing is, and syncs it and the folder that it is in. Anything but a folder
+/// there is a failure.
 pub fn make_folder<R: Files>(rt: &R, place: &str) -> Result<(), HostError> {
-    if !is_folder(rt, place)? {
-        fs::create_dir(rt, place)?;
+    if is_folder(rt, place)? {
+        return Ok(());
     }
-    Ok(())
+    fs::create_dir(rt, place)?;
+    sync_folder(rt, place)?;
+    Ok(sync_folder(rt, folder_of(place))?)
 }
 
-/// Answers whether something is in the folder, whatever its name.
+/// Puts on the disk which names the folder has. A file system that knows no sync of folders has nothing to do.
+pub fn sync_folder<R: Files>(rt: &R, place: &str) -> io::Result<()> {
+    match fs::open(rt, place)?.sync_all() {
+        Err(e) if e.kind() == ErrorKind::InvalidInput => Ok(()),
+        outcome => outcome,
+    }
+}
+
+/// Answers whether something is in the folder, whatever its name. One that may not be read is not known to be empty,
+/// and so counts as one with something in it.
 pub fn is_inhabited<R: Files>(rt: &R, place: &str) -> Result<bool, HostError> {
-    let mut names = rt.open_dir(place)?;
-    Ok(gives_entry_name(&mut names)?)
+    match rt.open_dir(place) {
+        Ok(mut names) => Ok(gives_entry_name(&mut names)?),
+        Err(e) if e.kind() == ErrorKind::PermissionDenied => Ok(true),
+        Err(e) => Err(HostError::from(e)),
+    }
 }
 
 // The names come whole, each with a NUL behind it.
@@ -77,9 +95,12 @@ fn has_entry_name(names: &[u8]) -> bool
     names.split(|b| *b == 0).any(|name| is_entry_name(name))
 }
 
-// Neither empty, nor the name of the folder itself, nor that of the one above.
+// Neither empty, nor the name of the folder itself, nor that of the one above, nor reserved.
 fn is_entry_name(name: &[u8]) -> bool
     ensures { result ≡ is_entry_name name.now }
 {
-    !(name.is_empty() || name == b".".as_slice() || name == b"..".as_slice())
+    !(name.is_empty()
+        || name == b".".as_slice()
+        || name == b"..".as_slice()
+        || is_staging_name(name))
 }

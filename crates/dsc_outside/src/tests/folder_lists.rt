@@ -5,7 +5,7 @@ use super::host_calls::Call::{
     Wanting,
 };
 use super::host_calls::Row;
-use super::scratch::Act::{Delete, Holds, Link, MakeFolder, Missing, Names, Write};
+use super::scratch::Act::{Delete, Holds, Link, MakeFolder, Names, Write};
 use super::scratch::Step::{At, Calls};
 use super::scratch::{LONG, Step, expect_in, play};
 use std::test::Fail;
@@ -185,31 +185,10 @@ fn a_folder_in_the_place_of_a_file_fails(rt: HostRuntime) -> Result<(), Fail> {
             (Set(LONG, b""), Failed),
             (Unset(LONG), Failed),
         ]),
-        At("host/staged", Missing),
+        At("host/env", Names(1)),
         Calls(&[
             (AddEntry("[log]l", "another"), Done),
             (HasEntry("[log]l", "another"), Yes),
-        ]),
-    ];
-    play(&rt, "host", BEFORE, STEPS)
-}
-
-#[test]
-fn what_is_left_of_a_stopped_change_is_no_hindrance(rt: HostRuntime) -> Result<(), Fail> {
-    const BEFORE: &[Step<'_>] = &[
-        At("host", MakeFolder),
-        At("host/staged", Write("a part of a value")),
-    ];
-    const STEPS: &[Step<'_>] = &[
-        Calls(&[(Set("a", b"1"), Done)]),
-        At("host/staged", Link("../outside/kept")),
-        Calls(&[(Set("b", b"2"), Done)]),
-        At("host/staged", MakeFolder),
-        Calls(&[
-            (Set("c", b"3"), Failed),
-            (Value("a", b"1"), Yes),
-            (Value("b", b"2"), Yes),
-            (Value("c", b""), No),
         ]),
     ];
     play(&rt, "host", BEFORE, STEPS)

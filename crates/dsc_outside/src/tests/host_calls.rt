@@ -98,10 +98,10 @@ fn make_call<H: Host>(host: &mut H, call: &Call<'_>, into: &mut Vec<u8>) -> Answ
     }
 }
 
-// What the call is to append to a buffer.
-fn appended<'a>(call: &Call<'a>) -> &'a [u8] {
+// What the call is to append to a buffer, where that is its answer.
+fn appended<'a>(call: &Call<'a>, answer: Answer) -> &'a [u8] {
     match call {
-        Call::Value(_, value) => value,
+        Call::Value(_, value) if answer == Answer::Yes => value,
         _ => b"",
     }
 }
@@ -127,7 +127,21 @@ fn is_answered<H: Host>(
 ) -> Result<bool, AllocError> {
     let mut buffer = b">".to_vec(alloc)?;
     let answer = make_call(host, call, &mut buffer);
-    Ok(answer == wanted && buffer.strip_prefix(b">") == Some(appended(call)))
+    Ok(answer == wanted && buffer.strip_prefix(b">") == Some(appended(call, wanted)))
+}
+
+/// Makes the calls, up to one that has not its answer, and answers whether all have theirs.
+pub fn are_answered<H: Host>(
+    alloc: Global,
+    host: &mut H,
+    rows: &[Row<'_>],
+) -> Result<bool, AllocError> {
+    for (call, wanted) in rows {
+        if !is_answered(alloc, host, call, *wanted)? {
+            return Ok(false);
+        }
+    }
+    Ok(true)
 }
 
 /// Makes the calls, and expects of each its answer.

@@ -1,5 +1,3 @@
-ghost use Rattle.std.specs.Prelude.{◌≤◌, length};
-
 use crate::real::{InSource, OutSink};
 use crate::{Failed, Sink, Source};
 use std::cell::Cell;
@@ -8,56 +6,69 @@ use std::io;
 use std::io::{ErrorKind, Print, Read};
 use std::test::Fail;
 
-// A reader that is interrupted, gives `ab`, fails, gives `c`, and then is at its end.
+/// What a call of the system comes to.
+type Outcome = Result<usize, ErrorKind>;
+
+// What the calls of the system come to, in order, and what the adapter's call answers.
+type Row = (&'static [Outcome], Result<usize, Failed>);
+
+const FAULTS: &[Row] = &[
+    (&[Ok(2)], Ok(2)),
+    (&[Ok(1)], Ok(1)),
+    (
+        &[
+            Err(ErrorKind::Interrupted),
+            Err(ErrorKind::Interrupted),
+            Ok(2),
+        ],
+        Ok(2),
+    ),
+    (&[Err(ErrorKind::WouldBlock)], Err(Failed)),
+    (&[Err(ErrorKind::TimedOut)], Err(Failed)),
+    (&[Err(ErrorKind::BrokenPipe)], Err(Failed)),
+    (&[Err(ErrorKind::UnexpectedEof)], Err(Failed)),
+    (&[Err(ErrorKind::StorageFull)], Err(Failed)),
+    (
+        &[Err(ErrorKind::Interrupted), Err(ErrorKind::BrokenPipe)],
+        Err(Failed),
+    ),
+];
+
+// An input and an output whose calls come to these outcomes.
 #[derive(Drop)]
-struct Faltering {
-    calls: u32,
+struct Scripted {
+    outcomes: &'static [Outcome],
+    at: Cell<usize>,
 }
 
-impl Read for Faltering {
-    fn read(&mut self, buf: &mut [u8]) -> io::Result<usize> {
-        self.calls = self.calls.saturating_add(1);
-        match self.calls {
-            1 | 3 => Err(io::Error::from(ErrorKind::Interrupted)),
-            2 => Ok(give(buf, b"ab")),
-            4 => Err(io::Error::from(ErrorKind::Other)),
-            5 => Ok(give(buf, b"c")),
-            _ => Ok(0),
+impl Scripted {
+    fn of(outcomes: &'static [Outcome]) -> Scripted {
+        Scripted {
+            outcomes,
+            at: Cell::new(0),
+        }
+    }
+
+    // The next outcome, at most that many bytes.
+    fn next(&self, room: usize) -> io::Result<usize> {
+        let at = self.at.get();
+        self.at.set(at.saturating_add(1));
+        match self.outcomes.get(at) {
+            Some(Ok(count)) => Ok((*count).min(room)),
+            Some(Err(kind)) => Err(io::Error::from(*kind)),
+            None => Err(io::Error::from(ErrorKind::Other)),
         }
     }
 }
 
-fn give(buf: &mut [u8], bytes: &[u8]) -> usize
-    ensures { result ≤ length buf.new }
-{
-    let count = buf.len().min(bytes.len());
-    buf[..count].copy_from_slice(&bytes[..count]);
-    count
-}
-
-#[test]
-fn standard_input_goes_on_after_a_signal_and_after_a_failure(rt: HostRuntime) -> Result<(), Fail> {
-    let mut source = InSource::new(Faltering { calls: 0 });
-    let mut all = Vec::new(rt.alloc());
-    for want in [Ok(2), Err(Failed), Ok(1), Ok(0)] {
-        let mut buffer = [0; 8];
-        let outcome = source.read(&mut buffer);
-        assert!(rt; outcome == want);
-        all.extend_from_slice(&buffer[..outcome.unwrap_or(0)])?;
+impl Read for Scripted {
+    fn read(&mut self, buf: &mut [u8]) -> io::Result<usize> {
+        let count = self.next(buf.len())?;
+        Ok(count.min(buf.len()))
     }
-    assert!(rt; all.as_slice() == b"abc".as_slice());
-    let mut system = InSource::new(rt.reader());
-    assert!(rt; system.read(&mut []) == Ok(0));
-    Ok(())
 }
 
-// An output that is interrupted, takes one byte of each piece, takes nothing, and then fails.
-#[derive(Drop)]
-struct Narrow {
-    calls: Cell<u32>,
-}
-
-impl Print for Narrow {
+impl Print for Scripted {
     fn print<D: Display + Drop>(&self, _value: D) -> io::Result<()> {
         Ok(())
     }
@@ -71,27 +82,39 @@ impl Print for Narrow {
     }
 
     fn write_some(&self, bytes: &[u8]) -> io::Result<usize> {
-        let call = self.calls.get();
-        self.calls.set(call.saturating_add(1));
-        match call {
-            0 => Err(io::Error::from(ErrorKind::Interrupted)),
-            1 | 2 => Ok(bytes.len().min(1)),
-            3 => Ok(0),
-            _ => Err(io::Error::from(ErrorKind::StorageFull)),
-        }
+        let count = self.next(bytes.len())?;
+        Ok(count.min(bytes.len()))
     }
 }
 
-#[test]
-fn standard_output_answers_what_was_taken(rt: HostRuntime) -> Result<(), Fail> {
-    let mut sink = OutSink::new(Narrow {
-        calls: Cell::new(0),
-    });
-    for want in [Ok(1), Ok(1), Err(Failed), Err(Failed)] {
-        assert!(rt; sink.write(b"ab") == want);
+fn expect_read(outcomes: &'static [Outcome], wanted: Result<usize, Failed>) -> Result<(), Fail> {
+    let mut source = InSource::new(Scripted::of(outcomes));
+    if source.read(&mut [0, 0]) == wanted {
+        return Ok(());
     }
-    let mut system = OutSink::new(&rt);
-    assert!(rt; system.write(b"") == Ok(0));
-    assert!(rt; system.write(b"\n") == Ok(1));
-    Ok(())
+    Err(Fail::new("the read is answered otherwise"))
+}
+
+fn expect_write(outcomes: &'static [Outcome], wanted: Result<usize, Failed>) -> Result<(), Fail> {
+    let mut sink = OutSink::new(Scripted::of(outcomes));
+    if sink.write(b"ab") == wanted {
+        return Ok(());
+    }
+    Err(Fail::new("the write is answered otherwise"))
+}
+
+#[test]
+fn standard_input_and_output_fail_where_the_system_does(_rt: HostRuntime) -> Result<(), Fail> {
+    for (outcomes, wanted) in FAULTS {
+        expect_read(outcomes, *wanted)?;
+        expect_write(outcomes, *wanted)?;
+    }
+    expect_read(&[Ok(0)], Ok(0))?;
+    expect_write(&[Ok(0)], Err(Failed))
+}
+
+#[test]
+fn the_systems_own_input_and_output_are_had(rt: HostRuntime) {
+    assert!(rt; InSource::new(rt.reader()).read(&mut []) == Ok(0));
+    assert!(rt; OutSink::new(&rt).write(b"\n") == Ok(1));
 }

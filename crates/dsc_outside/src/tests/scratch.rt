@@ -1,8 +1,11 @@
 //! A scratch folder with a host in it, and what is done there, as rows of tables.
-use super::faulty_files::{Fault, FaultyFiles};
-use super::host_calls::{Row, expect};
+use super::host_calls::{Row, are_answered, expect};
+use super::watched_files::{SystemCall, Watch, WatchedFiles};
 use crate::real::FolderHost;
 use std::alloc::{AllocError, Global};
+use std::fs::Permissions;
+use std::io::ErrorKind;
+use std::os::unix::fs::{MetadataExt, PermissionsExt};
 use std::rt::{Env, Files};
 use std::test::Fail;
 use std::{env, fs, io};
@@ -13,8 +16,14 @@ pub enum Step<'a> {
     /// Calls of a host in the folder of the host.
     Calls(&'a [Row<'a>]),
 
-    /// The same, where that fails.
-    Faulty(Fault, &'a [Row<'a>]),
+    /// The same, which are to make these calls of the system and no other.
+    Watched(&'a [SystemCall], &'a [Row<'a>]),
+
+    /// The same, where the call of the system with that number fails so.
+    Failing(usize, ErrorKind, &'a [Row<'a>]),
+
+    /// Calls of which all of the first table or all of the second have their answers.
+    Either(&'a [Row<'a>], &'a [Row<'a>]),
 
     /// What the system does or finds at a path.
     At(&'a str, Act<'a>),
@@ -29,6 +38,12 @@ pub enum Act<'a> {
     /// Makes a link to that path.
     Link(&'a str),
     Delete,
+
+    /// Gives a file that mode.
+    Mode(u32),
+
+    /// Finds a file of that mode.
+    HasMode(u32),
 
     /// Finds so many names in a folder.
     Names(usize),
@@ -80,6 +95,8 @@ fn is_done<R: Files + AllocGlobal + Clone + Drop>(
         Act::MakeFolder => fs::create_dir(rt, place)?,
         Act::Link(to) => rt.symlink(to, place)?,
         Act::Delete => fs::remove_file(rt, place)?,
+        Act::Mode(mode) => fs::set_permissions(rt, place, Permissions::from_mode(*mode))?,
+        Act::HasMode(mode) => return Ok(fs::metadata(rt, place)?.mode() & 0o7777 == *mode),
         Act::Names(count) => return Ok(count_names(rt, place)? == *count),
         Act::Holds(bytes) => return holds(rt, place, bytes),
         Act::Missing => return Ok(!fs::exists(rt, place)?),
@@ -116,9 +133,23 @@ fn take_step<R: Files + AllocGlobal + Clone + Drop>(
 ) -> Result<(), Fail> {
     match step {
         Step::Calls(rows) => expect_in(rt.alloc(), rt, below(rt, scratch, folder)?, rows),
-        Step::Faulty(fails, rows) => {
-            let files = FaultyFiles { rt, fails: *fails };
+        Step::Watched(calls, rows) => {
+            let watch = Watch::new(calls, usize::MAX, ErrorKind::Other);
+            let files = WatchedFiles { rt, watch: &watch };
+            expect_in(rt.alloc(), files, below(rt, scratch, folder)?, rows)?;
+            watch.expect_all()
+        }
+        Step::Failing(number, kind, rows) => {
+            let watch = Watch::new(&[], *number, *kind);
+            let files = WatchedFiles { rt, watch: &watch };
             expect_in(rt.alloc(), files, below(rt, scratch, folder)?, rows)
+        }
+        Step::Either(first, second) => {
+            let mut host = FolderHost::new(rt, below(rt, scratch, folder)?);
+            if are_answered(rt.alloc(), &mut host, first)? {
+                return Ok(());
+            }
+            expect(rt.alloc(), &mut host, second)
         }
         Step::At(path, act) => expect_done(rt, &below(rt, scratch, path)?, act),
     }

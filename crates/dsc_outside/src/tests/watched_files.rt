@@ -1,0 +1,212 @@
+//! The system's files, of which each call is counted and compared, and one fails.
+use std::alloc::Allocator;
+use std::cell::Cell;
+use std::fs::{Metadata, OpenFile, OpenOptions, Permissions};
+use std::io;
+use std::io::{ErrorKind, Read, Seek, SeekFrom, Write};
+use std::path::PathBuf;
+use std::rt::Files;
+use std::test::Fail;
+
+/// A call of the system.
+#[derive(Clone, Copy, Debug, PartialEq, Eq)]
+pub enum SystemCall {
+    /// Looks at a path, a link as itself.
+    Look,
+    Open,
+    Create,
+    Read,
+    Write,
+    Sync,
+    SyncFolder,
+    Own,
+    Mode,
+    Rename,
+    Unlink,
+    MakeFolder,
+    RemoveFolder,
+    List,
+}
+
+/// The calls that are to be made, the number of the one that fails, and how.
+#[derive(Drop)]
+pub struct Watch<'a> {
+    wanted: &'a [SystemCall],
+    failing: usize,
+    kind: ErrorKind,
+    begun: Cell<usize>,
+    differs: Cell<bool>,
+}
+
+impl<'a> Watch<'a> {
+    pub fn new(wanted: &'a [SystemCall], failing: usize, kind: ErrorKind) -> Watch<'a> {
+        Watch {
+            wanted,
+            failing,
+            kind,
+            begun: Cell::new(0),
+            differs: Cell::new(false),
+        }
+    }
+
+    /// Expects that all these calls were made, in their order, and no other.
+    pub fn expect_all(&self) -> Result<(), Fail> {
+        if !self.differs.get() && self.begun.get() == self.wanted.len() {
+            return Ok(());
+        }
+        Err(Fail::new("these are not the calls of the system"))
+    }
+
+    fn begin(&self, call: SystemCall) -> io::Result<()> {
+        let number = self.begun.get();
+        self.begun.set(number.saturating_add(1));
+        if self.wanted.get(number) != Some(&call) {
+            self.differs.set(true);
+        }
+        if number == self.failing {
+            return Err(io::Error::from(self.kind));
+        }
+        Ok(())
+    }
+}
+
+/// Files of which a write takes two bytes at most. What is named `pipe` is looked at through its link.
+#[derive(Drop)]
+pub struct WatchedFiles<'a, R: Files> {
+    pub rt: R,
+    pub watch: &'a Watch<'a>,
+}
+
+#[derive(Drop)]
+pub struct WatchedFile<'a, F: Read + Write + Seek + OpenFile + Drop> {
+    file: F,
+    watch: &'a Watch<'a>,
+    writes: bool,
+}
+
+impl<'a, F: Read + Write + Seek + OpenFile + Drop> Read for WatchedFile<'a, F> {
+    fn read(&mut self, buf: &mut [u8]) -> io::Result<usize> {
+        self.watch.begin(SystemCall::Read)?;
+        self.file.read(buf)
+    }
+}
+
+impl<'a, F: Read + Write + Seek + OpenFile + Drop> Write for WatchedFile<'a, F> {
+    fn write(&mut self, buf: &[u8]) -> io::Result<usize> {
+        self.watch.begin(SystemCall::Write)?;
+        self.file.write(&buf[..buf.len().min(2)])
+    }
+
+    fn flush(&mut self) -> io::Result<()> {
+        self.file.flush()
+    }
+}
+
+impl<'a, F: Read + Write + Seek + OpenFile + Drop> Seek for WatchedFile<'a, F> {
+    fn seek(&mut self, to: SeekFrom) -> io::Result<u64> {
+        self.file.seek(to)
+    }
+}
+
+impl<'a, F: Read + Write + Seek + OpenFile + Drop> OpenFile for WatchedFile<'a, F> {
+    fn metadata(&self) -> io::Result<Metadata> {
+        self.file.metadata()
+    }
+
+    fn set_len(&self, size: u64) -> io::Result<()> {
+        self.file.set_len(size)
+    }
+
+    fn sync_all(&self) -> io::Result<()> {
+        let call = if self.writes {
+            SystemCall::Sync
+        } else {
+            SystemCall::SyncFolder
+        };
+        self.watch.begin(call)?;
+        self.file.sync_all()
+    }
+
+    fn sync_data(&self) -> io::Result<()> {
+        self.file.sync_data()
+    }
+
+    fn set_permissions(&self, permissions: Permissions) -> io::Result<()> {
+        self.watch.begin(SystemCall::Mode)?;
+        self.file.set_permissions(permissions)
+    }
+}
+
+impl<'a, R: Files> Files for WatchedFiles<'a, R> {
+    type File = WatchedFile<'a, R::File>;
+
+    type Dir = R::Dir;
+
+    fn open_file(&self, how: &OpenOptions, path: &str) -> io::Result<WatchedFile<'a, R::File>> {
+        let writes = how.asks_write();
+        self.watch.begin(if writes {
+            SystemCall::Create
+        } else {
+            SystemCall::Open
+        })?;
+        Ok(WatchedFile {
+            file: self.rt.open_file(how, path)?,
+            watch: self.watch,
+            writes,
+        })
+    }
+
+    fn open_dir(&self, path: &str) -> io::Result<R::Dir> {
+        self.watch.begin(SystemCall::List)?;
+        self.rt.open_dir(path)
+    }
+
+    fn metadata(&self, path: &str) -> io::Result<Metadata> {
+        self.rt.metadata(path)
+    }
+
+    fn symlink_metadata(&self, path: &str) -> io::Result<Metadata> {
+        self.watch.begin(SystemCall::Look)?;
+        if path.ends_with("/pipe") {
+            return self.rt.metadata(path);
+        }
+        self.rt.symlink_metadata(path)
+    }
+
+    fn copy(&self, from: &str, to: &str) -> io::Result<u64> {
+        self.rt.copy(from, to)
+    }
+
+    fn rename(&self, from: &str, to: &str) -> io::Result<()> {
+        self.watch.begin(SystemCall::Rename)?;
+        self.rt.rename(from, to)
+    }
+
+    fn remove_file(&self, path: &str) -> io::Result<()> {
+        self.watch.begin(SystemCall::Unlink)?;
+        self.rt.remove_file(path)
+    }
+
+    fn create_dir(&self, path: &str) -> io::Result<()> {
+        self.watch.begin(SystemCall::MakeFolder)?;
+        self.rt.create_dir(path)
+    }
+
+    fn remove_dir(&self, path: &str) -> io::Result<()> {
+        self.rt.remove_dir(path)
+    }
+
+    fn remove_dir_all<B: Allocator>(&self, alloc: B, path: &str) -> io::Result<()> {
+        self.watch.begin(SystemCall::RemoveFolder)?;
+        self.rt.remove_dir_all(alloc, path)
+    }
+
+    fn canonicalize<B: Allocator>(&self, alloc: B, path: &str) -> io::Result<PathBuf<B>> {
+        self.rt.canonicalize(alloc, path)
+    }
+
+    fn lchown(&self, path: &str, user: Option<u32>, group: Option<u32>) -> io::Result<()> {
+        self.watch.begin(SystemCall::Own)?;
+        self.rt.lchown(path, user, group)
+    }
+}
