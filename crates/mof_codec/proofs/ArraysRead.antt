@@ -8,7 +8,7 @@ use Rattle.mof_syntax.specs.Tokens.{Lexeme, LeftBrace, RightBrace, Comma, Lexes}
 use Rattle.mof_syntax.specs.Grammar.{NoLiteral, ConstantValue, Elements, closing, element, Initializer, constant, empty_array, array}
 use Rattle.mof_syntax.specs.Limits.{elements_limit, ScalarFits, ValueFits}
 use Rattle.mof_syntax.proofs.UniqueRules.{no_brace_constant, no_closing_constant, elements_first}
-use Rattle.mof_codec.specs.Reading.{Begins, BeginsNo, Only, Reads, Lacks}
+use Rattle.mof_codec.specs.Reading.{Begins, BeginsNo, Only, BeginsWith, Lacks}
 use Rattle.mof_codec.specs.Values.{IsMark, IsArray, ArrayFits}
 use Rattle.mof_codec.specs.declared.values.marks.Mark.TheVariants as marks
 use Rattle.mof_codec.proofs.TokenFronts.{begins_as, Joined, begins_join}
@@ -94,7 +94,7 @@ elements_end us done vs ts x e = record {
 
 -- characters
 
-pub array_start : (cs : List ℕ) (s : Scalar) (rest : List ℕ) → Reads ConstantValue ScalarFits cs s rest → ArraySoFar cs (s ∷ []) rest
+pub array_start : (cs : List ℕ) (s : Scalar) (rest : List ℕ) → BeginsWith ConstantValue ScalarFits cs s rest → ArraySoFar cs (s ∷ []) rest
 array_start cs s rest r = record {
   begins = begins_as (λ us ts. Only ConstantValue us s ts) (λ us ts. ElementsOn us (s ∷ []) ts) cs rest (λ us ts o. elements_start us s ts o) r.begins;
   each = (r.fits, tt);
@@ -111,7 +111,7 @@ only_empty us ts e = record {
     goes all rest (at_closing f g) = (g, same_behind RightBrace RightBrace rest ts (sym f ∙ e))
     goes all rest (at_element s more behind c f g) = absurd (no_closing_constant ts s behind (subst (λ (xs : List Lexeme). ConstantValue xs s behind) e c))
 
-pub reads_empty : (cs rest : List ℕ) → Begins (IsMark marks.RightBrace) cs rest → Reads IsArray ArrayFits cs [] rest
+pub reads_empty : (cs rest : List ℕ) → Begins (IsMark marks.RightBrace) cs rest → BeginsWith IsArray ArrayFits cs [] rest
 reads_empty cs rest b = record {
   fits = (omega arith, tt);
   begins = begins_as (IsMark marks.RightBrace) (λ us ts. Only IsArray us [] ts) cs rest (λ us ts e. only_empty us ts e) b;
@@ -128,14 +128,14 @@ lacks_first cs no_brace no_constant us ts all n l i f = goes (array_case us all 
     goes (at_element s more behind c e g) = no_constant us behind s (elements_first behind more ts e) l c (fits s more g)
 
 module _ (cs : List ℕ) (done : List Scalar) (left : List ℕ) (so_far : ArraySoFar cs done left) where
-  pub reads_array : (rest : List ℕ) → Begins (IsMark marks.RightBrace) left rest → Reads IsArray ArrayFits cs done rest
+  pub reads_array : (rest : List ℕ) → Begins (IsMark marks.RightBrace) left rest → BeginsWith IsArray ArrayFits cs done rest
   reads_array rest b = record {
     fits = (so_far.few, so_far.each);
     begins = begins_as (Joined (λ us ts. ElementsOn us done ts) (IsMark marks.RightBrace)) (λ us ts. Only IsArray us done ts) cs rest
         (λ us ts j. elements_end us done j.0 ts j.1 j.2) (begins_join (λ us ts. ElementsOn us done ts) (IsMark marks.RightBrace) cs left rest so_far.begins b);
   }
 
-  pub array_next : (mid : List ℕ) (s : Scalar) (rest : List ℕ) → Begins (IsMark marks.Comma) left mid → (length done ≡ elements_limit → ⊥) → Reads ConstantValue ScalarFits mid s rest
+  pub array_next : (mid : List ℕ) (s : Scalar) (rest : List ℕ) → Begins (IsMark marks.Comma) left mid → (length done ≡ elements_limit → ⊥) → BeginsWith ConstantValue ScalarFits mid s rest
       → ArraySoFar cs (done ++ s ∷ []) rest
   array_next mid s rest b below r = record {
     begins = begins_as (Joined (Joined (λ us ts. ElementsOn us done ts) (IsMark marks.Comma)) (λ us ts. Only ConstantValue us s ts)) (λ us ts. ElementsOn us (done ++ s ∷ []) ts) cs rest
@@ -194,7 +194,7 @@ only_many us vs ss ts e o = subst (λ (xs : List Lexeme). Only Initializer xs (M
   only = λ v rest n i. let x = brace_many vs v rest i in let same = o.only x.0 rest n x.2 in (x.1 ∙ ap (λ (xs : List Scalar). Many xs) same.0, same.1);
 })
 
-pub reads_many : (cs mid : List ℕ) (ss : List Scalar) (rest : List ℕ) → Begins (IsMark marks.LeftBrace) cs mid → Reads IsArray ArrayFits mid ss rest → Reads Initializer ValueFits cs (Many ss) rest
+pub reads_many : (cs mid : List ℕ) (ss : List Scalar) (rest : List ℕ) → Begins (IsMark marks.LeftBrace) cs mid → BeginsWith IsArray ArrayFits mid ss rest → BeginsWith Initializer ValueFits cs (Many ss) rest
 reads_many cs mid ss rest b r = record {
   fits = r.fits;
   begins = begins_as (Joined (IsMark marks.LeftBrace) (λ us ts. Only IsArray us ss ts)) (λ us ts. Only Initializer us (Many ss) ts) cs rest
@@ -223,7 +223,7 @@ only_one us s ts o = record { holds = constant us ts s o.holds; only = λ v rest
     goes v rest n (is_one x c e) = let same = o.only x rest n c in (e ∙ ap (λ (y : Scalar). One y) same.0, same.1)
     goes v rest n (is_many vs e) = absurd (no_brace_constant vs s ts (subst (λ (xs : List Lexeme). ConstantValue xs s ts) e o.holds))
 
-pub reads_one : (cs : List ℕ) (s : Scalar) (rest : List ℕ) → Reads ConstantValue ScalarFits cs s rest → Reads Initializer ValueFits cs (One s) rest
+pub reads_one : (cs : List ℕ) (s : Scalar) (rest : List ℕ) → BeginsWith ConstantValue ScalarFits cs s rest → BeginsWith Initializer ValueFits cs (One s) rest
 reads_one cs s rest r = record {
   fits = r.fits;
   begins = begins_as (λ us ts. Only ConstantValue us s ts) (λ us ts. Only Initializer us (One s) ts) cs rest (λ us ts o. only_one us s ts o) r.begins;

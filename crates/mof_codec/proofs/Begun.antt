@@ -5,7 +5,7 @@ use Rattle.std.proofs.lemmas.Bool.{eqb-true}
 use Rattle.std.proofs.lemmas.Bool.Decides.{nat_tests}
 use Rattle.std.specs.Char.{digit_value, to_ascii_lowercase}
 use Rattle.mof_values.specs.Ident.{is_first, is_next}
-use Rattle.mof_syntax.specs.Characters.{slash, right_brace, is_blank, digit_of, is_x, is_b}
+use Rattle.mof_syntax.specs.Characters.{slash, right_brace, is_blank, digit_of, is_x, is_b, is_sign}
 use Rattle.mof_syntax.specs.Strings.{short_escape}
 use Rattle.mof_codec.specs.declared.machine.state.Keyword.{Keyword}
 use Rattle.mof_codec.specs.declared.machine.state.Keyword.TheVariants as keywords
@@ -20,7 +20,7 @@ use Rattle.mof_codec.specs.declared.machine.state.Half.TheVariants as halves
 use Rattle.mof_codec.specs.declared.machine.state.State.{State}
 use Rattle.mof_codec.specs.declared.machine.state.Event.{Event}
 use Rattle.mof_codec.specs.declared.machine.state.Event.TheVariants as events
-use Rattle.mof_codec.specs.Machine.{is_sign, letters, head_of, is_no_char, go, begin, gapped, opened, keyed, number_begun, value_word, scalar_begun, numbered, quoted, key_on, ended, step, kind_of}
+use Rattle.mof_codec.specs.Machine.{letters, head_of, is_no_char, go, begin, gapped, opened, keyed, number_begun, value_word, scalar_begun, numbered, quoted, key_on, ended, step, kind_of}
 use Rattle.mof_codec.specs.Beginnings.{start_place}
 use Rattle.mof_codec.proofs.Runs.{Says, kind_says}
 use Rattle.mof_codec.proofs.Forward.{letter_begins}

@@ -10,7 +10,6 @@ use Rattle.std.proofs.lemmas.Bool.{and_parts}
 use Rattle.std.proofs.lemmas.Bool.Decides.{nat_tests}
 use Rattle.std.proofs.lemmas.Fmt.{decimal_is_IsNumeral}
 use Rattle.std.proofs.lemmas.Int.{ints}
-use Rattle.std.proofs.lemmas.Str.{encode_ascii}
 use lib.Utf8.{scalar}
 use Rattle.mof_values.specs.declared.instance.Instance.{Instance}
 use Rattle.mof_values.specs.declared.instance.Property.{Property}
@@ -18,8 +17,8 @@ use Rattle.mof_values.specs.declared.value.Scalar.{Scalar}
 use Rattle.mof_values.specs.declared.value.Scalar.TheVariants as scalars
 use Rattle.mof_values.specs.declared.value.Value.{Value}
 use Rattle.mof_values.specs.declared.value.Value.TheVariants.{One, Many}
-use Rattle.mof_syntax.specs.declared.encoding.Encoding.TheVariants.{Utf8}
-use Rattle.mof_syntax.specs.Encodings.{encoding_of, char_bytes, encoded, Chars}
+use Rattle.mof_syntax.specs.Encodings.{Chars}
+use Rattle.mof_syntax.proofs.Bodies.{Chars-nothing, Chars-from_i}
 use Rattle.mof_syntax.specs.Canonical.{hex_glyph, control_escape, literal_char, canonical_scalar, canonical_elements, canonical_value, canonical_property, canonical_alias, canonical_instance, canonical_text, canonical_bytes}
 use Rattle.mof_syntax.specs.Limits.{IsInRange, ScalarFits, ValueFits, PropertyFits, InstanceFits, IsWithinLimits, document_limit}
 use Rattle.mof_syntax.specs.Refusals.{Reads}
@@ -146,24 +145,10 @@ instances_chars (i ∷ all) vs fs = chars_join (canonical_instance i) (canonical
 
 -- bytes
 
--- a text that begins with `i` has no mark
-no_mark_behind : (cs : List ℕ) → encoding_of (encode_utf8_all (105 ∷ cs)) ≡ Utf8
-no_mark_behind cs = ap (λ (bytes : List ℕ). encoding_of (bytes ++ encode_utf8_all cs)) (encode_ascii 105 (omega arith))
-
-no_mark : (all : List Instance) → encoding_of (canonical_bytes all) ≡ Utf8
-no_mark [] = refl
-no_mark (i ∷ all) =
-    no_mark_behind (codes "nstance of " ++ i.class ++ canonical_alias i.alias ++ codes "\n{\n" ++ flat_map canonical_property i.properties ++ codes "};\n" ++ canonical_text all)
-
-body_is : (text : List ℕ) → encode_utf8_all text ≡ encoded Utf8 text
-body_is [] = refl
-body_is (c ∷ text) = ap (λ (bytes : List ℕ). char_bytes Utf8 c ++ bytes) (body_is text)
-
 canonical_chars : (all : List Instance) → AreChars (canonical_text all) → Chars (canonical_bytes all) (canonical_text all)
-canonical_chars all e = record {
-  scalars = e;
-  spelled = subst (λ encoding. canonical_bytes all ≡ encoded encoding (canonical_text all)) (sym (no_mark all)) (body_is (canonical_text all));
-}
+canonical_chars [] e = Chars-nothing
+canonical_chars (i ∷ all) e =
+    Chars-from_i (codes "nstance of " ++ i.class ++ canonical_alias i.alias ++ codes "\n{\n" ++ flat_map canonical_property i.properties ++ codes "};\n" ++ canonical_text all) e
 
 pub canonical_reads : (all : List Instance) (bytes : List ℕ) → bytes ≡ canonical_bytes all → AllByRecursion InstanceIsValid all → IsWithinLimits all → length bytes ≤ document_limit → Reads bytes all
 canonical_reads all bytes e vs limits within = record {

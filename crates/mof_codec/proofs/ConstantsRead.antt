@@ -7,7 +7,7 @@ use Rattle.mof_syntax.specs.Tokens.{Lexeme, Word, AliasName, Literal, Number}
 use Rattle.mof_syntax.specs.Grammar.{StringValue, last, joined, ConstantValue, string_value, integer_value, true_value, false_value, null_value, alias_identifier}
 use Rattle.mof_syntax.specs.Limits.{IsInRange, IsShortName, ScalarFits}
 use Rattle.mof_syntax.proofs.UniqueRules.{KeywordValue, constant_by, keyword_same}
-use Rattle.mof_codec.specs.Reading.{Begins, BeginsNo, Only, Reads, Lacks}
+use Rattle.mof_codec.specs.Reading.{Begins, BeginsNo, Only, BeginsWith, Lacks}
 use Rattle.mof_codec.specs.Values.{IsKeyword, IsAlias, IsNumber, AnyText}
 use Rattle.mof_codec.proofs.TokenFronts.{begins_as}
 
@@ -27,7 +27,7 @@ only_text us text ts o = record {
       (sym x.2 ∙ ap (λ (t : List ℕ). scalars.Text t) same.0, same.1);
 }
 
-pub reads_text : (cs text rest : List ℕ) → Reads StringValue AnyText cs text rest → Reads ConstantValue ScalarFits cs (scalars.Text text) rest
+pub reads_text : (cs text rest : List ℕ) → BeginsWith StringValue AnyText cs text rest → BeginsWith ConstantValue ScalarFits cs (scalars.Text text) rest
 reads_text cs text rest r = record {
   fits = tt;
   begins = begins_as (λ us ts. Only StringValue us text ts) (λ us ts. Only ConstantValue us (scalars.Text text) ts) cs rest (λ us ts o. only_text us text ts o) r.begins;
@@ -41,7 +41,7 @@ only_integer us z ts e = subst (λ (xs : List Lexeme). Only ConstantValue xs (sc
   only = λ b vs n c. let x = constant_by (Number z ∷ ts) b vs c in (sym x.0, sym x.1);
 })
 
-pub reads_number : (cs : List ℕ) (z : ℤ) (rest : List ℕ) → Reads IsNumber IsInRange cs z rest → Reads ConstantValue ScalarFits cs (scalars.Integer z) rest
+pub reads_number : (cs : List ℕ) (z : ℤ) (rest : List ℕ) → BeginsWith IsNumber IsInRange cs z rest → BeginsWith ConstantValue ScalarFits cs (scalars.Integer z) rest
 reads_number cs z rest r = record {
   fits = r.fits;
   begins = begins_as (λ us ts. Only IsNumber us z ts) (λ us ts. Only ConstantValue us (scalars.Integer z) ts) cs rest (λ us ts o. only_integer us z ts o.holds) r.begins;
@@ -53,7 +53,7 @@ only_name us name ts e = subst (λ (xs : List Lexeme). Only ConstantValue xs (sc
   only = λ b vs n c. let x = constant_by (AliasName name ∷ ts) b vs c in (sym x.0, sym x.1);
 })
 
-pub reads_name : (cs name rest : List ℕ) → Reads IsAlias IsShortName cs name rest → Reads ConstantValue ScalarFits cs (scalars.Alias name) rest
+pub reads_name : (cs name rest : List ℕ) → BeginsWith IsAlias IsShortName cs name rest → BeginsWith ConstantValue ScalarFits cs (scalars.Alias name) rest
 reads_name cs name rest r = record {
   fits = r.fits;
   begins = begins_as (λ us ts. Only IsAlias us name ts) (λ us ts. Only ConstantValue us (scalars.Alias name) ts) cs rest (λ us ts o. only_name us name ts o.holds) r.begins;
@@ -70,21 +70,21 @@ only_word w s ts k h = record {
 at_word : (s : Scalar) (us ts : List Lexeme) (w : List ℕ) → us ≡ Word w ∷ ts → Only ConstantValue (Word w ∷ ts) s ts → Only ConstantValue us s ts
 at_word s us ts w e o = subst (λ (xs : List Lexeme). Only ConstantValue xs s ts) (sym e) o
 
-pub reads_true : (cs rest : List ℕ) → Begins (IsKeyword (codes "TRUE")) cs rest → Reads ConstantValue ScalarFits cs (scalars.Bool true) rest
+pub reads_true : (cs rest : List ℕ) → Begins (IsKeyword (codes "TRUE")) cs rest → BeginsWith ConstantValue ScalarFits cs (scalars.Bool true) rest
 reads_true cs rest b = record {
   fits = tt;
   begins = begins_as (IsKeyword (codes "TRUE")) (λ us ts. Only ConstantValue us (scalars.Bool true) ts) cs rest
       (λ us ts k. at_word (scalars.Bool true) us ts k.0 k.1 (only_word k.0 (scalars.Bool true) ts (inl (k.2, refl)) (true_value k.0 ts k.2))) b;
 }
 
-pub reads_false : (cs rest : List ℕ) → Begins (IsKeyword (codes "FALSE")) cs rest → Reads ConstantValue ScalarFits cs (scalars.Bool false) rest
+pub reads_false : (cs rest : List ℕ) → Begins (IsKeyword (codes "FALSE")) cs rest → BeginsWith ConstantValue ScalarFits cs (scalars.Bool false) rest
 reads_false cs rest b = record {
   fits = tt;
   begins = begins_as (IsKeyword (codes "FALSE")) (λ us ts. Only ConstantValue us (scalars.Bool false) ts) cs rest
       (λ us ts k. at_word (scalars.Bool false) us ts k.0 k.1 (only_word k.0 (scalars.Bool false) ts (inr (inl (k.2, refl))) (false_value k.0 ts k.2))) b;
 }
 
-pub reads_null : (cs rest : List ℕ) → Begins (IsKeyword (codes "NULL")) cs rest → Reads ConstantValue ScalarFits cs scalars.Null rest
+pub reads_null : (cs rest : List ℕ) → Begins (IsKeyword (codes "NULL")) cs rest → BeginsWith ConstantValue ScalarFits cs scalars.Null rest
 reads_null cs rest b = record {
   fits = tt;
   begins = begins_as (IsKeyword (codes "NULL")) (λ us ts. Only ConstantValue us scalars.Null ts) cs rest

@@ -10,7 +10,7 @@ use Rattle.mof_syntax.specs.declared.mof_error.Form.{Form}
 use Rattle.mof_syntax.specs.Grammar.{Wide}
 use Rattle.mof_syntax.specs.Fronts.{IsFront, IsSyntaxFault, GoesUpTo, whole, torn}
 use Rattle.mof_syntax.specs.Profile.{OutOfProfile}
-use Rattle.mof_syntax.specs.Refusals.{Applies, place_of, rank_of, WinsOver, Wins}
+use Rattle.mof_syntax.specs.Refusals.{Applies, refusal_place, rank_of, WinsOver, Wins}
 use Rattle.mof_codec.specs.Searching.{IsFirstExcess, HasNoExcess, IsFirstForm, HasNoForm}
 use Rattle.mof_codec.specs.Winning.{end_of, sooner, out_of_profile, too_many, syntax_fault}
 use Rattle.mof_codec.proofs.ExcessSearch.{goes_within, goes_past}
@@ -26,15 +26,15 @@ abbrev pub Covers : List ℕ → ℕ → ℕ → Option MofError → Type 0
 Covers text low high None = (other : MofError) → low ≤ rank_of other → rank_of other ≤ high → Applies text other → ⊥
 Covers text low high (Some e) = Leads text low high e
 
-win_or_tie : (e f : MofError) → WinsOver e f → place_of e ≤ place_of f
+win_or_tie : (e f : MofError) → WinsOver e f → refusal_place e ≤ refusal_place f
 win_or_tie e f w = elim w [ inl lt ↦ omega (arith, lt) | inr same ↦ omega (arith, same.0) ]
 
-wins_far : (e f g : MofError) → place_of e < place_of f → WinsOver f g → WinsOver e g
+wins_far : (e f g : MofError) → refusal_place e < refusal_place f → WinsOver f g → WinsOver e g
 wins_far e f g lt w = inl (omega (arith, lt, win_or_tie f g w))
 
 -- of lesser rank at no later place
-wins_near : (e f g : MofError) → place_of e ≤ place_of f → WinsOver f g → rank_of e ≤ rank_of g → WinsOver e g
-wins_near e f g le w rank = elim (cases_lt (place_of e) (place_of g)) [
+wins_near : (e f g : MofError) → refusal_place e ≤ refusal_place f → WinsOver f g → rank_of e ≤ rank_of g → WinsOver e g
+wins_near e f g le w rank = elim (cases_lt (refusal_place e) (refusal_place g)) [
   | inl lt ↦ inl lt
   | inr later ↦ inr (omega (arith, later, le, win_or_tie f g w), rank)
 ]
@@ -82,9 +82,9 @@ module _ (text : List ℕ) (low mid high : ℕ) (below : low ≤ mid) (above : m
   ]
   covers_sooner None (Some f) c d = high_leads f d (λ other lo hi a. absurd (c other lo hi a))
   covers_sooner (Some e) None c d = low_leads e c (λ other lo hi a. absurd (d other lo hi a))
-  covers_sooner (Some e) (Some f) c d = elim (le_or (place_of e) (place_of f)) [
-    | inl le ↦ rw le (low_leads e c (λ other lo hi a. wins_near e f other (le_of (place_of e) (place_of f) le) (d.first other lo hi a) (omega (arith, c.greatest, lo))))
-    | inr gt ↦ rw gt (high_leads f d (λ other lo hi a. wins_far f e other (lt_of (place_of e) (place_of f) gt) (c.first other lo hi a)))
+  covers_sooner (Some e) (Some f) c d = elim (le_or (refusal_place e) (refusal_place f)) [
+    | inl le ↦ rw le (low_leads e c (λ other lo hi a. wins_near e f other (le_of (refusal_place e) (refusal_place f) le) (d.first other lo hi a) (omega (arith, c.greatest, lo))))
+    | inr gt ↦ rw gt (high_leads f d (λ other lo hi a. wins_far f e other (lt_of (refusal_place e) (refusal_place f) gt) (c.first other lo hi a)))
   ]
 
 -- no other refusal applies to characters

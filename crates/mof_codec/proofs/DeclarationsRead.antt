@@ -10,7 +10,7 @@ use Rattle.mof_syntax.specs.Tokens.{Lexeme, Semicolon, Lexes, end, separator}
 use Rattle.mof_syntax.specs.Grammar.{NoLiteral, unnamed, named, ValueInitializers, InstanceDeclarations, nothing, instance_declaration}
 use Rattle.mof_syntax.specs.Limits.{instances_limit, IsShortName, InstanceFits, Spells}
 use Rattle.mof_syntax.proofs.Absent.{no_separator}
-use Rattle.mof_codec.specs.Reading.{Begins, BeginsNo, Only, Reads, Lacks}
+use Rattle.mof_codec.specs.Reading.{Begins, BeginsNo, Only, BeginsWith, Lacks}
 use Rattle.mof_codec.specs.Values.{IsMark, IsHead, IsNaming, NamingFits, PropertiesFit, IsDeclaration}
 use Rattle.mof_codec.specs.declared.values.marks.Mark.TheVariants as marks
 use Rattle.mof_codec.proofs.TokenFronts.{skip_on, skip_only, begins_as, Joined, begins_join}
@@ -53,7 +53,7 @@ module _ (cs : List ℕ) where
   pub lacks_head : Lacks IsHead IsShortName cs → Lacks IsDeclaration InstanceFits cs
   lacks_head lacks us ts i n l d f = lacks us d.0 i.class (naming_first d.0 d.1 i.alias d.3) l d.2 f.class
 
-  module _ (class mid : List ℕ) (h : Reads IsHead IsShortName cs class mid) where
+  module _ (class mid : List ℕ) (h : BeginsWith IsHead IsShortName cs class mid) where
     behind_head : (us ts : List Lexeme) (i : Instance) → Lexes cs us → IsDeclaration us i ts
         → (vs : List Lexeme) × (ws : List Lexeme) × Lexes mid vs × IsNaming vs i.alias ws × ValueInitializers ws i.properties (Semicolon ∷ ts)
     behind_head us ts i l d =
@@ -64,7 +64,7 @@ module _ (cs : List ℕ) where
     pub lacks_naming : Lacks IsNaming NamingFits mid → Lacks IsDeclaration InstanceFits cs
     lacks_naming lacks us ts i n l d f = let x = behind_head us ts i l d in lacks x.0 x.1 i.alias (body_first x.1 i.properties (Semicolon ∷ ts) x.4) x.2 x.3 f.alias
 
-    module _ (alias : Option (List ℕ)) (body : List ℕ) (a : Reads IsNaming NamingFits mid alias body) where
+    module _ (alias : Option (List ℕ)) (body : List ℕ) (a : BeginsWith IsNaming NamingFits mid alias body) where
       behind_naming : (us ts : List Lexeme) (i : Instance) → Lexes cs us → IsDeclaration us i ts
           → (ws : List Lexeme) × Lexes body ws × ValueInitializers ws i.properties (Semicolon ∷ ts)
       behind_naming us ts i l d =
@@ -78,7 +78,7 @@ module _ (cs : List ℕ) where
           let x = behind_naming us ts i l d in
           lacks x.0 (Semicolon ∷ ts) i.properties tt x.1 x.2 (record { count = f.count; each = f.each })
 
-      module _ (ps : List Property) (last : List ℕ) (p : Reads ValueInitializers PropertiesFit body ps last) where
+      module _ (ps : List Property) (last : List ℕ) (p : BeginsWith ValueInitializers PropertiesFit body ps last) where
         pub lacks_end : BeginsNo (IsMark marks.Semicolon) last → Lacks IsDeclaration InstanceFits cs
         lacks_end absent us ts i n l d f =
             let x = behind_naming us ts i l d in
@@ -86,7 +86,7 @@ module _ (cs : List ℕ) where
             let same = y.2.only i.properties (Semicolon ∷ ts) tt x.2 in
             absent y.0 ts y.1 (sym same.1)
 
-        pub reads_declaration : (rest : List ℕ) → Begins (IsMark marks.Semicolon) last rest → Reads IsDeclaration InstanceFits cs (declared class alias ps) rest
+        pub reads_declaration : (rest : List ℕ) → Begins (IsMark marks.Semicolon) last rest → BeginsWith IsDeclaration InstanceFits cs (declared class alias ps) rest
         reads_declaration rest b = record {
           fits = record { class = h.fits; alias = a.fits; count = p.fits.count; each = p.fits.each };
           begins = begins_as (Joined (Bodied class alias ps) (IsMark marks.Semicolon)) (λ us ts. Only IsDeclaration us (declared class alias ps) ts) cs rest
@@ -162,7 +162,7 @@ no_tokens cs n end = refl
 no_tokens cs n (separator ds r vs s l) = absurd (n r s)
 
 module _ (cs : List ℕ) (read : List Instance) (left : List ℕ) (so_far : TextSoFar cs read left) where
-  pub text_next : (i : Instance) (rest behind : List ℕ) → (length read ≡ instances_limit → ⊥) → Reads IsDeclaration InstanceFits left i rest → Separators rest behind
+  pub text_next : (i : Instance) (rest behind : List ℕ) → (length read ≡ instances_limit → ⊥) → BeginsWith IsDeclaration InstanceFits left i rest → Separators rest behind
       → separator_rest behind ≡ None → TextSoFar cs (read ++ i ∷ []) behind
   text_next i rest behind below r s e = record {
     begins = joined;

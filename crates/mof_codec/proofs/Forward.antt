@@ -6,7 +6,7 @@ use Rattle.std.proofs.lemmas.Bool.Decides.{nat_tests}
 use Rattle.std.proofs.lemmas.List.{drop-drop}
 use Rattle.std.specs.Char.{digit_value, to_ascii_lowercase}
 use Rattle.mof_values.specs.Ident.{is_first, is_next}
-use Rattle.mof_syntax.specs.Characters.{is_blank, digit_of, is_b, Stops, Run, stop, more}
+use Rattle.mof_syntax.specs.Characters.{is_blank, digit_of, is_b, Stops, Run, stop, more, is_sign}
 use Rattle.mof_syntax.specs.Separators.{LineComment, at_end, at_feed, over, NoEnd, BlockComment, shut, inside, Separator, blank, line, block}
 use Rattle.mof_syntax.specs.Strings.{is_surrogate, HexDigits, full, ended, digit, Escape, short, hexadecimal, Quoted, closed, plain, escaped}
 use Rattle.mof_syntax.specs.Integers.{Magnitude, decimal_value, octal_value, hex_value, binary_value, IntegerValue, unsigned, plus, minus}
@@ -23,7 +23,7 @@ use Rattle.mof_codec.specs.declared.machine.state.Half.TheVariants as halves
 use Rattle.mof_codec.specs.declared.machine.state.State.{State}
 use Rattle.mof_codec.specs.declared.machine.state.Event.{Event}
 use Rattle.mof_codec.specs.declared.machine.state.Event.TheVariants as events
-use Rattle.mof_codec.specs.Machine.{letters, is_sign, is_no_char, go, begin, keyed, number_begun, value_word, is_whole, opened}
+use Rattle.mof_codec.specs.Machine.{letters, is_no_char, go, begin, keyed, number_begun, value_word, is_whole, opened}
 use Rattle.mof_codec.proofs.Goes.{IsKey, IsWordValue}
 use Rattle.mof_codec.proofs.Walks.{Walks}
 use Rattle.mof_codec.specs.Walked.{tally}

@@ -4,7 +4,7 @@ use Rattle.mof_values.specs.Fold.{SameName}
 use Rattle.mof_syntax.specs.Tokens.{Lexeme, Word, AliasName, LeftBrace, Lexes}
 use Rattle.mof_syntax.specs.Grammar.{unnamed, named}
 use Rattle.mof_syntax.specs.Limits.{IsShortName}
-use Rattle.mof_codec.specs.Reading.{Begins, BeginsNo, Only, Reads, Lacks}
+use Rattle.mof_codec.specs.Reading.{Begins, BeginsNo, Only, BeginsWith, Lacks}
 use Rattle.mof_codec.specs.Values.{IsMark, IsKeyword, IsWord, IsAlias, IsHead, IsNaming, NamingFits}
 use Rattle.mof_codec.specs.declared.values.marks.Mark.TheVariants as marks
 use Rattle.mof_codec.proofs.TokenFronts.{begins_as, Joined, begins_join}
@@ -47,7 +47,7 @@ module _ (cs : List ℕ) where
           let y = b.only (Word x.0 ∷ Word class ∷ ts) x.1 in
           lacks y.0 ts class n y.1 (sym (same_behind _ _ (Word class ∷ ts) y.0 y.2.1)) f
 
-      pub reads_head : (class rest : List ℕ) → Reads IsWord IsShortName last class rest → Reads IsHead IsShortName cs class rest
+      pub reads_head : (class rest : List ℕ) → BeginsWith IsWord IsShortName last class rest → BeginsWith IsHead IsShortName cs class rest
       reads_head class rest r = record {
         fits = r.fits;
         begins = begins_as (Joined InstanceOf (λ us ts. Only IsWord us class ts)) (λ us ts. Only IsHead us class ts) cs rest
@@ -78,7 +78,7 @@ only_unnamed us ts e = record {
     goes alias rest (at_brace f g) = (g, same_behind LeftBrace LeftBrace rest ts (sym f ∙ e))
     goes alias rest (at_as w name f same g) = absurd (apart_naming w _ ts (sym f ∙ e))
 
-pub reads_unnamed : (cs rest : List ℕ) → Begins (IsMark marks.LeftBrace) cs rest → Reads IsNaming NamingFits cs None rest
+pub reads_unnamed : (cs rest : List ℕ) → Begins (IsMark marks.LeftBrace) cs rest → BeginsWith IsNaming NamingFits cs None rest
 reads_unnamed cs rest b = record {
   fits = tt;
   begins = begins_as (IsMark marks.LeftBrace) (λ us ts. Only IsNaming us None ts) cs rest (λ us ts e. only_unnamed us ts e) b;
@@ -127,15 +127,15 @@ module _ (cs : List ℕ) (no_brace : BeginsNo (IsMark marks.LeftBrace) cs) where
         let x = behind_as us ts alias l h in
         lacks (AliasName x.0 ∷ LeftBrace ∷ ts) (LeftBrace ∷ ts) x.0 tt x.1 refl (subst NamingFits x.2 f)
 
-    module _ (name left : List ℕ) (r : Reads IsAlias IsShortName mid name left) where
+    module _ (name left : List ℕ) (r : BeginsWith IsAlias IsShortName mid name left) where
       pub lacks_brace : BeginsNo (IsMark marks.LeftBrace) left → Lacks IsNaming NamingFits cs
       lacks_brace absent us ts alias n l h f =
           let x = behind_as us ts alias l h in
           let y = r.begins.only (AliasName x.0 ∷ LeftBrace ∷ ts) x.1 in
           absent y.0 ts y.1 (sym (y.2.only x.0 (LeftBrace ∷ ts) tt refl).1)
 
-pub reads_named : (cs mid : List ℕ) → Begins (IsKeyword (codes "as")) cs mid → (name left : List ℕ) → Reads IsAlias IsShortName mid name left → (rest : List ℕ)
-    → Begins (IsMark marks.LeftBrace) left rest → Reads IsNaming NamingFits cs (Some name) rest
+pub reads_named : (cs mid : List ℕ) → Begins (IsKeyword (codes "as")) cs mid → (name left : List ℕ) → BeginsWith IsAlias IsShortName mid name left → (rest : List ℕ)
+    → Begins (IsMark marks.LeftBrace) left rest → BeginsWith IsNaming NamingFits cs (Some name) rest
 reads_named cs mid a name left r rest b = record {
   fits = r.fits;
   begins = begins_as (Joined (Aliased name) (IsMark marks.LeftBrace)) (λ us ts. Only IsNaming us (Some name) ts) cs rest

@@ -14,7 +14,7 @@ use Rattle.mof_syntax.proofs.Scans.{test_or, read-magnitude, magnitude-read}
 use Rattle.mof_syntax.proofs.FirstTokens.{magnitude_first}
 use Rattle.mof_syntax.proofs.Suffixes.{token_ends}
 use Rattle.mof_syntax.proofs.UniqueTokens.{nothing_within, magnitude_is}
-use Rattle.mof_codec.specs.Reading.{Only, Reads, Lacks}
+use Rattle.mof_codec.specs.Reading.{Only, BeginsWith, Lacks}
 use Rattle.mof_codec.specs.Values.{IsNumber, IsCapped, signed, is_negative, behind_sign}
 use Rattle.mof_codec.proofs.MarkFronts.{equal}
 use Rattle.mof_codec.proofs.TokenFronts.{begins_token, begins_as, first_of}
@@ -94,7 +94,7 @@ module _ (cs left : List ℕ) (s : Separators cs left) (digits : List ℕ) (behi
   value_there n rest m stops = ap (λ (xs : List ℕ). magnitude_value xs) behind ∙ magnitude_is (behind_sign left) n rest m stops
 
   pub reads_integer : (rest : List ℕ) (negative : Bool) (capped : ℕ) (z : ℤ) → negative ≡ is_negative left → Some rest ≡ magnitude_rest digits → IsCapped (magnitude_value digits) capped
-      → z ≡ signed negative capped → IsInRange (signed negative capped) → Reads IsNumber IsInRange cs z rest
+      → z ≡ signed negative capped → IsInRange (signed negative capped) → BeginsWith IsNumber IsInRange cs z rest
   reads_integer rest negative capped z sign e cap same range =
       let m = read_there rest e in
       let value : capped ≡ m.0 = same_within negative _ capped cap range ∙ value_there m.0 rest m.1 m.2 in

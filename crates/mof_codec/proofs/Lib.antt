@@ -44,3 +44,4 @@ pub mod OnlyRefused
 pub mod Searches
 pub mod Searched
 pub mod Repeats
+pub mod Answered

@@ -10,7 +10,7 @@ use Rattle.mof_syntax.proofs.Scans.{separator-read}
 use Rattle.mof_syntax.proofs.FirstTokens.{token_stands}
 use Rattle.mof_syntax.proofs.Suffixes.{EndsWith-length, EndsWithin-length, separators_end, token_ends}
 use Rattle.mof_syntax.proofs.UniqueRules.{string_same, string_first}
-use Rattle.mof_codec.specs.Reading.{Begins, Only, Reads, Lacks}
+use Rattle.mof_codec.specs.Reading.{Begins, Only, BeginsWith, Lacks}
 use Rattle.mof_codec.specs.Values.{behind_char, BeginsQuote, NoLiteralFirst, AddsQuoted, NoQuoted, GoesOnBy, OnlyQuoteFirst, AnyText}
 use Rattle.mof_codec.proofs.MarkFronts.{behind_char-split, behind_char-none}
 use Rattle.mof_codec.proofs.TokenFronts.{begins_token, begins_as, begins_at, Joined, begins_join, first_of, skip_only}
@@ -115,7 +115,7 @@ strings_next cs done left behind after rest s b a =
 only_string : (us : List Lexeme) (text : List ℕ) (ts : List Lexeme) → NoLiteral ts → StringValue us text ts → Only StringValue us text ts
 only_string us text ts n s = record { holds = s; only = λ b vs m t. string_same us b vs text ts m n t s }
 
-pub reads_string : (cs done left : List ℕ) → StringsSoFar cs done left → NoLiteralFirst left → Reads StringValue AnyText cs done left
+pub reads_string : (cs done left : List ℕ) → StringsSoFar cs done left → NoLiteralFirst left → BeginsWith StringValue AnyText cs done left
 unfolding StringsSoFar
 reads_string cs done left s absent = record {
   fits = tt;

@@ -12,7 +12,7 @@ use Rattle.mof_syntax.specs.Scanning.{separator_rest, identifier_rest}
 use Rattle.mof_syntax.specs.Limits.{IsShortName}
 use Rattle.mof_syntax.specs.Tokens.{Lexeme, Word, AliasName, Identifier, identifier, IsToken, word, alias}
 use Rattle.mof_syntax.proofs.Scans.{identifier-read, read-identifier}
-use Rattle.mof_codec.specs.Reading.{Begins, BeginsNo, Only, Reads, Lacks}
+use Rattle.mof_codec.specs.Reading.{Begins, BeginsNo, Only, BeginsWith, Lacks}
 use Rattle.mof_codec.specs.Values.{IsKeyword, IsWord, IsAlias, NoIdentifier, DollarIdentifier, NoDollarIdentifier}
 use Rattle.mof_codec.proofs.TokenFronts.{begins_token, begins_as, first_of}
 
@@ -87,7 +87,7 @@ module _ (cs left : List ℕ) (s : Separators cs left) where
   begins_keyword keyword name rest i same =
       begins_as (λ us ts. us ≡ Word name ∷ ts) (IsKeyword keyword) cs rest (λ us ts e. (name, e, same)) (begins_word name rest i)
 
-  pub reads_word : (name rest : List ℕ) → Identifier left name rest → IsIdent name → Reads IsWord IsShortName cs name rest
+  pub reads_word : (name rest : List ℕ) → Identifier left name rest → IsIdent name → BeginsWith IsWord IsShortName cs name rest
   reads_word name rest i ident = record {
     fits = ident_short name ident;
     begins = begins_as (λ us ts. us ≡ Word name ∷ ts) (λ us ts. Only IsWord us name ts) cs rest (λ us ts e. record { holds = e; only = λ b vs n f. same us b vs ts e f }) (begins_word name rest i);
@@ -96,7 +96,7 @@ module _ (cs left : List ℕ) (s : Separators cs left) where
       same : (us : List Lexeme) (b : List ℕ) (vs ts : List Lexeme) → us ≡ Word name ∷ ts → us ≡ Word b ∷ vs → (b ≡ name) × (vs ≡ ts)
       same us b vs ts e f = (cc, cc)
 
-  pub reads_alias : (name rest : List ℕ) → DollarIdentifier left name rest → IsIdent name → Reads IsAlias IsShortName cs name rest
+  pub reads_alias : (name rest : List ℕ) → DollarIdentifier left name rest → IsIdent name → BeginsWith IsAlias IsShortName cs name rest
   reads_alias name rest i ident = record {
     fits = ident_short name ident;
     begins = begins_as (λ us ts. us ≡ AliasName name ∷ ts) (λ us ts. Only IsAlias us name ts) cs rest (λ us ts e. record { holds = e; only = λ b vs n f. same us b vs ts e f }) (begins_alias name rest i);

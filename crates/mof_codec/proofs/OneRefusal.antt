@@ -11,7 +11,7 @@ use Rattle.mof_syntax.specs.Encodings.{Chars}
 use Rattle.mof_syntax.specs.Fronts.{IsSyntaxFault}
 use Rattle.mof_syntax.specs.Limits.{Spells, document_limit}
 use Rattle.mof_syntax.specs.Profile as profile
-use Rattle.mof_syntax.specs.Refusals.{Reads, Refuses, RefusesText, Wins, WinsOver, Applies, place_of, rank_of}
+use Rattle.mof_syntax.specs.Refusals.{Reads, Refuses, RefusesText, Wins, WinsOver, Applies, refusal_place, rank_of}
 use Rattle.mof_syntax.proofs.UniqueRules.{spells_same}
 use Rattle.mof_syntax.proofs.Decoded.{one_text, one_fault, no_fault}
 
@@ -75,14 +75,14 @@ place_once : (text : List ℕ) (one other : ℕ) → IsSyntaxFault text one → 
 place_once text one other a b = omega (arith, b.longest one a.within a.front, a.longest other b.within b.front)
 
 -- each wins over the other only at one place and of one rank
-pub level : (one other : MofError) → WinsOver one other → WinsOver other one → (place_of one ≡ place_of other) × (rank_of one ≡ rank_of other)
+pub level : (one other : MofError) → WinsOver one other → WinsOver other one → (refusal_place one ≡ refusal_place other) × (rank_of one ≡ rank_of other)
 level one other (inl lt) (inl gt) = absurd (omega (arith, lt, gt))
 level one other (inl lt) (inr same) = absurd (omega (arith, lt, same.0))
 level one other (inr same) (inl gt) = absurd (omega (arith, same.0, gt))
 level one other (inr same) (inr too) = (same.0, omega (arith, same.1, too.1))
 
 -- so they are one
-level_once : (text : List ℕ) (one other : MofError) → Applies text one → Applies text other → (place_of one ≡ place_of other) × (rank_of one ≡ rank_of other) → one ≡ other
+level_once : (text : List ℕ) (one other : MofError) → Applies text one → Applies text other → (refusal_place one ≡ refusal_place other) × (rank_of one ≡ rank_of other) → one ≡ other
 level_once text TooLong other a b l = absurd a
 level_once text (Text at) other a b l = absurd a
 level_once text Memory other a b l = absurd a

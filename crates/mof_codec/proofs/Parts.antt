@@ -3,7 +3,7 @@ use Rattle.std.proofs.Common.{◌≡◌, ◌<◌, ℕ, List, [], ◌∷◌, ◌+
 use Rattle.std.specs.List.{AllByRecursion}
 use Rattle.mof_syntax.specs.Separators.{Separators}
 use Rattle.mof_syntax.specs.Tokens.{Lexeme}
-use Rattle.mof_codec.specs.Reading.{Begins, Only, Reads, Lacks}
+use Rattle.mof_codec.specs.Reading.{Begins, Only, BeginsWith, Lacks}
 use Rattle.mof_codec.proofs.TokenFronts.{skip_on, skip_only}
 
 -- separators before a part change nothing
@@ -15,7 +15,7 @@ begins_behind D cs left rest s b = record {
 }
 
 pub reads_behind : {A : Type 0} (Rule : List Lexeme → A → List Lexeme → Type 0) (Fits : A → Type 0) (cs left : List ℕ) (a : A) (rest : List ℕ)
-    → Separators cs left → Reads Rule Fits left a rest → Reads Rule Fits cs a rest
+    → Separators cs left → BeginsWith Rule Fits left a rest → BeginsWith Rule Fits cs a rest
 reads_behind Rule Fits cs left a rest s r = record { fits = r.fits; begins = begins_behind (λ us ts. Only Rule us a ts) cs left rest s r.begins }
 
 pub lacks_behind : {A : Type 0} (Rule : List Lexeme → A → List Lexeme → Type 0) (Fits : A → Type 0) (cs left : List ℕ)

@@ -6,7 +6,7 @@ use Rattle.mof_values.specs.declared.value.Value.{Value}
 use Rattle.mof_syntax.specs.Tokens.{Lexeme, Word, RightBrace, EqualsSign, Semicolon, Lexes}
 use Rattle.mof_syntax.specs.Grammar.{NoLiteral, Initializer, ValueInitializers, done, value_initializer}
 use Rattle.mof_syntax.specs.Limits.{properties_limit, IsShortName, ValueFits, PropertyFits}
-use Rattle.mof_codec.specs.Reading.{Begins, BeginsNo, Only, Reads, Lacks}
+use Rattle.mof_codec.specs.Reading.{Begins, BeginsNo, Only, BeginsWith, Lacks}
 use Rattle.mof_codec.specs.Values.{IsMark, IsWord, IsProperty, PropertiesFit}
 use Rattle.mof_codec.specs.declared.values.marks.Mark.TheVariants as marks
 use Rattle.mof_codec.proofs.TokenFronts.{begins_as, Joined, begins_join}
@@ -43,7 +43,7 @@ module _ (cs : List ℕ) where
   pub lacks_property_name : Lacks IsWord IsShortName cs → Lacks IsProperty PropertyFits cs
   lacks_property_name lacks us ts p n l i f = lacks us (EqualsSign ∷ i.0) p.name tt l i.1 f.name
 
-  module _ (name mid : List ℕ) (r : Reads IsWord IsShortName cs name mid) where
+  module _ (name mid : List ℕ) (r : BeginsWith IsWord IsShortName cs name mid) where
     behind_name : (us : List Lexeme) (ts : List Lexeme) (p : Property) → Lexes cs us → IsProperty us p ts → (ws : List Lexeme) × Lexes mid (EqualsSign ∷ ws) × Initializer ws p.value (Semicolon ∷ ts)
     behind_name us ts p l i =
         let x = r.begins.only us l in
@@ -63,7 +63,7 @@ module _ (cs : List ℕ) where
       pub lacks_value : Lacks Initializer ValueFits given → Lacks IsProperty PropertyFits cs
       lacks_value lacks us ts p n l i f = let x = behind_equals us ts p l i in lacks x.0 (Semicolon ∷ ts) p.value tt x.1 x.2 f.value
 
-      module _ (value : Value) (end : List ℕ) (v : Reads Initializer ValueFits given value end) where
+      module _ (value : Value) (end : List ℕ) (v : BeginsWith Initializer ValueFits given value end) where
         pub lacks_semicolon : BeginsNo (IsMark marks.Semicolon) end → Lacks IsProperty PropertyFits cs
         lacks_semicolon no_semicolon us ts p n l i f =
             let x = behind_equals us ts p l i in
@@ -71,7 +71,7 @@ module _ (cs : List ℕ) where
             let same = y.2.only p.value (Semicolon ∷ ts) tt x.2 in
             no_semicolon y.0 ts y.1 (sym same.1)
 
-        pub reads_property : (rest : List ℕ) → Begins (IsMark marks.Semicolon) end rest → Reads IsProperty PropertyFits cs (named name value) rest
+        pub reads_property : (rest : List ℕ) → Begins (IsMark marks.Semicolon) end rest → BeginsWith IsProperty PropertyFits cs (named name value) rest
         reads_property rest s = record {
           fits = record { name = r.fits; value = v.fits };
           begins = begins_as (Whole name value) (λ us ts. Only IsProperty us (named name value) ts) cs rest
@@ -150,14 +150,14 @@ properties_end us ps vs ts x e = record {
 }
 
 module _ (cs : List ℕ) (ps : List Property) (left : List ℕ) (so_far : BodySoFar cs ps left) where
-  pub reads_body : (rest : List ℕ) → Begins (IsMark marks.RightBrace) left rest → Reads ValueInitializers PropertiesFit cs ps rest
+  pub reads_body : (rest : List ℕ) → Begins (IsMark marks.RightBrace) left rest → BeginsWith ValueInitializers PropertiesFit cs ps rest
   reads_body rest b = record {
     fits = record { count = so_far.few; each = so_far.each };
     begins = begins_as (Joined (λ us ts. PropertiesOn us ps ts) (IsMark marks.RightBrace)) (λ us ts. Only ValueInitializers us ps ts) cs rest
         (λ us ts j. properties_end us ps j.0 ts j.1 j.2) (begins_join (λ us ts. PropertiesOn us ps ts) (IsMark marks.RightBrace) cs left rest so_far.begins b);
   }
 
-  pub body_next : (p : Property) (rest : List ℕ) → (length ps ≡ properties_limit → ⊥) → Reads IsProperty PropertyFits left p rest → BodySoFar cs (ps ++ p ∷ []) rest
+  pub body_next : (p : Property) (rest : List ℕ) → (length ps ≡ properties_limit → ⊥) → BeginsWith IsProperty PropertyFits left p rest → BodySoFar cs (ps ++ p ∷ []) rest
   body_next p rest below r = record {
     begins = begins_as (Joined (λ us ts. PropertiesOn us ps ts) (λ us ts. Only IsProperty us p ts)) (λ us ts. PropertiesOn us (ps ++ p ∷ []) ts) cs rest
         (λ us ts j. properties_next us ps j.0 p ts j.1 j.2) (begins_join (λ us ts. PropertiesOn us ps ts) (λ us ts. Only IsProperty us p ts) cs left rest so_far.begins r.begins);

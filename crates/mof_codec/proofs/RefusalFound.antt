@@ -9,7 +9,7 @@ use Rattle.mof_syntax.specs.declared.mof_error.Form.{Form}
 use Rattle.mof_syntax.specs.Grammar.{Wide, WideSpells}
 use Rattle.mof_syntax.specs.Limits.{Spells, instances_limit}
 use Rattle.mof_syntax.specs.Fronts.{IsFront, IsSyntaxFault, GoesUpTo}
-use Rattle.mof_syntax.specs.Refusals.{Wins, place_of}
+use Rattle.mof_syntax.specs.Refusals.{Wins, refusal_place}
 use Rattle.mof_codec.specs.declared.refusing.scalar.Wanted.TheVariants.{ExcessInteger}
 use Rattle.mof_codec.specs.Searching.{FirstOf, ScalarStands, IsFirstExcess, HasNoExcess, HasFewParts, IsFirstForm, HasNoForm}
 use Rattle.mof_codec.specs.Winning.{end_of, sooner, out_of_profile, number_range, too_many, syntax_fault}
@@ -76,7 +76,7 @@ module _ (text : List ℕ) (fault : Option ℕ) (form : Option (ℕ × Form)) (e
   sooner_none : (one other : Option MofError) → sooner one other ≡ None → (one ≡ None) × (other ≡ None)
   sooner_none None other e = (refl, e)
   sooner_none (Some x) None e = absurd (some_none x e)
-  sooner_none (Some x) (Some y) e = absurd (pick_none (nat_le (place_of x) (place_of y)) x y e)
+  sooner_none (Some x) (Some y) e = absurd (pick_none (nat_le (refusal_place x) (refusal_place y)) x y e)
 
   spells_when : (number part fault : Option ℕ) → Found text fault form end number part → number_range number ≡ None → too_many part ≡ None → syntax_fault fault ≡ None → (is : List Instance) × Spells text is
   spells_when None None None g n p s =

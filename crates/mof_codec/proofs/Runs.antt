@@ -4,7 +4,7 @@ use Rattle.std.specs.Prelude.{◌==◌}
 use Rattle.std.proofs.lemmas.Bool.{eqb-true}
 use Rattle.std.proofs.lemmas.Bool.Decides.{nat_tests}
 use Rattle.mof_values.specs.Ident.{is_first, is_next}
-use Rattle.mof_syntax.specs.Characters.{is_blank, digit_of, is_x, is_b}
+use Rattle.mof_syntax.specs.Characters.{is_blank, digit_of, is_x, is_b, is_sign}
 use Rattle.mof_syntax.specs.Strings.{short_escape}
 use Rattle.mof_codec.specs.declared.machine.state.Place.{Place}
 use Rattle.mof_codec.specs.declared.machine.state.Place.TheVariants.{Start}
@@ -13,7 +13,7 @@ use Rattle.mof_codec.specs.declared.machine.characters.Kind.TheVariants as kinds
 use Rattle.mof_codec.specs.declared.machine.state.Half.{Half}
 use Rattle.mof_codec.specs.declared.machine.state.State.{State}
 use Rattle.mof_codec.specs.declared.machine.state.Event.{Event}
-use Rattle.mof_codec.specs.Machine.{is_sign, kind_of, step, is_whole}
+use Rattle.mof_codec.specs.Machine.{kind_of, step, is_whole}
 use Rattle.mof_codec.specs.Walked.{tally}
 
 abbrev pub Next : Option State → (Half → Place → Event → Type 0) → Type 0

@@ -4,7 +4,7 @@ use Rattle.std.specs.Prelude.{slice_index_or, ◌&&◌}
 use Rattle.std.specs.List.{list_all}
 use Rattle.std.proofs.lemmas.Bool.{cases_lt}
 use Rattle.std.proofs.lemmas.Bool.Decides.{nat_tests}
-use Rattle.mof_syntax.specs.Characters.{digit_of}
+use Rattle.mof_syntax.specs.Characters.{digit_of, is_sign}
 use Rattle.mof_syntax.specs.Fronts.{IsFront}
 use Rattle.mof_syntax.specs.Profile.{AreDigits, BeginsReal, unsigned, signed}
 use Rattle.mof_codec.specs.declared.machine.state.State.{State}
@@ -12,7 +12,7 @@ use Rattle.mof_codec.specs.declared.machine.state.Place.TheVariants.{Start}
 use Rattle.mof_codec.specs.declared.machine.state.Half.TheVariants as halves
 use Rattle.mof_codec.specs.declared.machine.state.Event.TheVariants as events
 use Rattle.mof_codec.specs.declared.refusing.scalar.Wanted.{Wanted}
-use Rattle.mof_codec.specs.Machine.{step, is_sign}
+use Rattle.mof_codec.specs.Machine.{step}
 use Rattle.mof_codec.specs.Walked.{Behind, walked}
 use Rattle.mof_codec.specs.Beginnings.{begins_scalar}
 use Rattle.mof_codec.specs.Searching.{FirstOf, IsWanted, ScalarStands, is_real}

@@ -6,7 +6,7 @@ use Rattle.std.proofs.lemmas.Bool.Decides.{nat_tests}
 use Rattle.std.specs.Char.{to_ascii_lowercase}
 use Rattle.mof_values.specs.Fold.{fold_case}
 use Rattle.mof_values.specs.Ident.{is_first, is_next}
-use Rattle.mof_syntax.specs.Characters.{digit_of, Stops, more}
+use Rattle.mof_syntax.specs.Characters.{digit_of, Stops, more, is_sign}
 use Rattle.mof_syntax.specs.Separators.{blank}
 use Rattle.mof_syntax.specs.Integers.{Magnitude, decimal_value, binary_value, IntegerValue, unsigned, plus, minus}
 use Rattle.mof_syntax.specs.Tokens.{Lexeme, Word, AliasName, Literal, Number, LeftBrace, RightBrace, EqualsSign, Semicolon, Comma, Identifier, identifier, IsToken, word, alias, literal, integer, left_brace_mark, right_brace_mark, equals_mark, semicolon_mark, comma_mark, separator, token}
@@ -20,7 +20,7 @@ use Rattle.mof_codec.specs.declared.machine.characters.Kind.TheVariants as kinds
 use Rattle.mof_codec.specs.declared.machine.state.Half.TheVariants as halves
 use Rattle.mof_codec.specs.declared.machine.state.Event.{Event}
 use Rattle.mof_codec.specs.declared.machine.state.Event.TheVariants as events
-use Rattle.mof_codec.specs.Machine.{letters, is_sign, is_no_char, go, begin, gapped, keyed, first_letter, number_begun, value_word, scalar_begun, numbered, step, is_whole, kind_of, opened, quoted, digit_on, key_on, key_read, head_of}
+use Rattle.mof_codec.specs.Machine.{letters, is_no_char, go, begin, gapped, keyed, first_letter, number_begun, value_word, scalar_begun, numbered, step, is_whole, kind_of, opened, quoted, digit_on, key_on, key_read, head_of}
 use Rattle.mof_codec.specs.Machine as machine
 use Rattle.mof_codec.proofs.Goes.{Goes, IsKey, IsWordValue, ScalarGoes}
 use Rattle.mof_codec.proofs.Runs.{split, test_or, first_next, Says, kind_says}

@@ -20,7 +20,7 @@ pub record Only {A : Type 0} (Rule : List Lexeme → A → List Lexeme → Type 
   pub only : (b : A) (vs : List Lexeme) → NoLiteral vs → Rule us b vs → (b ≡ a) × (vs ≡ ts)
 
 -- the characters begin with what the rule spells within the limits, and then the rest
-pub record Reads {A : Type 0} (Rule : List Lexeme → A → List Lexeme → Type 0) (Fits : A → Type 0)
+pub record BeginsWith {A : Type 0} (Rule : List Lexeme → A → List Lexeme → Type 0) (Fits : A → Type 0)
     (cs : List ℕ) (a : A) (rest : List ℕ) : Type 0 where
   pub fits : Fits a
   pub begins : Begins (λ us ts. Only Rule us a ts) cs rest

@@ -8,7 +8,7 @@ use Rattle.mof_values.specs.declared.instance.Property.{Property}
 use Rattle.mof_values.specs.Ident.{is_next}
 use Rattle.mof_syntax.specs.declared.mof_error.Form.{Form}
 use Rattle.mof_syntax.specs.declared.mof_error.Form.TheVariants as forms
-use Rattle.mof_syntax.specs.Characters.{Stops, digit_of}
+use Rattle.mof_syntax.specs.Characters.{Stops, digit_of, is_sign}
 use Rattle.mof_syntax.specs.Tokens.{IsToken, Number, Identifier}
 use Rattle.mof_syntax.specs.Limits.{IsOutOfRange, identifier_limit, properties_limit, elements_limit}
 use Rattle.mof_syntax.specs.Fronts.{GoesUpTo, BeginsScalar}
@@ -18,7 +18,6 @@ use Rattle.mof_codec.specs.declared.machine.state.State.{State}
 use Rattle.mof_codec.specs.declared.machine.state.Event.{Event}
 use Rattle.mof_codec.specs.declared.refusing.scalar.Wanted.{Wanted}
 use Rattle.mof_codec.specs.declared.refusing.scalar.Wanted.TheVariants.{ExcessInteger, Real}
-use Rattle.mof_codec.specs.Machine.{is_sign}
 use Rattle.mof_codec.specs.Beginnings.{begins_scalar, begins_declaration}
 use Rattle.mof_codec.specs.Walked.{walked}
 

@@ -3,7 +3,7 @@ use Rattle.std.specs.Prelude.{ℕ, List, Option, Some, None, length, nat_le, if�
 use Rattle.mof_syntax.specs.declared.mof_error.MofError.{MofError}
 use Rattle.mof_syntax.specs.declared.mof_error.MofError.TheVariants.{Syntax, OutOfProfile, NumberRange, TooMany}
 use Rattle.mof_syntax.specs.declared.mof_error.Form.{Form}
-use Rattle.mof_syntax.specs.Refusals.{place_of}
+use Rattle.mof_syntax.specs.Refusals.{refusal_place}
 
 -- how far a text goes that goes wrong there, or does not
 abbrev pub end_of : List ℕ → Option ℕ → ℕ
@@ -30,4 +30,4 @@ syntax_fault None = None
 abbrev pub sooner : Option MofError → Option MofError → Option MofError
 sooner None other = other
 sooner (Some e) None = Some e
-sooner (Some e) (Some f) = if nat_le (place_of e) (place_of f) then Some e else Some f
+sooner (Some e) (Some f) = if nat_le (refusal_place e) (refusal_place f) then Some e else Some f

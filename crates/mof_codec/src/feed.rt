@@ -4,14 +4,14 @@ ghost use Rattle.mof_values.specs.declared.instance.Instance.{Instance};
 ghost use Rattle.mof_syntax.specs.Limits.{document_limit};
 ghost use Rattle.mof_syntax.specs.Refusals.{Reads, Refuses};
 
-use crate::reader::{LIMIT, read};
-use mof_syntax::MofError;
+use crate::reader::read;
+use mof_syntax::{MAX_DOCUMENT, MofError};
 use mof_values::Instance;
 use std::alloc::{AllocError, Global};
 use std::fmt;
 use std::marker::Model;
 
-/// The pieces that came, joined: at most 2,097,152 bytes.
+/// The pieces that came, joined: at most [`MAX_DOCUMENT`] bytes.
 #[derive(Debug, Drop)]
 pub struct Feed {
     bytes: Vec<u8>,
@@ -49,10 +49,10 @@ impl From<AllocError> for FeedError {
 
 impl fmt::Display for FeedError {
     fn fmt<W: fmt::Write>(&self, f: &mut fmt::Formatter<W>) -> fmt::Result {
-        f.write_str(match self {
-            FeedError::TooLong => "the document is longer than 2097152 bytes",
-            FeedError::Memory => "out of memory",
-        })
+        match self {
+            FeedError::TooLong => write!(f, "the document is longer than {MAX_DOCUMENT} bytes"),
+            FeedError::Memory => f.write_str("out of memory"),
+        }
     }
 }
 
@@ -72,7 +72,7 @@ impl Feed {
         ensures too_long { IsErrOf result FeedError.TooLong ↔ (document_limit < length (self.old ++ piece.now)) }
         ensures unchanged { OnErr result (self.new ≡ self.old) }
     {
-        if piece.len() > LIMIT - self.bytes.len() {
+        if piece.len() > MAX_DOCUMENT - self.bytes.len() {
             return Err(FeedError::TooLong);
         }
         self.bytes.extend_from_slice(piece)?;

@@ -7,12 +7,9 @@ ghost use Rattle.mof_syntax.specs.Refusals.{Reads, Refuses, Wins};
 
 use crate::refusing::refusal::refusal_of;
 use crate::values::instances_of;
-use mof_syntax::{MofError, TextError, decode_text};
+use mof_syntax::{MAX_DOCUMENT, MofError, TextError, decode_text};
 use mof_values::Instance;
 use std::alloc::Global;
-
-/// The most bytes of a document.
-pub(crate) const LIMIT: usize = 2_097_152;
 
 /// The instances that the bytes spell (DSP0004, in this profile), or why they spell none.
 pub fn read(alloc: Global, bytes: &[u8]) -> Result<Vec<Instance>, MofError>
@@ -20,7 +17,7 @@ pub fn read(alloc: Global, bytes: &[u8]) -> Result<Vec<Instance>, MofError>
     ensures refused { IfErr result (λ e. Refuses bytes.now e) }
     ensures only { IfErr result (λ e. e ≢ Memory → (is : List Instance) → Reads bytes.now is → ⊥) }
 {
-    if bytes.len() > LIMIT {
+    if bytes.len() > MAX_DOCUMENT {
         return Err(MofError::TooLong);
     }
     let text = match decode_text(alloc, bytes) {

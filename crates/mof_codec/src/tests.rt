@@ -1,29 +1,103 @@
-//! What texts are refused for, and where: the syntax of DSP0004 within the profile.
+//! What no clause says: that ample memory is enough, and the printed texts.
 //!
-//! Each row has the text up to the place of its refusal, and the text from there on.
-mod bytes;
-mod faults;
-mod forms;
-mod limits;
-mod pieces;
-mod written;
-
-use crate::read;
-use mof_syntax::MofError;
+//! What the real program shows of texts stands with the checks of the program: what is read of them, why they are
+//! refused and where, and how instances are written.
+use crate::{Feed, FeedError, push_literal, read, write};
+use mof_values::Text;
+use std::fmt::Display;
 use std::test::Fail;
 
-// The refusal of a text, or none.
-fn refusal(rt: &impl AllocGlobal, text: &str) -> Option<MofError> {
-    read(rt.alloc(), text.as_bytes()).err()
+const SIZES: &[usize] = &[0, 1, 2, 7, 63, 64, 65, 4096];
+
+// What says that a row holds.
+fn holds(is_so: bool, row: impl Display + Drop) -> Result<(), Fail> {
+    if is_so {
+        return Ok(());
+    }
+    Err(Fail::new(row))
 }
 
-fn places(text: &str) -> usize {
-    text.chars().count()
+// The part so many times.
+fn repeated(rt: &impl AllocGlobal, part: &[u8], count: usize) -> Result<Vec<u8>, Fail> {
+    let mut bytes = Vec::new(rt.alloc());
+    for _ in 0..count {
+        bytes.extend_from_slice(part)?;
+    }
+    Ok(bytes)
 }
 
-fn joined(rt: &impl AllocGlobal, before: &str, behind: &str) -> Result<String, Fail> {
-    let mut text = String::new(rt.alloc());
-    text.push_str(before)?;
-    text.push_str(behind)?;
-    Ok(text)
+fn is_read_and_written(rt: &impl AllocGlobal, bytes: &[u8], count: usize) -> bool {
+    match read(rt.alloc(), bytes) {
+        Ok(instances) => instances.len() == count && write(rt.alloc(), &instances).is_ok(),
+        Err(_) => false,
+    }
+}
+
+#[test]
+fn instances_of_each_number_are_read_and_written(rt: HostRuntime) -> Result<(), Fail> {
+    for count in SIZES.iter() {
+        let bytes = repeated(&rt, b"instance of A as $B{X={\"\\n\",-1};};", *count)?;
+        holds(is_read_and_written(&rt, &bytes, *count), *count)?;
+    }
+    Ok(())
+}
+
+fn is_printed(rt: &impl AllocGlobal, size: usize) -> Result<bool, Fail> {
+    let text = Text::from_latin1(rt.alloc(), &repeated(rt, b"\n", size)?)?;
+    let mut out = String::new(rt.alloc());
+    push_literal(&mut out, text.as_slice())?;
+    Ok(out.len() == 2 * size + 2)
+}
+
+#[test]
+fn texts_of_each_size_are_printed_as_literals(rt: HostRuntime) -> Result<(), Fail> {
+    for size in SIZES.iter() {
+        holds(is_printed(&rt, *size)?, *size)?;
+    }
+    Ok(())
+}
+
+// The number of instances that a feed reads which is given the bytes in pieces of this size.
+fn count_fed(rt: &impl AllocGlobal, bytes: &[u8], piece: usize) -> Option<usize> {
+    let mut feed = Feed::new(rt.alloc());
+    for part in bytes.chunks(piece.max(1)) {
+        if feed.feed(part).is_err() {
+            return None;
+        }
+    }
+    match feed.finish() {
+        Ok(instances) => Some(instances.len()),
+        Err(_) => None,
+    }
+}
+
+#[test]
+fn a_feed_takes_pieces_of_each_size(rt: HostRuntime) -> Result<(), Fail> {
+    for count in SIZES.iter() {
+        let bytes = repeated(&rt, b"instance of \xc3\xa9{};", *count)?;
+        for piece in [1, 7, 64, 4096, 2_097_152] {
+            holds(count_fed(&rt, &bytes, piece) == Some(*count), *count)?;
+        }
+    }
+    Ok(())
+}
+
+#[test]
+fn a_feed_takes_pieces_up_to_its_limit(rt: HostRuntime) -> Result<(), Fail> {
+    let bytes = repeated(&rt, b" ", 2_097_152)?;
+    for piece in [1, 4095, 2_097_152] {
+        holds(count_fed(&rt, &bytes, piece) == Some(0), piece)?;
+    }
+    Ok(())
+}
+
+fn prints(rt: &impl AllocGlobal, error: &impl Display, words: &str) -> Result<bool, Fail> {
+    Ok(error.to_string(rt.alloc())?.as_str() == words)
+}
+
+#[test]
+fn errors_are_printed(rt: HostRuntime) -> Result<(), Fail> {
+    let words = "the document is longer than 2097152 bytes";
+    holds(prints(&rt, &FeedError::TooLong, words)?, words)?;
+    holds(prints(&rt, &FeedError::Memory, "out of memory")?, "memory")
 }

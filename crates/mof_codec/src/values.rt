@@ -13,6 +13,3 @@ mod words;
 
 pub(crate) use declarations::instances_of;
 pub(crate) use integers::is_out_of_range;
-
-#[cfg(test)]
-mod tests;

@@ -7,7 +7,7 @@ ghost use Rattle.mof_examples.specs.Rules.{RuleExamples};
 ghost use Rattle.mof_examples.specs.Canon.{CanonicalExamples};
 ghost use Rattle.mof_examples.specs.Refused.{RefusalExamples};
 ghost use Rattle.mof_examples.specs.Placed.{FormExamples, NumberExamples, LongNameExamples, PartExamples, SyntaxExamples, ByteExamples};
-ghost use Rattle.mof_examples.specs.Laws.{DividesOnce, SpellsOne, FrontsOfFronts, GoesWrongOnce, GoesWrongByTheNext};
+ghost use Rattle.mof_examples.specs.Laws.{BytesHaveAnAnswer, BytesHaveOneAnswer, DividesOnce, SpellsOne, FrontsOfFronts, GoesWrongOnce, GoesWrongByTheNext, TextsHaveAnAnswer, WhatIsReadIsInTheGrammar};
 
 pub fn separators_are_spelled()
     ensures { SeparatorExamples }
@@ -48,6 +48,16 @@ pub fn a_front_of_a_front_is_one()
 pub fn a_text_goes_wrong_at_one_place()
     ensures once { GoesWrongOnce }
     ensures next { GoesWrongByTheNext }
+{}
+
+pub fn a_text_spells_instances_or_is_refused()
+    ensures { TextsHaveAnAnswer }
+{}
+
+pub fn bytes_are_read_or_refused()
+    ensures exists { BytesHaveAnAnswer }
+    ensures one { BytesHaveOneAnswer }
+    ensures apart { WhatIsReadIsInTheGrammar }
 {}
 
 pub fn texts_are_refused_at_their_first_character()

@@ -13,11 +13,12 @@ mod laws;
 
 pub use decider::is_wide;
 pub use decoded::{
-    bytes_are_characters_in_one_way, bytes_have_at_most_one_fault,
-    bytes_that_are_characters_have_no_fault,
+    bytes_are_characters_in_one_way, bytes_are_characters_or_go_wrong,
+    bytes_have_at_most_one_fault, bytes_that_are_characters_have_no_fault,
 };
 pub use laws::{
-    a_front_of_a_front_is_one, a_text_goes_wrong_at_one_place, a_text_spells_one_list,
+    a_front_of_a_front_is_one, a_text_goes_wrong_at_one_place,
+    a_text_spells_instances_or_is_refused, a_text_spells_one_list, bytes_are_read_or_refused,
     bytes_are_refused, canonical_texts_are_these, characters_divide_into_tokens_in_one_way,
     identifiers_are_refused_past_their_limit, identifiers_are_spelled, integers_are_spelled,
     left_out_forms_are_refused_where_they_stand, literals_are_spelled,

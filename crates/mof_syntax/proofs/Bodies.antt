@@ -4,7 +4,7 @@ use Rattle.std.proofs.lemmas.List.{take_at, drop_at, append-nil}
 use Rattle.std.proofs.Math.Seq.{take-append-add, drop-append-add}
 use Rattle.std.proofs.lemmas.Grind.{flat_map-append, common_steps}
 use Rattle.std.proofs.Math.Seq.{take-add}
-use Rattle.std.proofs.lemmas.Str.{encodes_same, IsUtf8-append, IsUtf8-encode, length-encode, len_utf8_bounds}
+use Rattle.std.proofs.lemmas.Str.{encode_ascii, encodes_same, IsUtf8-append, IsUtf8-encode, length-encode, len_utf8_bounds}
 use Rattle.std.specs.Prelude.{encode_utf8, encode_utf8_all, IsUtf8}
 use Rattle.std.specs.Char.{IsScalar}
 use Rattle.std.specs.Str.{all_scalars, IsValidUpTo}
@@ -16,8 +16,8 @@ use Rattle.mof_syntax.specs.declared.encoding.Encoding.{Encoding}
 use Rattle.mof_syntax.specs.declared.encoding.Encoding.TheVariants.{Utf8, Utf8Marked, Utf16}
 use Rattle.mof_syntax.specs.declared.encoding.ByteOrder.{ByteOrder}
 use Rattle.mof_syntax.specs.declared.encoding.ByteOrder.TheVariants.{LittleEndian, BigEndian}
-use Rattle.mof_syntax.specs.Encodings.{unit_bytes, char_bytes, body_bytes, mark_of, encoding_of, encoded, Chars, IsTextFault}
-use Rattle.mof_syntax.specs.Decoding.{RefusesBody, RefusesBytes, IsBody, StartsNoChar, StartsChar, IsBodyFault}
+use Rattle.mof_syntax.specs.Encodings.{unit_bytes, char_bytes, body_bytes, mark_of, encoding_of, encoded, Chars, IsTextFault, StartsNoChar, RefusesBytes}
+use Rattle.mof_syntax.specs.Decoding.{RefusesBody, IsBody, StartsChar, IsBodyFault}
 
 -- UTF-8
 
@@ -59,7 +59,7 @@ pub and_right : (x y : Bool) → (x && y) ≡ true → y ≡ true
 and_right true y h = h
 and_right false y h = absurd cc
 
-and_both : (x y : Bool) → x ≡ true → y ≡ true → (x && y) ≡ true
+pub and_both : (x y : Bool) → x ≡ true → y ≡ true → (x && y) ≡ true
 and_both x y h k = rw (h, k)
 
 pub all_scalars-push : (cs : List ℕ) (c : ℕ) → all_scalars cs ≡ true → IsScalar c → all_scalars (cs ++ c ∷ []) ≡ true
@@ -115,7 +115,7 @@ Chars-from_body bytes body chars e is split b = record {
   spelled = subst (λ (f : Encoding). bytes ≡ encoded f chars) is (split ∙ ap (λ bs. mark_of e ++ bs) b.spelled);
 }
 
-fault_behind : (bytes body : List ℕ) (n : ℕ) (e : Encoding) → e ≡ encoding_of bytes → bytes ≡ mark_of e ++ body → IsBodyFault e body n
+pub fault_behind : (bytes body : List ℕ) (n : ℕ) (e : Encoding) → e ≡ encoding_of bytes → bytes ≡ mark_of e ++ body → IsBodyFault e body n
     → IsTextFault bytes (length (mark_of e) + n)
 fault_behind bytes body n e is split f =
     let length_is : length bytes ≡ length (mark_of e) + length body = ap length split ∙ length-append (mark_of e) body in
@@ -171,3 +171,18 @@ refused_behind_utf8 bytes body marked e (Err error) one is split m h = RefusesBy
     either : (e ≡ Utf8) ⊎ (e ≡ Utf8Marked) → RefusesBody e body marked error
     either (inl u) = subst (λ (f : Encoding). RefusesBody f body marked error) (sym u) h
     either (inr n) = subst (λ (f : Encoding). RefusesBody f body marked error) (sym n) (marked_refusal body marked error h)
+
+-- characters in UTF-8 without a mark
+
+pub Chars-nothing : Chars [] []
+Chars-nothing = record { scalars = refl; spelled = refl }
+
+-- a text that begins with `i` has no mark
+unmarked : (cs : List ℕ) → encoding_of (encode_utf8_all (105 ∷ cs)) ≡ Utf8
+unmarked cs = ap (λ bs. encoding_of (bs ++ encode_utf8_all cs)) (encode_ascii 105 (omega arith))
+
+pub Chars-from_i : (cs : List ℕ) → all_scalars (105 ∷ cs) ≡ true → Chars (encode_utf8_all (105 ∷ cs)) (105 ∷ cs)
+Chars-from_i cs e = record {
+  scalars = e;
+  spelled = subst (λ (f : Encoding). encode_utf8_all (105 ∷ cs) ≡ encoded f (105 ∷ cs)) (sym (unmarked cs)) (sym (body_bytes-utf8 (105 ∷ cs)));
+}

@@ -11,10 +11,9 @@ use Rattle.mof_syntax.specs.declared.encoding.Encoding.{Encoding}
 use Rattle.mof_syntax.specs.declared.encoding.Encoding.TheVariants.{Utf8, Utf8Marked, Utf16}
 use Rattle.mof_syntax.specs.declared.encoding.ByteOrder.{ByteOrder}
 use Rattle.mof_syntax.specs.declared.encoding.ByteOrder.TheVariants.{LittleEndian, BigEndian}
-use Rattle.mof_syntax.specs.Encodings.{unit_bytes, char_bytes, body_bytes, mark_of, encoding_of, Chars, IsTextFault}
+use Rattle.mof_syntax.specs.Encodings.{unit_bytes, char_bytes, body_bytes, mark_of, encoding_of, Chars, IsTextFault, StartsNoChar, RefusesBytes}
 use Rattle.mof_syntax.specs.declared.text_error.TextError.{TextError}
 use Rattle.mof_syntax.specs.declared.text_error.TextError.TheVariants.{TextFault, Memory}
-use Rattle.mof_syntax.specs.Decoding.{StartsNoChar, RefusesBytes}
 use Rattle.mof_syntax.proofs.Bodies.{some_units, and_left, and_right}
 
 -- units of UTF-16
@@ -110,7 +109,7 @@ char_same Utf8Marked c d r s one other e = encode_same c d r s e
 char_same (Utf16 order) c d r s one other e =
     units_same order (nat_lt c 0x1_0000) (nat_lt d 0x1_0000) c d r s refl refl one other e
 
-some_bytes : (encoding : Encoding) (c : ℕ) → 0 < length (char_bytes encoding c)
+pub some_bytes : (encoding : Encoding) (c : ℕ) → 0 < length (char_bytes encoding c)
 some_bytes Utf8 c = rw length-encode (omega (arith, len_utf8_bounds c))
 some_bytes Utf8Marked c = rw length-encode (omega (arith, len_utf8_bounds c))
 some_bytes (Utf16 order) c = some_units order (nat_lt c 0x1_0000) c (high_of c) (low_of c)

@@ -4,7 +4,7 @@ use Rattle.std.specs.Option.{option_copied}
 use Rattle.std.specs.Prelude.{◌==◌, ◌||◌, IfSome, IfNone, ℤ, pos, neg_ℤ}
 use Rattle.std.proofs.lemmas.Bool.Decides.{nat_tests}
 use Rattle.mof_values.specs.Ident.{is_first, is_next}
-use Rattle.mof_syntax.specs.Characters.{quote, dollar, plus_sign, minus_sign, comma, semicolon, equals_sign, left_brace, right_brace, digit_of, Run, more, Stops}
+use Rattle.mof_syntax.specs.Characters.{quote, dollar, plus_sign, minus_sign, comma, semicolon, equals_sign, left_brace, right_brace, digit_of, Run, more, Stops, is_sign}
 use Rattle.mof_syntax.specs.Integers.{Magnitude, decimal_value, octal_value, hex_value, binary_value, IntegerValue, unsigned, plus, minus}
 use Rattle.mof_syntax.specs.Tokens.{Identifier, identifier, Lexeme, Word, AliasName, Literal, Number, LeftBrace, RightBrace, EqualsSign, Semicolon, Comma, IsToken, word, alias, literal, integer, left_brace_mark, right_brace_mark, equals_mark, semicolon_mark, comma_mark}
 use Rattle.mof_syntax.specs.declared.token.TokenKind.{TokenKind}
@@ -12,8 +12,8 @@ use Rattle.mof_syntax.specs.declared.token.TokenKind.TheVariants as kinds
 use Rattle.mof_syntax.specs.declared.lead.Lead.{Lead}
 use Rattle.mof_syntax.specs.declared.lead.Lead.TheVariants as leads
 use Rattle.mof_syntax.specs.Scanning.{IsOnly, StandsQuoted}
-use Rattle.mof_syntax.specs.Leads.{is_mark, is_sign, lead_of, kind_by, StandsMagnitude, StandsBy, OnlyBy, NoneBy}
-use Rattle.mof_syntax.specs.Walk.{kind_of, StandsToken, NoToken}
+use Rattle.mof_syntax.specs.Leads.{is_mark, lead_of, kind_by, StandsMagnitude, StandsBy, OnlyBy, NoneBy}
+use Rattle.mof_syntax.specs.Walk.{token_kind, StandsToken, NoToken}
 use Rattle.mof_syntax.proofs.Scans.{some_same, digit_wider}
 
 -- what the first character tells
@@ -69,7 +69,7 @@ token_stands c cs t rest (comma_mark r) = refl
 -- a token of that kind stands there
 
 abbrev pub HasToken : List ℕ → TokenKind → List ℕ → Type 0
-HasToken cs kind rest = (t : Lexeme) × IsToken cs t rest × (kind_of t ≡ kind)
+HasToken cs kind rest = (t : Lexeme) × IsToken cs t rest × (token_kind t ≡ kind)
 
 equal : (x y : ℕ) → (x == y) ≡ true → x ≡ y
 equal x y h = grind (arith, nat_tests)

@@ -10,3 +10,4 @@ pub mod FrontLaws
 pub mod UniqueTokens
 pub mod UniqueRules
 pub mod Decoded
+pub mod Divided

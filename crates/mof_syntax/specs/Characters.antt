@@ -49,6 +49,10 @@ right_brace = 125
 abbrev pub is_blank : ℕ → Bool
 is_blank c = c == 32 || c == 9 || c == 10 || c == 13
 
+-- a plus or a minus
+abbrev pub is_sign : ℕ → Bool
+is_sign c = c == plus_sign || c == minus_sign
+
 -- a digit of the base
 abbrev pub digit_of : ℕ → ℕ → Bool
 digit_of base c = is_digit c base

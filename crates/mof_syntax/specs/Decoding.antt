@@ -1,25 +1,16 @@
 -- What the steps of `decode_text` say of the bytes behind the mark.
-use Rattle.std.specs.Prelude.{◌≡◌, ◌≢◌, ℕ, ◌+◌, ◌<◌, true, List, ◌++◌, length, take, drop, ⊤}
+use Rattle.std.specs.Prelude.{◌≡◌, ℕ, ◌+◌, ◌<◌, true, List, ◌++◌, length, take, drop, ⊤}
 use Rattle.std.specs.Char.{IsScalar}
 use Rattle.std.specs.Str.{all_scalars}
 use Rattle.mof_syntax.specs.declared.encoding.Encoding.{Encoding}
 use Rattle.mof_syntax.specs.declared.text_error.TextError.{TextError}
 use Rattle.mof_syntax.specs.declared.text_error.TextError.TheVariants.{TextFault, Memory}
-use Rattle.mof_syntax.specs.Encodings.{char_bytes, body_bytes, IsTextFault}
-
--- the bytes are refused so. Want of memory has no cause here
-abbrev pub RefusesBytes : List ℕ → TextError → Type 0
-RefusesBytes bytes (TextFault at) = IsTextFault bytes at
-RefusesBytes bytes Memory = ⊤
+use Rattle.mof_syntax.specs.Encodings.{char_bytes, body_bytes, StartsNoChar}
 
 -- the body is these characters
 pub record IsBody (encoding : Encoding) (body chars : List ℕ) : Type 0 where
   pub scalars : all_scalars chars ≡ true
   pub spelled : body ≡ body_bytes encoding chars
-
--- no character begins the bytes
-abbrev pub StartsNoChar : Encoding → List ℕ → Type 0
-StartsNoChar encoding bytes = (c : ℕ) (rest : List ℕ) → IsScalar c → bytes ≢ char_bytes encoding c ++ rest
 
 -- the first `at` bytes of the body are characters, and no character stands there
 pub record IsBodyFault (encoding : Encoding) (body : List ℕ) (at : ℕ) : Type 0 where

@@ -1,9 +1,11 @@
 -- The encodings of a text as bytes (UTF-8: RFC 3629; UTF-16: RFC 2781; the byte order mark: Unicode, section 23.8).
-use Rattle.std.specs.Prelude.{◌≡◌, ◌≢◌, ℕ, ◌/◌, ◌%◌, ◌<◌, true, List, [], ◌∷◌, ◌++◌, length, take, drop, nat_eq, if◌then◌else◌, encode_utf8}
+use Rattle.std.specs.Prelude.{◌≡◌, ◌≢◌, ℕ, ◌/◌, ◌%◌, ◌<◌, true, List, [], ◌∷◌, ◌++◌, length, take, drop, nat_eq, if◌then◌else◌, encode_utf8, ⊤}
 use Rattle.std.specs.List.{flat_map, starts_with}
 use Rattle.std.specs.Char.{IsScalar}
 use Rattle.std.specs.Char.Escape.{encode_utf16}
 use Rattle.std.specs.Str.{all_scalars}
+use Rattle.mof_syntax.specs.declared.text_error.TextError.{TextError}
+use Rattle.mof_syntax.specs.declared.text_error.TextError.TheVariants.{TextFault, Memory}
 use Rattle.mof_syntax.specs.declared.encoding.Encoding.{Encoding}
 use Rattle.mof_syntax.specs.declared.encoding.Encoding.TheVariants.{Utf8, Utf8Marked, Utf16}
 use Rattle.mof_syntax.specs.declared.encoding.ByteOrder.{ByteOrder}
@@ -48,10 +50,19 @@ pub record Chars (bytes chars : List ℕ) : Type 0 where
   pub scalars : all_scalars chars ≡ true
   pub spelled : bytes ≡ encoded (encoding_of bytes) chars
 
+-- no character begins the bytes
+abbrev pub StartsNoChar : Encoding → List ℕ → Type 0
+StartsNoChar encoding bytes = (c : ℕ) (rest : List ℕ) → IsScalar c → bytes ≢ char_bytes encoding c ++ rest
+
 -- the bytes before `at` are the mark and some characters, and no character stands at `at`
 pub record IsTextFault (bytes : List ℕ) (at : ℕ) : Type 0 where
   pub before : List ℕ
   pub scalars : all_scalars before ≡ true
   pub spelled : take at bytes ≡ encoded (encoding_of bytes) before
   pub within : at < length bytes
-  pub no_char : (c : ℕ) (rest : List ℕ) → IsScalar c → drop at bytes ≢ char_bytes (encoding_of bytes) c ++ rest
+  pub no_char : StartsNoChar (encoding_of bytes) (drop at bytes)
+
+-- the bytes are refused so. Want of memory has no cause here
+abbrev pub RefusesBytes : List ℕ → TextError → Type 0
+RefusesBytes bytes (TextFault at) = IsTextFault bytes at
+RefusesBytes bytes Memory = ⊤

@@ -4,7 +4,7 @@ use Rattle.mof_syntax.specs.declared.lead.Lead.{Lead}
 use Rattle.mof_syntax.specs.declared.lead.Lead.TheVariants as leads
 use Rattle.mof_syntax.specs.declared.token.TokenKind.{TokenKind}
 use Rattle.mof_syntax.specs.declared.token.TokenKind.TheVariants as kinds
-use Rattle.mof_syntax.specs.Characters.{quote, dollar, plus_sign, minus_sign, comma, semicolon, equals_sign, left_brace, right_brace, digit_of, Stops}
+use Rattle.mof_syntax.specs.Characters.{quote, dollar, comma, semicolon, equals_sign, left_brace, right_brace, digit_of, Stops, is_sign}
 use Rattle.mof_values.specs.Ident.{is_next}
 use Rattle.mof_syntax.specs.Integers.{Magnitude}
 use Rattle.mof_syntax.specs.Tokens.{Identifier}
@@ -12,9 +12,6 @@ use Rattle.mof_syntax.specs.Scanning.{StandsQuoted}
 
 abbrev pub is_mark : ℕ → Bool
 is_mark c = c == left_brace || c == right_brace || c == equals_sign || c == semicolon || c == comma
-
-abbrev pub is_sign : ℕ → Bool
-is_sign c = c == plus_sign || c == minus_sign
 
 abbrev pub lead_of : ℕ → Lead
 lead_of c =

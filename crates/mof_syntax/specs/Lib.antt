@@ -1,3 +1,4 @@
+-- the syntax, and what is said of documents
 pub mod Characters
 pub mod Separators
 pub mod Strings
@@ -5,13 +6,15 @@ pub mod Integers
 pub mod Tokens
 pub mod Grammar
 pub mod Encodings
-pub mod Decoding
-pub mod Walk
-pub mod Leads
-pub mod Scanning
 pub mod Limits
 pub mod Canonical
 pub mod Fronts
 pub mod Profile
+pub mod Forms
 pub mod Counts
 pub mod Refusals
+pub mod Walk
+-- what the steps of the code say
+pub mod Decoding
+pub mod Leads
+pub mod Scanning

@@ -7,27 +7,29 @@ use Rattle.mof_values.specs.declared.value.Scalar.{Scalar}
 use Rattle.mof_values.specs.declared.value.Scalar.TheVariants as scalars
 use Rattle.mof_values.specs.declared.value.Value.{Value}
 use Rattle.mof_values.specs.declared.value.Value.TheVariants.{One, Many}
+use Rattle.mof_values.specs.declared.limits.TheConstants.{MAX_IDENTIFIER}
+use Rattle.mof_syntax.specs.declared.limits.TheConstants.{MAX_DOCUMENT, MAX_INSTANCES, MAX_PROPERTIES, MAX_ELEMENTS}
 use Rattle.mof_syntax.specs.Grammar.{WideSpells}
 
 -- bytes of a document
 abbrev pub document_limit : ℕ
-document_limit = 2097152
+document_limit = MAX_DOCUMENT
 
 -- instances of a text
 abbrev pub instances_limit : ℕ
-instances_limit = 4097
+instances_limit = MAX_INSTANCES
 
 -- properties of an instance
 abbrev pub properties_limit : ℕ
-properties_limit = 256
+properties_limit = MAX_PROPERTIES
 
 -- elements of an array
 abbrev pub elements_limit : ℕ
-elements_limit = 4096
+elements_limit = MAX_ELEMENTS
 
 -- characters of an identifier
 abbrev pub identifier_limit : ℕ
-identifier_limit = 255
+identifier_limit = MAX_IDENTIFIER
 
 -- the least and the greatest integer: those of sint64 and uint64 (DSP0004, "Intrinsic data types")
 abbrev pub least_integer : ℤ

@@ -1,11 +1,11 @@
 -- The forms of DSP0004 that are left out ("Compiler directives", "Qualifiers", "Class declarations", "Character
 -- constants", "Floating-point constants"), each where it stands in a text that goes wrong at `fault`.
-use Rattle.std.specs.Prelude.{◌≡◌, ◌≤◌, ◌+◌, ◌||◌, ℕ, true, ◌==◌, List, [], ◌∷◌, length, drop, slice_range, slice_index, codes}
+use Rattle.std.specs.Prelude.{◌≡◌, ◌≤◌, ◌+◌, ℕ, true, List, [], ◌∷◌, length, drop, slice_range, slice_index, codes}
 use Rattle.mof_values.specs.Fold.{SameName}
 use Rattle.mof_values.specs.Ident.{is_next}
 use Rattle.mof_syntax.specs.declared.mof_error.Form.{Form}
 use Rattle.mof_syntax.specs.declared.mof_error.Form.TheVariants as forms
-use Rattle.mof_syntax.specs.Characters.{plus_sign, minus_sign, digit_of, Stops}
+use Rattle.mof_syntax.specs.Characters.{is_sign, digit_of, Stops}
 use Rattle.mof_syntax.specs.Fronts.{BeginsDeclaration, BeginsScalar}
 
 -- at `at` stands the word by fold, and then no identifier character
@@ -21,7 +21,7 @@ AreDigits (c ∷ cs) = (digit_of 10 c ≡ true) × AreDigits cs
 -- an optional sign and decimal digits
 pub data BeginsReal : List ℕ → Type 0 where
   unsigned : (digits : List ℕ) → AreDigits digits → BeginsReal digits
-  signed : (sign : ℕ) (digits : List ℕ) → (sign == plus_sign || sign == minus_sign) ≡ true → AreDigits digits → BeginsReal (sign ∷ digits)
+  signed : (sign : ℕ) (digits : List ℕ) → is_sign sign ≡ true → AreDigits digits → BeginsReal (sign ∷ digits)
 
 -- in a text that goes wrong at `fault` the form stands at `at`
 pub data OutOfProfile (text : List ℕ) (fault : ℕ) : ℕ → Form → Type 0 where

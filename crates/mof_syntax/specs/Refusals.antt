@@ -41,14 +41,14 @@ Applies text (Text at) = ⊥
 Applies text Memory = ⊥
 
 -- its place
-abbrev pub place_of : MofError → ℕ
-place_of (OutOfProfile at what) = at
-place_of (NumberRange at) = at
-place_of (TooMany at) = at
-place_of (Syntax at) = at
-place_of TooLong = 0
-place_of (Text at) = at
-place_of Memory = 0
+abbrev pub refusal_place : MofError → ℕ
+refusal_place (OutOfProfile at what) = at
+refusal_place (NumberRange at) = at
+refusal_place (TooMany at) = at
+refusal_place (Syntax at) = at
+refusal_place TooLong = 0
+refusal_place (Text at) = at
+refusal_place Memory = 0
 
 -- the order in which refusals win that have one place
 abbrev pub rank_of : MofError → ℕ
@@ -62,7 +62,7 @@ rank_of Memory = 5
 
 -- the least place wins, and at equal places the order
 abbrev pub WinsOver : MofError → MofError → Type 0
-WinsOver one other = (place_of one < place_of other) ⊎ ((place_of one ≡ place_of other) × (rank_of one ≤ rank_of other))
+WinsOver one other = (refusal_place one < refusal_place other) ⊎ ((refusal_place one ≡ refusal_place other) × (rank_of one ≤ rank_of other))
 
 -- the refusal applies to the text, and wins over each other that does
 pub record Wins (text : List ℕ) (refusal : MofError) : Type 0 where

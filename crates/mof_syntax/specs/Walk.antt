@@ -6,16 +6,16 @@ use Rattle.mof_syntax.specs.declared.token.TokenKind.TheVariants as kinds
 use Rattle.mof_syntax.specs.Separators.{Separator, Separators}
 use Rattle.mof_syntax.specs.Tokens.{Lexeme, Word, AliasName, Literal, Number, LeftBrace, RightBrace, EqualsSign, Semicolon, Comma, IsToken}
 
-abbrev pub kind_of : Lexeme → TokenKind
-kind_of (Word name) = kinds.Word
-kind_of (AliasName name) = kinds.Alias
-kind_of (Literal text) = kinds.Literal
-kind_of (Number z) = kinds.Integer
-kind_of LeftBrace = kinds.Mark
-kind_of RightBrace = kinds.Mark
-kind_of EqualsSign = kinds.Mark
-kind_of Semicolon = kinds.Mark
-kind_of Comma = kinds.Mark
+abbrev pub token_kind : Lexeme → TokenKind
+token_kind (Word name) = kinds.Word
+token_kind (AliasName name) = kinds.Alias
+token_kind (Literal text) = kinds.Literal
+token_kind (Number z) = kinds.Integer
+token_kind LeftBrace = kinds.Mark
+token_kind RightBrace = kinds.Mark
+token_kind EqualsSign = kinds.Mark
+token_kind Semicolon = kinds.Mark
+token_kind Comma = kinds.Mark
 
 -- no token, and no separator, begins the characters
 abbrev pub NoToken : List ℕ → Type 0
@@ -28,7 +28,7 @@ NoSeparator cs = (rest : List ℕ) → Separator cs rest → ⊥
 pub record StandsToken (cs : List ℕ) (kind : TokenKind) (rest : List ℕ) : Type 0 where
   pub lexeme : Lexeme
   pub stands : IsToken cs lexeme rest
-  pub is_kind : kind_of lexeme ≡ kind
+  pub is_kind : token_kind lexeme ≡ kind
   pub only : (other : Lexeme) (behind : List ℕ) → IsToken cs other behind → behind ≡ rest
 
 -- from a place on stand separators, and then none

@@ -1,7 +1,7 @@
 //! Bytes to characters.
 ghost use Rattle.std.specs.Prelude.{◌≡◌, ◌≢◌, ℕ, List, ◌++◌, ◌+◌, ◌^◌, ◌<◌, length, IfOk, IfErr, IfSome, IfNone, MatchOption, encode_utf8_all};
-ghost use Rattle.mof_syntax.specs.Encodings.{Chars, unit_bytes};
-ghost use Rattle.mof_syntax.specs.Decoding.{RefusesBytes, RefusesBody, IsBody, StartsChar, StartsNoChar};
+ghost use Rattle.mof_syntax.specs.Encodings.{Chars, unit_bytes, StartsNoChar, RefusesBytes};
+ghost use Rattle.mof_syntax.specs.Decoding.{RefusesBody, IsBody, StartsChar};
 ghost use Rattle.mof_syntax.specs.declared.encoding.Encoding.TheVariants.{Utf8, Utf16};
 ghost use Rattle.mof_syntax.specs.declared.text_error.TextError.TheVariants.{Memory};
 

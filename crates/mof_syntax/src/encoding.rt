@@ -4,7 +4,7 @@ ghost use Rattle.mof_syntax.specs.Encodings.{encoding_of, mark_of};
 
 /// How a text stands as bytes: which its first bytes tell, and without a mark there it is UTF-8.
 #[derive(Clone, Copy, Debug, PartialEq, Eq)]
-pub enum Encoding {
+pub(crate) enum Encoding {
     Utf8,
     Utf8Marked,
     Utf16(ByteOrder),
@@ -12,7 +12,7 @@ pub enum Encoding {
 
 /// Which byte of a unit comes first: the least, or the greatest.
 #[derive(Clone, Copy, Debug, PartialEq, Eq)]
-pub enum ByteOrder {
+pub(crate) enum ByteOrder {
     LittleEndian,
     BigEndian,
 }

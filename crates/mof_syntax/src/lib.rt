@@ -9,6 +9,7 @@
 mod decoding;
 mod encoding;
 mod lead;
+mod limits;
 mod mof_error;
 pub mod scan;
 mod text_error;
@@ -17,7 +18,7 @@ mod tokenize;
 mod walk;
 
 pub use decoding::decode_text;
-pub use encoding::{ByteOrder, Encoding};
+pub use limits::{MAX_DOCUMENT, MAX_ELEMENTS, MAX_INSTANCES, MAX_PROPERTIES};
 pub use mof_error::{Form, MofError};
 pub use text_error::TextError;
 pub use token::{Token, TokenKind};

@@ -1,4 +1,7 @@
 //! Why a text is refused.
+ghost use Rattle.std.specs.Prelude.{◌≡◌};
+ghost use Rattle.mof_syntax.specs.Forms.{form_name};
+
 use std::fmt;
 
 /// Why bytes spell no instances. Places count characters behind the mark from 0, and in `Text` bytes with the mark.
@@ -63,15 +66,24 @@ impl fmt::Display for MofError {
     }
 }
 
-impl fmt::Display for Form {
-    fn fmt<W: fmt::Write>(&self, f: &mut fmt::Formatter<W>) -> fmt::Result {
-        f.write_str(match self {
+impl Form {
+    /// Its name in printed texts.
+    pub fn name(self) -> &'static str
+        ensures { result.now ≡ form_name self }
+    {
+        match self {
             Form::Pragma => "pragma",
             Form::Qualifiers => "qualifiers",
             Form::Class => "class",
             Form::Qualifier => "qualifier",
             Form::Character => "character",
             Form::Real => "real",
-        })
+        }
+    }
+}
+
+impl fmt::Display for Form {
+    fn fmt<W: fmt::Write>(&self, f: &mut fmt::Formatter<W>) -> fmt::Result {
+        f.write_str(self.name())
     }
 }

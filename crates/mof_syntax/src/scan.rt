@@ -1,9 +1,10 @@
 //! What is behind a construct in a slice of characters.
 ghost use Rattle.std.specs.Prelude.{◌≡◌, ◌<◌, IfSome, IfNone};
 ghost use Rattle.std.specs.Option.{option_copied};
-ghost use Rattle.mof_values.specs.Ident.{is_first};
 ghost use Rattle.mof_syntax.specs.Characters.{digit_of, Stops};
 ghost use Rattle.mof_syntax.specs.Scanning.{BeginsWithDigit, is_in, after, block_rest, comment_rest, separator_rest, identifier_rest, hex_tail, hex_escape_rest, escape_rest, stopped, behind_b, binary_rest, behind_x, zero_rest, unmarked_rest, magnitude_rest};
+
+use mof_values::{may_begin, may_follow};
 
 /// A class of characters.
 #[derive(Clone, Copy, Debug, PartialEq, Eq)]
@@ -21,7 +22,7 @@ impl Class {
         ensures { result ≡ is_in self c }
     {
         match self {
-            Class::Name => may_begin(c) || c.is_digit(10),
+            Class::Name => may_follow(c),
             Class::Binary => c.is_digit(2),
             Class::Octal => c.is_digit(8),
             Class::Decimal => c.is_digit(10),
@@ -89,12 +90,6 @@ pub fn identifier_rest(chars: &[char]) -> Option<&[char]>
         [c, rest @ ..] if may_begin(*c) => Some(after(rest, Class::Name)),
         _ => None,
     }
-}
-
-fn may_begin(c: char) -> bool
-    ensures { result ≡ is_first c }
-{
-    matches!(c, 'a'..='z' | 'A'..='Z' | '_' | '\u{80}'..='\u{ffef}')
 }
 
 /// Behind the digits of an integer and the marks of its base.

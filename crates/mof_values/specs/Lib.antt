@@ -1,2 +1,3 @@
 pub mod Fold
 pub mod Ident
+pub mod Values

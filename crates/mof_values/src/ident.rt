@@ -1,15 +1,17 @@
 //! Identifiers.
 ghost use Rattle.std.specs.Prelude.{◌≡◌, IfOk, IsErrOf, false};
 ghost use Rattle.std.specs.List.{list_all};
+ghost use Rattle.mof_values.specs.Fold.{same_name};
 ghost use Rattle.mof_values.specs.Ident.{IsIdent, is_ident, is_first, is_next};
 ghost use Rattle.mof_values.specs.declared.ident.IdentError.TheVariants.{Memory};
 
-use crate::Text;
+use crate::fold::is_named;
+use crate::{MAX_IDENTIFIER, Text};
 use std::alloc::{AllocError, Global};
 use std::fmt;
 use std::marker::Model;
 
-/// An identifier of at most 255 characters: a letter, `_` or U+0080 to U+FFEF, then these and digits
+/// An identifier of at most [`MAX_IDENTIFIER`] characters: a letter, `_` or U+0080 to U+FFEF, then these and digits
 /// (DSP0004, "Identifiers").
 #[derive(Clone, Debug, Drop)]
 pub struct Ident {
@@ -81,7 +83,7 @@ impl Ident {
         ensures valid { IfOk result (λ _. IsIdent codes.now) }
         ensures refused { IsErrOf result IdentError.NotAnIdent → is_ident codes.now ≡ false }
     {
-        if codes.len() > 255 {
+        if codes.len() > MAX_IDENTIFIER {
             return Err(IdentError::NotAnIdent);
         }
         let chars = Text::from_latin1(alloc, codes)?;
@@ -97,19 +99,29 @@ impl Ident {
     {
         self.chars.as_slice()
     }
+
+    /// Tells whether the name is an ASCII word by fold.
+    pub fn is_named(&self, word: &str) -> bool
+        ensures { result ≡ same_name self.now word.now }
+    {
+        is_named(self.as_slice(), word)
+    }
 }
 
-// Tells whether the characters are an identifier of at most 255 characters.
+// Tells whether the characters are an identifier.
 fn spells_ident(chars: &[char]) -> bool
     ensures { result ≡ is_ident chars.now }
 {
     match chars {
         [] => false,
-        [first, rest @ ..] => may_begin(*first) && all_follow(rest) && chars.len() <= 255,
+        [first, rest @ ..] => may_begin(*first)
+            && all_follow(rest)
+            && chars.len() <= MAX_IDENTIFIER,
     }
 }
 
-fn may_begin(c: char) -> bool
+/// Tells whether a character may begin an identifier.
+pub fn may_begin(c: char) -> bool
     ensures { result ≡ is_first c }
 {
     matches!(c, 'a'..='z' | 'A'..='Z' | '_' | '\u{80}'..='\u{ffef}')
@@ -121,7 +133,8 @@ fn all_follow(chars: &[char]) -> bool
     chars.iter().all(|c| may_follow(*c))
 }
 
-fn may_follow(c: char) -> bool
+/// Tells whether a character may stand behind the first of an identifier.
+pub fn may_follow(c: char) -> bool
     ensures { result ≡ is_next c }
 {
     may_begin(c) || c.is_ascii_digit()

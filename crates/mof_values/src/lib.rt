@@ -10,15 +10,17 @@ mod fold;
 mod ident;
 mod instance;
 mod items;
+mod limits;
 mod memory;
 mod text;
 mod value;
 
 pub use bytes::Bytes;
 pub use fold::{is_named, is_spelled, same_name, same_text};
-pub use ident::{Ident, IdentError};
+pub use ident::{Ident, IdentError, may_begin, may_follow};
 pub use instance::{Instance, Property};
 pub use items::Items;
+pub use limits::MAX_IDENTIFIER;
 pub use memory::Memory;
 pub use text::Text;
 pub use value::{Scalar, Value};

@@ -1,86 +1,109 @@
+//! What no clause says: which names are identifiers and the same, that ample memory is enough, and the printed texts.
 use super::*;
+use std::fmt::Display;
 use std::test::Fail;
 
-fn text(rt: &impl AllocGlobal, word: &str) -> Result<Text, Fail> {
-    Ok(Text::of(word.chars().collect(rt.alloc())?))
-}
+const IDENTIFIERS: &[(&[u8], bool)] = &[
+    (b"a", true),
+    (b"Z9", true),
+    (b"_", true),
+    (b"A_9", true),
+    (b"\x80x", true),
+    (b"\xff", true),
+    (b"OMI_ConfigurationDocument", true),
+    (b"9", false),
+    (b"a b", false),
+    (b"a-", false),
+    (b"$a", false),
+    (b"\x7f", false),
+];
 
-fn repeated(rt: &impl AllocGlobal, c: char, count: usize) -> Result<Text, Fail> {
-    Ok(Text::of(vec![in rt.alloc(); c; count]?))
+const NAMES: &[(&[u8], &[u8], bool)] = &[
+    (b"Name", b"nAME", true),
+    (b"", b"", true),
+    (b"Name", b"Names", false),
+    (b"\xc4", b"\xe4", false),
+    (b"[", b"{", false),
+];
+
+// What says that a row holds.
+fn holds(is_so: bool, row: usize) -> Result<(), Fail> {
+    if is_so {
+        return Ok(());
+    }
+    Err(Fail::new(format_args!("row {row} does not hold")))
 }
 
 #[test]
 fn identifiers_are_told_from_other_texts(rt: HostRuntime) -> Result<(), Fail> {
-    for word in [
-        "a",
-        "Z9",
-        "_",
-        "\u{80}x",
-        "\u{ffef}",
-        "OMI_ConfigurationDocument",
-    ] {
-        let ident = Ident::make(rt.alloc(), &text(&rt, word)?);
-        assert!(rt; ident.is_ok(), "{word}");
+    for (row, (codes, is_ident)) in IDENTIFIERS.iter().enumerate() {
+        holds(
+            Ident::from_latin1(rt.alloc(), codes).is_ok() == *is_ident,
+            row,
+        )?;
     }
-    for word in ["", "9", "a b", "a-", "\u{fff0}", "$a", "\u{7f}"] {
-        let ident = Ident::make(rt.alloc(), &text(&rt, word)?);
-        assert!(rt; matches!(ident, Err(IdentError::NotAnIdent)), "{word}");
-    }
-    assert!(rt; Ident::make(rt.alloc(), &repeated(&rt, 'a', 255)?).is_ok());
-    assert!(rt; Ident::make(rt.alloc(), &repeated(&rt, 'a', 256)?).is_err());
     Ok(())
 }
 
 #[test]
-fn texts_and_identifiers_are_made_of_single_bytes(rt: HostRuntime) -> Result<(), Fail> {
-    let codes = Text::from_latin1(rt.alloc(), b"a b\xe4")?;
-    assert_eq!(rt; codes.as_slice(), ['a', ' ', 'b', '\u{e4}'].as_slice());
-    for (word, is_ident) in [
-        (b"A_9".as_slice(), true),
-        (b"\xe4", true),
-        (b"", false),
-        (b"9", false),
-        (b"a b", false),
-    ] {
-        let ident = Ident::from_latin1(rt.alloc(), word);
-        assert_eq!(rt; ident.is_ok(), is_ident, "{word:?}");
-        if let Ok(ident) = ident {
-            assert_eq!(rt; ident.as_slice().len(), word.len());
-        }
-    }
-    assert!(rt; Ident::from_latin1(rt.alloc(), &[b'a'; 255]).is_ok());
-    assert!(rt; Ident::from_latin1(rt.alloc(), &[b'a'; 256]).is_err());
-    Ok(())
+fn identifiers_end_below_the_specials(rt: HostRuntime) -> Result<(), Fail> {
+    holds(Ident::spell(rt.alloc(), &['\u{ffef}']).is_ok(), 0)?;
+    holds(Ident::spell(rt.alloc(), &['\u{fff0}']).is_err(), 1)
+}
+
+fn are_same(rt: &impl AllocGlobal, a: &[u8], b: &[u8]) -> Result<bool, Fail> {
+    let first = Text::from_latin1(rt.alloc(), a)?;
+    let second = Text::from_latin1(rt.alloc(), b)?;
+    Ok(same_text(&first, &second))
 }
 
 #[test]
 fn names_compare_without_the_case_of_ascii_letters(rt: HostRuntime) -> Result<(), Fail> {
-    for (a, b, same) in [
-        ("Name", "nAME", true),
-        ("", "", true),
-        ("Name", "Names", false),
-        ("\u{c4}", "\u{e4}", false),
-        ("[", "{", false),
-    ] {
-        assert_eq!(rt; same_text(&text(&rt, a)?, &text(&rt, b)?), same, "{a} {b}");
+    for (row, (a, b, same)) in NAMES.iter().enumerate() {
+        holds(are_same(&rt, a, b)? == *same, row)?;
     }
-    let one = Ident::make(rt.alloc(), &text(&rt, "Value")?)?;
-    let other = Ident::make(rt.alloc(), &text(&rt, "VALUE")?)?;
-    assert!(rt; same_name(&one, &other));
-    assert!(rt; is_named(one.as_slice(), "vALUE"));
-    assert!(rt; is_spelled(one.as_slice(), "Value"));
-    assert!(rt; !is_spelled(one.as_slice(), "value"));
     Ok(())
 }
 
+// A name of so many characters is made, or is no identifier, by each of the calls; and its text is written.
+fn is_answered(rt: &impl AllocGlobal, size: usize) -> Result<bool, Fail> {
+    let codes = vec![in rt.alloc(); b'a'; size]?;
+    let text = Text::from_latin1(rt.alloc(), &codes)?;
+    let wanted = if 1 <= size && size <= 255 {
+        None
+    } else {
+        Some(IdentError::NotAnIdent)
+    };
+    Ok(
+        Ident::make(rt.alloc(), &text).err() == wanted
+            && Ident::spell(rt.alloc(), text.as_slice()).err() == wanted
+            && Ident::from_latin1(rt.alloc(), &codes).err() == wanted
+            && text.to_utf8().is_ok(),
+    )
+}
+
 #[test]
-fn texts_are_measured_and_written_in_utf8(rt: HostRuntime) -> Result<(), Fail> {
-    let euro = text(&rt, "a\u{20ac}")?;
-    assert_eq!(rt;
-        euro.to_utf8()?.as_bytes(),
-        [0x61, 0xe2, 0x82, 0xac].as_slice()
-    );
-    assert!(rt; euro.fits_utf8(4));
-    assert!(rt; !euro.fits_utf8(3));
+fn ample_memory_is_enough_for_each_size(rt: HostRuntime) -> Result<(), Fail> {
+    for size in [0, 1, 2, 7, 63, 64, 65, 255, 256, 4096, 65_536, 2_097_152] {
+        holds(is_answered(&rt, size)?, size)?;
+    }
     Ok(())
+}
+
+fn prints(rt: &impl AllocGlobal, error: &impl Display, words: &str) -> Result<bool, Fail> {
+    Ok(error.to_string(rt.alloc())?.as_str() == words)
+}
+
+#[test]
+fn errors_are_printed(rt: HostRuntime) -> Result<(), Fail> {
+    holds(
+        prints(
+            &rt,
+            &IdentError::NotAnIdent,
+            "not an identifier of at most 255 characters",
+        )?,
+        0,
+    )?;
+    holds(prints(&rt, &IdentError::Memory, "out of memory")?, 1)?;
+    holds(prints(&rt, &Memory, "out of memory")?, 2)
 }

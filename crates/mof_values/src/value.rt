@@ -1,5 +1,9 @@
 //! Scalars and values.
+ghost use Rattle.std.specs.Prelude.{◌≡◌, option_copied};
+ghost use Rattle.mof_values.specs.Values.{scalars_of, text_of, text_of_scalar};
+
 use crate::{Ident, Items, Text};
+use std::slice;
 
 /// A single value of the instance syntax.
 #[derive(Clone, Debug, Drop, PartialEq)]
@@ -21,4 +25,38 @@ pub enum Scalar {
 pub enum Value {
     One(Scalar),
     Many(Items<Scalar>),
+}
+
+impl Scalar {
+    /// The text that the scalar is.
+    pub fn as_text(&self) -> Option<&Text>
+        ensures { option_copied result ≡ text_of_scalar self.now }
+    {
+        match self {
+            Scalar::Text(text) => Some(text),
+            _ => None,
+        }
+    }
+}
+
+impl Value {
+    /// The single text that the value is.
+    pub fn as_text(&self) -> Option<&Text>
+        ensures { option_copied result ≡ text_of self.now }
+    {
+        match self {
+            Value::One(scalar) => scalar.as_text(),
+            Value::Many(_) => None,
+        }
+    }
+
+    /// The scalars of the value: the one that it is, or those of its array.
+    pub fn scalars(&self) -> &[Scalar]
+        ensures { result.now ≡ scalars_of self.now }
+    {
+        match self {
+            Value::One(scalar) => slice::from_ref(scalar),
+            Value::Many(scalars) => scalars.as_slice(),
+        }
+    }
 }

@@ -1,7 +1,6 @@
 //! What a character begins.
 ghost use Rattle.std.specs.Prelude.{◌≡◌, IfSome, IfNone, true, false};
 ghost use Rattle.std.specs.Char.{digit_value};
-ghost use Rattle.mof_values.specs.Ident.{is_first, is_next};
 ghost use Rattle.mof_syntax.specs.Characters.{digit_of};
 ghost use Rattle.mof_codec.specs.Machine.{kind_of};
 
@@ -41,20 +40,6 @@ pub(crate) fn kind_of(c: char) -> Kind
         '/' => Kind::Slash,
         _ => Kind::Other,
     }
-}
-
-/// Tells whether an identifier may begin with the character.
-pub(crate) fn may_begin(c: char) -> bool
-    ensures { result ≡ is_first c }
-{
-    matches!(c, 'a'..='z' | 'A'..='Z' | '_' | '\u{80}'..='\u{ffef}')
-}
-
-/// Tells whether an identifier may go on with the character.
-pub(crate) fn may_follow(c: char) -> bool
-    ensures { result ≡ is_next c }
-{
-    may_begin(c) || matches!(c, '0'..='9')
 }
 
 /// The value of a hexadecimal digit.

@@ -3,13 +3,7 @@ ghost use Rattle.std.specs.Prelude.{◌≡◌, ◌<◌, ◌^◌};
 ghost use Rattle.mof_codec.specs.Counting.{counted, is_excess};
 
 use crate::machine::state::Event;
-
-/// The most instances of a text, properties of an instance, and elements of an array.
-const INSTANCES: usize = 4097;
-
-const PROPERTIES: usize = 256;
-
-const ELEMENTS: usize = 4096;
+use mof_syntax::{MAX_ELEMENTS, MAX_INSTANCES, MAX_PROPERTIES};
 
 /// The declarations of a text, the properties of the last one, and the elements of the last property.
 #[derive(Clone, Copy, Debug, PartialEq, Eq)]
@@ -58,9 +52,9 @@ impl Counts {
     {
         match begun {
             Event::Quiet => false,
-            Event::Declaration => self.declarations == INSTANCES,
-            Event::Property => self.properties == PROPERTIES,
-            Event::Element => self.elements == ELEMENTS,
+            Event::Declaration => self.declarations == MAX_INSTANCES,
+            Event::Property => self.properties == MAX_PROPERTIES,
+            Event::Element => self.elements == MAX_ELEMENTS,
         }
     }
 }

@@ -2,10 +2,11 @@
 ghost use Rattle.std.specs.Prelude.{◌≡◌};
 ghost use Rattle.mof_codec.specs.Machine.{go, scalar_begun, opened, begin, ended};
 
-use crate::machine::characters::{Kind, kind_of, may_follow};
+use crate::machine::characters::{Kind, kind_of};
 use crate::machine::numerals::number_begun;
 use crate::machine::state::{Event, Half, Keyword, Numeral, Place, State};
 use crate::machine::words::{keyed, mark, value_word};
+use mof_values::may_follow;
 
 /// The state with which a token or a separator goes on.
 pub(crate) fn go(place: Place, half: Half) -> Option<State>

@@ -3,11 +3,12 @@ ghost use Rattle.std.specs.Prelude.{◌≡◌, drop};
 ghost use Rattle.mof_codec.specs.declared.machine.state.Half.TheVariants as halves;
 ghost use Rattle.mof_codec.specs.Machine.{letters, head_of, go, numbered, quoted, key_on, digit_on, step, is_whole};
 
-use crate::machine::characters::{hex_value, may_begin, may_follow};
+use crate::machine::characters::hex_value;
 use crate::machine::numerals::number_begun;
 use crate::machine::rules::{begin, ended, go};
 use crate::machine::state::{Event, Half, Keyword, Numeral, Place, State};
 use crate::machine::words::{keyed, letter};
+use mof_values::{may_begin, may_follow};
 
 /// The state behind one more character, or none where no text goes on with it.
 pub(crate) fn step(state: State, c: char) -> Option<State>

@@ -9,13 +9,10 @@ ghost use Rattle.mof_codec.specs.Counting.{is_excess, name_length};
 ghost use Rattle.mof_codec.specs.Searching.{BeginsLongName, HasFewParts, IsFirstExcess, HasNoExcess};
 
 use crate::machine::beginnings::begins_identifier;
-use crate::machine::characters::{may_begin, may_follow};
 use crate::machine::counts::Counts;
 use crate::machine::state::{Event, START, State};
 use crate::machine::step::step;
-
-/// The most characters of an identifier.
-const IDENTIFIER: usize = 255;
+use mof_values::{MAX_IDENTIFIER, may_begin, may_follow};
 
 /// The place of the first part that is past its limit.
 pub(crate) fn first_excess(chars: &[char]) -> Option<usize>
@@ -52,7 +49,7 @@ fn is_long_name(chars: &[char]) -> bool
     ensures { result ≡ true ↔ BeginsLongName chars.now }
 {
     match chars {
-        [first, rest @ ..] => may_begin(*first) && name_length(rest) >= IDENTIFIER,
+        [first, rest @ ..] => may_begin(*first) && name_length(rest) >= MAX_IDENTIFIER,
         [] => false,
     }
 }

@@ -7,12 +7,11 @@ ghost use Rattle.mof_syntax.specs.Fronts.{IsSyntaxFault};
 ghost use Rattle.mof_codec.specs.Searching.{IsFirstForm, HasNoForm, BeginsWord, BeginsForm, StandsForm, begins_with};
 
 use crate::machine::beginnings::{begins_declaration, begins_scalar};
-use crate::machine::characters::may_follow;
 use crate::machine::state::State;
 use crate::refusing::fault::state_behind;
 use crate::refusing::scalar::{Wanted, first_scalar};
 use mof_syntax::Form;
-use mof_values::is_named;
+use mof_values::{is_named, may_follow};
 
 /// The form that stands in a text which goes wrong at `fault`, and where it begins.
 pub(crate) fn form_at(chars: &[char], fault: usize) -> Option<(usize, Form)>

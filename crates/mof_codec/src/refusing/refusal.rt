@@ -3,7 +3,7 @@ ghost use Rattle.std.specs.Prelude.{◌≡◌, ◌≤◌, length, None, List, If
 ghost use Rattle.mof_values.specs.declared.instance.Instance.{Instance};
 ghost use Rattle.mof_syntax.specs.Limits.{Spells};
 ghost use Rattle.mof_syntax.specs.Fronts.{IsSyntaxFault};
-ghost use Rattle.mof_syntax.specs.Refusals.{Wins, place_of};
+ghost use Rattle.mof_syntax.specs.Refusals.{Wins, refusal_place};
 ghost use Rattle.mof_codec.specs.Searching.{IsFirstForm, HasNoForm};
 ghost use Rattle.mof_codec.specs.Winning.{end_of, sooner, out_of_profile, number_range, too_many, syntax_fault};
 
@@ -93,7 +93,7 @@ fn sooner(one: Option<MofError>, other: Option<MofError>) -> Option<MofError>
         (None, other) => other,
         (one, None) => one,
         (Some(one), Some(other)) => {
-            if place_of(one) <= place_of(other) {
+            if refusal_place(one) <= refusal_place(other) {
                 Some(one)
             } else {
                 Some(other)
@@ -102,8 +102,8 @@ fn sooner(one: Option<MofError>, other: Option<MofError>) -> Option<MofError>
     }
 }
 
-fn place_of(refusal: MofError) -> usize
-    ensures { result ≡ place_of refusal }
+fn refusal_place(refusal: MofError) -> usize
+    ensures { result ≡ refusal_place refusal }
 {
     match refusal {
         MofError::Text { at }

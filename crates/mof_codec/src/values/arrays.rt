@@ -2,22 +2,21 @@
 ghost use Rattle.std.specs.Prelude.{◌≡◌, IfOk, IfSome, IfNone};
 ghost use Rattle.mof_syntax.specs.Grammar.{Initializer};
 ghost use Rattle.mof_syntax.specs.Limits.{ValueFits};
-ghost use Rattle.mof_codec.specs.Reading.{Reads, Lacks};
+ghost use Rattle.mof_codec.specs.Reading.{BeginsWith, Lacks};
 ghost use Rattle.mof_codec.specs.Values.{IsArray, ArrayFits};
 
 use crate::values::marks::{Mark, behind_mark};
 use crate::values::scalars::constant;
+use mof_syntax::MAX_ELEMENTS;
 use mof_values::{Items, Scalar, Value};
 use std::alloc::{AllocError, Global};
-
-const MOST_ELEMENTS: usize = 4096;
 
 /// A single value or an array within the limits, and what is behind.
 pub(crate) fn initializer(
     alloc: Global,
     chars: &[char],
 ) -> Result<Option<(Value, &[char])>, AllocError>
-    ensures some { IfOk result (λ found. IfSome found (λ x. Reads Initializer ValueFits chars.now x.0 x.1.now)) }
+    ensures some { IfOk result (λ found. IfSome found (λ x. BeginsWith Initializer ValueFits chars.now x.0 x.1.now)) }
     ensures none { IfOk result (λ found. IfNone found (Lacks Initializer ValueFits chars.now)) }
 {
     if let Some(behind) = behind_mark(chars, Mark::LeftBrace) {
@@ -34,7 +33,7 @@ pub(crate) fn initializer(
 
 // The elements of an array, of which the brace was read, and what is behind the other.
 fn array(alloc: Global, chars: &[char]) -> Result<Option<(Vec<Scalar>, &[char])>, AllocError>
-    ensures some { IfOk result (λ found. IfSome found (λ x. Reads IsArray ArrayFits chars.now x.0.items x.1.now)) }
+    ensures some { IfOk result (λ found. IfSome found (λ x. BeginsWith IsArray ArrayFits chars.now x.0.items x.1.now)) }
     ensures none { IfOk result (λ found. IfNone found (Lacks IsArray ArrayFits chars.now)) }
 {
     let mut elements = Vec::new(alloc);
@@ -53,7 +52,7 @@ fn array(alloc: Global, chars: &[char]) -> Result<Option<(Vec<Scalar>, &[char])>
         let Some(next) = behind_mark(left, Mark::Comma) else {
             return Ok(None);
         };
-        if elements.len() == MOST_ELEMENTS {
+        if elements.len() == MAX_ELEMENTS {
             return Ok(None);
         }
         let Some((element, rest)) = constant(alloc, next)? else {

@@ -2,17 +2,15 @@
 ghost use Rattle.std.specs.Prelude.{◌≡◌, List, IfOk, IfSome, IfNone};
 ghost use Rattle.mof_values.specs.declared.instance.Instance.{Instance};
 ghost use Rattle.mof_syntax.specs.Limits.{InstanceFits, IsShortName, Spells};
-ghost use Rattle.mof_codec.specs.Reading.{Reads, Lacks};
+ghost use Rattle.mof_codec.specs.Reading.{BeginsWith, Lacks};
 ghost use Rattle.mof_codec.specs.Values.{IsHead, IsNaming, NamingFits, IsDeclaration};
 
 use crate::values::marks::{Mark, behind_mark};
 use crate::values::properties::properties;
 use crate::values::words::{alias, keyword, word};
-use mof_syntax::separators_rest;
+use mof_syntax::{MAX_INSTANCES, separators_rest};
 use mof_values::{Ident, Instance, Items};
 use std::alloc::{AllocError, Global};
-
-const MOST_INSTANCES: usize = 4097;
 
 /// The instances that the characters spell within the limits, or none where they spell none.
 pub(crate) fn instances_of(
@@ -25,7 +23,7 @@ pub(crate) fn instances_of(
     let mut instances = Vec::new(alloc);
     let mut left = separators_rest(chars);
     'declarations: while !left.is_empty() {
-        if instances.len() == MOST_INSTANCES {
+        if instances.len() == MAX_INSTANCES {
             return Ok(None);
         }
         let Some((instance, rest)) = declaration(alloc, left)? else {
@@ -39,7 +37,7 @@ pub(crate) fn instances_of(
 
 // A declaration within the limits, and what is behind its semicolon.
 fn declaration(alloc: Global, chars: &[char]) -> Result<Option<(Instance, &[char])>, AllocError>
-    ensures some { IfOk result (λ found. IfSome found (λ x. Reads IsDeclaration InstanceFits chars.now x.0 x.1.now)) }
+    ensures some { IfOk result (λ found. IfSome found (λ x. BeginsWith IsDeclaration InstanceFits chars.now x.0 x.1.now)) }
     ensures none { IfOk result (λ found. IfNone found (Lacks IsDeclaration InstanceFits chars.now)) }
 {
     let Some((class, named)) = head(alloc, chars)? else {
@@ -64,7 +62,7 @@ fn declaration(alloc: Global, chars: &[char]) -> Result<Option<(Instance, &[char
 
 // `instance of` and a class, and what is behind.
 fn head(alloc: Global, chars: &[char]) -> Result<Option<(Ident, &[char])>, AllocError>
-    ensures some { IfOk result (λ found. IfSome found (λ x. Reads IsHead IsShortName chars.now x.0 x.1.now)) }
+    ensures some { IfOk result (λ found. IfSome found (λ x. BeginsWith IsHead IsShortName chars.now x.0 x.1.now)) }
     ensures none { IfOk result (λ found. IfNone found (Lacks IsHead IsShortName chars.now)) }
 {
     let Some(first) = keyword(chars, "instance") else {
@@ -81,7 +79,7 @@ fn head(alloc: Global, chars: &[char]) -> Result<Option<(Ident, &[char])>, Alloc
 
 // An alias, or none, and what is behind the opening brace.
 fn naming(alloc: Global, chars: &[char]) -> Result<Option<(Option<Ident>, &[char])>, AllocError>
-    ensures some { IfOk result (λ found. IfSome found (λ x. Reads IsNaming NamingFits chars.now x.0 x.1.now)) }
+    ensures some { IfOk result (λ found. IfSome found (λ x. BeginsWith IsNaming NamingFits chars.now x.0 x.1.now)) }
     ensures none { IfOk result (λ found. IfNone found (Lacks IsNaming NamingFits chars.now)) }
 {
     if let Some(rest) = behind_mark(chars, Mark::LeftBrace) {

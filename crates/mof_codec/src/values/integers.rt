@@ -4,7 +4,7 @@ ghost use Rattle.std.specs.Str.Parse.{digits_value};
 ghost use Rattle.mof_syntax.specs.Characters.{digit_of};
 ghost use Rattle.mof_syntax.specs.Limits.{IsInRange};
 ghost use Rattle.mof_syntax.specs.Scanning.{run_of, zero_value, unmarked_value, magnitude_value};
-ghost use Rattle.mof_codec.specs.Reading.{Reads, Lacks};
+ghost use Rattle.mof_codec.specs.Reading.{BeginsWith, Lacks};
 ghost use Rattle.mof_codec.specs.Searching.{BeginsExcessInteger};
 ghost use Rattle.mof_codec.specs.Values.{IsNumber, IsCapped, signed, is_negative, behind_sign};
 
@@ -16,7 +16,7 @@ const CAP: u128 = 0x1_0000_0000_0000_0000;
 
 /// An integer from -2^63 to 2^64-1, and what is behind.
 pub(crate) fn integer(chars: &[char]) -> Option<(i128, &[char])>
-    ensures some { IfSome result (λ found. Reads IsNumber IsInRange chars.now found.0 found.1.now) }
+    ensures some { IfSome result (λ found. BeginsWith IsNumber IsInRange chars.now found.0 found.1.now) }
     ensures none { IfNone result (Lacks IsNumber IsInRange chars.now) }
 {
     let left = separators_rest(chars);

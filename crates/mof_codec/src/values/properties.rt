@@ -2,23 +2,22 @@
 ghost use Rattle.std.specs.Prelude.{◌≡◌, IfOk, IfSome, IfNone};
 ghost use Rattle.mof_syntax.specs.Grammar.{ValueInitializers};
 ghost use Rattle.mof_syntax.specs.Limits.{PropertyFits};
-ghost use Rattle.mof_codec.specs.Reading.{Reads, Lacks};
+ghost use Rattle.mof_codec.specs.Reading.{BeginsWith, Lacks};
 ghost use Rattle.mof_codec.specs.Values.{IsProperty, PropertiesFit};
 
 use crate::values::arrays::initializer;
 use crate::values::marks::{Mark, behind_mark};
 use crate::values::words::word;
+use mof_syntax::MAX_PROPERTIES;
 use mof_values::Property;
 use std::alloc::{AllocError, Global};
-
-const MOST_PROPERTIES: usize = 256;
 
 /// The properties up to the closing brace, within the limits, and what is behind it.
 pub(crate) fn properties(
     alloc: Global,
     chars: &[char],
 ) -> Result<Option<(Vec<Property>, &[char])>, AllocError>
-    ensures some { IfOk result (λ found. IfSome found (λ x. Reads ValueInitializers PropertiesFit chars.now x.0.items x.1.now)) }
+    ensures some { IfOk result (λ found. IfSome found (λ x. BeginsWith ValueInitializers PropertiesFit chars.now x.0.items x.1.now)) }
     ensures none { IfOk result (λ found. IfNone found (Lacks ValueInitializers PropertiesFit chars.now)) }
 {
     let mut properties = Vec::new(alloc);
@@ -27,7 +26,7 @@ pub(crate) fn properties(
         if let Some(behind) = behind_mark(left, Mark::RightBrace) {
             return Ok(Some((properties, behind)));
         }
-        if properties.len() == MOST_PROPERTIES {
+        if properties.len() == MAX_PROPERTIES {
             return Ok(None);
         }
         let Some((property, rest)) = property(alloc, left)? else {
@@ -40,7 +39,7 @@ pub(crate) fn properties(
 
 // A property within the limits, and what is behind its semicolon.
 fn property(alloc: Global, chars: &[char]) -> Result<Option<(Property, &[char])>, AllocError>
-    ensures some { IfOk result (λ found. IfSome found (λ x. Reads IsProperty PropertyFits chars.now x.0 x.1.now)) }
+    ensures some { IfOk result (λ found. IfSome found (λ x. BeginsWith IsProperty PropertyFits chars.now x.0 x.1.now)) }
     ensures none { IfOk result (λ found. IfNone found (Lacks IsProperty PropertyFits chars.now)) }
 {
     let Some((name, named)) = word(alloc, chars)? else {

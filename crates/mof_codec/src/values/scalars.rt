@@ -2,7 +2,7 @@
 ghost use Rattle.std.specs.Prelude.{◌≡◌, IfOk, IfSome, IfNone};
 ghost use Rattle.mof_syntax.specs.Grammar.{ConstantValue};
 ghost use Rattle.mof_syntax.specs.Limits.{ScalarFits};
-ghost use Rattle.mof_codec.specs.Reading.{Reads, Lacks};
+ghost use Rattle.mof_codec.specs.Reading.{BeginsWith, Lacks};
 
 use crate::values::integers::integer;
 use crate::values::strings::string;
@@ -16,7 +16,7 @@ pub(crate) fn constant(
     alloc: Global,
     chars: &[char],
 ) -> Result<Option<(Scalar, &[char])>, AllocError>
-    ensures some { IfOk result (λ found. IfSome found (λ x. Reads ConstantValue ScalarFits chars.now x.0 x.1.now)) }
+    ensures some { IfOk result (λ found. IfSome found (λ x. BeginsWith ConstantValue ScalarFits chars.now x.0 x.1.now)) }
     ensures none { IfOk result (λ found. IfNone found (Lacks ConstantValue ScalarFits chars.now)) }
 {
     let left = separators_rest(chars);

@@ -3,7 +3,7 @@ ghost use Rattle.std.specs.Prelude.{◌≡◌, IfOk, IfSome, IfNone};
 ghost use Rattle.mof_syntax.specs.Characters.{is_x};
 ghost use Rattle.mof_syntax.specs.Strings.{short_escape, Escape};
 ghost use Rattle.mof_syntax.specs.Grammar.{StringValue};
-ghost use Rattle.mof_codec.specs.Reading.{Reads, Lacks};
+ghost use Rattle.mof_codec.specs.Reading.{BeginsWith, Lacks};
 ghost use Rattle.mof_codec.specs.Values.{AnyText, BeginsQuote, NoLiteralFirst, AddsQuoted, NoQuoted, GoesOnBy, OnlyQuoteFirst, NoEscape, HexEscape, NoHexEscape};
 
 use crate::values::marks::behind_char;
@@ -14,7 +14,7 @@ use std::alloc::{AllocError, Global};
 
 /// The text of one or more literals, joined, and what is behind: no further literal.
 pub(crate) fn string(alloc: Global, chars: &[char]) -> Result<Option<(Text, &[char])>, AllocError>
-    ensures some { IfOk result (λ found. IfSome found (λ x. Reads StringValue AnyText chars.now x.0 x.1.now)) }
+    ensures some { IfOk result (λ found. IfSome found (λ x. BeginsWith StringValue AnyText chars.now x.0 x.1.now)) }
     ensures none { IfOk result (λ found. IfNone found (Lacks StringValue AnyText chars.now)) }
 {
     let Some(first) = behind_quote(chars) else {

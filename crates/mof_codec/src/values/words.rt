@@ -3,7 +3,7 @@ ghost use Rattle.std.specs.Prelude.{◌≡◌, false, IfOk, IfSome, IfNone};
 ghost use Rattle.mof_values.specs.Ident.{IsIdent, is_ident};
 ghost use Rattle.mof_syntax.specs.Limits.{IsShortName};
 ghost use Rattle.mof_syntax.specs.Tokens.{Identifier};
-ghost use Rattle.mof_codec.specs.Reading.{Begins, BeginsNo, Reads, Lacks};
+ghost use Rattle.mof_codec.specs.Reading.{Begins, BeginsNo, BeginsWith, Lacks};
 ghost use Rattle.mof_codec.specs.Values.{IsKeyword, IsWord, IsAlias, NoIdentifier, DollarIdentifier, NoDollarIdentifier};
 
 use crate::values::marks::behind_char;
@@ -27,7 +27,7 @@ pub(crate) fn keyword<'a>(chars: &'a [char], keyword: &str) -> Option<&'a [char]
 
 /// A word of at most 255 characters, and what is behind.
 pub(crate) fn word(alloc: Global, chars: &[char]) -> Result<Option<(Ident, &[char])>, AllocError>
-    ensures some { IfOk result (λ found. IfSome found (λ x. Reads IsWord IsShortName chars.now x.0 x.1.now)) }
+    ensures some { IfOk result (λ found. IfSome found (λ x. BeginsWith IsWord IsShortName chars.now x.0 x.1.now)) }
     ensures none { IfOk result (λ found. IfNone found (Lacks IsWord IsShortName chars.now)) }
 {
     let Some((found, rest)) = identifier(separators_rest(chars)) else {
@@ -41,7 +41,7 @@ pub(crate) fn word(alloc: Global, chars: &[char]) -> Result<Option<(Ident, &[cha
 
 /// The name of an alias, of at most 255 characters, and what is behind.
 pub(crate) fn alias(alloc: Global, chars: &[char]) -> Result<Option<(Ident, &[char])>, AllocError>
-    ensures some { IfOk result (λ found. IfSome found (λ x. Reads IsAlias IsShortName chars.now x.0 x.1.now)) }
+    ensures some { IfOk result (λ found. IfSome found (λ x. BeginsWith IsAlias IsShortName chars.now x.0 x.1.now)) }
     ensures none { IfOk result (λ found. IfNone found (Lacks IsAlias IsShortName chars.now)) }
 {
     let Some((found, rest)) = dollar_identifier(separators_rest(chars)) else {

@@ -20,8 +20,8 @@ pub returns-in_default-behind_mark-2-clause-none : goal.returns-in_default-behin
 returns-in_default-behind_mark-2-clause-none c =
     lacks_mark _ _ _ c.elements.invariant c.in_default-behind_mark.ensures.none c.in_default-behind_mark-2.ensures.none
 
-pub returns-then-len-eq-MOST_ELEMENTS-clause-none : goal.returns-then-len-eq-MOST_ELEMENTS-clause-none
-returns-then-len-eq-MOST_ELEMENTS-clause-none c = lacks_room _ _ _ c.elements.invariant _ c.in-Some-behind_mark-2.ensures.some (omega arith)
+pub returns-then-len-eq-MAX_ELEMENTS-clause-none : goal.returns-then-len-eq-MAX_ELEMENTS-clause-none
+returns-then-len-eq-MAX_ELEMENTS-clause-none c = lacks_room _ _ _ c.elements.invariant _ c.in-Some-behind_mark-2.ensures.some (omega arith)
 
 pub returns-in_default-3-clause-none : goal.returns-in_default-3-clause-none
 returns-in_default-3-clause-none c =

@@ -1,4 +1,5 @@
 use Rattle.std.proofs.Common.{◌-◌, length}
+use Rattle.mof_syntax.specs.Limits.{elements_limit}
 use Rattle.mof_codec.proofs.ArraysRead.{ArraySoFar}
 use Rattle.mof_codec.proofs.values.arrays.array.Given as goal
 
@@ -6,4 +7,4 @@ abbrev pub invariant-elements : goal.invariant-elements
 invariant-elements l = ArraySoFar l.chars l.elements.items l.left
 
 abbrev pub decreases-elements : goal.decreases-elements
-decreases-elements l = 4096 - length l.elements.items
+decreases-elements l = elements_limit - length l.elements.items

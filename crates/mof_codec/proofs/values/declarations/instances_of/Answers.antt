@@ -7,8 +7,8 @@ use Rattle.mof_codec.proofs.values.declarations.instances_of.Goals as goal
 pub declarations-init : goal.declarations-init
 declarations-init c = rw c.new-instances.ensures.items (text_start _ _ c.separators_rest-left.ensures.stands c.separators_rest-left.ensures.stops)
 
-pub returns-then-len-eq-MOST_INSTANCES-clause-none : goal.returns-then-len-eq-MOST_INSTANCES-clause-none
-returns-then-len-eq-MOST_INSTANCES-clause-none c =
+pub returns-then-len-eq-MAX_INSTANCES-clause-none : goal.returns-then-len-eq-MAX_INSTANCES-clause-none
+returns-then-len-eq-MAX_INSTANCES-clause-none c =
     text_full _ _ _ c.declarations.invariant (eqb-false _ _ (sym c.declarations-test.ensures)) (omega arith)
 
 pub returns-in_default-clause-none : goal.returns-in_default-clause-none

@@ -1,4 +1,5 @@
 use Rattle.std.proofs.Common.{◌-◌, length}
+use Rattle.mof_syntax.specs.Limits.{instances_limit}
 use Rattle.mof_codec.proofs.DeclarationsRead.{TextSoFar}
 use Rattle.mof_codec.proofs.values.declarations.instances_of.Given as goal
 
@@ -6,4 +7,4 @@ abbrev pub invariant-declarations : goal.invariant-declarations
 invariant-declarations l = TextSoFar l.chars l.instances.items l.left
 
 abbrev pub decreases-declarations : goal.decreases-declarations
-decreases-declarations l = 4097 - length l.instances.items
+decreases-declarations l = instances_limit - length l.instances.items

@@ -9,8 +9,8 @@ properties-init c = rw c.new-properties.ensures.items (body_start c.args.chars.n
 pub returns-in-Some-clause-some : goal.returns-in-Some-clause-some
 returns-in-Some-clause-some c = reads_body _ _ _ c.properties.invariant _ c.in-Some.ensures.some
 
-pub returns-then-len-eq-MOST_PROPERTIES-clause-none : goal.returns-then-len-eq-MOST_PROPERTIES-clause-none
-returns-then-len-eq-MOST_PROPERTIES-clause-none c = lacks_room _ _ _ c.properties.invariant c.in_default.ensures.none (omega arith)
+pub returns-then-len-eq-MAX_PROPERTIES-clause-none : goal.returns-then-len-eq-MAX_PROPERTIES-clause-none
+returns-then-len-eq-MAX_PROPERTIES-clause-none c = lacks_room _ _ _ c.properties.invariant c.in_default.ensures.none (omega arith)
 
 pub returns-in_default-2-clause-none : goal.returns-in_default-2-clause-none
 returns-in_default-2-clause-none c = lacks_further _ _ _ c.properties.invariant c.in_default.ensures.none (of_none _ _ c.in_default-2.is c.in_ok-property.ensures.none)
