@@ -5,8 +5,11 @@ use Rattle.std.proofs.lemmas.List.{get_or_past, length-replicate, get_or-replica
 use Rattle.std.proofs.lemmas.List.Elements.{Contains-append_left, Contains-push_cases, Contains-push}
 use Rattle.std.proofs.lemmas.List.Sums.{sum_by-set}
 use Rattle.std.specs.List.{count_by}
-use Rattle.std.specs.Prelude.{Contains}
-use Rattle.depend_order.specs.Search.{IsMarked}
+use Rattle.std.specs.Prelude.{Contains, slice_index_or}
+
+-- the mark of q is set
+abbrev pub IsMarked : List Bool → ℕ → Type 0
+IsMarked marks q = slice_index_or marks q false ≡ true
 
 pub record IsMarking (count : ℕ) (list : List ℕ) (marks : List Bool) : Type 0 where
   pub size : length marks ≡ count

@@ -1,6 +1,12 @@
 -- Earliest-ready lists: how they grow, and that of two one is the front of the other.
-use Rattle.std.proofs.Common.{◌≡◌, ◌⊎◌, inl, inr, ℕ, List, [], ◌∷◌, ◌++◌, length, refl, sym, ◌∙◌, ap, subst, arith, length-append, append_assoc, append-nil}
+use Rattle.std.proofs.Common.{◌≡◌, ◌⊎◌, inl, inr, ℕ, ◌+◌, ◌<◌, ◌≤◌, List, [], ◌∷◌, ◌++◌, All, drop, get_or, length, take, refl, sym, ◌∙◌, ap, subst, arith, length-append, append_assoc, append-nil}
+use Rattle.std.proofs.lemmas.Bool.{eqb-true, eq-eqb}
+use Rattle.std.proofs.lemmas.List.{length-take, get_or-take, get_or_default}
 use Rattle.std.proofs.lemmas.List.Elements.{Contains-append_left}
+use Rattle.std.proofs.lemmas.Map.Made.{IsDistinct-from_AllPairs}
+use Rattle.std.proofs.lemmas.Map.Steps.{length-le_from_distinct_below}
+use Rattle.std.proofs.lemmas.Map.Views.{Contains-from_any}
+use Rattle.dsc_terms.proofs.Splits.{split_at}
 use Rattle.std.specs.Prelude.{Contains}
 use Rattle.dsc_terms.specs.Lists.{IsOnce}
 use Rattle.depend_order.specs.Order.{IsReady, IsNext, IsEarliestReady, IsOrder}
@@ -59,3 +65,25 @@ module _ (count : ℕ) (depends : ℕ → ℕ → Type 0) where
       ends : (long short : List ℕ) → IsOrder count depends long → IsOrder count depends short → (rest : List ℕ) → long ≡ short ++ rest → long ≡ short
       ends long short of also [] p = p ∙ append-nil short
       ends long short of also (s ∷ rest) p = absurd ((of.earliest short s rest p).ready.absent (also.all s (of.earliest short s rest p).ready.is_place))
+
+-- places below the count of which none stands twice are no more than it
+pub once_count : (count : ℕ) (list : List ℕ) → IsOnce list → ((q : ℕ) → Contains list q → q < count) → length list ≤ count
+once_count count list once below =
+    length-le_from_distinct_below list count
+    (IsDistinct-from_AllPairs (λ a b. (eqb-true a b, eq-eqb a b)) list apart)
+    (λ q found. below q (Contains-from_any eqb-true q list found))
+  where
+    apart : (i j d : ℕ) → i < j → j < length list → get_or list i d ≡ get_or list j d → ⊥
+    apart i j d before within same =
+        once (take j list) (get_or list j d) (drop (j + 1) list) (split_at list j d within)
+        (i, omega (arith, length-take j list), get_or-take j list i (get_or list j d) before ∙ get_or_default list i _ d (omega arith) ∙ same)
+
+-- the places of an earliest-ready list are below the count, and no more than it
+module _ (count : ℕ) (depends : ℕ → ℕ → Type 0) (list : List ℕ) (earliest : IsEarliestReady count depends list) where
+  pub earliest_below : All (λ r. r < count) list
+  earliest_below k d lt = (earliest (take k list) (get_or list k d) (drop (k + 1) list) (split_at list k d lt)).ready.is_place
+
+  pub earliest_count : length list ≤ count
+  earliest_count =
+      once_count count list (once_earliest count depends list earliest)
+      (λ q has. subst (λ (r : ℕ). r < count) has.2 (earliest_below has.0 q has.1))

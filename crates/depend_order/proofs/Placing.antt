@@ -1,79 +1,160 @@
--- What the marks and counts of the search say of the order so far, and of the places that are left.
-use Rattle.std.proofs.Common.{◌≡◌, inl, inr, ℕ, ◌<◌, Bool, true, List, Some, length, set, ◌∙◌, arith, length-set}
-use Rattle.std.proofs.lemmas.Bool.{cases_lt}
-use Rattle.std.proofs.lemmas.Option.{slice_get_within}
+-- What the counts and the ready places say of the order so far, and of the places that are left.
+use Rattle.std.proofs.Common.{◌≡◌, inl, inr, ℕ, zero, suc, ◌+◌, ◌<◌, ◌≤◌, List, [], ◌∷◌, ◌++◌, Option, Some, None, All, length, get_or, map, refl, sym, ◌∙◌, ap, subst, arith}
+use Rattle.std.proofs.lemmas.Bool.{cases_eq, cases_lt}
+use Rattle.std.proofs.lemmas.List.{get_or_default, get_or_past, length-map}
+use Rattle.std.proofs.lemmas.Option.{none-some, slice_get-get_or, slice_get_past}
 use Rattle.std.specs.Global.{Vec}
-use Rattle.std.specs.Prelude.{slice_get, slice_index}
-use Rattle.depend_order.specs.Cycle.{DependsOn, IsLeft, IsLeastLeft, IsFirstLeft}
+use Rattle.std.specs.Option.{option_map_or}
+use Rattle.std.specs.Prelude.{Contains, slice_get, slice_index, vec_len}
+use Rattle.depend_order.specs.Cycle.{DependsOn, IsLeft, IsLeastLeft}
 use Rattle.depend_order.specs.Numbers.{numbers_of, Lists, AreBelow}
-use Rattle.depend_order.specs.Order.{IsReady, IsNext, IsEarliestReady}
-use Rattle.depend_order.specs.Search.{IsMarked, AreMet, IsPassed, IsFound, GoesOn}
-use Rattle.depend_order.proofs.Marks.{IsMarking, marked_kept}
+use Rattle.depend_order.specs.Order.{IsReady, IsNext, IsEarliestReady, IsOrder}
+use Rattle.depend_order.specs.Counts.{AreCounted, AreDependents, IsReadied, IsStuck, times, waits_for, none_left}
 use Rattle.depend_order.proofs.NumberLemmas.{number_below}
-use Rattle.depend_order.proofs.Orders.{stopped}
+use Rattle.depend_order.proofs.Orders.{once_earliest, stopped}
+use Rattle.depend_order.proofs.Times.{one_if, one_same, one_other, times_push, times_has, has_times, none_is, none_not, none_at_most, none_means, none_waits, all_stand, first_waits, waits_push, waits_all}
 
--- a mark more leaves the counts as they are
-pub AreMet-mark : (depends : List (Vec ℕ)) (marks : List Bool) (met : List ℕ) (r : ℕ) → r < length depends → AreMet depends marks met → AreMet depends (set marks r true) met
-AreMet-mark depends marks met r lt are = record {
-  marks_all = length-set marks r true ∙ are.marks_all;
-  met_all = are.met_all;
-  within = are.within;
-  marked = λ s place k q within is. marked_kept marks r (omega (arith, are.marks_all)) q (are.marked s place k q within is);
-}
+-- an empty list has no place
+pub times_none : (r : ℕ) (list : List ℕ) → length list ≡ 0 → times r list ≡ 0
+times_none r [] none = refl
+times_none r (q ∷ list) none = absurd (omega (arith, none))
 
-module _ (depends : List (Vec ℕ)) (marks : List Bool) (met : List ℕ) (list : List ℕ) (marking : IsMarking (length depends) list marks) (are : AreMet depends marks met) where
-  passed_waits : (r : ℕ) → IsPassed depends marks met r → IsReady (length depends) (DependsOn (Lists depends)) list r → ⊥
-  passed_waits r (inl marked) ready = ready.absent (marking.listed r marked)
-  passed_waits r (inr blocked) ready = blocked.2 (marking.marked blocked.0 (ready.met blocked.0 (slice_index met r, blocked.1)))
+-- a place past the end depends on nothing
+pub numbers_past : (depends : List (Vec ℕ)) (r : ℕ) → length depends ≤ r → numbers_of depends r ≡ []
+numbers_past depends r past = ap (λ o. option_map_or (λ v. v.items) o []) (slice_get_past depends r past)
 
-  pub next_found : (r : ℕ) → IsFound depends marks met r → IsNext (length depends) (DependsOn (Lists depends)) list r
-  next_found r found = record {
-    ready = record {
-      is_place = found.is_place;
-      absent = λ has. found.unmarked (marking.marked r has);
-      met = λ q named. marking.listed q (found.ready named.0 q (slice_get_within (numbers_of depends r) named.0 q named.1) named.1);
-    };
-    least = λ s ready. elim (cases_lt s r) [
-      | inl lt ↦ absurd (passed_waits s (found.passed s lt) ready)
-      | inr past ↦ past
-    ];
-  }
+-- those that depend on a place are places
+pub dependents_below : (depends dependents : List (Vec ℕ)) (q : ℕ) → AreDependents depends dependents → All (λ r. r < length depends) (numbers_of dependents q)
+dependents_below depends dependents q are k d within =
+    let r = get_or (numbers_of dependents q) k d in
+    let some : 1 ≤ times r (numbers_of dependents q) = times_has r (numbers_of dependents q) (k, within, get_or_own (numbers_of dependents q) k d r within) in
+    elim (cases_lt r (length depends)) [
+      | inl lt ↦ lt
+      | inr past ↦ absurd (omega (arith, some, are.listed q r, ap (times q) (numbers_past depends r past)))
+    ]
+  where
+    get_or_own : (xs : List ℕ) (i a b : ℕ) → i < length xs → get_or xs i b ≡ get_or xs i a
+    get_or_own xs i a b lt = get_or_default xs i b a lt
 
-  module _ (earliest : IsEarliestReady (length depends) (DependsOn (Lists depends)) list) (passed : (r : ℕ) → r < length depends → IsPassed depends marks met r) where
-    left_unmarked : (r : ℕ) → IsLeft (length depends) (Lists depends) r → IsMarked marks r → ⊥
-    left_unmarked r left marked = left.unplaced list earliest (marking.listed r marked)
+module _ (depends : List (Vec ℕ)) (order waiting ready : List ℕ) (counted : AreCounted depends order waiting) (readied : IsReadied waiting order ready) where
+  -- a ready place stands once among those that wait for none
+  pub ready_once : (r : ℕ) → IsReady (length depends) (DependsOn (Lists depends)) order r → times r ready ≡ 1
+  ready_once r is =
+      let none : slice_index waiting r ≡ 0 = counted.counts r ∙ all_stand order (numbers_of depends r) (λ k q at. is.met q (k, at)) in
+      let absent : times r order ≡ 0 = elim (cases_eq (times r order) 0) [
+        | inl none ↦ none
+        | inr some ↦ absurd (is.absent (has_times r order (omega (arith, some))))
+      ] in
+      omega (arith, readied.each r (omega (arith, is.is_place, counted.size)), none_is (slice_index waiting r) none, absent)
 
-    unmarked_left : (r : ℕ) → r < length depends → (IsMarked marks r → ⊥) → IsLeft (length depends) (Lists depends) r
-    unmarked_left r place unmarked = record {
-      is_place = place;
-      unplaced = λ other also has. unmarked (marking.marked r (stopped (length depends) (DependsOn (Lists depends)) list earliest (λ s ready. passed_waits s (passed s ready.is_place) ready) other also r has));
+  module _ (r : ℕ) (some : 1 ≤ times r ready) where
+    pub ready_place : r < length waiting
+    ready_place = elim (cases_lt r (length waiting)) [
+      | inl lt ↦ lt
+      | inr past ↦ absurd (omega (arith, some, readied.no_others r past))
+    ]
+
+    pub ready_free : times r order ≡ 0
+    ready_free = omega (arith, some, readied.each r ready_place, none_at_most (slice_index waiting r))
+
+    ready_none : slice_index waiting r ≡ 0
+    ready_none = none_means (slice_index waiting r) (omega (arith, some, readied.each r ready_place))
+
+    -- the least of them is next
+    pub ready_next : ((s : ℕ) → 1 ≤ times s ready → r ≤ s) → IsNext (length depends) (DependsOn (Lists depends)) order r
+    ready_next least = record {
+      ready = record {
+        is_place = omega (arith, ready_place, counted.size);
+        absent = λ has. omega (arith, times_has r order has, ready_free);
+        met = λ q named. none_waits order (numbers_of depends r) (sym (counted.counts r) ∙ ready_none) named.0 q named.1;
+      };
+      least = λ s is. least s (omega (arith, ready_once s is));
     }
 
-    pub least_left : (r : ℕ) → r < length depends → (IsMarked marks r → ⊥) → ((s : ℕ) → s < r → IsMarked marks s) → IsLeastLeft (length depends) (Lists depends) r
-    least_left r place unmarked before = record {
-      left = unmarked_left r place unmarked;
+    -- the place goes to the end of the order, and those that depend on it wait for one less
+    module _ (dependents : List (Vec ℕ)) (are : AreDependents depends dependents) (lowered left now : List ℕ) (size : length lowered ≡ length waiting)
+        (lowers : (s : ℕ) → slice_index lowered s + times s (numbers_of dependents r) ≡ slice_index waiting s)
+        (taken : (s : ℕ) → times s left + one_if r s ≡ times s ready)
+        (readies : (s : ℕ) → times s now + none_left (slice_index waiting s) ≡ times s left + none_left (slice_index lowered s)) where
+      pub counted_push : AreCounted depends (order ++ r ∷ []) lowered
+      counted_push = record {
+        size = size ∙ counted.size;
+        counts = λ s. omega (arith, lowers s, are.listed r s, counted.counts s, waits_push order r (numbers_of depends s) ready_free);
+      }
+
+      pub readied_push : IsReadied lowered (order ++ r ∷ []) now
+      readied_push = record {
+        each = λ s lt. omega (arith, readies s, taken s, times_push s r order, readied.each s (omega (arith, lt, size)));
+        no_others = λ s past.
+            let old : slice_index waiting s ≡ 0 = get_or_past waiting s 0 (omega (arith, past, size)) in
+            let new : slice_index lowered s ≡ 0 = get_or_past lowered s 0 past in
+            omega (arith, readies s, none_is (slice_index waiting s) old, none_is (slice_index lowered s) new, taken s, times_push s r order, readied.no_others s (omega (arith, past, size)));
+      }
+
+    -- no place waits for more than it lists
+    pub enough : (dependents : List (Vec ℕ)) → AreDependents depends dependents → (s : ℕ) → times s (numbers_of dependents r) ≤ slice_index waiting s
+    enough dependents are s = omega (arith, are.listed r s, counted.counts s, waits_push order r (numbers_of depends s) ready_free)
+
+  -- ---- at the end
+
+  module _ (earliest : IsEarliestReady (length depends) (DependsOn (Lists depends)) order) (none : (r : ℕ) → times r ready ≡ 0) where
+    pub all_placed : ((r : ℕ) → r < length waiting → slice_index waiting r ≡ 0) → IsOrder (length depends) (DependsOn (Lists depends)) order
+    all_placed no_more = record {
+      all = λ r lt.
+          let place : r < length waiting = omega (arith, lt, counted.size) in
+          has_times r order (omega (arith, readied.each r place, none r, none_is (slice_index waiting r) (no_more r place)));
+      once = once_earliest (length depends) (DependsOn (Lists depends)) order earliest;
+      earliest = earliest;
+    }
+
+    waits_left : (r : ℕ) → r < length depends → 0 < slice_index waiting r → IsLeft (length depends) (Lists depends) r
+    waits_left r place waits = record {
+      is_place = place;
+      unplaced = λ other also has.
+          let there = stopped (length depends) (DependsOn (Lists depends)) order earliest (λ s is. omega (arith, ready_once s is, none s)) other also r has in
+          omega (arith, times_has r order there, readied.each r (omega (arith, place, counted.size)), none_not (slice_index waiting r) waits);
+    }
+
+    left_waits : (r : ℕ) → IsLeft (length depends) (Lists depends) r → 0 < slice_index waiting r
+    left_waits r left = elim (cases_eq (slice_index waiting r) 0) [
+      | inl is ↦ absurd (left.unplaced order earliest
+          (has_times r order (omega (arith, readied.each r (omega (arith, left.is_place, counted.size)), none r, none_is (slice_index waiting r) is))))
+      | inr ne ↦ omega (arith, ne)
+    ]
+
+    waits_on : AreBelow (length depends) depends → (r : ℕ) → IsLeft (length depends) (Lists depends) r
+        → (k : ℕ) × (s : ℕ) × Lists depends r k s × (0 < slice_index waiting s)
+    waits_on below r left =
+        let one = first_waits order (numbers_of depends r) (omega (arith, left_waits r left, counted.counts r)) in
+        let place = number_below (length depends) depends r one.0 one.1 below one.2 in
+        let waits : 0 < slice_index waiting one.1 = elim (cases_eq (slice_index waiting one.1) 0) [
+          | inl is ↦ absurd (omega (arith, readied.each one.1 (omega (arith, place, counted.size)), none one.1, one.3, none_is (slice_index waiting one.1) is))
+          | inr ne ↦ omega (arith, ne)
+        ] in
+        (one.0, one.1, one.2, waits)
+
+    pub stuck : AreBelow (length depends) depends → IsStuck depends waiting
+    stuck below = record { size = counted.size; left = waits_left; waits = left_waits; goes_on = waits_on below }
+
+    pub least_left : (r : ℕ) → r < length waiting → 0 < slice_index waiting r → ((s : ℕ) → s < r → slice_index waiting s ≡ 0) → IsLeastLeft (length depends) (Lists depends) r
+    least_left r place waits before = record {
+      left = waits_left r (omega (arith, place, counted.size)) waits;
       least = λ s left. elim (cases_lt s r) [
-        | inl lt ↦ absurd (left_unmarked s left (before s lt))
+        | inl lt ↦ absurd (omega (arith, before s lt, left_waits s left))
         | inr past ↦ past
       ];
     }
 
-    first_left : AreBelow (length depends) depends → (r : ℕ) → IsLeft (length depends) (Lists depends) r → IsPassed depends marks met r
-        → (s : ℕ) × (slice_get (numbers_of depends r) (slice_index met r) ≡ Some s) × IsFirstLeft (length depends) (Lists depends) r s
-    first_left below r left (inl marked) = absurd (left_unmarked r left marked)
-    first_left below r left (inr blocked) = (
-      blocked.0,
-      blocked.1,
-      record {
-        at = slice_index met r;
-        means = blocked.1;
-        left = unmarked_left blocked.0 (number_below (length depends) depends r (slice_index met r) blocked.0 below blocked.1) blocked.2;
-        first = λ k q lt is also. left_unmarked q also (are.marked r left.is_place k q lt is);
-      },
-    )
+-- ---- at the beginning
 
-    pub goes_on : AreBelow (length depends) depends → GoesOn depends met
-    goes_on below = record {
-      all = are.met_all;
-      first = λ r left. first_left below r left (passed r left.is_place);
-    }
+count_at : (depends : List (Vec ℕ)) (r : ℕ) → slice_index (map (λ (v : Vec ℕ). vec_len v) depends) r ≡ length (numbers_of depends r)
+count_at [] r = get_or_past (map (λ (v : Vec ℕ). vec_len v) []) r 0 (omega arith) ∙ sym (ap length (numbers_past [] r (omega arith)))
+count_at (numbers ∷ depends) zero = omega (arith, numbers.ok)
+count_at (numbers ∷ depends) (suc r) = count_at depends r
+
+-- before the first place each waits for all that it lists
+pub counted_first : (depends : List (Vec ℕ)) (waiting : List ℕ) → waiting ≡ map (λ (v : Vec ℕ). vec_len v) depends → AreCounted depends [] waiting
+counted_first depends waiting is = record {
+  size = ap length is ∙ length-map depends (λ (v : Vec ℕ). vec_len v);
+  counts = λ r. ap (λ (xs : List ℕ). slice_index xs r) is ∙ count_at depends r ∙ sym (waits_all (numbers_of depends r));
+}

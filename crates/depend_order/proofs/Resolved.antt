@@ -12,7 +12,7 @@ use Rattle.dsc_document.specs.declared.document.Resource.{Resource}
 use Rattle.mof_values.specs.Fold.{fold_case, SameName}
 use Rattle.depend_order.specs.Cycle.{DependsOn, IsCycle}
 use Rattle.dsc_document.specs.Dependencies.{Means, Names, HasDistinctIds}
-use Rattle.depend_order.specs.Documents.{IsOrderOfDocument, IsCycleOfDocument}
+use Rattle.depend_order.specs.Documents.{AreDependencies, IsOrderOfDocument, IsCycleOfDocument}
 use Rattle.depend_order.specs.Index.{AreResolved}
 use Rattle.depend_order.specs.Numbers.{Lists, AreBelow, IsOrderOfNumbers, IsCycleOfNumbers}
 use Rattle.depend_order.specs.Order.{IsOrder}
@@ -30,7 +30,7 @@ module _ (document : Document) (distinct : HasDistinctIds document) where
       let there = get_or_from_slice_get document.resources s other.0 one.0 other.1 in
       distinct q s one.0 lt (slice_get_within document.resources s other.0 other.1) (ap (λ (r : Resource). fold_case r.id) here ∙ sym one.2 ∙ other.2 ∙ sym (ap (λ (r : Resource). fold_case r.id) there))
 
-  means_one : (name : List ℕ) (q s : ℕ) → Means document.resources name q → Means document.resources name s → q ≡ s
+  pub means_one : (name : List ℕ) (q s : ℕ) → Means document.resources name q → Means document.resources name s → q ≡ s
   means_one name q s first second = elim (cases_eq q s) [
     | inl same ↦ same
     | inr other ↦ elim (cases_lt q s) [
@@ -101,3 +101,10 @@ module _ (document : Document) (depends : List (Vec ℕ)) (resolved : AreResolve
     pub cycle_resolved : (cycle : List ℕ) → IsCycleOfNumbers depends cycle → IsCycleOfDocument document cycle
     cycle_resolved cycle is = cycle_over (length document.resources) (Lists depends) (Names document) lists_are_names (names_are_lists distinct) cycle
         (subst (λ (count : ℕ). IsCycle count (Lists depends) cycle) resolved_count is)
+
+    pub are_dependencies : AreDependencies document depends
+    are_dependencies = record {
+      count = resolved_count;
+      below = resolved_below;
+      listed = λ r k q. (lists_are_names r k q, names_are_lists distinct r k q);
+    }

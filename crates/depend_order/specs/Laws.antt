@@ -1,5 +1,5 @@
 -- What holds of orders and cycles.
-use Rattle.std.specs.Prelude.{◌≡◌, ℕ, List}
+use Rattle.std.specs.Prelude.{◌≡◌, ◌⊎◌, ℕ, List}
 use Rattle.depend_order.specs.Cycle.{DependsOn, IsCycle, IsClosed}
 use Rattle.depend_order.specs.Order.{IsOrder}
 
@@ -18,3 +18,7 @@ NeverBoth count names =
 abbrev pub CyclesAreClosed : ℕ → (ℕ → ℕ → ℕ → Type 0) → Type 0
 CyclesAreClosed count names =
     (cycle : List ℕ) → IsCycle count names cycle → IsClosed (DependsOn names) cycle
+
+abbrev pub OrderOrCycle : ℕ → (ℕ → ℕ → ℕ → Type 0) → Type 0
+OrderOrCycle count names =
+    ((order : List ℕ) × IsOrder count (DependsOn names) order) ⊎ ((cycle : List ℕ) × IsCycle count names cycle)

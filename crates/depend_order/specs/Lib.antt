@@ -1,8 +1,9 @@
 pub mod Answers
+pub mod Counts
 pub mod Cycle
 pub mod Documents
 pub mod Index
 pub mod Laws
 pub mod Numbers
 pub mod Order
-pub mod Search
+pub mod Ordered

@@ -6,18 +6,21 @@
 //! DependsOn (PowerShell Desired State Configuration, "Resource dependencies"), and compare by fold.
 #![tactic(auto)]
 
+mod counts;
+mod dependents;
 mod documents;
 mod error;
 mod laws;
 mod names;
 mod numbers;
-mod search;
+mod ordered;
 mod walk;
 
 pub use documents::{dependencies, order};
 pub use error::OrderError;
 pub use laws::{order_laws, order_of_laws};
 pub use numbers::order_of;
+pub use ordered::{OrderedDocument, in_order};
 
 #[cfg(test)]
 mod tests;

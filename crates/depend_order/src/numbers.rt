@@ -4,9 +4,11 @@ ghost use Rattle.depend_order.specs.Answers.{IfCycle, OnCycle};
 ghost use Rattle.depend_order.specs.Numbers.{AreBelow, IsCycleOfNumbers, IsOrderOfNumbers};
 
 use crate::OrderError;
-use crate::search::{first_unmarked, next_place};
+use crate::counts::{counts_of, first_ready, first_waiting, release};
+use crate::dependents::dependents_of;
 use crate::walk::closed_walk;
 use std::alloc::Global;
+use std::cmp::Reverse;
 
 /// The order of the places 0, 1 and so on, where `depends[r]` lists the places that place `r` depends on.
 ///
@@ -20,17 +22,18 @@ pub fn order_of(alloc: Global, depends: &[Vec<u32>]) -> Result<Vec<u32>, OrderEr
     ensures cycle { IfCycle result (IsCycleOfNumbers depends.now) }
     ensures no_order { OnCycle result ((order : List ℕ) → IsOrderOfNumbers depends.now order → ⊥) }
 {
+    let dependents = dependents_of(alloc, depends)?;
+    let mut waiting = counts_of(alloc, depends)?;
+    let mut ready = first_ready(alloc, &waiting)?;
     let mut order = Vec::new(alloc);
-    let mut marks = vec![in alloc; false; depends.len()]?;
-    let mut met = vec![in alloc; 0usize; depends.len()]?;
-    while let Some(place) = next_place(depends, &marks, &mut met) {
-        marks[place as usize] = true;
+    while let Some(Reverse(place)) = ready.pop() {
+        release(&dependents[place as usize], &mut waiting, &mut ready)?;
         order.push(place)?;
     }
-    match first_unmarked(&marks) {
+    match first_waiting(&waiting) {
         None => Ok(order),
         Some(start) => {
-            let cycle = closed_walk(alloc, depends, &met, start)?;
+            let cycle = closed_walk(alloc, depends, &waiting, start)?;
             Err(OrderError::Cycle(cycle))
         }
     }

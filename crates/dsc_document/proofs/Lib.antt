@@ -2,6 +2,7 @@ pub mod Declared
 pub mod FirstUnknown
 pub mod Firsts
 pub mod FoldKeys
+pub mod InSize
 pub mod Indexes
 pub mod OneCondition
 pub mod OneRule

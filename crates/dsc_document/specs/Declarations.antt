@@ -1,5 +1,5 @@
 -- What a declaration says: the header, a resource, or another instance. Names compare by fold.
-use Rattle.std.specs.Prelude.{◌≡◌, ◌≢◌, ℕ, ◌≤◌, Bool, true, not, ◌&&◌, if◌then◌else◌, List, [], ◌∷◌, ◌++◌, length, take, ◌==◌, IsTrue, Option, Some, None, is_some, option_map, option_and_then, unwrap_or, find, filter_map, codes, encode_utf8_all}
+use Rattle.std.specs.Prelude.{◌≡◌, ◌≢◌, ℕ, Bool, true, not, ◌&&◌, if◌then◌else◌, List, [], ◌∷◌, ◌++◌, take, ◌==◌, IsTrue, Option, Some, None, is_some, option_map, option_and_then, unwrap_or, find, filter_map, codes}
 use Rattle.std.specs.List.{list_all}
 use Rattle.std.specs.Option.{option_map_or}
 use Rattle.mof_values.specs.declared.instance.Instance.{Instance}
@@ -7,6 +7,8 @@ use Rattle.mof_values.specs.declared.value.Scalar.{Scalar}
 use Rattle.mof_values.specs.declared.value.Scalar.TheVariants as scalars
 use Rattle.mof_values.specs.declared.value.Value.{Value}
 use Rattle.mof_values.specs.declared.value.Value.TheVariants.{One, Many}
+use Rattle.dsc_document.specs.Sizes.{Fits}
+use Rattle.dsc_document.specs.declared.limits.TheConstants.{MAX_ID, MAX_VERSION}
 use Rattle.dsc_document.specs.Names.{same_name}
 
 -- ---- values
@@ -38,7 +40,7 @@ is_header instance = same_name instance.class (codes "OMI_ConfigurationDocument"
 
 -- the first 64 characters of its Version, where that is a single text
 abbrev pub version_of : Instance → List ℕ
-version_of header = take 64 (unwrap_or (option_and_then text_of (value_named (codes "Version") header)) [])
+version_of header = take MAX_VERSION (unwrap_or (option_and_then text_of (value_named (codes "Version") header)) [])
 
 -- ---- resources
 
@@ -71,7 +73,7 @@ pub record HasKindAndName (id : List ℕ) : Type 0 where
   pub no_bracket : IsTrue (list_all is_plain kind)
 
 abbrev pub IsResourceId : List ℕ → Type 0
-IsResourceId id = HasKindAndName id × (length (encode_utf8_all id) ≤ 256)
+IsResourceId id = HasKindAndName id × Fits MAX_ID id
 
 -- the value of DependsOn of a resource
 abbrev pub depends_value : Instance → Option Value

@@ -4,3 +4,4 @@ pub mod Dependencies
 pub mod Names
 pub mod Places
 pub mod Rules
+pub mod Sizes

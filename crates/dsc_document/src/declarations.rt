@@ -3,6 +3,7 @@ ghost use Rattle.std.specs.Prelude.{◌≡◌, [], option_copied, option_and_the
 ghost use Rattle.dsc_document.specs.Names.{same_name};
 ghost use Rattle.dsc_document.specs.Declarations.{is_header, value_named, version_of, id_value, id_of, depends_value, text_of, scalars_of};
 
+use crate::MAX_VERSION;
 use mof_values::{Instance, Scalar, Text, Value, is_named};
 use std::alloc::{AllocError, Global};
 use std::slice;
@@ -32,7 +33,7 @@ pub fn value_named<'a>(instance: &'a Instance, word: &str) -> Option<&'a Value>
 pub fn version_of(alloc: Global, header: &Instance) -> Result<Text, AllocError>
     ensures { IfOk result (λ version. version ≡ version_of header.now) }
 {
-    let chars = front(version_chars(header), 64).to_vec(alloc)?;
+    let chars = front(version_chars(header), MAX_VERSION).to_vec(alloc)?;
     Ok(Text::of(chars))
 }
 

@@ -5,9 +5,9 @@ ghost use Rattle.dsc_document.specs.Places.{HoldsNames};
 ghost use Rattle.dsc_document.specs.Rules.{HasBadId, IsIdValue, id_at};
 ghost use Rattle.dsc_document.specs.Conditions.{Tests};
 
-use crate::DocError;
 use crate::declarations::{id_of, id_value, text_of};
 use crate::places::Places;
+use crate::{DocError, MAX_ID};
 use mof_values::{Instance, Text, Value};
 use std::alloc::Global;
 
@@ -47,7 +47,7 @@ fn is_id_value(value: &Value) -> bool
 fn is_resource_id(id: &Text) -> bool
     ensures { IsTrue result ↔ IsResourceId id.now }
 {
-    id.fits_utf8(256) && has_kind_and_name(id.as_slice())
+    id.fits_utf8(MAX_ID) && has_kind_and_name(id.as_slice())
 }
 
 // Tells whether the characters are `[kind]name`, with no bracket in the kind.

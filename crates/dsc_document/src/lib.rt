@@ -17,6 +17,7 @@ mod document;
 mod error;
 mod headers;
 mod ids;
+mod limits;
 mod places;
 mod properties;
 mod rules;
@@ -25,6 +26,7 @@ mod unknown;
 
 pub use document::{Document, Resource};
 pub use error::DocError;
+pub use limits::{MAX_ID, MAX_RESOURCES, MAX_VERSION};
 pub use places::Places;
 pub use rules::{check, check_part, one_refusal_wins};
 pub use spot::Spot;

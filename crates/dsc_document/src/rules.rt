@@ -1,9 +1,10 @@
 //! The rules of documents.
-ghost use Rattle.std.specs.Prelude.{◌≡◌, ◌≢◌, ◌<◌, ◌^◌, List, length, IfOk, IfErr, vec_len};
+ghost use Rattle.std.specs.Prelude.{◌≡◌, ◌≢◌, ◌+◌, ◌<◌, ◌≤◌, ◌^◌, List, length, IfOk, IfErr, vec_len};
 ghost use Rattle.dsc_document.specs.Dependencies.{HasDistinctIds, NamesResources};
 ghost use Rattle.dsc_document.specs.Places.{HoldsNames};
 ghost use Rattle.dsc_document.specs.Rules.{Rules, PartRules, IsRefusal, Applies, condition_of, id_at};
 ghost use Rattle.dsc_document.specs.Conditions.{KeepsUpTo};
+ghost use Rattle.dsc_document.specs.Sizes.{DocumentInSize};
 
 use crate::aliases::{alias_places, check_aliases};
 use crate::assembly::document_of;
@@ -12,7 +13,7 @@ use crate::headers::{check_one_header, first_header};
 use crate::ids::{check_ids, id_places};
 use crate::places::Places;
 use crate::properties::check_properties;
-use crate::{DocError, Document};
+use crate::{DocError, Document, MAX_RESOURCES};
 use mof_values::Instance;
 use std::alloc::Global;
 
@@ -25,6 +26,7 @@ pub fn check(alloc: Global, instances: Vec<Instance>) -> Result<Document, DocErr
     requires { vec_len instances < 2 ^ 32 }
     ensures accepted { IfOk result (Rules instances.items) }
     ensures few { IfOk result (λ document. length document.resources < vec_len instances) }
+    ensures in_size { vec_len instances ≤ MAX_RESOURCES + 1 → IfOk result DocumentInSize }
     ensures known { IfOk result NamesResources }
     ensures distinct { IfOk result HasDistinctIds }
     ensures refused { IfErr result (λ refusal. refusal ≢ DocError.Memory → IsRefusal instances.items refusal) }
@@ -43,6 +45,7 @@ pub fn check_part(alloc: Global, instances: Vec<Instance>) -> Result<Document, D
     requires { vec_len instances < 2 ^ 32 }
     ensures accepted { IfOk result (PartRules instances.items) }
     ensures few { IfOk result (λ document. length document.resources < vec_len instances) }
+    ensures in_size { vec_len instances ≤ MAX_RESOURCES + 1 → IfOk result DocumentInSize }
     ensures distinct { IfOk result HasDistinctIds }
     ensures refused { IfErr result (λ refusal. refusal ≢ DocError.Memory → IsRefusal instances.items refusal) }
     ensures known { IfErr result (λ refusal. condition_of refusal < 9) }

@@ -1,0 +1,1 @@
+use Rattle.depend_order.proofs.counts.first_waiting.Goals as goal

@@ -1,0 +1,1 @@
+use Rattle.depend_order.proofs.dependents.no_places.Goals as goal

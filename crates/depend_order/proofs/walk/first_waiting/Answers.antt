@@ -1,0 +1,1 @@
+use Rattle.depend_order.proofs.walk.first_waiting.Goals as goal

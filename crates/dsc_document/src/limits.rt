@@ -1,0 +1,10 @@
+//! The limits of documents.
+
+/// The most resources of a document.
+pub const MAX_RESOURCES: usize = 4096;
+
+/// The most bytes of a resource's id in UTF-8.
+pub const MAX_ID: usize = 256;
+
+/// The most characters of a document's version.
+pub const MAX_VERSION: usize = 64;
