@@ -7,21 +7,12 @@ use Rattle.std.proofs.lemmas.Option.{none-some, same_Some, slice_get_past, slice
 use Rattle.dsc_document.specs.declared.document.Document.{Document}
 use Rattle.dsc_document.specs.declared.document.Resource.{Resource}
 use Rattle.resource_kinds.specs.declared.wanted.Wanted.{Wanted}
-use Rattle.resource_kinds.specs.Apart.{Apart, MeetsEarlier, Overlap, asked_at}
-use Rattle.resource_kinds.specs.Subjects.{AsksMeeting, Matter, MattersMeet, matter_of}
+use Rattle.resource_kinds.specs.Apart.{Apart, Matter, MattersMeet, MeetsEarlier, matter_of, wanted_at}
+use Rattle.resource_kinds.specs.Subjects.{AsksMeeting}
 use Rattle.resource_kinds.specs.Wanted.{wanted_of}
 
 abbrev asks : Resource → Option Wanted
 asks resource = result_ok (wanted_of resource)
-
-asked_here : (resources : List Resource) (k : ℕ) (x : Resource) → k < length resources → x ≡ get_or resources k x → asked_at resources k ≡ asks x
-asked_here resources k x within is = ap (option_and_then asks) (slice_get_read resources (length resources) k x refl within is)
-
-asked_within : (resources : List Resource) (k : ℕ) (wanted : Wanted) → asked_at resources k ≡ Some wanted → k < length resources
-asked_within resources k wanted is = elim (cases_lt k (length resources)) [
-  | inl within ↦ within
-  | inr past ↦ absurd (none-some wanted (sym (ap (option_and_then asks) (slice_get_past resources k past)) ∙ is))
-]
 
 meeting : (asked : Option Wanted) (matter : Matter) → AsksMeeting asked matter → (a : Wanted) × (asked ≡ Some a) × MattersMeet (matter_of a) matter
 meeting None matter meets = absurd meets
@@ -31,60 +22,53 @@ matter_asked : (asked : Option Wanted) (known : Option Matter) (matter : Matter)
 matter_asked None known matter is told = absurd (none-some matter (sym told ∙ is))
 matter_asked (Some b) known matter is told = (b, refl, same_Some matter (matter_of b) (sym is ∙ told))
 
--- one more resource before it does not meet it
-pub none_more : (resources : List Resource) (first second : ℕ) (x : Resource) (matter : Matter) (met : Bool) → first < second → second < length resources → x ≡ get_or resources first x
-    → IsTrue met ↔ AsksMeeting (asks x) matter → met ≡ false → ((k : ℕ) → k < first → AsksMeeting (asked_at resources k) matter → ⊥)
-    → (k : ℕ) → k < first + 1 → AsksMeeting (asked_at resources k) matter → ⊥
-none_more resources first second x matter met before within is answers unmet so_far k below meets = elim (cases_eq k first) [
-  | inl same ↦ both_ways met unmet (answers.1 (subst (λ asked. AsksMeeting asked matter) (ap (asked_at resources) same ∙ asked_here resources first x (omega (arith, before, within)) is) meets))
-  | inr other ↦ so_far k (omega (arith, below, other)) meets
-]
+module _ (document : Document) (resources : List Resource) (are : resources ≡ document.resources) where
+  asked_here : (k : ℕ) (x : Resource) → k < length document.resources → x ≡ get_or resources k x → wanted_at document k ≡ asks x
+  asked_here k x within is =
+      ap (option_and_then asks) (slice_get_read document.resources (length document.resources) k x refl within (is ∙ ap (λ xs. get_or xs k x) are))
 
-module _ (resources : List Resource) (second : ℕ) (y : Resource) (within : second < length resources) (at : y ≡ get_or resources second y)
-    (known : Option Matter) (matter : Matter) (is : known ≡ Some matter) (told : known ≡ option_map matter_of (asks y)) where
-  own : (b : Wanted) × (asks y ≡ Some b) × (matter ≡ matter_of b)
-  own = matter_asked (asks y) known matter is told
+  asked_within : (k : ℕ) (wanted : Wanted) → wanted_at document k ≡ Some wanted → k < length document.resources
+  asked_within k wanted is = elim (cases_lt k (length document.resources)) [
+    | inl within ↦ within
+    | inr past ↦ absurd (none-some wanted (sym (ap (option_and_then asks) (slice_get_past document.resources k past)) ∙ is))
+  ]
 
-  pub meets_here : (first : ℕ) (x : Resource) → first < second → x ≡ get_or resources first x → AsksMeeting (asks x) matter → MeetsEarlier resources second
-  meets_here first x before here meets =
-      let other = meeting (asks x) matter meets in
-      record {
-        first = first;
-        before = before;
-        a = other.0;
-        b = own.0;
-        asks_first = asked_here resources first x (omega (arith, before, within)) here ∙ other.1;
-        asks_second = asked_here resources second y within at ∙ own.1;
-        meet = subst (λ m. MattersMeet (matter_of other.0) m) own.2 other.2;
-      }
+  -- one more resource before it does not meet it
+  pub none_more : (first second : ℕ) (x : Resource) (matter : Matter) (met : Bool) → first < second → second < length document.resources → x ≡ get_or resources first x
+      → IsTrue met ↔ AsksMeeting (asks x) matter → met ≡ false → ((k : ℕ) → k < first → AsksMeeting (wanted_at document k) matter → ⊥)
+      → (k : ℕ) → k < first + 1 → AsksMeeting (wanted_at document k) matter → ⊥
+  none_more first second x matter met before within is answers unmet so_far k below meets = elim (cases_eq k first) [
+    | inl same ↦ both_ways met unmet (answers.1 (subst (λ asked. AsksMeeting asked matter) (ap (wanted_at document) same ∙ asked_here first x (omega (arith, before, within)) is) meets))
+    | inr other ↦ so_far k (omega (arith, below, other)) meets
+  ]
 
-  pub meets_none : (far : ℕ) → second ≤ far → ((k : ℕ) → k < far → AsksMeeting (asked_at resources k) matter → ⊥) → MeetsEarlier resources second → ⊥
-  meets_none far all none earlier =
-      let same : own.0 ≡ earlier.b = same_Some own.0 earlier.b (sym own.1 ∙ sym (asked_here resources second y within at) ∙ earlier.asks_second) in
-      none earlier.first (omega (arith, earlier.before, all))
-      (subst (λ asked. AsksMeeting asked matter) (sym earlier.asks_first)
-      (subst (λ m. MattersMeet (matter_of earlier.a) m) (sym (own.2 ∙ ap matter_of same)) earlier.meet))
+  module _ (second : ℕ) (y : Resource) (within : second < length document.resources) (at : y ≡ get_or resources second y)
+      (known : Option Matter) (matter : Matter) (is : known ≡ Some matter) (told : known ≡ option_map matter_of (asks y)) where
+    own : (b : Wanted) × (asks y ≡ Some b) × (matter ≡ matter_of b)
+    own = matter_asked (asks y) known matter is told
 
--- ---- documents
+    pub meets_here : (first : ℕ) (x : Resource) → first < second → x ≡ get_or resources first x → AsksMeeting (asks x) matter → MeetsEarlier document second
+    meets_here first x before here meets =
+        let other = meeting (asks x) matter meets in
+        record {
+          first = first;
+          before = before;
+          a = other.0;
+          b = own.0;
+          asks_first = asked_here first x (omega (arith, before, within)) here ∙ other.1;
+          asks_second = asked_here second y within at ∙ own.1;
+          meet = subst (λ m. MattersMeet (matter_of other.0) m) own.2 other.2;
+        }
 
-pub overlap_here : (document : Document) (resources : List Resource) (second : ℕ) → resources ≡ document.resources → MeetsEarlier resources second → Overlap document
-overlap_here document resources second is earlier =
-    let here = subst (λ all. MeetsEarlier all second) is earlier in
-    record {
-      first = here.first;
-      second = second;
-      before = here.before;
-      a = here.a;
-      b = here.b;
-      asks_first = here.asks_first;
-      asks_second = here.asks_second;
-      meet = here.meet;
-    }
+    pub meets_none : (far : ℕ) → second ≤ far → ((k : ℕ) → k < far → AsksMeeting (wanted_at document k) matter → ⊥) → MeetsEarlier document second → ⊥
+    meets_none far all none earlier =
+        let same : own.0 ≡ earlier.b = same_Some own.0 earlier.b (sym own.1 ∙ sym (asked_here second y within at) ∙ earlier.asks_second) in
+        none earlier.first (omega (arith, earlier.before, all))
+        (subst (λ asked. AsksMeeting asked matter) (sym earlier.asks_first)
+        (subst (λ m. MattersMeet (matter_of earlier.a) m) (sym (own.2 ∙ ap matter_of same)) earlier.meet))
 
-pub all_apart : (document : Document) (resources : List Resource) (far : ℕ) → resources ≡ document.resources → length resources ≤ far
-    → ((k : ℕ) → k < far → MeetsEarlier resources k → ⊥) → Apart document
-all_apart document resources far is all none first second a b before asks_first asks_second meet =
-    let within = asked_within document.resources second b asks_second in
-    none second (omega (arith, within, all, ap length is))
-    (subst (λ rs. MeetsEarlier rs second) (sym is)
-    (record { first = first; before = before; a = a; b = b; asks_first = asks_first; asks_second = asks_second; meet = meet }))
+  pub all_apart : (far : ℕ) → length document.resources ≤ far → ((k : ℕ) → k < far → MeetsEarlier document k → ⊥) → Apart document
+  all_apart far all none first second a b before asks_first asks_second meet =
+      let within = asked_within second b asks_second in
+      none second (omega (arith, within, all))
+      (record { first = first; before = before; a = a; b = b; asks_first = asks_first; asks_second = asks_second; meet = meet })

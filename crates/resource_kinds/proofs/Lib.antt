@@ -1,10 +1,13 @@
 pub mod Barred
 pub mod Chains
 pub mod Changed
+pub mod ClearHosts
 pub mod EarlierResources
 pub mod EntryLists
 pub mod HostPaths
 pub mod JoinedPaths
+pub mod KeyFronts
+pub mod KeyRanges
 pub mod Looked
 pub mod Marks
 pub mod Meets
@@ -13,5 +16,6 @@ pub mod PathOrders
 pub mod PathSets
 pub mod RunLaws
 pub mod SetLaws
+pub mod SetsOfEntries
 pub mod SubjectsMeet
 pub mod WhyMemory

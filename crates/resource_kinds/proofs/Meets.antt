@@ -12,10 +12,14 @@ use Rattle.dsc_document.specs.declared.document.Resource.{Resource}
 use Rattle.resource_kinds.specs.declared.keys.Keys.{Keys}
 use Rattle.resource_kinds.specs.declared.wanted.Wanted.{Wanted}
 use Rattle.resource_kinds.specs.declared.wanted.Wanted.TheVariants as wants
-use Rattle.resource_kinds.specs.Apart.{Apart, Encloses, IsClosed, IsInside, IsInsideIfAny, Meet, Overlap, Target, Path, Variable, LogEntry, closed_path, entry_key, key_if_any, key_of, target_of, wanted_at}
+use Rattle.resource_kinds.specs.Apart.{Apart, IsAround, Meet, Overlap, Target, Path, Variable, LogEntry, closed_path, matter_of, target_of, wanted_at}
+use Rattle.resource_kinds.specs.OverlapSteps.{HasBelow, HasBelowIfAny, HasInside, entry_key, key_if_any, key_of}
 use Rattle.resource_kinds.specs.Keys.{Puts, PutsIfAny, place_of}
 use Rattle.resource_kinds.specs.Wanted.{wanted_of}
-use Rattle.resource_kinds.proofs.Barred.{front_above}
+
+-- the path of the second is below that of the first
+abbrev Encloses : Wanted → Wanted → Type 0
+Encloses outer inner = IsAround (matter_of outer) (matter_of inner)
 
 -- ---- keys
 
@@ -50,19 +54,7 @@ cases_same a b =
       | inr e ↦ inr (λ same. both_ways _ e ((bytes_eq-Decides a b).1 same))
     ]
 
--- ---- paths above
-
--- a path of which a front up to a `/` is the other
-below_by_key : (path : List ℕ) (target : Target) (at : ℕ) → at < length (key_of target) → get_or (key_of target) at 0 ≡ 47 → 0 ∷ path ≡ take at (key_of target)
-    → (below : List ℕ) × (target ≡ Path below) × IsBelow path below
-below_by_key path (Path below) zero within slash e = absurd (omega (arith, slash))
-below_by_key path (Path below) (suc k) within slash e =
-    let front : path ≡ take k below = cc in
-    (below, refl, subst (λ p. IsBelow p below) (sym front) (front_above below k (omega (arith, within)) slash))
-below_by_key path (Variable name) zero within slash e = absurd (omega (arith, ap length e))
-below_by_key path (Variable name) (suc k) within slash e = absurd (omega (arith, ap (λ x. get_or x 0 9) e))
-below_by_key path (LogEntry id message) zero within slash e = absurd (omega (arith, ap length e))
-below_by_key path (LogEntry id message) (suc k) within slash e = absurd (omega (arith, ap (λ x. get_or x 0 9) e))
+-- ---- paths below
 
 closed_target : (wanted : Wanted) → is_some (closed_path wanted) ≡ true → (path : List ℕ) × (closed_path wanted ≡ Some path) × (target_of wanted ≡ Path path)
 closed_target (wants.File path contents) e = (path, refl, refl)
@@ -75,12 +67,15 @@ closed_target (wants.NoVariable name) e = absurd (cc (e))
 closed_target (wants.NoEntries name value) e = absurd (cc (e))
 closed_target (wants.Logged id message) e = absurd (cc (e))
 
-encloses_by_key : (outer inner : Wanted) (at : ℕ) → is_some (closed_path outer) ≡ true → at < length (key_of (target_of inner)) → get_or (key_of (target_of inner)) at 0 ≡ 47
-    → key_of (target_of outer) ≡ take at (key_of (target_of inner)) → Encloses outer inner
-encloses_by_key outer inner at closed within slash is =
-    let target = closed_target outer closed in
-    let found = below_by_key target.0 (target_of inner) at within slash (ap key_of (sym target.2) ∙ is) in
-    (target.0, found.0, target.1, found.1, found.2)
+-- where a path below has a place, there is a path at which no folder is asked for
+inside_of : (keys : Keys) (outer : Wanted) (closed : Option (List ℕ)) → closed_path outer ≡ closed → HasBelowIfAny keys closed
+    → (path : List ℕ) × (closed_path outer ≡ Some path) × HasBelow keys path
+inside_of keys outer None e is = absurd is
+inside_of keys outer (Some path) e is = (path, e, is)
+
+-- the key of a path below another
+key_below : (path rest : List ℕ) → ((0 ∷ path) ++ 47 ∷ []) ++ rest ≡ key_of (Path (path ++ 47 ∷ rest))
+key_below path rest = append_assoc (0 ∷ path) (47 ∷ []) rest
 
 not_in_itself : (wanted : Wanted) → Encloses wanted wanted → ⊥
 not_in_itself wanted is = absurd (inside (closed_target wanted (ap is_some is.2))) where
@@ -145,16 +140,18 @@ module _ (document : Document) (all : List (Option Wanted)) (is_all : all ≡ ma
   asked_at k = at_place (λ r. result_ok (wanted_of r)) document.resources k ∙ ap (λ xs. get_or xs k None) (sym is_all)
 
   two_meet : (first second : ℕ) (a b : Wanted) → first < second → get_or all first None ≡ Some a → get_or all second None ≡ Some b → Meet a b → Overlap document
-  two_meet first second a b before at_first at_second meet = record {
-    first = first;
-    second = second;
-    before = before;
-    a = a;
-    b = b;
-    asks_first = asked_at first ∙ at_first;
-    asks_second = asked_at second ∙ at_second;
-    meet = meet;
-  }
+  two_meet first second a b before at_first at_second meet = (
+    second,
+    record {
+      first = first;
+      before = before;
+      a = a;
+      b = b;
+      asks_first = asked_at first ∙ at_first;
+      asks_second = asked_at second ∙ at_second;
+      meet = meet;
+    },
+  )
 
   -- what has a place already is met
   pub met : (n : ℕ) (keys : Keys) → Indexed all n keys → (given : Option Wanted) → get_or all n None ≡ given → (had : Option ℕ) → option_and_then (place_of keys) (key_if_any given) ≡ had → is_some had ≡ true → Overlap document
@@ -164,56 +161,41 @@ module _ (document : Document) (all : List (Option Wanted)) (is_all : all ≡ ma
       let before = so_far.only (key_of (target_of b)) p e in
       two_meet p n before.1.0 b before.0 before.1.1 is (inl (key_same (target_of before.1.0) (target_of b) before.1.2))
 
-  -- what is inside another is met
-  pub inside_meets : (n : ℕ) (keys : Keys) → Indexed all n keys → (k : ℕ) (given : Option Wanted) → get_or all k None ≡ given → IsInsideIfAny all keys (key_if_any given) → Overlap document
+  -- what has another inside it meets that one
+  pub inside_meets : (n : ℕ) (keys : Keys) → Indexed all n keys → (k : ℕ) (given : Option Wanted) → get_or all k None ≡ given → HasInside keys given → Overlap document
   inside_meets n keys whole k None at_k is = absurd is
-  inside_meets n keys whole k (Some inner) at_k is =
-      let before = whole.only (take is.0 (key_of (target_of inner))) is.3.0 is.3.1 in
-      let outer = before.1.0 in
-      let closed : IsTrue (is_some (closed_path outer)) = subst IsClosed before.1.1 is.3.2 in
-      let encloses = encloses_by_key outer inner is.0 closed is.1 is.2 before.1.2 in
+  inside_meets n keys whole k (Some outer) at_k is =
+      let (path, shut, below) = inside_of keys outer (closed_path outer) refl is in
+      let found = whole.only (((0 ∷ path) ++ 47 ∷ []) ++ below.0) below.1 below.2 in
+      let (inner, at_inner, keyed) = found.1 in
+      let encloses : Encloses outer inner = (path, path ++ 47 ∷ below.0, shut, key_same (target_of inner) (Path (path ++ 47 ∷ below.0)) (keyed ∙ key_below path below.0), (below.0, refl)) in
       ⊎_elim
-      (λ earlier. two_meet is.3.0 k outer inner earlier before.1.1 at_k (inr (inl encloses)))
+      (λ earlier. two_meet below.1 k inner outer earlier at_inner at_k (inr (inr encloses)))
       (λ not_earlier. ⊎_elim
-      (λ later. two_meet k is.3.0 inner outer later at_k before.1.1 (inr (inr encloses)))
+      (λ later. two_meet k below.1 outer inner later at_k at_inner (inr (inl encloses)))
       (λ not_later.
-      let here : is.3.0 ≡ k = omega (arith, not_earlier, not_later) in
-      let same : outer ≡ inner = cc (ap (λ x. get_or all x None) here, before.1.1, at_k) in
-      absurd (not_in_itself inner (subst (λ w. Encloses w inner) same encloses)))
-      (cases_lt k is.3.0))
-      (cases_lt is.3.0 k)
+      let here : below.1 ≡ k = omega (arith, not_earlier, not_later) in
+      let same : inner ≡ outer = cc (ap (λ x. get_or all x None) here, at_inner, at_k) in
+      absurd (not_in_itself outer (subst (λ w. Encloses outer w) same encloses)))
+      (cases_lt k below.1))
+      (cases_lt below.1 k)
 
   within : (k : ℕ) (wanted : Wanted) → get_or all k None ≡ Some wanted → k < length all
   within k wanted is = ⊎_elim (λ below. below) (λ past. absurd (cc (get_or_past all k None past, is))) (cases_lt k (length all))
 
   module _ (keys : Keys) (far : ℕ) (reached : length all ≤ far) (whole : Indexed all far keys)
-      (none : (k : ℕ) → k < far → IsInsideIfAny all keys (key_if_any (get_or all k None)) → ⊥) where
+      (none : (k : ℕ) → k < far → HasInside keys (get_or all k None) → ⊥) where
     differ : (first second : ℕ) (a b : Wanted) → first < second → get_or all first None ≡ Some a → get_or all second None ≡ Some b → target_of a ≡ target_of b → ⊥
     differ first second a b before at_first at_second same =
         let at_once : first ≡ second = cc (whole.known first a (omega (arith, within first a at_first, reached)) at_first, whole.known second b (omega (arith, within second b at_second, reached)) at_second, ap (λ t. place_of keys (key_of t)) same) in
         omega (arith, at_once, before)
 
     outside : (outer inner : ℕ) (a b : Wanted) → get_or all outer None ≡ Some a → get_or all inner None ≡ Some b → Encloses a b → ⊥
-    outside outer inner a b at_outer at_inner is =
-        let path = is.0 in
-        let below = is.1 in
-        let spelled : below ≡ path ++ 47 ∷ is.4.0 = is.4.1 in
-        let key : key_of (target_of b) ≡ 0 ∷ below = ap key_of is.3 in
-        let outer_key : key_of (target_of a) ≡ 0 ∷ path = ap key_of (closed_target_is a path is.2) in
-        let front : take (suc (length path)) (0 ∷ below) ≡ 0 ∷ path = ap (λ t. 0 ∷ t) (ap (take (length path)) spelled ∙ take-append_seam path (47 ∷ is.4.0)) in
-        let found : place_of keys (take (suc (length path)) (0 ∷ below)) ≡ Some outer =
-        ap (place_of keys) (front ∙ sym outer_key) ∙ whole.known outer a (omega (arith, within outer a at_outer, reached)) at_outer in
-        let closed : IsClosed (get_or all outer None) = subst IsClosed (sym at_outer) (ap is_some is.2) in
-        let slash : get_or (0 ∷ below) (suc (length path)) 0 ≡ 47 = ap (λ p. get_or p (length path) 0) spelled ∙ get_or-append_seam path 47 is.4.0 0 in
-        let short : suc (length path) < length (0 ∷ below) = omega (arith, ap length spelled, length-append path (47 ∷ is.4.0)) in
-        let inside : IsInside all keys (0 ∷ below) = (suc (length path), short, slash, (outer, found, closed)) in
-        none inner (omega (arith, within inner b at_inner, reached)) (subst (λ g. IsInsideIfAny all keys (key_if_any g)) (sym at_inner) (subst (IsInside all keys) (sym key) inside))
-      where
-        closed_target_is : (wanted : Wanted) (path : List ℕ) → closed_path wanted ≡ Some path → target_of wanted ≡ Path path
-        closed_target_is wanted path e =
-            let target = closed_target wanted (ap is_some e) in
-            let same : target.0 ≡ path = cc (target.1, e) in
-            target.2 ∙ ap Path same
+    outside outer inner a b at_outer at_inner (path, below, shut, target, (rest, spelled)) =
+        let key : ((0 ∷ path) ++ 47 ∷ []) ++ rest ≡ key_of (target_of b) = key_below path rest ∙ ap (λ p. key_of (Path p)) (sym spelled) ∙ ap key_of (sym target) in
+        let found = ap (place_of keys) key ∙ whole.known inner b (omega (arith, within inner b at_inner, reached)) at_inner in
+        let has : HasInside keys (Some a) = subst (HasBelowIfAny keys) (sym shut) (rest, inner, found) in
+        none outer (omega (arith, within outer a at_outer, reached)) (subst (HasInside keys) (sym at_outer) has)
 
     pub all_apart : Apart document
     all_apart first second a b before asks_first asks_second meet =

@@ -1,6 +1,6 @@
 -- Where the resources are apart and no Set of a folder broke off, what the last entry of a resource settles holds to the end.
 use Rattle.std.proofs.Common.{◌≡◌, ◌⊎◌, inl, inr, ℕ, Bool, true, false, cond, ◌==◌, List, [], ◌∷◌, reverse, find, slice_get, Option, Some, None, Result, Ok, Err, option_and_then, refl, sym, ◌∙◌, ap, subst, All}
-use Rattle.std.proofs.lemmas.Bool.{cases_order, eqb-true, eqb-false, false≢true}
+use Rattle.std.proofs.lemmas.Bool.{cases_eq, cases_order, eqb-true, eqb-false, false≢true}
 use Rattle.std.proofs.lemmas.List.{reverse-append}
 use Rattle.std.proofs.lemmas.List.Elements.{All-head, All-tail}
 use Rattle.std.proofs.lemmas.List.Folds.{find-append}
@@ -20,7 +20,7 @@ use Rattle.resource_kinds.specs.declared.entry.Entry.TheVariants.{Tested, Set}
 use Rattle.resource_kinds.specs.declared.wanted.Wanted.{Wanted}
 use Rattle.resource_kinds.specs.Apart.{Apart, AreApart, Meet, wanted_at}
 use Rattle.resource_kinds.specs.Holds.{Holds, applied}
-use Rattle.resource_kinds.specs.Laws.{AsksFolder, IsSettled, IsWhole, MayBreakOff, SetMakesHold, SettledHold, SucceededHold, entry_settles, set_is_done, settles}
+use Rattle.resource_kinds.specs.Laws.{AsksFolder, IsSetIn, IsSettled, IsWhole, MayBreakOff, SetMakesHold, SettledHold, SucceededHold, UnsetHold, entry_settles, set_is_done, settles}
 use Rattle.resource_kinds.specs.Trace.{is_yes, last_entry, place_of}
 use Rattle.resource_kinds.specs.True.{AnswersTrue, IsTrueEntry, SetsKnown, SetsTrue, True}
 use Rattle.resource_kinds.specs.Wanted.{wanted_of}
@@ -70,7 +70,7 @@ abbrev asked : Option Resource → Option Wanted
 asked resource = option_and_then (λ r. result_ok (wanted_of r)) resource
 
 -- what the resource at a place asks for, once both are known
-asked_at : (document : Document) (place : ℕ) (resource : Resource) (set : Wanted) → slice_get document.resources place ≡ Some resource
+pub asked_at : (document : Document) (place : ℕ) (resource : Resource) (set : Wanted) → slice_get document.resources place ≡ Some resource
     → wanted_of resource ≡ Ok set → wanted_at document place ≡ Some set
 asked_at document place resource set at is = ap asked at ∙ ap result_ok is
 
@@ -196,3 +196,25 @@ yes_settles (Some (Set place answer)) passes = absurd (false≢true passes)
 pub succeeded : SetMakesHold → SucceededHold
 succeeded makes document before after trace r wanted keeps asks passes =
     together makes document before after trace r wanted keeps asks (yes_settles (last_entry trace r) passes)
+
+-- ---- resources that were not set
+
+own_kept : (document : Document) (before after : HostState) (e : Entry) (es : List Entry) (r : ℕ) (other : Wanted) → place_of e ≡ r → (IsSetIn (e ∷ es) r → ⊥)
+    → IsTrueEntry before document e after → Holds before other → Holds after other
+own_kept document before after (Tested place answer) es r other same unset told holds = subst (λ h. Holds h other) (sym told.0) holds
+own_kept document before after (Set place answer) es r other same unset told holds = absurd (unset ([], answer, es, ap (λ (p : ℕ). Set p answer ∷ es) same))
+
+stays_held : (document : Document) (before after : HostState) (trace : List Entry) (r : ℕ) (other : Wanted) → Apart document → True document before trace after
+    → All (IsWhole document) trace → wanted_at document r ≡ Some other → (IsSetIn trace r → ⊥) → Holds before other → Holds after other
+stays_held document before after [] r other apart told whole asks unset holds = subst (λ h. Holds h other) told holds
+stays_held document before after (e ∷ es) r other apart told whole asks unset holds =
+    let kept : Holds told.0 other = elim (cases_eq (place_of e) r) [
+      | inl same ↦ own_kept document before told.0 e es r other same unset told.1 holds
+      | inr differ ↦ entry_keeps document before told.0 e r other apart asks differ (All-head (IsWhole document) e es whole) told.1 holds
+    ] in
+    stays_held document told.0 after es r other apart told.2 (All-tail (IsWhole document) e es whole) asks
+    (λ (front, answer, rest, is). unset (e ∷ front, answer, rest, ap (λ (l : List Entry). e ∷ l) is)) kept
+
+pub unset_hold : UnsetHold
+unset_hold document before after trace r wanted keeps asks unset holds =
+    stays_held document before after trace r wanted keeps.apart keeps.is_true keeps.whole asks unset holds

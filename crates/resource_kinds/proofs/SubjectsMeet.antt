@@ -18,10 +18,10 @@ use Rattle.resource_kinds.specs.declared.path_order.PathOrder.TheVariants as ord
 use Rattle.resource_kinds.specs.declared.tables.Kind.{Kind}
 use Rattle.resource_kinds.specs.declared.wanted.Wanted.{Wanted}
 use Rattle.resource_kinds.specs.declared.wanted.Wanted.TheVariants.{File, Folder, NoFile, NoFolder}
-use Rattle.resource_kinds.specs.Apart.{Target, Path, Variable, LogEntry}
+use Rattle.resource_kinds.specs.Apart.{IsAround, Matter, MattersMeet, Target, Path, Variable, LogEntry, matter_of}
 use Rattle.resource_kinds.specs.PathOrder.{order_of}
 use Rattle.resource_kinds.specs.Paths.{if_filled, is_parent, joined_path, kept_segments, names_of, path_of, rooted}
-use Rattle.resource_kinds.specs.Subjects.{AsksMeeting, IsAround, Matter, MattersMeet, entry_matter, is_closed, matter_of, matter_at, variable_matter}
+use Rattle.resource_kinds.specs.Subjects.{AsksMeeting, entry_matter, is_closed, matter_at, variable_matter}
 use Rattle.resource_kinds.specs.Tables.{first_wrong, is_absent, is_directory, key_of, kind_of, rows_of, says_yes, text_named}
 use Rattle.resource_kinds.specs.Wanted.{by_key, by_table, contents_of, of_kind, on_path, wanted_of}
 use Rattle.resource_kinds.proofs.PathOrders.{IsOrder, below_bytes, below_chars, is_order, order_above, order_below, order_same}

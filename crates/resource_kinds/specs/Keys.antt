@@ -1,5 +1,5 @@
 -- The places of keys, which are lists of bytes.
-use Rattle.std.specs.Prelude.{◌≡◌, ℕ, List, Option, Some, None}
+use Rattle.std.specs.Prelude.{◌≡◌, ℕ, List, ◌++◌, Option, Some, None}
 use Rattle.std.specs.BTreeMap.{get_by}
 use Rattle.std.specs.Cmp.Lexicographic.{slice_cmp}
 use Rattle.std.specs.Ordering.{nat_cmp}
@@ -18,3 +18,7 @@ pub record Puts (old new : Keys) (key : List ℕ) (place : ℕ) : Type 0 where
 abbrev pub PutsIfAny : Keys → Keys → Option (List ℕ) → ℕ → Type 0
 PutsIfAny old new None place = new ≡ old
 PutsIfAny old new (Some key) place = Puts old new key place
+
+-- some key that begins with this has a place
+abbrev pub AnyBeginsWith : Keys → List ℕ → Type 0
+AnyBeginsWith keys front = (rest : List ℕ) × (place : ℕ) × (place_of keys (front ++ rest) ≡ Some place)

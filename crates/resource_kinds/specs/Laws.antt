@@ -1,5 +1,5 @@
 -- What the Sets of a run leave behind: each makes its resource hold, and what holds of the resources apart from it stays.
-use Rattle.std.specs.Prelude.{◌≡◌, ℕ, ⊤, Bool, true, false, IsTrue, List, [], ◌∷◌, Option, Some, None, All}
+use Rattle.std.specs.Prelude.{◌≡◌, ℕ, ⊤, Bool, true, false, IsTrue, List, [], ◌∷◌, ◌++◌, Option, Some, None, All}
 use Rattle.dsc_outside.specs.Host.{HostState}
 use Rattle.dsc_document.specs.declared.document.Document.{Document}
 use Rattle.resource_kinds.specs.declared.entry.Failure.TheVariants.{HostFailed}
@@ -10,6 +10,7 @@ use Rattle.resource_kinds.specs.declared.entry.Entry.TheVariants.{Tested, Set}
 use Rattle.resource_kinds.specs.declared.wanted.Wanted.{Wanted}
 use Rattle.resource_kinds.specs.declared.wanted.Wanted.TheVariants as wants
 use Rattle.resource_kinds.specs.Apart.{Apart, AreApart, wanted_at}
+use Rattle.resource_kinds.specs.Documents.{Clear}
 use Rattle.resource_kinds.specs.Holds.{ChangedTarget, Holds, applied}
 use Rattle.resource_kinds.specs.Trace.{Succeeded, last_entry, test_is_yes}
 use Rattle.resource_kinds.specs.True.{True}
@@ -34,6 +35,12 @@ abbrev pub FailureKeepsApart : Type 0
 FailureKeepsApart =
     (before after : HostState) (set other : Wanted) → AreApart set other → (AsksFolder set → ⊥) → ChangedTarget set before after
     → Holds before other → Holds after other
+
+-- where resources are apart and nothing is in the way of any, nothing is after the Set of one either
+abbrev pub SetKeepsClear : Type 0
+SetKeepsClear =
+    (host : HostState) (document : Document) (place : ℕ) (set : Wanted) → Apart document → wanted_at document place ≡ Some set
+    → Clear host document → Clear (applied set host) document
 
 -- ---- Sets in turn
 
@@ -96,3 +103,24 @@ abbrev pub SucceededHold : Type 0
 SucceededHold =
     (document : Document) (before after : HostState) (trace : List Entry) (r : ℕ) (wanted : Wanted)
     → KeepsWhole document before trace after → wanted_at document r ≡ Some wanted → Succeeded trace r → Holds after wanted
+
+-- the resource was set
+abbrev pub IsSetIn : List Entry → ℕ → Type 0
+IsSetIn trace r = (front : List Entry) × (answer : SetAnswer) × (rest : List Entry) × (trace ≡ front ++ Set r answer ∷ rest)
+
+-- what held before the run and was not set still holds
+abbrev pub UnsetHold : Type 0
+UnsetHold =
+    (document : Document) (before after : HostState) (trace : List Entry) (r : ℕ) (wanted : Wanted)
+    → KeepsWhole document before trace after → wanted_at document r ≡ Some wanted → (IsSetIn trace r → ⊥) → Holds before wanted → Holds after wanted
+
+-- the entry is no Set that may have broken off
+abbrev pub IsUnbroken : Entry → Type 0
+IsUnbroken (Tested place answer) = ⊤
+IsUnbroken (Set place answer) = MayBreakOff answer → ⊥
+
+-- where no Set broke off, a host that was clear still is
+abbrev pub ClearStays : Type 0
+ClearStays =
+    (document : Document) (before after : HostState) (trace : List Entry)
+    → Apart document → True document before trace after → All IsUnbroken trace → Clear before document → Clear after document

@@ -1,10 +1,13 @@
 pub mod Apart
+pub mod Documents
 pub mod Entries
+pub mod EntrySets
 pub mod Holds
 pub mod Keys
 pub mod Kinds
 pub mod Laws
 pub mod Names
+pub mod OverlapSteps
 pub mod PackageSteps
 pub mod Packages
 pub mod PathOrder

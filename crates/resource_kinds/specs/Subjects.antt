@@ -1,8 +1,7 @@
--- What matters of a resource where it meets others.
-use Rattle.std.specs.Prelude.{◌≡◌, ◌⊎◌, ℕ, Bool, not, ◌||◌, if◌then◌else◌, List, Option, Some, None, encode_utf8_all}
-use Rattle.dsc_outside.specs.Paths.{IsBelow}
+-- What matters of a resource where it meets others, as the code tells it from the texts of the resource.
+use Rattle.std.specs.Prelude.{ℕ, Bool, not, ◌||◌, if◌then◌else◌, List, Option, Some, None, encode_utf8_all}
 use Rattle.mof_values.specs.declared.instance.Instance.{Instance}
-use Rattle.resource_kinds.specs.Apart.{Target, Path, Variable, LogEntry, closed_path, target_of}
+use Rattle.resource_kinds.specs.Apart.{Matter, MattersMeet, Path, Variable, LogEntry, matter_of}
 use Rattle.resource_kinds.specs.PathOrder.{path_left}
 use Rattle.resource_kinds.specs.Tables.{is_absent, is_directory}
 use Rattle.resource_kinds.specs.Wanted.{folded_utf8}
@@ -10,25 +9,6 @@ use Rattle.resource_kinds.specs.declared.path_order.PathRest.{PathRest}
 use Rattle.resource_kinds.specs.declared.subjects.Subject.{Subject}
 use Rattle.resource_kinds.specs.declared.subjects.Subject.TheVariants as subjects
 use Rattle.resource_kinds.specs.declared.wanted.Wanted.{Wanted}
-
--- ---- the code
-
--- what a resource is about, and the path at which it asks for no folder
-pub record Matter : Type 0 where
-  pub target : Target
-  pub closed : Option (List ℕ)
-
-abbrev pub matter_of : Wanted → Matter
-matter_of wanted = record { target = target_of wanted; closed = closed_path wanted }
-
--- the second is about a path below that of the first, at which no folder is asked for
-abbrev pub IsAround : Matter → Matter → Type 0
-IsAround outer inner =
-    (path : List ℕ) × (below : List ℕ) × (outer.closed ≡ Some path) × (inner.target ≡ Path below) × IsBelow path below
-
--- of what is asked for, this is that the two meet
-abbrev pub MattersMeet : Matter → Matter → Type 0
-MattersMeet a b = (a.target ≡ b.target) ⊎ (IsAround a b ⊎ IsAround b a)
 
 -- something is asked for, and it meets
 abbrev pub AsksMeeting : Option Wanted → Matter → Type 0

@@ -53,6 +53,10 @@ succeeded_count document trace = count_by (has_succeeded trace) (places_below (l
 abbrev pub missed_count : Document → List Entry → ℕ
 missed_count document trace = length document.resources - succeeded_count document trace
 
+-- each of them succeeded
+abbrev pub Compliant : Document → List Entry → Type 0
+Compliant document trace = missed_count document trace ≡ 0
+
 abbrev pub EndsWith : List Entry → Entry → Type 0
 EndsWith trace e = (front : List Entry) × (trace ≡ front ++ e ∷ [])
 

@@ -1,8 +1,11 @@
 //! The entries of a variable that is a list of paths: the pieces between its `;`, compared byte by byte.
-ghost use Rattle.std.specs.Prelude.{◌≡◌, ◌↔◌, ◌++◌, ◌∷◌, ◌<◌, IfOk, IsTrue, OnOk, List, Option, Some, ℕ, flat_map, length, map, option_map};
+ghost use Rattle.std.specs.Prelude.{◌≡◌, ◌==◌, ◌||◌, ◌↔◌, ◌++◌, ◌∷◌, ◌<◌, IfOk, IsTrue, OnOk, List, Option, Some, ℕ, flat_map, length, map, not, option_map};
+ghost use Rattle.std.specs.List.{list_all};
 ghost use Rattle.std.specs.Option.{option_copied};
-ghost use Rattle.resource_kinds.specs.Entries.{entries, entries_of, HasEntries, LacksEntries, with_entries, without_entries, is_among, missing_entries, kept_entries, each_once, joined, appended};
+ghost use Rattle.resource_kinds.specs.Entries.{entries, entries_of, HasEntries, LacksEntries, with_entries, without_entries, missing_entries, kept_entries, each_once, joined, appended};
+ghost use Rattle.resource_kinds.specs.EntrySets.{is_in};
 
+use crate::entry_sets::EntrySet;
 use std::alloc::{AllocError, Global};
 
 /// What a Set makes of a variable is what its Test asks for. The call does nothing; its clauses are the laws.
@@ -15,26 +18,28 @@ pub fn entry_laws()
 {}
 
 /// Tells whether the variable is there and has each entry of the value that is not empty.
-pub fn has_entries(old: Option<&[u8]>, value: &[u8]) -> bool
-    ensures { IsTrue result ↔ HasEntries (option_copied old.entry) value.now }
+pub fn has_entries(alloc: Global, old: Option<&[u8]>, value: &[u8]) -> Result<bool, AllocError>
+    ensures { IfOk result (λ has. IsTrue has ↔ HasEntries (option_copied old.entry) value.now) }
 {
     match old {
-        Some(old) => value
-            .split(|b| *b == b';')
-            .all(|entry| entry.is_empty() || has_entry(old, entry)),
-        None => false,
+        Some(old) => {
+            let own = EntrySet::of(alloc, old)?;
+            Ok(all_in(&own, value))
+        }
+        None => Ok(false),
     }
 }
 
 /// Tells whether the variable has no entry of the value but empty ones.
-pub fn lacks_entries(old: Option<&[u8]>, value: &[u8]) -> bool
-    ensures { IsTrue result ↔ LacksEntries (option_copied old.entry) value.now }
+pub fn lacks_entries(alloc: Global, old: Option<&[u8]>, value: &[u8]) -> Result<bool, AllocError>
+    ensures { IfOk result (λ lacks. IsTrue lacks ↔ LacksEntries (option_copied old.entry) value.now) }
 {
     match old {
-        Some(old) => value
-            .split(|b| *b == b';')
-            .all(|entry| entry.is_empty() || !has_entry(old, entry)),
-        None => true,
+        Some(old) => {
+            let own = EntrySet::of(alloc, old)?;
+            Ok(none_in(&own, value))
+        }
+        None => Ok(true),
     }
 }
 
@@ -61,10 +66,22 @@ pub fn without_entries(
     Ok(Some(joined(alloc, kept.as_slice())?))
 }
 
-fn has_entry(value: &[u8], entry: &[u8]) -> bool
-    ensures { result ≡ is_among (entries value.now) entry.now }
+// Tells whether each entry of the value that is not empty is in the set.
+fn all_in(own: &EntrySet, value: &[u8]) -> bool
+    ensures { result ≡ list_all (λ e. (length e == 0) || is_in own.now e) (entries value.now) }
 {
-    value.split(|b| *b == b';').any(|other| entry == other)
+    value
+        .split(|b| *b == b';')
+        .all(|entry| entry.is_empty() || own.has(entry))
+}
+
+// Tells whether no entry of the value that is not empty is in the set.
+fn none_in(own: &EntrySet, value: &[u8]) -> bool
+    ensures { result ≡ list_all (λ e. (length e == 0) || not (is_in own.now e)) (entries value.now) }
+{
+    value
+        .split(|b| *b == b';')
+        .all(|entry| entry.is_empty() || !own.has(entry))
 }
 
 // The wanted entries that are not among the variable's, each once. A variable that is not there lacks them as an empty
@@ -76,10 +93,10 @@ fn missing_entries<'a>(
 ) -> Result<Vec<&'a [u8]>, AllocError>
     ensures { IfOk result (λ v. map (λ e. e.now) v.items ≡ missing_entries (option_copied old.entry) value.now) }
 {
-    let old = old.unwrap_or(&[]);
+    let own = EntrySet::of(alloc, old.unwrap_or(&[]))?;
     let missing: Vec<&[u8]> = value
         .split(|b| *b == b';')
-        .filter(|entry| !entry.is_empty() && !has_entry(old, entry))
+        .filter(|entry| !entry.is_empty() && !own.has(entry))
         .collect(alloc)?;
     each_once(alloc, missing.as_slice())
 }
@@ -88,27 +105,23 @@ fn missing_entries<'a>(
 fn kept_entries<'a>(alloc: Global, old: &'a [u8], value: &[u8]) -> Result<Vec<&'a [u8]>, AllocError>
     ensures { IfOk result (λ v. map (λ e. e.now) v.items ≡ kept_entries old.now value.now) }
 {
+    let unwanted = EntrySet::of(alloc, value)?;
     old.split(|b| *b == b';')
-        .filter(|entry| entry.is_empty() || !has_entry(value, entry))
+        .filter(|entry| entry.is_empty() || !unwanted.has(entry))
         .collect(alloc)
 }
 
 fn each_once<'a>(alloc: Global, entries: &[&'a [u8]]) -> Result<Vec<&'a [u8]>, AllocError>
     ensures { IfOk result (λ v. map (λ e. e.now) v.items ≡ each_once (map (λ e. e.now) entries.now)) }
 {
+    let mut seen = EntrySet::new(alloc);
     let mut once = Vec::new(alloc);
     for entry in entries {
-        if !is_among(once.as_slice(), entry) {
+        if seen.insert(*entry)? {
             once.push(*entry)?;
         }
     }
     Ok(once)
-}
-
-fn is_among(entries: &[&[u8]], entry: &[u8]) -> bool
-    ensures { result ≡ is_among (map (λ e. e.now) entries.now) entry.now }
-{
-    entries.iter().any(|other| entry == *other)
 }
 
 // A value with more entries behind its own; the empty one makes way for them.

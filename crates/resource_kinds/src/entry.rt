@@ -67,13 +67,22 @@ pub enum Entry {
 }
 
 impl Entry {
-    ghost use Rattle.resource_kinds.specs.Trace.{place_of};
+    ghost use Rattle.resource_kinds.specs.Trace.{entry_is_yes, place_of};
 
     pub fn place(&self) -> u32
         ensures { result ≡ place_of self.now }
     {
         match self {
             Entry::Tested { place, .. } | Entry::Set { place, .. } => *place,
+        }
+    }
+    /// Tells whether it is a Test that answered yes.
+    pub fn is_yes(&self) -> bool
+        ensures { result ≡ entry_is_yes self.now }
+    {
+        match self {
+            Entry::Tested { answer, .. } => matches!(answer, TestAnswer::Yes),
+            Entry::Set { .. } => false,
         }
     }
 }

@@ -1,6 +1,6 @@
 //! The places of keys, which are lists of bytes.
-ghost use Rattle.std.specs.Prelude.{◌≡◌, ℕ, List, IfOk, OnOk};
-ghost use Rattle.resource_kinds.specs.Keys.{place_of, Puts};
+ghost use Rattle.std.specs.Prelude.{◌≡◌, ◌↔◌, ℕ, List, IfOk, IsTrue, OnOk};
+ghost use Rattle.resource_kinds.specs.Keys.{AnyBeginsWith, Puts, place_of};
 
 use std::alloc::{AllocError, Global};
 use std::collections::BTreeMap;
@@ -29,10 +29,13 @@ impl Keys {
         Ok(self.by_key.insert(key, place)?)
     }
 
-    /// The place that the key has.
-    pub fn find(&self, key: &[u8]) -> Option<u32>
-        ensures { result ≡ place_of self.now key.now }
+    /// Tells whether some key that begins with this has a place.
+    pub fn any_begins_with(&self, front: &Vec<u8>) -> bool
+        ensures { IsTrue result ↔ AnyBeginsWith self.now front.now.items }
     {
-        self.by_key.get(key).copied()
+        match self.by_key.range(front..).next() {
+            Some((key, _)) => key.as_slice().starts_with(front.as_slice()),
+            None => false,
+        }
     }
 }

@@ -8,6 +8,7 @@
 
 mod entries;
 mod entry;
+mod entry_sets;
 mod keeping;
 mod keys;
 mod kinds;

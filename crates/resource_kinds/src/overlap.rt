@@ -1,9 +1,9 @@
 //! Resources of one document that are about the same thing.
 ghost use Rattle.std.specs.Prelude.{◌≡◌, ◌<◌, ◌^◌, ◌↔◌, IfOk, OnOk, IsTrue, length, map, ◌∷◌, option_and_then, true, false};
-ghost use Rattle.std.specs.Option.{option_copied};
 ghost use Rattle.std.specs.Result.{result_ok};
-ghost use Rattle.resource_kinds.specs.Apart.{Apart, ArePlaces, IsClosed, IsClosedKey, IsInside, IsInsideIfAny, MeetsEarlier, Overlap, closed_path, entry_key, key_if_any, key_of, target_of};
+ghost use Rattle.resource_kinds.specs.Apart.{Apart, MeetsEarlier, Overlap, closed_path, target_of};
 ghost use Rattle.resource_kinds.specs.Keys.{PutsIfAny, place_of};
+ghost use Rattle.resource_kinds.specs.OverlapSteps.{HasBelow, HasBelowIfAny, HasInside, entry_key, key_if_any, key_of};
 ghost use Rattle.resource_kinds.specs.Wanted.{wanted_of};
 
 use crate::keys::Keys;
@@ -16,7 +16,8 @@ use std::alloc::{AllocError, Global};
 /// Tells whether two resources without a fault meet: they are about one path, one variable or one entry of the log, or
 /// the path of one lies below that of the other, and the other does not ask for a folder there.
 ///
-/// What each is about is kept by a key and looked up once, and so is each path above.
+/// What each is about is kept by a key, once. Keys of paths below a path follow each other in the order of keys, so one
+/// look-up finds whether there are any.
 pub fn overlaps(alloc: Global, document: &Document) -> Result<bool, AllocError>
     requires few { length document.now.resources < 2 ^ 32 }
     ensures apart { IfOk result (λ yes. yes ≡ false → Apart document.now) }
@@ -29,8 +30,8 @@ pub fn overlaps(alloc: Global, document: &Document) -> Result<bool, AllocError>
             return Ok(true);
         }
     }
-    for inner in 0..all.len() {
-        if is_inside(alloc, &all, &keys, &all[inner])? {
+    for outer in 0..all.len() {
+        if has_inside(alloc, &keys, &all[outer])? {
             return Ok(true);
         }
     }
@@ -42,9 +43,8 @@ pub fn apart(document: &Document) -> bool
     ensures apart { result ≡ true → Apart document.now }
     ensures overlap { result ≡ false → Overlap document.now }
 {
-    let resources = document.resources.as_slice();
-    for second in 0..resources.len() {
-        if meets_earlier(resources, second) {
+    for second in 0..document.resources.as_slice().len() {
+        if meets_earlier(document, second) {
             return false;
         }
     }
@@ -52,10 +52,11 @@ pub fn apart(document: &Document) -> bool
 }
 
 // Tells whether the resource at that place meets one before it.
-fn meets_earlier(resources: &[Resource], second: usize) -> bool
-    requires { second < length resources.now }
-    ensures { IsTrue result ↔ MeetsEarlier resources.now second }
+fn meets_earlier(document: &Document, second: usize) -> bool
+    requires { second < length document.now.resources }
+    ensures { IsTrue result ↔ MeetsEarlier document.now second }
 {
+    let resources = document.resources.as_slice();
     let Some(subject) = subject_of(&resources[second]) else {
         return false;
     };
@@ -104,55 +105,38 @@ fn put_key(
     }
 }
 
-// Tells whether what is asked for is about a path below one at which no folder is asked for.
-fn is_inside(
-    alloc: Global,
-    all: &[Option<Wanted>],
-    keys: &Keys,
-    wanted: &Option<Wanted>,
-) -> Result<bool, AllocError>
-    requires { ArePlaces all.now keys.now }
-    ensures { IfOk result (λ inside. IsTrue inside ↔ IsInsideIfAny all.now keys.now (key_if_any wanted.now)) }
+// Tells whether something has a place that is about a path below this one's, where no folder is asked for.
+fn has_inside(alloc: Global, keys: &Keys, wanted: &Option<Wanted>) -> Result<bool, AllocError>
+    ensures { IfOk result (λ inside. IsTrue inside ↔ HasInside keys.now wanted.now) }
 {
     match wanted {
-        Some(wanted) => {
-            let key = key_of(alloc, wanted)?;
-            Ok(key_is_inside(all, keys, &key))
-        }
+        Some(wanted) => encloses_one(alloc, keys, wanted),
         None => Ok(false),
     }
 }
 
-fn key_is_inside(all: &[Option<Wanted>], keys: &Keys, key: &[u8]) -> bool
-    requires { ArePlaces all.now keys.now }
-    ensures { IsTrue result ↔ IsInside all.now keys.now key.now }
-{
-    for at in 0..key.len() {
-        if key[at] == b'/' && is_closed_key(all, keys, &key[..at]) {
-            return true;
-        }
-    }
-    false
-}
-
-// Tells whether the key is that of a path at which no folder is asked for.
-fn is_closed_key(all: &[Option<Wanted>], keys: &Keys, key: &[u8]) -> bool
-    requires { ArePlaces all.now keys.now }
-    ensures { IsTrue result ↔ IsClosedKey all.now keys.now key.now }
-{
-    match keys.find(key) {
-        Some(place) => is_closed(&all[place as usize]),
-        None => false,
-    }
-}
-
-fn is_closed(wanted: &Option<Wanted>) -> bool
-    ensures { IsTrue result ↔ IsClosed wanted.now }
+fn encloses_one(alloc: Global, keys: &Keys, wanted: &Wanted) -> Result<bool, AllocError>
+    ensures { IfOk result (λ inside. IsTrue inside ↔ HasBelowIfAny keys.now (closed_path wanted.now)) }
 {
     match wanted {
-        Some(Wanted::File { .. } | Wanted::NoFile { .. } | Wanted::NoFolder { .. }) => true,
-        _ => false,
+        Wanted::File { path, .. } => has_below(alloc, keys, path),
+        Wanted::NoFile { path } => has_below(alloc, keys, path),
+        Wanted::NoFolder { path, .. } => has_below(alloc, keys, path),
+        Wanted::Folder { .. }
+        | Wanted::Variable { .. }
+        | Wanted::Entries { .. }
+        | Wanted::NoVariable { .. }
+        | Wanted::NoEntries { .. }
+        | Wanted::Logged { .. } => Ok(false),
     }
+}
+
+fn has_below(alloc: Global, keys: &Keys, path: &Utf8) -> Result<bool, AllocError>
+    ensures { IfOk result (λ below. IsTrue below ↔ HasBelow keys.now path.now) }
+{
+    let mut front = with_sort(alloc, 0, path)?;
+    front.push(b'/')?;
+    Ok(keys.any_begins_with(&front))
 }
 
 // The key of what is asked for: a byte for its sort, and what it is about. Of an entry of the log the bytes of the id

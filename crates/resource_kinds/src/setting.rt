@@ -37,7 +37,8 @@ pub fn set<H: Host>(alloc: Global, host: &mut H, resource: &Resource) -> SetAnsw
     }
 }
 
-fn set_wanted<H: Host>(alloc: Global, host: &mut H, id: &Text, wanted: &Wanted) -> SetAnswer
+/// The same of what is asked for.
+pub fn set_wanted<H: Host>(alloc: Global, host: &mut H, id: &Text, wanted: &Wanted) -> SetAnswer
     ensures told { TellsStep (H.told host.old) (H.told host.new) (λ before after. SetsKnown before id.now wanted.now result after) }
     ensures table { BlamesMachine wanted.now result }
     ensures later { H.faults host.old ≤ H.faults host.new }

@@ -2,7 +2,8 @@
 ghost use Rattle.std.specs.Prelude.{◌≡◌, ◌↔◌, IfOk, IsTrue, None, Some, option_map};
 ghost use Rattle.std.specs.Result.{is_err, result_ok};
 ghost use Rattle.resource_kinds.specs.Paths.{path_of};
-ghost use Rattle.resource_kinds.specs.Subjects.{AsksMeeting, MattersMeet, entry_matter, is_closed, matter_of, path_matter, subject_matter, variable_matter};
+ghost use Rattle.resource_kinds.specs.Apart.{MattersMeet, matter_of};
+ghost use Rattle.resource_kinds.specs.Subjects.{AsksMeeting, entry_matter, is_closed, path_matter, subject_matter, variable_matter};
 ghost use Rattle.resource_kinds.specs.Tables.{key_of, text_named};
 ghost use Rattle.resource_kinds.specs.Wanted.{by_key, by_table, on_path, wanted_of};
 

@@ -35,7 +35,8 @@ pub fn test<H: Host>(alloc: Global, host: &mut H, resource: &Resource) -> TestAn
     }
 }
 
-fn test_wanted<H: Host>(alloc: Global, host: &mut H, wanted: &Wanted) -> TestAnswer
+/// The same of what is asked for.
+pub fn test_wanted<H: Host>(alloc: Global, host: &mut H, wanted: &Wanted) -> TestAnswer
     ensures told { H.told host.new ≡ H.told host.old }
     ensures answer { IfSome (H.told host.old) (λ state. AnswersKnown state wanted.now result) }
     ensures table { BlamesHost result }
@@ -146,7 +147,7 @@ fn has_all<H: Host>(
     ensures cause { HasCauseOf HostError.Failed (H.faults host.old) (H.faults host.new) result }
 {
     match variable(alloc, host, name)? {
-        Some(found) => Ok(has_entries(Some(found.as_slice()), value.as_bytes())),
+        Some(found) => Ok(has_entries(alloc, Some(found.as_slice()), value.as_bytes())?),
         None => Ok(false),
     }
 }
@@ -173,8 +174,8 @@ fn has_none<H: Host>(
     ensures cause { HasCauseOf HostError.Failed (H.faults host.old) (H.faults host.new) result }
 {
     match variable(alloc, host, name)? {
-        Some(found) => Ok(lacks_entries(Some(found.as_slice()), value.as_bytes())),
-        None => Ok(lacks_entries(None, value.as_bytes())),
+        Some(found) => Ok(lacks_entries(alloc, Some(found.as_slice()), value.as_bytes())?),
+        None => Ok(lacks_entries(alloc, None, value.as_bytes())?),
     }
 }
 

@@ -1,208 +1,122 @@
-mod entries;
+//! What Sets make of a machine, failing calls, and sizes. What a Test answers where no call fails, and which resources overlap, the
+//! program itself shows.
 mod machines;
-mod paths;
-mod setting;
-mod testing;
+mod rows;
+mod wants;
 
-use super::*;
-use dsc_document::{Document, Resource};
-use mof_values::{Ident, Instance, Items, Property, Scalar, Text, Value};
-use std::process::Abort;
+use crate::entry::{Failure, SetAnswer, TestAnswer};
+use crate::setting::set_wanted;
+use crate::testing::test_wanted;
+use dsc_outside::MemoryHost;
+use machines::{hold_the_same, host, machine};
+use mof_values::Text;
+use rows::{SETS, SetRow, TESTS, TestRow};
 use std::test::Fail;
+use wants::wanted;
 
-// `|` stands for `;`
-fn text(rt: &impl AllocGlobal, chars: &str) -> Result<Text, Fail> {
-    let mut made = Vec::new(rt.alloc());
-    for c in chars.chars() {
-        made.push(if c == '|' { ';' } else { c })?;
+fn test_word(answer: TestAnswer) -> &'static str {
+    match answer {
+        TestAnswer::Yes => "yes",
+        TestAnswer::No => "no",
+        TestAnswer::Fault(failure) => failure.name(),
+        TestAnswer::Memory => "memory",
     }
-    Ok(Text::of(made))
 }
 
-fn ident(rt: &impl AllocGlobal, chars: &str) -> Result<Ident, Fail> {
-    Ok(Ident::make(rt.alloc(), &text(rt, chars)?)?)
-}
-
-// `null`, `7`, `true`, `false`, `$` and an alias, or else a text
-fn scalar(rt: &impl AllocGlobal, word: &str) -> Result<Scalar, Fail> {
-    if let Some(alias) = word.strip_prefix('$') {
-        return Ok(Scalar::Alias(ident(rt, alias)?));
+fn set_word(answer: SetAnswer) -> &'static str {
+    match answer {
+        SetAnswer::Done => "done",
+        SetAnswer::Reboot => "reboot",
+        SetAnswer::Fault(failure) => failure.name(),
+        SetAnswer::Memory => "memory",
     }
-    Ok(match word {
-        "null" => Scalar::Null,
-        "7" => Scalar::Integer(7),
-        "true" => Scalar::Bool(true),
-        "false" => Scalar::Bool(false),
-        _ => Scalar::Text(text(rt, word)?),
-    })
 }
 
-// a scalar, or one in braces
-fn value(rt: &impl AllocGlobal, word: &str) -> Result<Value, Fail> {
-    let Some(one) = word.strip_prefix('{') else {
-        return Ok(Value::One(scalar(rt, word)?));
-    };
-    let mut made = Vec::new(rt.alloc());
-    made.push(scalar(rt, one.trim_end_matches('}'))?)?;
-    Ok(Value::Many(Items::of(made)))
+// Tests what the words ask for.
+fn test_on(
+    rt: &impl AllocGlobal,
+    words: &str,
+    host: &mut MemoryHost,
+) -> Result<&'static str, Fail> {
+    let asked = wanted(rt, words)?;
+    Ok(test_word(test_wanted(rt.alloc(), host, &asked)))
 }
 
-// `File`, `Environment` and `Log` stand for the classes of the kinds
-fn class(rt: &impl AllocGlobal, word: &str) -> Result<Ident, Fail> {
-    ident(
-        rt,
-        match word {
-            "File" => "MSFT_FileDirectoryConfiguration",
-            "Environment" => "MSFT_EnvironmentResource",
-            "Log" => "MSFT_LogResource",
-            _ => word,
-        },
-    )
+// Sets what the words ask for, of the resource `[A]One`.
+fn set_on(rt: &impl AllocGlobal, words: &str, host: &mut MemoryHost) -> Result<&'static str, Fail> {
+    let asked = wanted(rt, words)?;
+    let id = Text::of("[A]One".chars().collect(rt.alloc())?);
+    Ok(set_word(set_wanted(rt.alloc(), host, &id, &asked)))
 }
 
-// `Class Name=value Name=value`
-fn instance(rt: &impl AllocGlobal, declaration: &str) -> Result<Instance, Fail> {
-    let mut words = declaration.split_whitespace();
-    let class = class(rt, words.next().unwrap_or(""))?;
-    let mut properties = Vec::new(rt.alloc());
-    for word in words {
-        let (name, given) = word.split_once('=').unwrap_or((word, ""));
-        properties.push(Property {
-            name: ident(rt, name)?,
-            value: value(rt, given)?,
-        })?;
+fn check_test(rt: &impl AllocGlobal, row: &TestRow) -> Result<(), Fail> {
+    let (words, before, failing, answer) = *row;
+    let mut host = host(rt, before, failing)?;
+    if test_on(rt, words, &mut host)? != answer {
+        return Err(words.into());
     }
-    Ok(Instance {
-        class,
-        alias: None,
-        properties: Items::of(properties),
-    })
+    Ok(())
 }
 
-// `[B]Two Class Name=value`; without an id in front it is `[A]One`
-fn resource(rt: &impl AllocGlobal, declaration: &str) -> Result<Resource, Fail> {
-    let declared = declaration.trim();
-    let (id, instance_words) = match declared.split_once(' ') {
-        Some((id, rest)) if id.starts_with('[') => (id, rest),
-        _ => ("[A]One", declared),
-    };
-    Ok(Resource {
-        id: text(rt, id)?,
-        part: 0,
-        index: 0,
-        instance: instance(rt, instance_words)?,
-        depends: Items::of(Vec::new(rt.alloc())),
-    })
-}
-
-// resources with semicolons between
-fn document(rt: &impl AllocGlobal, declarations: &str) -> Result<Document, Fail> {
-    let mut resources = Vec::new(rt.alloc());
-    for declaration in declarations.split(';') {
-        resources.push(resource(rt, declaration)?)?;
+fn check_set(rt: &impl AllocGlobal, row: &SetRow) -> Result<(), Fail> {
+    let (words, before, failing, answer, after) = *row;
+    let mut host = host(rt, before, failing)?;
+    if set_on(rt, words, &mut host)? != answer {
+        return Err(words.into());
     }
-    Ok(Document {
-        version: text(rt, "1.0.0")?,
-        resources: Items::of(resources),
-        others: Items::of(Vec::new(rt.alloc())),
-        parts: Items::of(Vec::new(rt.alloc())),
-    })
+    let wanted = machine(rt, after)?;
+    if !hold_the_same(host.contents(), &wanted) {
+        return Err(words.into());
+    }
+    Ok(())
 }
 
-// the fault, with the property that it names
-fn shown_fault(rt: &impl AllocGlobal, failure: &Failure) -> Result<String, Fail> {
-    let mut made = String::new(rt.alloc());
-    made.push_str(failure.name())?;
-    if let Failure::OutOfProfile(name) = failure {
-        made.push(' ')?;
-        made.extend(name.as_slice().iter().copied())?;
+#[test]
+fn a_failing_look_is_the_hosts_fault(rt: HostRuntime) -> Result<(), Fail> {
+    for row in TESTS {
+        check_test(&rt, row)?;
+    }
+    Ok(())
+}
+
+#[test]
+fn a_set_makes_what_is_asked_for_or_tells_why_not(rt: HostRuntime) -> Result<(), Fail> {
+    for row in SETS {
+        check_set(&rt, row)?;
+    }
+    Ok(())
+}
+
+// The word, and so many pieces with this between.
+fn sized(rt: &impl AllocGlobal, word: &str, between: char, count: usize) -> Result<String, Fail> {
+    let mut made = format!(in rt.alloc(); "{word} p")?;
+    for piece in 0..count {
+        write!(made, "{between}{piece}")?;
     }
     Ok(made)
 }
 
-fn shown_test(rt: &impl AllocGlobal, answer: &TestAnswer) -> Result<String, Fail> {
-    Ok(match answer {
-        TestAnswer::Yes => String::from_str(rt.alloc(), "yes")?,
-        TestAnswer::No => String::from_str(rt.alloc(), "no")?,
-        TestAnswer::Memory => String::from_str(rt.alloc(), "memory")?,
-        TestAnswer::Fault(failure) => shown_fault(rt, failure)?,
-    })
-}
-
-fn shown_set(rt: &impl AllocGlobal, answer: &SetAnswer) -> Result<String, Fail> {
-    Ok(match answer {
-        SetAnswer::Done => String::from_str(rt.alloc(), "done")?,
-        SetAnswer::Reboot => String::from_str(rt.alloc(), "reboot")?,
-        SetAnswer::Memory => String::from_str(rt.alloc(), "memory")?,
-        SetAnswer::Fault(failure) => shown_fault(rt, failure)?,
-    })
+fn check_size(rt: &impl AllocGlobal, word: &str, between: char, count: usize) -> Result<(), Fail> {
+    let words = sized(rt, word, between, count)?;
+    let mut host = host(rt, "$p=0|1|x", &[])?;
+    if set_on(rt, words.as_str(), &mut host)? != "done" {
+        return Err("a Set of that size is not done".into());
+    }
+    if test_on(rt, words.as_str(), &mut host)? != "yes" {
+        return Err("what was set does not hold".into());
+    }
+    Ok(())
 }
 
 #[test]
-fn resources_about_one_thing_overlap(rt: HostRuntime) -> Result<(), Fail> {
-    for (declarations, wanted) in [
-        ("Environment Name=A", false),
-        ("Environment Name=A; Environment Name=B", false),
-        (
-            "Environment Name=A; Environment Name=B; environment Name=a",
-            false,
-        ),
-        (
-            "Environment Name=A; Environment Name=B; Environment name=a Value=v",
-            true,
-        ),
-        ("Environment Name=A; Environment Name=A Colour=red", false),
-        ("Environment Name=A; Log Message=A", false),
-        ("Environment Value=v; Environment Value=v", false),
-        (
-            "Environment Name=A Path=true; Environment Name=a Ensure=Absent",
-            true,
-        ),
-        ("Log Message=m; Log Message=m", true),
-        ("Log Message=m; Log Message=M", false),
-        ("[A]One Log Message=m; [A]Two Log Message=m", false),
-        ("[A]One Log Message=m; [a]ONE Log Message=m", true),
-        (
-            "File DestinationPath=/a/b; File DestinationPath=\\a\\.\\b",
-            false,
-        ),
-        (
-            "File DestinationPath=/a/b; File DestinationPath=/a\\.\\b",
-            true,
-        ),
-        ("File DestinationPath=/a; File DestinationPath=/A", false),
-        ("File DestinationPath=/a; File DestinationPath=/a/b", true),
-        ("File DestinationPath=/a/b/c; File DestinationPath=/a", true),
-        ("File DestinationPath=/a; File DestinationPath=/ab", false),
-        (
-            "File DestinationPath=/./C//a; File DestinationPath=c:\\a\\.",
-            true,
-        ),
-        ("File DestinationPath=c:; File DestinationPath=/C/a", true),
-        ("File DestinationPath=/c; File DestinationPath=c:/a", false),
-        ("File DestinationPath=/a/..; File DestinationPath=/a", false),
-        ("File DestinationPath=/a; File DestinationPath=/a/..", false),
-        (
-            "File DestinationPath=/a; Environment Name=A; File DestinationPath=/a/b Ensure=Absent",
-            true,
-        ),
-        (
-            "File DestinationPath=/a Type=Directory; File DestinationPath=/a/b",
-            false,
-        ),
-        (
-            "File DestinationPath=/a/b; File DestinationPath=/a Type=Directory",
-            false,
-        ),
-        (
-            "File DestinationPath=/a Type=Directory Ensure=Absent; File DestinationPath=/a/b",
-            true,
-        ),
-    ] {
-        let document = document(&rt, declarations)?;
-        assert!(rt; document.resources.as_slice().len() < 4);
-        assert_eq!(rt; overlaps(rt.alloc(), &document)?, wanted, "{declarations}");
-        assert!(rt; apart(&document) != wanted, "{declarations}");
+fn with_ample_memory_no_size_wants_for_it(rt: HostRuntime) -> Result<(), Fail> {
+    for count in [0, 1, 2, 7, 63, 64, 65, 4096] {
+        check_size(&rt, "folder", '/', count)?;
+        check_size(&rt, "file", '/', count)?;
+        check_size(&rt, "entries p", '|', count)?;
+        check_size(&rt, "no-entries p", '|', count)?;
+        check_size(&rt, "variable p", '|', count)?;
+        check_size(&rt, "entry p", '|', count)?;
     }
     Ok(())
 }

@@ -1,6 +1,6 @@
 //! Machines written as words: `p/` is a folder, `p:hi` a file, `p?` something else at a path; `$name=value` a variable,
 //! `#id=message` an entry of the log, `!id` a wish for a reboot. `|` stands for `;`.
-use dsc_outside::{HostContents, LogEntry, PathEntry, Standing, Variable};
+use dsc_outside::{HostContents, LogEntry, MemoryHost, PathEntry, Standing, Variable};
 use mof_values::Bytes;
 use std::test::Fail;
 
@@ -64,6 +64,12 @@ pub fn machine(rt: &impl AllocGlobal, words: &str) -> Result<HostContents, Fail>
         put_word(rt, word, &mut made)?;
     }
     Ok(made)
+}
+
+/// The host that is this machine, of which these calls fail.
+pub fn host(rt: &impl AllocGlobal, words: &str, failing: &[u64]) -> Result<MemoryHost, Fail> {
+    let failing = failing.to_vec(rt.alloc())?;
+    Ok(MemoryHost::of(machine(rt, words)?, failing, None))
 }
 
 fn stands_in(entry: &PathEntry, others: &[PathEntry]) -> bool {

@@ -1,13 +1,10 @@
-use Rattle.std.proofs.Common.{rules, tests, ◌==◌, ◌||◌, not, length}
-use Rattle.std.proofs.lemmas.Iterator.Search.{all_from_yields_List}
-use Rattle.std.proofs.lemmas.Iterator.Splits.{YieldsList-from_slice_split}
-use Rattle.resource_kinds.specs.Entries.{entries, is_among}
+use Rattle.std.proofs.Common.{◌==◌, ◌||◌, ◌∙◌, not, length}
+use Rattle.std.specs.List.{list_all}
+use Rattle.resource_kinds.specs.Entries.{entries}
 use Rattle.resource_kinds.proofs.EntryLists.{tells_lacks}
 use Rattle.resource_kinds.proofs.entries.lacks_entries.Goals as goal
 
-pub returns-in-Some : goal.returns-in-Some
-returns-in-Some c =
-    rw c.in-Some.is (tells_lacks c.all.result c.in-Some.old.now c.args.value.now
-    (all_from_yields_List (λ e. (length e == 0) || not (is_among (entries c.in-Some.old.now) e)) _ _ _ c.all.ensures.ran
-    (YieldsList-from_slice_split _ (λ b. b == 59) c.args.value.now c.split.ensures.rest c.split.ensures.done c.split.ensures.closure (λ x b q k. search (rules, tests)))
-    (λ x b q k. search (rules, tests))))
+pub returns-in_ok-own-in-Some : goal.returns-in_ok-own-in-Some
+returns-in_ok-own-in-Some c =
+    rw c.in-Some.is (tells_lacks c.none_in.result c.in-Some.old.now c.args.value.now
+    (c.none_in.ensures ∙ (λ i. list_all (λ e. (length e == 0) || not (c.in_ok-own-in-Some.ensures e i)) (entries c.args.value.now))))

@@ -1,4 +1,5 @@
-use Rattle.resource_kinds.proofs.RunLaws.{succeeded, together}
+use Rattle.resource_kinds.proofs.ClearHosts.{clear_stays, keeps_clear}
+use Rattle.resource_kinds.proofs.RunLaws.{succeeded, together, unset_hold}
 use Rattle.resource_kinds.proofs.SetLaws.{failure_keeps, in_turn, keeps_apart, makes_hold}
 use Rattle.resource_kinds.proofs.laws.set_laws.Goals as goal
 
@@ -12,4 +13,7 @@ returns c =
       in_turn = in_turn;
       together = together makes;
       succeeded = succeeded makes;
+      unset = unset_hold;
+      keeps_clear = keeps_clear;
+      clear_stays = clear_stays;
     }

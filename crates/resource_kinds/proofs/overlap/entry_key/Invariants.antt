@@ -1,5 +1,5 @@
 use Rattle.std.proofs.Common.{◌≡◌, ◌∷◌, ◌++◌, drop}
-use Rattle.resource_kinds.specs.Apart.{entry_key}
+use Rattle.resource_kinds.specs.OverlapSteps.{entry_key}
 use Rattle.resource_kinds.proofs.overlap.entry_key.Given as goal
 
 -- the key so far, and what comes of the bytes that are left

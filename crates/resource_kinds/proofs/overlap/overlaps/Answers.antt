@@ -1,6 +1,5 @@
-use Rattle.std.proofs.Common.{◌∙◌, ap, sym, map, subst, arith}
+use Rattle.std.proofs.Common.{◌∙◌, ap, sym, map, arith}
 use Rattle.std.specs.Result.{result_ok}
-use Rattle.resource_kinds.specs.Apart.{IsInsideIfAny, key_if_any}
 use Rattle.resource_kinds.specs.Wanted.{wanted_of}
 use Rattle.resource_kinds.proofs.Meets.{all_apart, at_index, indexed_put, inside_meets, met, none_had}
 use Rattle.resource_kinds.proofs.overlap.overlaps.Goals as goal
@@ -20,12 +19,12 @@ loop-place-preserved c =
 pub returns-then-branch-clause-overlap : goal.returns-then-branch-clause-overlap
 returns-then-branch-clause-overlap c = λ _.
     inside_meets c.args.document.now c.in_ok-all.all.items (c.in_ok-all.ensures ∙ ap (map (λ r. result_ok (wanted_of r))) c.as_slice.ensures) c.loop-place.place c.loop-place.keys c.loop-place.invariant
-    c.loop-inner.inner c.index-in-loop-inner.result.now
-    (at_index c.in_ok-all.all.items c.loop-inner.inner c.len-inner-end.result c.index-in-loop-inner.result.now c.loop-inner-test.true (omega (arith, c.len-inner-end.ensures)) c.index-in-loop-inner.ensures)
-    (subst (λ xs. IsInsideIfAny xs c.loop-place.keys (key_if_any c.index-in-loop-inner.result.now)) c.deref.ensures.value (c.in_ok-is_inside.ensures.0 c.if-branch.true))
+    c.loop-outer.outer c.index-in-loop-outer.result.now
+    (at_index c.in_ok-all.all.items c.loop-outer.outer c.len-outer-end.result c.index-in-loop-outer.result.now c.loop-outer-test.true (omega (arith, c.len-outer-end.ensures)) c.index-in-loop-outer.ensures)
+    (c.in_ok-has_inside.ensures.0 c.if-branch.true)
 
 pub returns-clause-apart : goal.returns-clause-apart
 returns-clause-apart c = λ _.
     all_apart c.args.document.now c.in_ok-all.all.items (c.in_ok-all.ensures ∙ ap (map (λ r. result_ok (wanted_of r))) c.as_slice.ensures) c.loop-place.keys c.loop-place.place
     (omega (arith, c.loop-place-test.false, c.len-place-end.ensures)) c.loop-place.invariant
-    (λ k below. c.loop-inner.invariant k (omega (arith, below, c.loop-place.auto.place-end, c.loop-inner-test.false, c.len-place-end.ensures, c.len-inner-end.ensures)))
+    (λ k below. c.loop-outer.invariant k (omega (arith, below, c.loop-place.auto.place-end, c.loop-outer-test.false, c.len-place-end.ensures, c.len-outer-end.ensures)))

@@ -1,5 +1,5 @@
 use Rattle.std.proofs.Common.{ℕ, ◌<◌, get_or, None}
-use Rattle.resource_kinds.specs.Apart.{IsInsideIfAny, key_if_any}
+use Rattle.resource_kinds.specs.OverlapSteps.{HasInside}
 use Rattle.resource_kinds.proofs.Meets.{Indexed}
 use Rattle.resource_kinds.proofs.overlap.overlaps.Given as goal
 
@@ -7,6 +7,6 @@ use Rattle.resource_kinds.proofs.overlap.overlaps.Given as goal
 abbrev pub invariant-loop-place : goal.invariant-loop-place
 invariant-loop-place l = Indexed l.all.items l.place l.keys
 
--- none of the resources so far is inside another
-abbrev pub invariant-loop-inner : goal.invariant-loop-inner
-invariant-loop-inner l = (k : ℕ) → k < l.inner → IsInsideIfAny l.all.items l.keys (key_if_any (get_or l.all.items k None)) → ⊥
+-- none of the resources so far has another inside it
+abbrev pub invariant-loop-outer : goal.invariant-loop-outer
+invariant-loop-outer l = (k : ℕ) → k < l.outer → HasInside l.keys (get_or l.all.items k None) → ⊥
