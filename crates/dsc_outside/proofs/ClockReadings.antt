@@ -1,10 +1,10 @@
 -- What a clock in memory gives.
-use Rattle.std.proofs.Common.{◌≡◌, ℕ, List, [], ◌∷◌, Bool, true, false, Option, Some, None, Result, Ok, Err, drop, refl, sym, ◌∙◌, ap, subst, if◌then◌else◌}
+use Rattle.std.proofs.Common.{◌≡◌, ℕ, List, [], ◌∷◌, Bool, true, false, Option, Some, None, Result, drop, refl, sym, ◌∙◌, ap, if◌then◌else◌}
 use Rattle.std.specs.Result.{result_ok}
 use Rattle.dsc_outside.specs.Causes.{one_more}
 use Rattle.dsc_outside.specs.Clock.{TakesReading}
 use Rattle.dsc_outside.specs.Memory.{CallCount, is_to_fail}
-use Rattle.dsc_outside.specs.MemoryClock.{ClockInMemory, coming, first_reading, given}
+use Rattle.dsc_outside.specs.MemoryClock.{coming, first_reading, given}
 
 -- how often calls have failed is of no account
 coming_recounted : (calls : CallCount) (faults : ℕ) (readings : List (Option ℕ)) → coming (record calls { faults = faults }) readings ≡ coming calls readings

@@ -1,11 +1,11 @@
 -- What the calls of a disk in memory make of it.
-use Rattle.std.proofs.Common.{◌≡◌, ◌⊎◌, inl, inr, ⊎_elim, ℕ, ◌+◌, ◌<◌, ◌≤◌, List, [], ◌∷◌, ◌++◌, Bool, true, false, Some, Result, Ok, Err, is_ok, IfOk, IsOk, OnErr, OnOk, length, take, drop, refl, sym, ◌∙◌, ap, subst, arith, length-append}
+use Rattle.std.proofs.Common.{◌≡◌, ◌⊎◌, inl, inr, ⊎_elim, ℕ, ◌+◌, ◌<◌, ◌≤◌, List, [], ◌∷◌, ◌++◌, Bool, true, false, Some, Result, Ok, Err, is_ok, IfOk, IsOk, OnErr, OnOk, length, take, refl, sym, ◌∙◌, ap, subst, arith, length-append}
 use Rattle.std.proofs.lemmas.List.{take_all, take-append-le}
 use Rattle.std.proofs.lemmas.Bool.{cases_lt}
 use Rattle.dsc_terms.specs.Counts.{Rose}
 use Rattle.dsc_outside.specs.Disk.{Cut, Elapses, Follows, Only, Torn, Within, written}
-use Rattle.dsc_outside.specs.Images.{DiskState, IsHonest, IsImage, after_cut, after_sync, after_write, settled}
-use Rattle.dsc_outside.specs.MemoryDisk.{DiskInMemory, Goes, Keeps, Looks, after_begun, after_done, after_outcome, bytes_after, held_by, images_of, left_at, recorded, Settles, state_after, state_of, unrecorded}
+use Rattle.dsc_outside.specs.Images.{DiskState, IsHonest, IsImage, after_cut, after_write, settled}
+use Rattle.dsc_outside.specs.MemoryDisk.{DiskInMemory, Goes, Keeps, Looks, after_begun, after_done, after_outcome, bytes_after, held_by, images_of, left_at, recorded, Settles, state_after, state_of}
 use Rattle.dsc_outside.specs.declared.memory.disk_calls.CallOutcome.{CallOutcome}
 use Rattle.dsc_outside.specs.declared.memory.disk_calls.CallOutcome.TheVariants as outcomes
 use Rattle.dsc_outside.specs.declared.memory.disk_calls.DiskCall.{DiskCall}

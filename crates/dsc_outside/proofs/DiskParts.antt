@@ -1,8 +1,8 @@
 -- What a stop leaves of a disk in memory.
-use Rattle.std.proofs.Common.{◌≡◌, ◌⊎◌, inl, inr, ⊎_elim, ℕ, ◌+◌, ◌-◌, ◌<◌, ◌≤◌, min, List, [], ◌∷◌, ◌++◌, Bool, true, false, length, take, drop, replicate, get_or, refl, sym, ◌∙◌, ap, subst, arith, length-append, length-take, length-drop}
+use Rattle.std.proofs.Common.{◌≡◌, ◌⊎◌, inl, inr, ℕ, ◌+◌, ◌-◌, ◌<◌, ◌≤◌, min, List, [], ◌∷◌, ◌++◌, true, false, length, take, drop, replicate, get_or, refl, sym, ◌∙◌, ap, arith, length-append, length-take, length-drop}
 use Rattle.std.proofs.lemmas.List.{get_or-take, get_or-drop, get_or-append_right, get_or_append_left, length-replicate, take_more}
 use Rattle.dsc_outside.specs.Images.{DiskState, IsHonest, IsImage, IsOutside, after_sync}
-use Rattle.dsc_outside.specs.MemoryDisk.{DiskInMemory, after_begun, after_done, after_outcome, filled, is_done_sync, left_by, part_left, range_filled, range_of, state_after, state_of}
+use Rattle.dsc_outside.specs.MemoryDisk.{DiskInMemory, after_outcome, filled, is_done_sync, left_by, part_left, range_filled, range_of, state_after, state_of}
 use Rattle.dsc_outside.specs.declared.memory.disk_calls.CallOutcome.{CallOutcome}
 use Rattle.dsc_outside.specs.declared.memory.disk_calls.CallOutcome.TheVariants as outcomes
 use Rattle.dsc_outside.specs.declared.memory.disk_calls.DiskCall.{DiskCall}

@@ -1,5 +1,5 @@
 -- A clock in memory.
-use Rattle.std.specs.Prelude.{◌≡◌, ◌≤◌, ℕ, List, [], ◌∷◌, All, IfSome, Option, Some, None, Result, Ok, Err, drop, if◌then◌else◌, is_some}
+use Rattle.std.specs.Prelude.{◌≡◌, ◌≤◌, ℕ, List, [], ◌∷◌, All, IfSome, Option, None, Result, drop, if◌then◌else◌, is_some}
 use Rattle.std.specs.Result.{result_ok}
 use Rattle.dsc_outside.specs.Causes.{one_more}
 use Rattle.dsc_outside.specs.Clock.{last_moment}

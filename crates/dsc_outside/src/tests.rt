@@ -1,9 +1,12 @@
+mod disk_calls;
 mod folder_faults;
 mod folder_lists;
 mod folder_paths;
 mod host_calls;
+mod memory_disk;
 mod memory_forms;
 mod memory_host;
+mod real_disk;
 mod real_things;
 mod scratch;
 mod watched_files;

@@ -60,7 +60,7 @@ pub const LONG: &str =
     "éééééééééééééééééééééééééééééééééééééééééééééééééééééééééééééééééééééééééééééééééééééééééééééééééééééééééééééééééééééééééééééééé";
 
 // A new folder below the system's folder for temporary files.
-fn make_folder<R: Files + Env + AllocGlobal>(rt: &R) -> io::Result<String> {
+pub fn make_folder<R: Files + Env + AllocGlobal>(rt: &R) -> io::Result<String> {
     let temporary = env::temp_dir(rt)?.into_string();
     for number in 0..10_000u32 {
         let folder = format!(in rt.alloc(); "{temporary}/folder_host_{number}")?;

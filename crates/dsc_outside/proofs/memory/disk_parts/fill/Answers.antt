@@ -1,4 +1,4 @@
-use Rattle.std.proofs.Common.{rules, ap, ◌∙◌, ◌+◌, ◌-◌, ◌≡◌, arith, drop, replicate, length-take, length-drop}
+use Rattle.std.proofs.Common.{rules, ap, ◌∙◌, ◌+◌, ◌-◌, arith, drop, replicate, length-take, length-drop}
 use Rattle.dsc_outside.proofs.DiskBytes.{range_put}
 use Rattle.dsc_outside.proofs.memory.disk_parts.fill.Goals as goal
 

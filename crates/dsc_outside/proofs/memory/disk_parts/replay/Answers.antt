@@ -1,4 +1,4 @@
-use Rattle.std.proofs.Common.{rules, ap, sym, ◌∙◌, ◌+◌, ◌++◌, ◌∷◌, [], take}
+use Rattle.std.proofs.Common.{ap, sym, ◌∙◌, ◌+◌, ◌++◌, ◌∷◌, [], take}
 use Rattle.std.proofs.lemmas.List.{take_more}
 use Rattle.dsc_outside.proofs.DiskCalls.{bytes_push}
 use Rattle.dsc_outside.proofs.memory.disk_parts.replay.Goals as goal
