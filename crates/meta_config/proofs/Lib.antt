@@ -1,0 +1,5 @@
+pub mod Pieces
+pub mod Slashes
+pub mod Ports
+pub mod SitesOfUrls
+pub mod OneMeaning

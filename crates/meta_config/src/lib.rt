@@ -1,0 +1,29 @@
+//! Meta-configurations: how a node's Local Configuration Manager is to behave, after the meta-configurations of
+//! PowerShell Desired State Configuration, whose instances are spelled by DMTF DSP0004.
+//!
+//! `read_meta` gives the `Meta` that a text declares, or the first of its faults, at its least index. `write_meta`
+//! writes the one canonical text of a `Meta`.
+#![tactic(auto)]
+
+mod checks;
+mod error;
+mod laws;
+mod making;
+mod meta;
+mod modes;
+mod partials;
+mod properties;
+mod reading;
+mod server;
+mod tables;
+mod urls;
+mod words;
+mod writing;
+
+pub use error::{Limit, MetaError};
+pub use laws::urls_have_their_sites;
+pub use meta::{Meta, Partial};
+pub use modes::{AfterReboot, ConfigMode, RefreshMode};
+pub use reading::read_meta;
+pub use server::{Server, Site};
+pub use writing::write_meta;

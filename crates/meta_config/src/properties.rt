@@ -1,0 +1,113 @@
+//! The properties of an instance that have a value.
+ghost use Rattle.std.specs.Prelude.{◌≡◌, IfOk};
+ghost use Rattle.std.specs.Option.{option_copied};
+ghost use Rattle.mof_values.specs.Ident.{IsIdent};
+ghost use Rattle.dsc_document.specs.Names.{same_name};
+ghost use Rattle.dsc_document.specs.Declarations.{scalars_of, text_of};
+ghost use Rattle.meta_config.specs.Making.{text_given};
+ghost use Rattle.meta_config.specs.Properties.{first_name, from_given, given, is_given, is_given_as};
+
+use mof_values::{Ident, IdentError, Property, Scalar, Text, Value, is_named};
+use std::alloc::{AllocError, Global};
+use std::slice;
+
+/// The properties from the first one of this name on that has a value.
+pub fn from_given<'a>(properties: &'a [Property], name: &str) -> &'a [Property]
+    ensures { result.now ≡ from_given name.now properties.now }
+{
+    let mut left = properties;
+    while let [property, rest @ ..] = left {
+        if is_given_as(property, name) {
+            return left;
+        }
+        left = rest;
+    }
+    &[]
+}
+
+fn is_given_as(property: &Property, name: &str) -> bool
+    ensures { result ≡ is_given_as name.now property.now }
+{
+    has_name(&property.name, name) && is_given(&property.value)
+}
+
+fn is_given(value: &Value) -> bool
+    ensures { result ≡ is_given value.now }
+{
+    !matches!(value, Value::One(Scalar::Null))
+}
+
+/// The first value of this name.
+pub fn given<'a>(properties: &'a [Property], name: &str) -> Option<&'a Value>
+    ensures { option_copied result ≡ given name.now properties.now }
+{
+    match from_given(properties, name) {
+        [property, ..] => Some(&property.value),
+        [] => None,
+    }
+}
+
+/// The name of the first of the properties.
+pub fn first_name<'a>(properties: &'a [Property]) -> Option<&'a Ident>
+    ensures { option_copied result ≡ first_name properties.now }
+{
+    match properties {
+        [property, ..] => Some(&property.name),
+        [] => None,
+    }
+}
+
+/// The single text of this name.
+pub fn text_given<'a>(properties: &'a [Property], name: &str) -> Option<&'a Text>
+    ensures { option_copied result ≡ text_given name.now properties.now }
+{
+    match given(properties, name) {
+        Some(value) => text_of(value),
+        None => None,
+    }
+}
+
+/// The single text that a value is.
+pub fn text_of<'a>(value: &'a Value) -> Option<&'a Text>
+    ensures { option_copied result ≡ text_of value.now }
+{
+    match value {
+        Value::One(Scalar::Text(text)) => Some(text),
+        _ => None,
+    }
+}
+
+/// The scalars of a value.
+pub fn scalars_of<'a>(value: &'a Value) -> &'a [Scalar]
+    ensures { result.now ≡ scalars_of value.now }
+{
+    match value {
+        Value::One(scalar) => slice::from_ref(scalar),
+        Value::Many(scalars) => scalars.as_slice(),
+    }
+}
+
+/// Tells whether the name is this word, by fold.
+pub fn has_name(name: &Ident, word: &str) -> bool
+    ensures { result ≡ same_name name.now word.now }
+{
+    is_named(name.as_slice(), word)
+}
+
+/// The name that an identifier spells.
+pub fn ident(alloc: Global, name: &str) -> Result<Ident, AllocError>
+    requires { IsIdent name.now }
+    ensures { IfOk result (λ ident. ident ≡ name.now) }
+{
+    match Ident::from_latin1(alloc, name.as_bytes()) {
+        Ok(ident) => Ok(ident),
+        Err(IdentError::Memory) => Err(AllocError),
+        Err(IdentError::NotAnIdent) => unreachable!(),
+    }
+}
+
+pub fn copy_of(text: &Text) -> Result<Text, AllocError>
+    ensures { IfOk result (λ copy. copy ≡ text.now) }
+{
+    text.clone()
+}
