@@ -10,10 +10,10 @@ use Rattle.gate_log.specs.declared.error.LogError.TheVariants.{Disk, NotAStore, 
 use Rattle.gate_log.specs.Steps.{Unread}
 use Rattle.dsc_terms.specs.Counts.{Rose}
 use Rattle.gate_log.proofs.Holds.{take_take}
+
 -- how much was read
 got_of : (at n : ℕ) (held into : List ℕ) → take n into ≡ take (length into) (drop at held) → n ≤ length into → n ≡ min (length into) (length held - at)
 got_of at n held into is le = omega (arith, ap length is, length-take n into, length-take (length into) (drop at held), length-drop at held)
-
 
 pub ends_here : (largest limit at end n : ℕ) (seen : Option (List ℕ)) (head : List ℕ) → length head ≡ 5 → n ≤ length head → IfSome seen (λ held. end ≡ length held)
     → IfSome seen (λ held. take n head ≡ take (length head) (drop at held)) → (n ≡ 0) ⊎ (end ≤ at) → IfSome seen (λ held. FailsFrom largest limit at held end)

@@ -125,6 +125,17 @@ impl Log {
         self.filled = Some(begin(self.shape, !self.second));
     }
 
+    /// Whether a body of this length has room in the other bank, after those that were put since the rewrite was begun.
+    pub fn has_room_to_put(&self, length: u32) -> bool
+        ensures { result ≡ leb (5 + length) (room_to_put self.now) }
+    {
+        let Some(at) = self.filled else {
+            return false;
+        };
+        let end = begin(self.shape, !self.second) + self.shape.bank;
+        length as u64 + 5 <= end.saturating_sub(at).saturating_sub(1)
+    }
+
     /// Puts a body into the other bank, after those that were put since the rewrite was begun.
     ///
     /// A crash at any moment leaves the bodies of the live bank. After an error the log is spent.

@@ -113,7 +113,10 @@ fn after_last_write(alloc: Global, change: Change, byte: u8) -> Result<Found, Lo
 #[test]
 fn the_last_byte_decides(rt: HostRuntime) -> Result<(), Fail> {
     for (change, byte, wanted) in LAST_WRITES {
-        assert!(rt; after_last_write(rt.alloc(), *change, *byte)? == *wanted, "{byte}");
+        assert!(rt;
+            after_last_write(rt.alloc(), *change, *byte)? == *wanted,
+            "{byte}"
+        );
     }
     Ok(())
 }

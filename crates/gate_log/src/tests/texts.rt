@@ -39,7 +39,10 @@ fn a_body_of_each_size_comes_back(rt: HostRuntime) -> Result<(), Fail> {
 
 const TEXTS: &[(LogError, &str)] = &[
     (LogError::Disk, "the disk failed"),
-    (LogError::NotAStore { at: 59 }, "no store: byte 59 is wrong or missing"),
+    (
+        LogError::NotAStore { at: 59 },
+        "no store: byte 59 is wrong or missing",
+    ),
     (LogError::Memory, "out of memory"),
 ];
 

@@ -1,0 +1,73 @@
+//! Makes calls of a log in a file, and says how many bodies it then holds: a tool for measurements.
+//!
+//! The arguments are FILE `append` COUNT SIZE, FILE `rewrite` COUNT SIZE or FILE `open`. An append adds so many bodies
+//! of that size one by one, a rewrite puts them in place of all that was there, and an open does no more than that.
+//! It ends with 0; with 2 where the arguments are others, and with 4 where the log could not do it.
+#![tactic(auto)]
+
+mod changes;
+
+use changes::{append_all, rewrite_all};
+use dsc_outside::real::FileDisk;
+use gate_log::{LogError, Shape, open_log};
+use std::env;
+use std::process::ExitCode;
+
+/// What is asked for.
+enum Ask {
+    Open,
+    Append { count: u32, size: u32 },
+    Rewrite { count: u32, size: u32 },
+}
+
+fn main(rt: HostRuntime) -> ExitCode {
+    let Some((file, ask)) = read_arguments(&rt) else {
+        return ExitCode::from(2);
+    };
+    match run(&rt, file, &ask) {
+        Ok(()) => ExitCode::from(0),
+        Err(_) => ExitCode::from(4),
+    }
+}
+
+fn read_arguments(rt: &HostRuntime) -> Option<(String, Ask)> {
+    let mut arguments = env::args(rt).ok()?;
+    let _program = arguments.next();
+    let file = arguments.next()?;
+    let what = arguments.next()?;
+    if what.as_str() == "open" {
+        return Some((file, Ask::Open));
+    }
+    let count = arguments.next()?.as_str().parse::<u32>().ok()?;
+    let size = arguments.next()?.as_str().parse::<u32>().ok()?;
+    match what.as_str() {
+        "append" => Some((file, Ask::Append { count, size })),
+        "rewrite" => Some((file, Ask::Rewrite { count, size })),
+        _ => None,
+    }
+}
+
+// The size of a node's store.
+fn shape() -> Shape {
+    Shape {
+        bank: 67_108_864,
+        largest: 16_842_752,
+    }
+}
+
+fn run(rt: &HostRuntime, file: String, ask: &Ask) -> Result<(), LogError> {
+    let mut disk = FileDisk::new(rt, file);
+    let mut log = open_log(rt.alloc(), &mut disk, shape())?;
+    match ask {
+        Ask::Open => {}
+        Ask::Append { count, size } => {
+            let body = vec![in rt.alloc(); 7u8; *size as usize]?;
+            append_all(&mut log, &mut disk, *count, &body)?;
+        }
+        Ask::Rewrite { count, size } => {
+            let body = vec![in rt.alloc(); 7u8; *size as usize]?;
+            rewrite_all(&mut log, &mut disk, *count, &body)?;
+        }
+    }
+    Ok(())
+}
