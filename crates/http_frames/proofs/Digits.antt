@@ -7,7 +7,8 @@ use Rattle.std.specs.Str.Parse.{digits_value, digits_value_after, AllDigits}
 use Rattle.std.proofs.lemmas.Int.Digits.{digits_value-lt}
 use Rattle.std.proofs.Math.Nat.{pow-le-pow_right}
 use Rattle.http_frames.specs.declared.message.Header.{Header}
-use Rattle.http_frames.specs.Framing.{is_length, is_named, all_named, are_lengths_sound}
+use Rattle.http_frames.specs.Framing.{is_length, are_lengths_sound}
+use Rattle.http_frames.specs.Headers.{is_named, all_named}
 
 pub after_is_more : (n : ℕ) (ds : List ℕ) → n ≤ digits_value_after 10 n ds
 after_is_more n [] = omega arith

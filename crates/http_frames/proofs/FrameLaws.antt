@@ -4,7 +4,7 @@ use Rattle.std.specs.Prelude.{◌≢◌, Option, Some, None, Result, Ok, Err, If
 use Rattle.std.proofs.lemmas.List.{take-append-drop, length-take-le}
 use Rattle.httparse.specs.Grammar.{print_request, ResponseHead, print_response}
 use Rattle.http_frames.specs.declared.limits.Limits.{Limits}
-use Rattle.http_frames.specs.declared.limits.TheConstants.{REQUEST_LIMITS, ANSWER_LIMITS}
+use Rattle.http_frames.specs.Limits.{request_limits, answer_limits}
 use Rattle.http_frames.specs.declared.framing.Framing.{Framing}
 use Rattle.http_frames.specs.declared.framing.Framing.TheVariants.{Sized, Chunked, ToEnd}
 use Rattle.http_frames.specs.declared.chunks.Walk.{Walk}
@@ -88,10 +88,10 @@ request_says : (bytes : List ℕ) (s : RequestStart) (at : IsRequestHeadOf bytes
 request_says bytes s at = ap₂ request_framing (sym at.method) (sym at.headers)
 
 read_means : (bytes : List ℕ) (s : RequestStart) (reading : Result (Option (List ℕ)) FrameError) (r : ReadsBody bytes s reading)
-    → Means REQUEST_LIMITS s.length r.framing (drop s.length bytes) reading
+    → Means request_limits s.length r.framing (drop s.length bytes) reading
 read_means bytes s reading r =
-    subst (Means REQUEST_LIMITS s.length r.framing (drop s.length bytes)) r.body
-    (reading_means REQUEST_LIMITS s.length r.framing (drop s.length bytes) request_starts)
+    subst (Means request_limits s.length r.framing (drop s.length bytes)) r.body
+    (reading_means request_limits s.length r.framing (drop s.length bytes) request_starts)
 
 pub request_framed : (bytes : List ℕ) (request : Request) → IsReadRequest bytes request → BeginsWithRequest bytes request
 request_framed bytes request r =
@@ -149,7 +149,7 @@ request_refused bytes e refuses = elim refuses [
       front = request_front bytes v.0 v.1.head;
       framing = v.1.framing;
       says = request_says bytes v.0 v.1.head ∙ v.1.says;
-      refuses = subst (λ (n : ℕ). RefusesBody REQUEST_LIMITS n v.1.framing (drop v.0.length bytes) e) v.1.head.length_is
+      refuses = subst (λ (n : ℕ). RefusesBody request_limits n v.1.framing (drop v.0.length bytes) e) v.1.head.length_is
           (read_means bytes v.0 (Err e) v.1);
     }))
   ]
@@ -178,10 +178,10 @@ last_front bytes rest s l = record {
 }
 
 front_of : (bytes : List ℕ) (s : AnswerStart) (reading : Result (Option (List ℕ)) FrameError) (r : AnswersBody bytes s reading)
-    → Means ANSWER_LIMITS (length bytes - length (drop s.length r.rest)) r.framing (drop s.length r.rest) reading
+    → Means answer_limits (length bytes - length (drop s.length r.rest)) r.framing (drop s.length r.rest) reading
 front_of bytes s reading r =
-    subst (Means ANSWER_LIMITS (length bytes - length (drop s.length r.rest)) r.framing (drop s.length r.rest)) r.body
-    (reading_means ANSWER_LIMITS (length bytes - length (drop s.length r.rest)) r.framing (drop s.length r.rest) answer_starts)
+    subst (Means answer_limits (length bytes - length (drop s.length r.rest)) r.framing (drop s.length r.rest)) r.body
+    (reading_means answer_limits (length bytes - length (drop s.length r.rest)) r.framing (drop s.length r.rest) answer_starts)
 
 pub answer_framed : (bytes : List ℕ) (reply : Reply) → IsReadAnswer bytes reply → IsAnswerFrame bytes reply
 answer_framed bytes reply r =

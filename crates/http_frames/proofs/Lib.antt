@@ -18,6 +18,9 @@ pub mod SentAnswers
 pub mod LinePlaces
 pub mod OneBody
 pub mod OneHead
+pub mod RequestFramings
+pub mod FirstHead
 pub mod OneRequest
 pub mod OneReply
 pub mod InTarget
+pub mod Staying

@@ -8,6 +8,7 @@ use Rattle.http_frames.specs.declared.frame_error.FrameError.{FrameError}
 use Rattle.http_frames.specs.declared.frame_error.FrameError.TheVariants as errors
 use Rattle.http_frames.specs.Heads.{BeginsRequest, IsOpenRequest, IsNoRequest, AwaitsRequest, RefusesRequestHead, BeginsAnswer, IsOpenAnswer, IsNoAnswer, AwaitsAnswer, RefusesAnswerHead}
 use Rattle.http_frames.specs.Frames.{RequestFront, AnswerFront}
+use Rattle.http_frames.specs.OneAnswer.{EndsInWrongTarget}
 use Rattle.http_frames.proofs.LinePlaces.{two_fronts}
 
 no_bytes : (z : List ℕ) → length z ≡ 0 → z ≡ []
@@ -48,10 +49,10 @@ found_request bytes head rest errors.HeadTooLong h other k =
 found_request bytes head rest errors.Memory h other k = other refl
 found_request bytes head rest e h other k = k
 
-open_request_never : (bytes : List ℕ) → ¬ (EndsInTarget bytes) → IsOpenRequest bytes → IsNoRequest bytes → ⊥
-open_request_never bytes target h k = elim h.can_be [ inl w ↦ k w.0 w.1 [] w.2 | inr w ↦ target w ]
+open_request_never : (bytes : List ℕ) → ¬ (EndsInTarget bytes × IsNoRequest bytes) → IsOpenRequest bytes → IsNoRequest bytes → ⊥
+open_request_never bytes target h k = elim h.can_be [ inl w ↦ k w.0 w.1 [] w.2 | inr w ↦ target (w, k) ]
 
-awaited_request : (bytes : List ℕ) (e : FrameError) → ¬ (EndsInTarget (take 16384 bytes)) → AwaitsRequest bytes
+awaited_request : (bytes : List ℕ) (e : FrameError) → ¬ (EndsInWrongTarget bytes) → AwaitsRequest bytes
     → e ≢ errors.Memory → RefusesRequestHead bytes e → ⊥
 awaited_request bytes errors.Head target h other k =
     open_request_never (take 16384 bytes) target
@@ -60,7 +61,7 @@ awaited_request bytes errors.HeadTooLong target h other k = omega (arith, h.shor
 awaited_request bytes errors.Memory target h other k = other refl
 awaited_request bytes e target h other k = k
 
-refused_request : (bytes : List ℕ) (e f : FrameError) → ¬ (EndsInTarget (take 16384 bytes)) → e ≢ errors.Memory → RefusesRequestHead bytes e
+refused_request : (bytes : List ℕ) (e f : FrameError) → ¬ (EndsInWrongTarget bytes) → e ≢ errors.Memory → RefusesRequestHead bytes e
     → f ≢ errors.Memory → RefusesRequestHead bytes f → e ≡ f
 refused_request bytes errors.Head errors.Head target a h b k = refl
 refused_request bytes errors.HeadTooLong errors.HeadTooLong target a h b k = refl
@@ -72,7 +73,7 @@ refused_request bytes errors.Head f target a h b k = absurd k
 refused_request bytes errors.HeadTooLong f target a h b k = absurd k
 refused_request bytes e f target a h b k = absurd h
 
-pub one_request_head : (bytes : List ℕ) (x y : FoundRequest) → ¬ (EndsInTarget (take 16384 bytes)) → RequestHeadIs bytes x
+pub one_request_head : (bytes : List ℕ) (x y : FoundRequest) → ¬ (EndsInWrongTarget bytes) → RequestHeadIs bytes x
     → RequestHeadIs bytes y → x ≡ y
 one_request_head bytes (Ok (Some a)) (Ok (Some b)) target h k =
     let same = request_unique bytes a.0 b.0 a.1 b.1 h.begins.reads k.begins.reads in

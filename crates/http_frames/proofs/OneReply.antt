@@ -4,7 +4,7 @@ use Rattle.std.specs.Prelude.{◌⊎◌, Some, None, Result, Ok, Err}
 use Rattle.std.proofs.lemmas.Bool.{false≢true}
 use Rattle.httparse.specs.Grammar.{ResponseHead, status_code}
 use Rattle.httparse.proofs.GrammarLemmas.{response_unique}
-use Rattle.http_frames.specs.declared.limits.TheConstants.{ANSWER_LIMITS}
+use Rattle.http_frames.specs.Limits.{answer_limits}
 use Rattle.http_frames.specs.declared.framing.Framing.{Framing}
 use Rattle.http_frames.specs.declared.frame_error.FrameError.{FrameError}
 use Rattle.http_frames.specs.declared.frame_error.FrameError.TheVariants.{Torn}
@@ -69,7 +69,7 @@ carry n head (Err e) = Err e
 abbrev Framed : ℕ → Result Framing FrameError → ResponseHead → List ℕ → Result Reply FrameError → Type 0
 Framed n (Err e) head rest x = x ≡ Err e
 Framed n (Ok framing) head rest x =
-    (reading : Reading) × Means ANSWER_LIMITS (n - length rest) framing rest reading × (x ≡ carry n head reading)
+    (reading : Reading) × Means answer_limits (n - length rest) framing rest reading × (x ≡ carry n head reading)
 
 abbrev Follows : ℕ → FoundAnswer → Result Reply FrameError → Type 0
 Follows n (Ok (Some found)) x = Framed n (answer_framing_of found.0) found.0 found.1 x
@@ -130,7 +130,7 @@ view bytes (Err e) h = elim h.1 [
             head = w.front.front;
             last = w.front.last;
             follows = subst (λ (r : Result Framing FrameError). Framed (length bytes) r w.head w.body (Err e)) (sym w.says)
-                (Err e, subst (λ (n : ℕ). RefusesBody ANSWER_LIMITS n w.framing w.body e) before w.refuses, refl);
+                (Err e, subst (λ (n : ℕ). RefusesBody answer_limits n w.framing w.body e) before w.refuses, refl);
           }
     ]
   ]
@@ -140,7 +140,7 @@ one_framed : (n : ℕ) (r : Result Framing FrameError) (head : ResponseHead) (re
     → Framed n r head rest x → Framed n r head rest y → x ≡ y
 one_framed n (Err e) head rest x y h k = h ∙ sym k
 one_framed n (Ok framing) head rest x y h k =
-    h.2 ∙ ap (carry n head) (one_reading ANSWER_LIMITS (n - length rest) framing rest h.0 k.0 h.1 k.1) ∙ sym k.2
+    h.2 ∙ ap (carry n head) (one_reading answer_limits (n - length rest) framing rest h.0 k.0 h.1 k.1) ∙ sym k.2
 
 one_follows : (n : ℕ) (front : FoundAnswer) (x y : Result Reply FrameError) → Follows n front x → Follows n front y → x ≡ y
 one_follows n (Ok (Some found)) x y h k = one_framed n (answer_framing_of found.0) found.0 found.1 x y h k

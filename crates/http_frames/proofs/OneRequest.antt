@@ -1,51 +1,20 @@
 -- Of a request's bytes at most one answer is so.
-use Rattle.std.proofs.Common.{◌≡◌, ℕ, ◌<◌, ◌≤◌, take, arith, List, ◌++◌, length, map, refl, sym, ap, ◌∙◌, subst, append_assoc, Bool, true, false, not, codes, inl, inr}
-use Rattle.std.specs.Prelude.{Option, Some, None, Result, Ok, Err, if◌then◌else◌, nat_le, nat_lt, ◌⊎◌}
-use Rattle.std.specs.List.{find}
-use Rattle.std.proofs.lemmas.Bool.{false≢true}
-use Rattle.std.specs.Str.Parse.{digits_value}
+use Rattle.std.proofs.Common.{◌≡◌, ℕ, ◌<◌, ◌≤◌, take, arith, List, ◌++◌, length, map, refl, sym, ap, ◌∙◌, subst, append_assoc, Bool, true, false, inl, inr}
+use Rattle.std.specs.Prelude.{Option, Some, None, Result, Ok, Err, if◌then◌else◌, nat_lt, ◌⊎◌}
 use Rattle.httparse.specs.Grammar.{RequestHead, print_request, EndsInTarget}
-use Rattle.http_frames.specs.declared.limits.TheConstants.{REQUEST_LIMITS}
+use Rattle.http_frames.specs.Limits.{request_limits}
 use Rattle.http_frames.specs.declared.framing.Framing.{Framing}
-use Rattle.http_frames.specs.declared.framing.Framing.TheVariants.{Sized, Chunked, ToEnd}
 use Rattle.http_frames.specs.declared.frame_error.FrameError.{FrameError}
-use Rattle.http_frames.specs.declared.frame_error.FrameError.TheVariants.{Head, HeadTooLong, Coding, Length, NoLength, BodyTooLong, Memory}
-use Rattle.http_frames.specs.declared.message.Header.{Header}
+use Rattle.http_frames.specs.declared.frame_error.FrameError.TheVariants.{Head, HeadTooLong, Memory}
 use Rattle.http_frames.specs.declared.message.Request.{Request}
 use Rattle.http_frames.specs.Heads.{header_of}
-use Rattle.http_frames.specs.Framing.{is_named, has_named, are_codings_known, are_lengths_sound, needs_length, length_framing, request_framing}
 use Rattle.http_frames.specs.Frames.{framing_of}
 use Rattle.http_frames.specs.OneAnswer.{RequestAnswer, OneRequestAnswer, left_open, HeadOrOpen}
 use Rattle.http_frames.proofs.FrameLaws.{Means}
 use Rattle.http_frames.proofs.OneHead.{FoundRequest, RequestHeadIs, one_request_head}
 use Rattle.http_frames.proofs.OneBody.{Reading, one_reading}
+use Rattle.http_frames.proofs.RequestFramings.{never_to_end}
 use Rattle.http_frames.proofs.InTarget.{whole_not_in_target}
-
--- ---- no request's body goes to the end
-
-abbrev goes_to_end : Result Framing FrameError → Bool
-goes_to_end (Ok ToEnd) = true
-goes_to_end framing = false
-
-sized_ends : (t : Bool) (n : ℕ) → goes_to_end (if t then Ok (Sized n) else Err BodyTooLong) ≡ false
-sized_ends true n = refl
-sized_ends false n = refl
-
-by_tests : (c l h needs : Bool) (o : Option Header)
-    → goes_to_end (if not c then Err Coding else (if not l then Err Length else (if h then Ok Chunked
-    else length_framing 131072 (if needs then Err NoLength else Ok (Sized 0)) o))) ≡ false
-by_tests false l h needs o = refl
-by_tests true false h needs o = refl
-by_tests true true true needs o = refl
-by_tests true true false needs (Some header) = sized_ends (nat_le (digits_value 10 header.value) 131072) (digits_value 10 header.value)
-by_tests true true false true None = refl
-by_tests true true false false None = refl
-
-never_to_end : (method : List ℕ) (headers : List Header) → request_framing method headers ≡ Ok ToEnd → ⊥
-unfolding request_framing
-never_to_end method headers e =
-    false≢true (sym (by_tests (are_codings_known headers) (are_lengths_sound headers) (has_named (codes "transfer-encoding") headers)
-    (needs_length method) (find (is_named (codes "content-length")) headers)) ∙ ap goes_to_end e)
 
 -- ---- one answer
 
@@ -63,7 +32,7 @@ carry head (Err e) = Err e
 abbrev Framed : Result Framing FrameError → RequestHead → List ℕ → Result (Option Request) FrameError → Type 0
 Framed (Err e) head rest x = x ≡ Err e
 Framed (Ok framing) head rest x =
-    (reading : Reading) × Means REQUEST_LIMITS (length (print_request head)) framing rest reading × (x ≡ carry head reading)
+    (reading : Reading) × Means request_limits (length (print_request head)) framing rest reading × (x ≡ carry head reading)
 
 abbrev Follows : FoundRequest → Result (Option Request) FrameError → Type 0
 Follows (Ok (Some found)) x = Framed (framing_of found.0) found.0 found.1 x
@@ -127,7 +96,7 @@ one_framed : (r : Result Framing FrameError) (head : RequestHead) (rest : List �
     → Framed r head rest x → Framed r head rest y → x ≡ y
 one_framed (Err e) head rest x y h k = h ∙ sym k
 one_framed (Ok framing) head rest x y h k =
-    h.2 ∙ ap (carry head) (one_reading REQUEST_LIMITS (length (print_request head)) framing rest h.0 k.0 h.1 k.1) ∙ sym k.2
+    h.2 ∙ ap (carry head) (one_reading request_limits (length (print_request head)) framing rest h.0 k.0 h.1 k.1) ∙ sym k.2
 
 one_follows : (front : FoundRequest) (x y : Result (Option Request) FrameError) → Follows front x → Follows front y → x ≡ y
 one_follows (Ok (Some found)) x y h k = one_framed (framing_of found.0) found.0 found.1 x y h k

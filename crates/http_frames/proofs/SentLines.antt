@@ -17,7 +17,8 @@ use Rattle.http_frames.specs.declared.framing.Framing.TheVariants.{Sized, Chunke
 use Rattle.http_frames.specs.declared.frame_error.FrameError.TheVariants.{Coding, Length, BodyTooLong}
 use Rattle.http_frames.specs.declared.frame_error.FrameError.{FrameError}
 use Rattle.http_frames.specs.Heads.{header_of}
-use Rattle.http_frames.specs.Framing.{is_same, is_named, has_named, count_named, all_named, are_codings_known, are_lengths_sound, is_length, length_framing, sound_framing, stated_framing}
+use Rattle.http_frames.specs.Framing.{are_codings_known, are_lengths_sound, is_length, length_framing, sound_framing, stated_framing}
+use Rattle.http_frames.specs.Headers.{is_same, is_named, has_named, count_named, all_named}
 use Rattle.http_frames.specs.Writing.{header_text, length_line}
 use Rattle.http_frames.specs.Sending.{IsPlainValue, IsPlainHeader, close_header, length_header}
 

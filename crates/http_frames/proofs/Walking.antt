@@ -9,7 +9,7 @@ use Rattle.http_frames.specs.declared.chunks.Walk.{Walk}
 use Rattle.http_frames.specs.declared.frame_error.FrameError.{FrameError}
 use Rattle.http_frames.specs.Phases.{is_done}
 use Rattle.http_frames.specs.Phases.{next_phase, begun_content, least_rest}
-use Rattle.http_frames.specs.declared.limits.TheConstants.{REQUEST_LIMITS, ANSWER_LIMITS}
+use Rattle.http_frames.specs.Limits.{request_limits, answer_limits}
 use Rattle.http_frames.specs.declared.frame_error.FrameError.TheVariants.{BodyTooLong}
 use Rattle.http_frames.specs.declared.framing.Framing.TheVariants.{Chunked}
 use Rattle.http_frames.specs.Walks.{step, step_to, stepped, can_fit, and_then_walk, walk_over, content_over, start}
@@ -181,10 +181,10 @@ walked_start limits front body walk same fits = subst (HasWalked limits front bo
   line = omega arith;
 })
 
-pub request_starts : IsTrue (can_fit REQUEST_LIMITS start)
+pub request_starts : IsTrue (can_fit request_limits start)
 unfolding can_fit start begun_content least_rest
 request_starts = refl
 
-pub answer_starts : IsTrue (can_fit ANSWER_LIMITS start)
+pub answer_starts : IsTrue (can_fit answer_limits start)
 unfolding can_fit start begun_content least_rest
 answer_starts = refl

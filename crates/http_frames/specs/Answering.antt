@@ -5,7 +5,7 @@ use Rattle.http_frames.specs.declared.frame_error.FrameError.{FrameError}
 use Rattle.http_frames.specs.declared.frame_error.FrameError.TheVariants.{Memory, Torn}
 use Rattle.http_frames.specs.declared.framing.Framing.{Framing}
 use Rattle.http_frames.specs.declared.head.AnswerHead.{AnswerHead as AnswerStart}
-use Rattle.http_frames.specs.declared.limits.TheConstants.{ANSWER_LIMITS}
+use Rattle.http_frames.specs.Limits.{answer_limits}
 use Rattle.http_frames.specs.Heads.{IsAnswerHeadOf, AwaitsAnswer, RefusesAnswerHead}
 use Rattle.http_frames.specs.Framing.{answer_framing}
 use Rattle.http_frames.specs.Bodies.{body_reading}
@@ -32,7 +32,7 @@ pub record AnswersBody (bytes : List ℕ) (start : AnswerStart) (reading : Resul
   pub head : IsLastHead bytes rest start
   pub framing : Framing
   pub says : answer_framing start.code start.headers ≡ Ok framing
-  pub body : body_reading ANSWER_LIMITS (length bytes - length (drop start.length rest)) framing (drop start.length rest) ≡ reading
+  pub body : body_reading answer_limits (length bytes - length (drop start.length rest)) framing (drop start.length rest) ≡ reading
 
 -- the answer whose head and body are in the bytes
 pub record IsReadAnswer (bytes : List ℕ) (reply : Reply) : Type 0 where

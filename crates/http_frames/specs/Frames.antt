@@ -2,7 +2,7 @@
 use Rattle.std.specs.Prelude.{◌≡◌, ℕ, ◌<◌, ◌≤◌, ◌+◌, ◌⊎◌, true, false, List, [], ◌++◌, length, map, Result, Ok, Err}
 use Rattle.httparse.specs.Grammar.{RequestHead, print_request, ResponseHead, print_response, status_code}
 use Rattle.http_frames.specs.declared.limits.Limits.{Limits}
-use Rattle.http_frames.specs.declared.limits.TheConstants.{REQUEST_LIMITS, ANSWER_LIMITS}
+use Rattle.http_frames.specs.Limits.{answer_limits, head_bytes, request_limits}
 use Rattle.http_frames.specs.declared.framing.Framing.{Framing}
 use Rattle.http_frames.specs.declared.framing.Framing.TheVariants.{Sized, Chunked, ToEnd}
 use Rattle.http_frames.specs.declared.frame_error.FrameError.{FrameError}
@@ -62,7 +62,7 @@ framing_of head = request_framing head.method (map header_of head.fields)
 -- the bytes are the head of a request, of at most 64 header lines and 16,384 bytes, and then the rest
 pub record RequestFront (bytes : List ℕ) (head : RequestHead) (rest : List ℕ) : Type 0 where
   pub begins : BeginsRequest bytes head rest
-  pub short : length (print_request head) ≤ 16_384
+  pub short : length (print_request head) ≤ head_bytes
 
 -- the bytes are this request: its head, and its body as the head says
 pub record IsRequestFrame (bytes : List ℕ) (request : Request) : Type 0 where
@@ -74,7 +74,7 @@ pub record IsRequestFrame (bytes : List ℕ) (request : Request) : Type 0 where
   pub headers : request.headers ≡ map header_of head.fields
   pub framing : Framing
   pub says : framing_of head ≡ Ok framing
-  pub content : IsBody REQUEST_LIMITS framing body request.body
+  pub content : IsBody request_limits framing body request.body
 
 -- the bytes begin with that request
 abbrev pub BeginsWithRequest : List ℕ → Request → Type 0
@@ -87,7 +87,7 @@ pub record AwaitsRequestBody (bytes : List ℕ) : Type 0 where
   pub front : RequestFront bytes head body
   pub framing : Framing
   pub says : framing_of head ≡ Ok framing
-  pub awaits : AwaitsBody REQUEST_LIMITS framing body
+  pub awaits : AwaitsBody request_limits framing body
 
 -- more bytes are wanted
 abbrev pub AwaitsRest : List ℕ → Type 0
@@ -107,7 +107,7 @@ pub record RefusesRequestBody (bytes : List ℕ) (e : FrameError) : Type 0 where
   pub front : RequestFront bytes head body
   pub framing : Framing
   pub says : framing_of head ≡ Ok framing
-  pub refuses : RefusesBody REQUEST_LIMITS (length (print_request head)) framing body e
+  pub refuses : RefusesBody request_limits (length (print_request head)) framing body e
 
 -- why the bytes are no request
 abbrev pub RefusesRequest : List ℕ → FrameError → Type 0
@@ -122,7 +122,7 @@ answer_framing_of head = answer_framing (status_code head) (map header_of head.f
 -- the bytes are the head of an answer, of at most 64 header lines and 16,384 bytes, and then the rest
 pub record AnswerFront (bytes : List ℕ) (head : ResponseHead) (rest : List ℕ) : Type 0 where
   pub begins : BeginsAnswer bytes head rest
-  pub short : length (print_response head) ≤ 16_384
+  pub short : length (print_response head) ≤ head_bytes
 
 -- the bytes are heads of interim answers (RFC 9110, section 15.2), and then the rest
 pub data Interim : List ℕ → List ℕ → Type 0 where
@@ -146,7 +146,7 @@ pub record IsAnswerFrame (bytes : List ℕ) (reply : Reply) : Type 0 where
   pub headers : reply.headers ≡ map header_of head.fields
   pub framing : Framing
   pub says : answer_framing_of head ≡ Ok framing
-  pub content : FrontBody ANSWER_LIMITS framing rest reply.body
+  pub content : FrontBody answer_limits framing rest reply.body
 
 -- the bytes end inside a head, or inside a body
 pub record EndsInBody (bytes : List ℕ) : Type 0 where
@@ -155,7 +155,7 @@ pub record EndsInBody (bytes : List ℕ) : Type 0 where
   pub front : LastFront bytes head body
   pub framing : Framing
   pub says : answer_framing_of head ≡ Ok framing
-  pub awaits : AwaitsBody ANSWER_LIMITS framing body
+  pub awaits : AwaitsBody answer_limits framing body
 
 abbrev pub IsTorn : List ℕ → Type 0
 IsTorn bytes = ((rest : List ℕ) × Interim bytes rest × AwaitsAnswer rest) ⊎ EndsInBody bytes
@@ -176,7 +176,7 @@ pub record RefusesLastBody (bytes : List ℕ) (e : FrameError) : Type 0 where
   pub says : answer_framing_of head ≡ Ok framing
   pub before : ℕ
   pub counts : before + length body ≡ length bytes
-  pub refuses : RefusesBody ANSWER_LIMITS before framing body e
+  pub refuses : RefusesBody answer_limits before framing body e
 
 -- why the bytes are no answer
 abbrev pub RefusesReply : List ℕ → FrameError → Type 0

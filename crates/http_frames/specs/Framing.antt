@@ -1,7 +1,6 @@
 -- Where a head says that its body ends (RFC 9112, section 6.3), and which heads say it wrongly.
-use Rattle.std.specs.Prelude.{ℕ, Bool, ◌&&◌, ◌||◌, not, List, length, codes, if◌then◌else◌, nat_le, bytes_eq, count_by, ◌==◌, Option, Some, None, Result, Ok, Err}
-use Rattle.std.specs.List.{list_all, list_any, find}
-use Rattle.std.specs.Str.{str_to_ascii_lowercase}
+use Rattle.std.specs.Prelude.{ℕ, Bool, ◌&&◌, ◌||◌, not, List, length, codes, if◌then◌else◌, nat_le, bytes_eq, ◌==◌, Option, Some, None, Result, Ok, Err}
+use Rattle.std.specs.List.{list_all, find}
 use Rattle.std.specs.Char.{is_ascii_digit}
 use Rattle.std.specs.Str.Parse.{digits_value}
 use Rattle.http_frames.specs.declared.message.Header.{Header}
@@ -9,24 +8,8 @@ use Rattle.http_frames.specs.declared.frame_error.FrameError.{FrameError}
 use Rattle.http_frames.specs.declared.frame_error.FrameError.TheVariants.{Coding, Length, NoLength, BodyTooLong}
 use Rattle.http_frames.specs.declared.framing.Framing.{Framing}
 use Rattle.http_frames.specs.declared.framing.Framing.TheVariants.{Sized, Chunked, ToEnd}
-
--- the two are the same but for the case of ASCII letters
-abbrev pub is_same : List ℕ → List ℕ → Bool
-is_same a b = bytes_eq (str_to_ascii_lowercase a) (str_to_ascii_lowercase b)
-
--- the header has this name, in any case
-abbrev pub is_named : List ℕ → Header → Bool
-is_named name header = is_same header.name name
-
-abbrev pub has_named : List ℕ → List Header → Bool
-has_named name headers = list_any (is_named name) headers
-
-abbrev pub count_named : List ℕ → List Header → ℕ
-count_named name headers = count_by (is_named name) headers
-
--- each value under this name passes the test
-abbrev pub all_named : List ℕ → (List ℕ → Bool) → List Header → Bool
-all_named name test headers = list_all (λ header. not (is_named name header) || test header.value) headers
+use Rattle.http_frames.specs.Headers.{is_same, is_named, has_named, count_named, all_named}
+use Rattle.http_frames.specs.Limits.{answer_limits, request_limits}
 
 -- Transfer-Encoding is `chunked`, alone and once, and Content-Encoding is `identity`, where they are there
 unfoldable pub are_codings_known : List Header → Bool
@@ -80,10 +63,10 @@ stated_framing limit without headers =
 unfoldable pub request_framing : List ℕ → List Header → Result Framing FrameError
 request_framing method headers =
     sound_framing headers
-    (stated_framing 131_072 (if needs_length method then Err NoLength else Ok (Sized 0)) headers)
+    (stated_framing request_limits.content (if needs_length method then Err NoLength else Ok (Sized 0)) headers)
 
 -- the body of an answer, at most 67,108,864 bytes of content
 unfoldable pub answer_framing : ℕ → List Header → Result Framing FrameError
 answer_framing code headers =
     sound_framing headers
-    (if has_no_body code then Ok (Sized 0) else stated_framing 67_108_864 (Ok ToEnd) headers)
+    (if has_no_body code then Ok (Sized 0) else stated_framing answer_limits.content (Ok ToEnd) headers)

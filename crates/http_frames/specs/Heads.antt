@@ -10,6 +10,7 @@ use Rattle.http_frames.specs.declared.head.RequestHead.{RequestHead as RequestSt
 use Rattle.http_frames.specs.declared.head.AnswerHead.{AnswerHead as AnswerStart}
 use Rattle.http_frames.specs.declared.frame_error.FrameError.{FrameError}
 use Rattle.http_frames.specs.declared.frame_error.FrameError.TheVariants as errors
+use Rattle.http_frames.specs.Limits.{head_bytes, header_lines}
 
 -- the header line as a caller sees it
 abbrev pub header_of : Field → Header
@@ -22,7 +23,7 @@ header_at buf span = record { name = span_bytes buf span.name; value = span_byte
 -- the bytes are a request head of at most 64 header lines, and then rest
 pub record BeginsRequest (bytes : List ℕ) (head : RequestHead) (rest : List ℕ) : Type 0 where
   pub reads : ReadsRequest bytes head rest
-  pub lines : length head.fields ≤ 64
+  pub lines : length head.fields ≤ header_lines
 
 -- no such head is at the front of the bytes
 abbrev pub LacksRequest : List ℕ → Type 0
@@ -43,7 +44,7 @@ pub record IsOpenRequest (bytes : List ℕ) : Type 0 where
 
 -- more bytes are wanted
 pub record AwaitsRequest (bytes : List ℕ) : Type 0 where
-  pub short : length bytes < 16_384
+  pub short : length bytes < head_bytes
   pub is_open : IsOpenRequest bytes
 
 -- what was read of the head at the front of the bytes
@@ -51,7 +52,7 @@ pub record IsRequestHeadOf (bytes : List ℕ) (start : RequestStart) : Type 0 wh
   pub head : RequestHead
   pub begins : BeginsRequest bytes head (drop start.length bytes)
   pub length_is : start.length ≡ length (print_request head)
-  pub short : start.length ≤ 16_384
+  pub short : start.length ≤ head_bytes
   pub method : start.method ≡ head.method
   pub target : start.target ≡ head.target
   pub headers : start.headers ≡ map header_of head.fields
@@ -65,8 +66,8 @@ pub record IsCopyOfRequest (buf : List ℕ) (spans : List HeaderSpan) (found : R
 
 -- why no head is read
 abbrev pub RefusesRequestHead : List ℕ → FrameError → Type 0
-RefusesRequestHead bytes errors.Head = IsNoRequest (take 16_384 bytes)
-RefusesRequestHead bytes errors.HeadTooLong = (16_384 ≤ length bytes) × IsOpenRequest (take 16_384 bytes)
+RefusesRequestHead bytes errors.Head = IsNoRequest (take head_bytes bytes)
+RefusesRequestHead bytes errors.HeadTooLong = (head_bytes ≤ length bytes) × IsOpenRequest (take head_bytes bytes)
 RefusesRequestHead bytes errors.Memory = ⊤
 RefusesRequestHead bytes errors.Coding = ⊥
 RefusesRequestHead bytes errors.Length = ⊥
@@ -78,7 +79,7 @@ RefusesRequestHead bytes (errors.Torn at) = ⊥
 -- the bytes are the head of an answer, of at most 64 header lines, and then rest
 pub record BeginsAnswer (bytes : List ℕ) (head : ResponseHead) (rest : List ℕ) : Type 0 where
   pub reads : ReadsResponse bytes head rest
-  pub lines : length head.fields ≤ 64
+  pub lines : length head.fields ≤ header_lines
 
 -- no such head is at the front of the bytes
 abbrev pub LacksAnswer : List ℕ → Type 0
@@ -99,7 +100,7 @@ pub record IsOpenAnswer (bytes : List ℕ) : Type 0 where
 
 -- more bytes are wanted
 pub record AwaitsAnswer (bytes : List ℕ) : Type 0 where
-  pub short : length bytes < 16_384
+  pub short : length bytes < head_bytes
   pub is_open : IsOpenAnswer bytes
 
 -- what was read of the head at the front of the bytes
@@ -107,7 +108,7 @@ pub record IsAnswerHeadOf (bytes : List ℕ) (start : AnswerStart) : Type 0 wher
   pub head : ResponseHead
   pub begins : BeginsAnswer bytes head (drop start.length bytes)
   pub length_is : start.length ≡ length (print_response head)
-  pub short : start.length ≤ 16_384
+  pub short : start.length ≤ head_bytes
   pub code : start.code ≡ status_code head
   pub headers : start.headers ≡ map header_of head.fields
 
@@ -119,8 +120,8 @@ pub record IsCopyOfAnswer (buf : List ℕ) (spans : List HeaderSpan) (found : Re
 
 -- why no head is read
 abbrev pub RefusesAnswerHead : List ℕ → FrameError → Type 0
-RefusesAnswerHead bytes errors.Head = IsNoAnswer (take 16_384 bytes)
-RefusesAnswerHead bytes errors.HeadTooLong = (16_384 ≤ length bytes) × IsOpenAnswer (take 16_384 bytes)
+RefusesAnswerHead bytes errors.Head = IsNoAnswer (take head_bytes bytes)
+RefusesAnswerHead bytes errors.HeadTooLong = (head_bytes ≤ length bytes) × IsOpenAnswer (take head_bytes bytes)
 RefusesAnswerHead bytes errors.Memory = ⊤
 RefusesAnswerHead bytes errors.Coding = ⊥
 RefusesAnswerHead bytes errors.Length = ⊥

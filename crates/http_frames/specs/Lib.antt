@@ -1,3 +1,5 @@
+pub mod Limits
+pub mod Headers
 pub mod Framing
 pub mod Phases
 pub mod Walks

@@ -1,5 +1,6 @@
 -- The lines of a head, counted by their line feeds.
-use Rattle.std.specs.Prelude.{ℕ, zero, suc, Bool, false, ◌||◌, not, List, [], ◌∷◌, if◌then◌else◌, ◌==◌, Option, Some, None}
+use Rattle.std.specs.Prelude.{ℕ, zero, suc, Bool, false, ◌||◌, ◌+◌, not, List, [], ◌∷◌, if◌then◌else◌, ◌==◌, Option, Some, None}
+use Rattle.http_frames.specs.Limits.{header_lines}
 
 -- CR or LF
 abbrev pub is_break : ℕ → Bool
@@ -27,4 +28,4 @@ begins_line_there (Some rest) = begins_line rest
 
 -- behind the start line and 64 header lines another has begun
 unfoldable pub begins_extra_line : List ℕ → Bool
-begins_extra_line head = begins_line_there (skip_lines 65 (skip_breaks head))
+begins_extra_line head = begins_line_there (skip_lines (header_lines + 1) (skip_breaks head))

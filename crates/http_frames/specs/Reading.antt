@@ -10,7 +10,7 @@ use Rattle.http_frames.specs.declared.reader.Stage.TheVariants.{Head, Body, Clos
 use Rattle.http_frames.specs.declared.reader.Started.{Started}
 use Rattle.http_frames.specs.declared.reader.Advance.{Advance}
 use Rattle.http_frames.specs.declared.reader.Advance.TheVariants.{More, Whole, Refused, OutOfMemory}
-use Rattle.http_frames.specs.declared.limits.TheConstants.{REQUEST_LIMITS}
+use Rattle.http_frames.specs.Limits.{request_limits}
 use Rattle.http_frames.specs.Heads.{IsRequestHeadOf, AwaitsRequest, RefusesRequestHead}
 use Rattle.http_frames.specs.Framing.{request_framing}
 use Rattle.http_frames.specs.Bodies.{HasWalked, body_reading}
@@ -20,7 +20,7 @@ pub record ReadsBody (bytes : List ℕ) (start : RequestStart) (reading : Result
   pub head : IsRequestHeadOf bytes start
   pub framing : Framing
   pub says : request_framing start.method start.headers ≡ Ok framing
-  pub body : body_reading REQUEST_LIMITS start.length framing (drop start.length bytes) ≡ reading
+  pub body : body_reading request_limits start.length framing (drop start.length bytes) ≡ reading
 
 -- the request whose head and body are at the front of the bytes
 pub record IsReadRequest (bytes : List ℕ) (request : Request) : Type 0 where
@@ -61,7 +61,7 @@ fed bytes stage = record { bytes = bytes; is_open = is_open_stage stage }
 pub record IsStarted (bytes : List ℕ) (started : Started) : Type 0 where
   pub head : IsRequestHeadOf bytes started.head
   pub framing : request_framing started.head.method started.head.headers ≡ Ok started.framing
-  pub walked : HasWalked REQUEST_LIMITS started.head.length (drop started.head.length bytes) started.walk
+  pub walked : HasWalked request_limits started.head.length (drop started.head.length bytes) started.walk
 
 abbrev pub IsStageOf : List ℕ → Stage → Type 0
 IsStageOf bytes Head = ⊤

@@ -5,7 +5,9 @@ use Rattle.httparse.specs.Grammar.{IsToken, AllPass, is_uri_byte, is_value_byte,
 use Rattle.http_frames.specs.declared.message.Header.{Header}
 use Rattle.http_frames.specs.declared.message.Request.{Request}
 use Rattle.http_frames.specs.declared.message.Reply.{Reply}
-use Rattle.http_frames.specs.Framing.{has_named, needs_length, has_no_body}
+use Rattle.http_frames.specs.Limits.{answer_limits, head_bytes, header_lines, request_limits}
+use Rattle.http_frames.specs.Framing.{needs_length, has_no_body}
+use Rattle.http_frames.specs.Headers.{has_named}
 use Rattle.http_frames.specs.Writing.{host_value, request_text, answer_text}
 use Rattle.http_frames.specs.Frames.{IsRequestFrame, IsAnswerFrame}
 
@@ -53,9 +55,9 @@ pub record IsSendable (request : Request) (host : List ℕ) : Type 0 where
   pub no_length : has_named (codes "content-length") request.headers ≡ false
   pub no_transfer : has_named (codes "transfer-encoding") request.headers ≡ false
   pub no_content : has_named (codes "content-encoding") request.headers ≡ false
-  pub lines : length (sent_headers request host) ≤ 64
-  pub short : length (request_text request host) ≤ 16_384 + length request.body
-  pub body : length request.body ≤ 131_072
+  pub lines : length (sent_headers request host) ≤ header_lines
+  pub short : length (request_text request host) ≤ head_bytes + length request.body
+  pub body : length request.body ≤ request_limits.content
   pub bodied : needs_length request.method ≡ false → request.body ≡ []
 
 -- where the request is sendable, the bytes are its frame, with the lines that are added
@@ -86,9 +88,9 @@ pub record IsSendableReply (reply : Reply) : Type 0 where
   pub no_length : has_named (codes "content-length") reply.headers ≡ false
   pub no_transfer : has_named (codes "transfer-encoding") reply.headers ≡ false
   pub no_content : has_named (codes "content-encoding") reply.headers ≡ false
-  pub lines : length (reply_headers reply) ≤ 64
-  pub short : length (answer_text reply) ≤ 16_384 + length reply.body
-  pub body : length reply.body ≤ 67_108_864
+  pub lines : length (reply_headers reply) ≤ header_lines
+  pub short : length (answer_text reply) ≤ head_bytes + length reply.body
+  pub body : length reply.body ≤ answer_limits.content
   pub bodiless : has_no_body reply.code ≡ true → reply.body ≡ []
 
 -- where the reply is sendable, the bytes are its frame, with the lines that are added

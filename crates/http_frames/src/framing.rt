@@ -1,11 +1,12 @@
 //! How a head says where its body ends (RFC 9112, section 6.3).
-ghost use Rattle.std.specs.Prelude.{◌≡◌, ◌&&◌, ◌||◌, not, ◌<◌, ◌^◌, ◌↔◌, ℕ, length, bytes_eq, codes, count_by, option_map, IsTrue};
-ghost use Rattle.std.specs.List.{list_all, find};
-ghost use Rattle.std.specs.Option.{option_copied};
+ghost use Rattle.std.specs.Prelude.{◌≡◌, ◌&&◌, ◌||◌, not, ◌<◌, ◌^◌, IsTrue};
+ghost use Rattle.std.specs.List.{list_all};
 ghost use Rattle.std.specs.Char.{is_ascii_digit};
 ghost use Rattle.std.specs.Str.Parse.{digits_value};
-ghost use Rattle.http_frames.specs.Framing.{is_same, is_named, are_codings_known, are_lengths_sound, is_length, sized_framing, request_framing, answer_framing, has_named, count_named, all_named, needs_length, has_no_body};
+ghost use Rattle.http_frames.specs.Framing.{are_codings_known, are_lengths_sound, is_length, sized_framing, request_framing, answer_framing, needs_length};
+ghost use Rattle.http_frames.specs.Headers.{is_same, is_named, has_named, count_named, all_named};
 
+use crate::headers::{count_named, first_named, has_named, is_named, is_same};
 use crate::limits::{ANSWER_LIMITS, Limits, REQUEST_LIMITS};
 use crate::{FrameError, Header};
 
@@ -156,36 +157,6 @@ pub(crate) fn needs_length(method: &[u8]) -> bool
     ensures { result ≡ needs_length method.now }
 {
     method == b"PUT".as_slice() || method == b"POST".as_slice()
-}
-
-fn is_named(header: &Header, name: &[u8]) -> bool
-    ensures { result ≡ is_named name.now header.now }
-{
-    is_same(header.name.as_slice(), name)
-}
-
-fn is_same(a: &[u8], b: &[u8]) -> bool
-    ensures { result ≡ is_same a.now b.now }
-{
-    a.eq_ignore_ascii_case(b)
-}
-
-fn count_named(headers: &[Header], name: &[u8]) -> usize
-    ensures { result ≡ count_named name.now headers.now }
-{
-    headers.iter().filter(|h| is_named(h, name)).count()
-}
-
-fn has_named(headers: &[Header], name: &[u8]) -> bool
-    ensures { result ≡ has_named name.now headers.now }
-{
-    headers.iter().any(|h| is_named(h, name))
-}
-
-fn first_named<'a>(headers: &'a [Header], name: &[u8]) -> Option<&'a Header>
-    ensures { option_copied result ≡ find (is_named name.now) headers.now }
-{
-    headers.iter().find(|h| is_named(h, name))
 }
 
 // The number that digits write.

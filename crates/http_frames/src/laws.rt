@@ -1,11 +1,18 @@
-//! Laws of the answers. The call does nothing; its clauses are the laws.
-ghost use Rattle.http_frames.specs.OneAnswer.{OneRequestAnswer, HeadOrOpen, OneReplyAnswer};
+//! Laws of the answers. The calls do nothing; their clauses are the laws.
+ghost use Rattle.http_frames.specs.OneAnswer.{OneRequestAnswer, HeadOrOpen, OneReplyAnswer, RequestAnswersStay, ReplyErrorsStay};
 
 /// The causes of answers exclude each other: of the same bytes one answer may come, from `RequestReader::feed` and from
-/// `read_answer`, where memory is ample. Of a request's bytes that end inside its target two may come: `Head`, or that
-/// they are left open.
+/// `read_answer`, where memory is ample. In one case two may come: of a request's bytes that end inside its target, and
+/// that no continuation makes a head, `Head`, or that they are left open.
 pub fn one_answer()
     ensures requests { OneRequestAnswer }
     ensures inside_target { HeadOrOpen }
     ensures replies { OneReplyAnswer }
+{}
+
+/// Answers stay: what is answered to bytes is answered to them with more bytes after, but that more are wanted. So does
+/// an error of `read_answer` other than `Torn`.
+pub fn answers_stay()
+    ensures requests { RequestAnswersStay }
+    ensures replies { ReplyErrorsStay }
 {}

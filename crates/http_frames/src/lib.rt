@@ -1,8 +1,10 @@
 //! HTTP messages as bytes, both ways: heads, bodies by length and in chunks (RFC 9112).
 //!
 //! A layer above may rely on this: a request is read from exactly the bytes that are its frame, in whatever pieces
-//! they come; bytes that no continuation makes a request within the limits are refused where that is known first;
-//! and what is written is the frame of what was to be written. A head is the grammar of the crate `httparse`.
+//! they come; of the same bytes one answer comes, which stays where more bytes follow; and what is written is the frame
+//! of what was to be written. A head is the grammar of the crate `httparse`, refused at the first byte with which no
+//! continuation is one; inside a target that may wait for its end. What a head says of the body is judged once it is
+//! whole. A body in chunks is refused at the first byte with which no continuation is one within the limits.
 #![tactic(auto)]
 
 mod answer;
@@ -11,6 +13,7 @@ mod chunks;
 mod frame_error;
 mod framing;
 mod head;
+mod headers;
 mod laws;
 mod limits;
 mod message;
@@ -19,7 +22,8 @@ mod writing;
 
 pub use answer::read_answer;
 pub use frame_error::FrameError;
-pub use laws::one_answer;
+pub use headers::{count_named, first_named};
+pub use laws::{answers_stay, one_answer};
 pub use message::{Header, Reply, Request};
 pub use reader::RequestReader;
 pub use writing::{write_answer, write_request};

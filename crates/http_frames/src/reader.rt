@@ -1,6 +1,7 @@
 //! Requests out of pieces.
-ghost use Rattle.std.specs.Prelude.{◌≡◌, ◌≢◌, ◌⊎◌, ◌++◌, [], true, IfOk, IfSome, IfNone, IfErr, length};
+ghost use Rattle.std.specs.Prelude.{◌≡◌, ◌≢◌, ◌⊎◌, ◌<◌, ◌≤◌, ◌++◌, ℕ, [], true, IfOk, IfSome, IfNone, IfErr, length};
 ghost use Rattle.http_frames.specs.Heads.{IsRequestHeadOf};
+ghost use Rattle.http_frames.specs.Limits.{request_bytes, request_limits};
 ghost use Rattle.http_frames.specs.Frames.{BeginsWithRequest, AwaitsRest, RefusesRequest};
 ghost use Rattle.http_frames.specs.Reading.{IsStarted, IsStageOf, IsAdvance, IsStart, IsReadRequest, AwaitsMore, Refuses, is_open_stage};
 
@@ -63,6 +64,7 @@ impl RequestReader {
     pub fn new(alloc: Global) -> RequestReader
         ensures bytes { result.bytes ≡ [] }
         ensures is_open { result.is_open ≡ true }
+        ensures awaits { AwaitsRest result.bytes }
     {
         RequestReader {
             bytes: Vec::new(alloc),
@@ -70,17 +72,21 @@ impl RequestReader {
         }
     }
 
-    /// Takes a piece, and gives the request once its bytes are whole. Bytes behind the request are ignored.
+    /// Takes a piece, and gives the request once its bytes are whole. Bytes after the request are ignored.
     ///
-    /// An error is that of the shortest prefix of the bytes that has one. After `Memory` the reader is as before.
+    /// A request's body has at most 131,072 bytes, and at most 1,064,959 bytes are held while more are wanted. An error
+    /// is that of the shortest prefix of the bytes that has one, and never `Torn`. After `Memory` the reader is as before.
     pub fn feed(&mut self, piece: &[u8]) -> Result<Option<Request>, FrameError>
         requires { self.old.is_open ≡ true }
         ensures fed { result ≡ Err FrameError.Memory ⊎ (self.new.bytes ≡ self.old.bytes ++ piece.now) }
         ensures memory { result ≡ Err FrameError.Memory → self.new ≡ self.old }
         ensures whole { IfOk result (λ read. IfSome read (BeginsWithRequest self.new.bytes)) }
+        ensures small { IfOk result (λ read. IfSome read (λ request. length request.body ≤ request_limits.content)) }
         ensures more { IfOk result (λ read. IfNone read (AwaitsRest self.new.bytes)) }
+        ensures few { IfOk result (λ read. IfNone read (length self.new.bytes < request_bytes)) }
         ensures goes_on { IfOk result (λ read. IfNone read (self.new.is_open ≡ true)) }
         ensures refused { IfErr result (λ e. e ≢ FrameError.Memory → RefusesRequest self.new.bytes e) }
+        ensures not_torn { IfErr result (λ e. (at : ℕ) → e ≢ FrameError.Torn at) }
     {
         self.take_in(piece)
     }
