@@ -21,7 +21,7 @@ use Rattle.lcm_core.proofs.Traces.{ends_with_push}
 
 -- ---- counting
 
-count_push : (p : Entry → Bool) (t : List Entry) (e : Entry) → count_by p (t ++ e ∷ []) ≡ count_by p t + cond (p e) 1 0
+pub count_push : (p : Entry → Bool) (t : List Entry) (e : Entry) → count_by p (t ++ e ∷ []) ≡ count_by p t + cond (p e) 1 0
 count_push p t e = omega (arith, sum_by-append (λ x. cond (p x) 1 0) t (e ∷ []), sum_by-cons (λ x. cond (p x) 1 0) e [])
 
 -- a resource without an entry is not counted

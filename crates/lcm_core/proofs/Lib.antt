@@ -1,8 +1,10 @@
 pub mod Bounded
+pub mod Compliance
 pub mod OneTurn
 pub mod Past
 pub mod Ready
 pub mod Repaired
 pub mod RepairedEntries
 pub mod RepairedReports
+pub mod Successes
 pub mod Traces

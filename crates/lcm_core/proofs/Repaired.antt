@@ -74,7 +74,7 @@ set_blames a b wanted faults.HostFailed leaves = tt
 -- ---- along the trace
 
 -- the states before and behind an entry
-true_split : (document : Document) (a b : HostState) (front : List Entry) (e : Entry) (rest : List Entry) → True document a (front ++ e ∷ rest) b
+pub true_split : (document : Document) (a b : HostState) (front : List Entry) (e : Entry) (rest : List Entry) → True document a (front ++ e ∷ rest) b
     → (x y : HostState) × IsTrueEntry x document e y × True document y rest b
 true_split document a b [] e rest chain = (a, chain.0, chain.1, chain.2)
 true_split document a b (f ∷ front) e rest chain = true_split document chain.0 b front e rest chain.2

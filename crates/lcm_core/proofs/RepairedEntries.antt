@@ -5,12 +5,15 @@ use Rattle.std.proofs.lemmas.List.{append_assoc}
 use Rattle.std.proofs.lemmas.Map.Made.{Contains-tail}
 use Rattle.dsc_terms.proofs.Splits.{contains_cons, contains_front}
 use Rattle.dsc_document.specs.declared.document.Document.{Document}
+use Rattle.resource_kinds.specs.declared.entry.TestAnswer.TheVariants as tests
+use Rattle.resource_kinds.specs.declared.entry.SetAnswer.{SetAnswer}
+use Rattle.resource_kinds.specs.declared.entry.SetAnswer.TheVariants as sets
 use Rattle.resource_kinds.specs.declared.entry.Entry.{Entry}
 use Rattle.resource_kinds.specs.declared.entry.Entry.TheVariants.{Tested, Set}
 use Rattle.resource_kinds.specs.Trace.{EndsWith, HasEntry, IsFinal, last_entry, place_of}
 use Rattle.resource_kinds.proofs.Marks.{last_elsewhere, last_here}
 use Rattle.lcm_core.specs.declared.modes.RunMode.{RunMode}
-use Rattle.lcm_core.specs.Legal.{GoesOn, Legal, MayFollow}
+use Rattle.lcm_core.specs.Legal.{GoesOn, IsFirstTest, Legal, MayFollow}
 use Rattle.lcm_core.specs.Whole.{BeginsWithSet, BeginsWithTest}
 
 -- ---- the last entry
@@ -85,3 +88,20 @@ pub set_has : (rest : List Entry) (r : ℕ) → BeginsWithSet rest r → HasEntr
 set_has [] r begins = absurd begins
 set_has (Tested place answer ∷ rest) r begins = absurd begins
 set_has (Set place answer ∷ rest) r begins = head_has (Set place answer) rest r begins
+
+-- ---- what stands before a Set
+
+-- the Test directly before a Set was the first of its resource
+pub set_split : (document : Document) (mode : RunMode) (order : List ℕ) (trace : List Entry) → Legal document mode order trace
+    → (w : List Entry) (p : ℕ) (answer : SetAnswer) (rest : List Entry) → trace ≡ w ++ Set p answer ∷ rest
+    → (v : List Entry) × (w ≡ v ++ Tested p tests.No ∷ []) × IsFirstTest order v p
+set_split document mode order trace legal w p answer rest is =
+    let may = legal w (Set p answer) rest is in
+    let v = may.after_no.0 in
+    let at = is ∙ ap (λ (l : List Entry). l ++ Set p answer ∷ rest) may.after_no.1 ∙ append_assoc v (Tested p tests.No ∷ []) (Set p answer ∷ rest) in
+    elim (legal v (Tested p tests.No) (Set p answer ∷ rest) at).in_turn [
+      | inl first ↦ (v, may.after_no.1, first)
+      | inr ends ↦
+          absurd (may.once ends.0 sets.Done (Tested p tests.No ∷ [])
+          (may.after_no.1 ∙ ap (λ (l : List Entry). l ++ Tested p tests.No ∷ []) ends.1 ∙ append_assoc ends.0 (Set p sets.Done ∷ []) (Tested p tests.No ∷ [])))
+    ]

@@ -1,7 +1,6 @@
 -- Why the trace of a run to which no memory was refused can be reported.
 use Rattle.std.proofs.Common.{◌≡◌, inl, inr, ℕ, ◌+◌, ◌<◌, List, [], ◌∷◌, ◌++◌, length, take, drop, get_or, Some, refl, sym, ◌∙◌, ap, subst}
 use Rattle.std.specs.Prelude.{◌≢◌}
-use Rattle.std.proofs.lemmas.List.{append_assoc}
 use Rattle.std.proofs.lemmas.Option.{none-some, same_Some}
 use Rattle.dsc_terms.specs.Lists.{Precedes}
 use Rattle.dsc_terms.proofs.Splits.{split_at, split_push}
@@ -16,12 +15,12 @@ use Rattle.lcm_core.specs.declared.modes.RunMode.{RunMode}
 use Rattle.lcm_core.specs.declared.modes.RunEnd.{RunEnd}
 use Rattle.lcm_core.specs.declared.modes.RunEnd.TheVariants as ends
 use Rattle.lcm_core.specs.Ends.{IsEnd}
-use Rattle.lcm_core.specs.Legal.{IsFirstTest, Legal}
+use Rattle.lcm_core.specs.Legal.{Legal}
 use Rattle.lcm_core.specs.RepairLaws.{RunsAreReportable, TracesAreReportable}
 use Rattle.lcm_core.specs.Whole.{IsReached, Whole}
 use Rattle.lcm_core.proofs.OneTurn.{has_split}
 use Rattle.lcm_core.proofs.Traces.{ends_with_push, legal_places}
-use Rattle.lcm_core.proofs.RepairedEntries.{IsLastOf, final_ends, last_is, last_of, last_over, test_has}
+use Rattle.lcm_core.proofs.RepairedEntries.{IsLastOf, final_ends, last_is, last_of, last_over, set_split, test_has}
 
 wants_final : (e : Entry) → WantsMemory e → IsFinal e
 wants_final (Tested place answer) wants = wants
@@ -33,23 +32,10 @@ module _ (document : Document) (mode : RunMode) (order : List ℕ) (trace : List
       let e = get_or trace k d in
       fed (e, final_ends document mode order trace (take k trace) e (drop (k + 1) trace) legal (split_at trace k d lt) (wants_final e wants), wants)
 
-  -- where a reboot ends the run, the Test before it was the first of its resource
-  reboot_split : (w : List Entry) (p : ℕ) → trace ≡ w ++ Set p sets.Reboot ∷ [] → (v : List Entry) × (w ≡ v ++ Tested p tests.No ∷ []) × IsFirstTest order v p
-  reboot_split w p is =
-      let may = legal w (Set p sets.Reboot) [] is in
-      let v = may.after_no.0 in
-      let at = is ∙ ap (λ (l : List Entry). l ++ Set p sets.Reboot ∷ []) may.after_no.1 ∙ append_assoc v (Tested p tests.No ∷ []) (Set p sets.Reboot ∷ []) in
-      elim (legal v (Tested p tests.No) (Set p sets.Reboot ∷ []) at).in_turn [
-        | inl first ↦ (v, may.after_no.1, first)
-        | inr ends ↦
-            absurd (may.once ends.0 sets.Done (Tested p tests.No ∷ [])
-            (may.after_no.1 ∙ ap (λ (l : List Entry). l ++ Tested p tests.No ∷ []) ends.1 ∙ append_assoc ends.0 (Set p sets.Done ∷ []) (Tested p tests.No ∷ [])))
-      ]
-
   module _ (front : List Entry) (r : ℕ) (rest : List Entry) (is : trace ≡ front ++ Set r sets.Done ∷ rest) where
     done_before : (w : List Entry) (p : ℕ) → trace ≡ w ++ Set p sets.Reboot ∷ [] → Precedes order r p
     done_before w p ends =
-        let (v, before, first) = reboot_split w p ends in
+        let (v, before, first) = set_split document mode order trace legal w p sets.Reboot [] ends in
         elim (split_push w (Set p sets.Reboot) front (Set r sets.Done) rest (sym ends ∙ is)) [
           | inl same ↦ absurd (other same.1)
           | inr more ↦ elim (split_push v (Tested p tests.No) front (Set r sets.Done) more.0 (sym before ∙ more.1)) [

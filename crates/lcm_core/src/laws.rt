@@ -1,5 +1,6 @@
 //! Laws of runs. The calls do nothing; their clauses are the laws.
 ghost use Rattle.lcm_core.specs.RepairLaws.{FaultsAreContained, RepairSucceeds, RunsAreReportable, TracesAreReportable};
+ghost use Rattle.lcm_core.specs.RunLaws.{CompliantHold, LegalEndsAtYes, LegalKnowsPlaces};
 
 use resource_kinds::set_laws;
 
@@ -20,3 +21,14 @@ pub fn report_laws()
     ensures traces { TracesAreReportable }
     ensures runs { RunsAreReportable }
 {}
+
+/// In a legal trace every entry is of a resource of the document, and no entry of a resource stands after a Test of it that
+/// answered yes. Where such a trace is true of a host, the resources of the document are apart and each of them succeeded, none
+/// has a fault of its own, and all that they ask for holds together at the end.
+pub fn trace_laws()
+    ensures known { LegalKnowsPlaces }
+    ensures ends_at_yes { LegalEndsAtYes }
+    ensures together { CompliantHold }
+{
+    set_laws();
+}

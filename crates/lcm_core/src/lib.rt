@@ -10,8 +10,8 @@ mod modes;
 mod runs;
 mod turns;
 
-pub use last_entries::succeeded;
-pub use laws::{repair_laws, report_laws};
+pub use last_entries::{count_succeeded, succeeded};
+pub use laws::{repair_laws, report_laws, trace_laws};
 pub use modes::{RunEnd, RunMode};
 pub use runs::run;
 
