@@ -29,17 +29,17 @@ Accepts phase (b ∷ bytes) content = OnSome (next_phase phase b) (λ next. Keep
 
 -- ---- what each phase accepts, as the grammar says it
 
--- the rest of a chunk, and the body behind it
+-- the rest of a chunk, and the body after it
 abbrev pub DataThen : ℕ → List ℕ → List ℕ → Type 0
 DataThen n bytes content =
     (part : List ℕ) × (rest : List ℕ) × (more : List ℕ) × (length part ≡ n)
     × (bytes ≡ part ++ (13 ∷ 10 ∷ rest)) × (content ≡ part ++ more) × Chunked rest more
 
--- behind a chunk line
+-- after a chunk line
 abbrev pub AfterLine : ℕ → List ℕ → List ℕ → Type 0
 AfterLine size bytes content = ((size ≡ 0) × Trailer bytes × (content ≡ [])) ⊎ ((0 < size) × DataThen size bytes content)
 
--- behind the digits
+-- after the digits
 abbrev pub BehindSize : ℕ → List ℕ → List ℕ → Type 0
 BehindSize size bytes content =
     (pad : List ℕ) × (text : Option (List ℕ)) × (rest : List ℕ) × AllPass is_ows pad × IsExtension text

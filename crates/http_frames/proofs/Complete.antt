@@ -135,7 +135,7 @@ data_accepted (suc n) b (c ∷ part) rest more len h =
 
 -- ---- a chunk line
 
--- the phase reads what stands behind a size
+-- the phase reads what stands after a size
 abbrev pub ReadsBehind : Phase → ℕ → Type 0
 ReadsBehind p size = (is_data p ≡ false) × ((b : ℕ) → is_ascii_hexdigit b ≡ false → next_phase p b ≡ behind_size size b)
 

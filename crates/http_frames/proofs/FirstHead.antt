@@ -5,8 +5,9 @@ use Rattle.std.proofs.lemmas.Str.{IsUtf8-from_ascii}
 use Rattle.std.proofs.lemmas.Str.Ascii.{IsAscii-cons, IsAscii-nil}
 use Rattle.httparse.specs.Grammar.{lf, print_blank, IsField, is_token_byte, is_uri_byte, RequestHead, IsRequestHead, print_request}
 use Rattle.http_frames.specs.Heads.{BeginsRequest}
+use Rattle.http_frames.specs.HeadWalks.{start_line}
 use Rattle.http_frames.specs.Frames.{AwaitsRest}
-use Rattle.http_frames.proofs.RequestLines.{request_line, request_parts}
+use Rattle.http_frames.proofs.RequestLines.{request_parts}
 
 -- G / HTTP/1.1
 abbrev some_head : RequestHead
@@ -24,7 +25,7 @@ some_head_is = record {
 
 no_head : (head : RequestHead) (rest : List ℕ) → BeginsRequest [] head rest → ⊥
 no_head head rest h =
-    let parts : [] ≡ print_blank head.blank ++ (request_line head ++ _) = h.reads.1 ∙ request_parts head rest in
+    let parts : [] ≡ print_blank head.blank ++ (start_line head ++ _) = h.reads.1 ∙ request_parts head rest in
     omega (arith, h.reads.0.method.0, simp length-append at (ap length parts))
 
 pub awaits_first : AwaitsRest []

@@ -24,3 +24,7 @@ pub mod OneRequest
 pub mod OneReply
 pub mod InTarget
 pub mod Staying
+pub mod HeadBegins
+pub mod HeadPasses
+pub mod TargetTexts
+pub mod HeadReading

@@ -1,4 +1,4 @@
--- A head has one line feed for each of its lines, so the line feeds tell where a header line too many begins.
+-- A head has one line feed for each of its lines, so the line feeds say where a header line too many begins.
 use Rattle.std.proofs.Common.{◌≡◌, ℕ, zero, suc, ◌+◌, ◌<◌, ◌≤◌, List, [], ◌∷◌, ◌++◌, length, refl, sym, ap, ◌∙◌, subst, arith, append_assoc, append-nil, ap₂, Bool, true, false, not, ◌||◌, inl, inr}
 use Rattle.std.proofs.lemmas.Bool.Decides.{eqb_tells}
 use Rattle.std.proofs.lemmas.Bool.{false≢true, cases_lt}
@@ -320,7 +320,7 @@ skip_nothing : skip_breaks [] ≡ []
 unfolding skip_breaks
 skip_nothing = refl
 
--- the bytes end among the empty lines, or behind them
+-- the bytes end among the empty lines, or after them
 pub blank_cases : (blank text buf more : List ℕ) → Breaks blank → BeginsInside text → buf ++ more ≡ blank ++ text
     → ((m : List ℕ) × (blank ≡ buf ++ m) × (skip_breaks buf ≡ []))
     ⊎ ((y : List ℕ) × (buf ≡ blank ++ y) × (y ++ more ≡ text) × (skip_breaks buf ≡ y))

@@ -115,7 +115,7 @@ one_body xs ys c d h k = one_accepted xs ys Line c d (complete xs c h) (complete
 
 -- ---- whole chunks lead to a chunk line
 
--- behind digits there is at least one
+-- after digits there is at least one
 abbrev IsCounted : Phase → Type 0
 IsCounted (Size digits size) = 1 ≤ digits
 IsCounted Line = Unit {0}
@@ -210,7 +210,7 @@ least_of size = elim (eqb_tells (suc size) 0) [
   | inr w ↦ subst (λ (t : Bool). 6 < (if t then 1 else suc size + 6)) (sym w.0) (omega arith)
 ]
 
--- only behind whole chunks each of the three bodies is one
+-- only after whole chunks each of the three bodies is one
 only_line : (phase : Phase) (c d e : List ℕ) → IsCounted phase → Accepts phase empty_body c → Accepts phase lines_body d
     → Accepts phase long_body e → phase ≡ Line
 unfolding next_phase least_rest

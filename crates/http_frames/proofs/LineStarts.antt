@@ -25,7 +25,7 @@ use Rattle.http_frames.proofs.Complete.{complete}
 use Rattle.http_frames.proofs.Bounds.{AllSome}
 use Rattle.http_frames.proofs.WalkBodies.{is_wrong, goes_on, is_long, step_is, stepped_phase, ok_walk, Reached, reached_open, start_counts, start_sane, from_start}
 
--- in a chunk line, or in the line end behind a chunk
+-- in a chunk line, or in the line end after a chunk
 abbrev in_line : Phase → Bool
 in_line Line = true
 in_line (Size digits size) = true

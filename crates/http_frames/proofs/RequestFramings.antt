@@ -23,20 +23,20 @@ abbrev pub IsRequestFraming : Result Framing FrameError → Type 0
 IsRequestFraming (Ok (Sized n)) = n ≤ 131072
 IsRequestFraming (Ok Chunked) = ⊤
 IsRequestFraming (Ok ToEnd) = ⊥
-IsRequestFraming (Err e) = (at : ℕ) → e ≢ errors.Torn at
+IsRequestFraming (Err e) = ((at : ℕ) → e ≢ errors.Torn at) × (e ≢ errors.Memory)
 
 sized_is : (t : Bool) (n : ℕ) → nat_le n 131072 ≡ t → IsRequestFraming (if t then Ok (Sized n) else Err errors.BodyTooLong)
 sized_is true n e = grind (arith, e)
-sized_is false n e = λ at h. absurd (cc)
+sized_is false n e = (λ at h. absurd (cc), λ h. absurd (cc))
 
 by_tests : (c l h needs : Bool) (o : Option Header)
     → IsRequestFraming (if not c then Err errors.Coding else (if not l then Err errors.Length else (if h then Ok Chunked
     else length_framing 131072 (if needs then Err errors.NoLength else Ok (Sized 0)) o)))
-by_tests false l h needs o = λ at h. absurd (cc)
-by_tests true false h needs o = λ at h. absurd (cc)
+by_tests false l h needs o = (λ at h. absurd (cc), λ h. absurd (cc))
+by_tests true false h needs o = (λ at h. absurd (cc), λ h. absurd (cc))
 by_tests true true true needs o = tt
 by_tests true true false needs (Some header) = sized_is (nat_le (digits_value 10 header.value) 131072) (digits_value 10 header.value) refl
-by_tests true true false true None = λ at h. absurd (cc)
+by_tests true true false true None = (λ at h. absurd (cc), λ h. absurd (cc))
 by_tests true true false false None = omega arith
 
 pub request_framing_is : (method : List ℕ) (headers : List Header) → IsRequestFraming (request_framing method headers)
@@ -92,7 +92,7 @@ not_torn : (bytes : List ℕ) (at : ℕ) → RefusesRequest bytes (errors.Torn a
 not_torn bytes at refuses = elim refuses [
   | inl w ↦ w
   | inr u ↦ elim u [
-    | inl w ↦ subst IsRequestFraming w.says (request_framing_is w.head.method (map header_of w.head.fields)) at refl
+    | inl w ↦ (subst IsRequestFraming w.says (request_framing_is w.head.method (map header_of w.head.fields))).0 at refl
     | inr w ↦ body_not_torn _ _ w.framing w.body at w.refuses
   ]
 ]

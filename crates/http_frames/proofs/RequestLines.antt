@@ -7,15 +7,12 @@ use Rattle.std.proofs.lemmas.List.Elements.{All-head, All-nil}
 use Rattle.httparse.specs.Grammar.{print_end, print_blank, print_version, print_field, IsField, RequestHead, IsRequestHead, ReadsRequest, print_request, HasNoRequest, MayBecomeRequest, AllPass, is_token_byte, is_uri_byte}
 use Rattle.httparse.proofs.GrammarLemmas.{print_request-append}
 use Rattle.http_frames.specs.Lines.{skip_lines, begins_line_there, begins_extra_line}
+use Rattle.http_frames.specs.HeadWalks.{start_line}
 use Rattle.http_frames.specs.Heads.{CanBeRequest, IsNoRequest, IsOpenRequest}
 use Rattle.http_frames.proofs.LineCounts.{NoFeed, no_feed, token_feed, token_inside, skip_over, skip_byte, skip_end, IsStart, section_of, extra_refuses, no_extra_fits, BeginsInside, blank_breaks, blank_cases, not_extra}
 
--- method SP target SP version line-end
-abbrev pub request_line : RequestHead → List ℕ
-request_line h = h.method ++ 32 ∷ (h.target ++ 32 ∷ (print_version h.minor ++ print_end h.line_end))
-
 pub request_parts : (h : RequestHead) (rest : List ℕ) → print_request h ++ rest
-    ≡ print_blank h.blank ++ section_of (request_line h) h.fields h.last rest
+    ≡ print_blank h.blank ++ section_of (start_line h) h.fields h.last rest
 request_parts h rest =
     print_request-append h rest
     ∙ regroup (print_blank h.blank) h.method h.target (print_version h.minor) (print_end h.line_end)
@@ -32,7 +29,7 @@ minor_feed minor = elim (eqb_tells (48 + minor) 10) [ inl w ↦ absurd (omega (a
 pub version_feed : (minor : ℕ) → NoFeed (print_version minor)
 version_feed minor = (refl, (refl, (refl, (refl, (refl, (refl, (refl, (minor_feed minor, tt))))))))
 
-request_starts : (h : RequestHead) → IsRequestHead h → IsStart (request_line h)
+request_starts : (h : RequestHead) → IsRequestHead h → IsStart (start_line h)
 request_starts h valid = λ n rest.
     ap (skip_lines (suc n)) (regroup h.method h.target (print_version h.minor) (print_end h.line_end) rest)
     ∙ skip_over n h.method _ (no_feed is_token_byte token_feed h.method valid.method.1)
@@ -52,7 +49,7 @@ inside_by_method (b ∷ method) rest some all =
     let P : ℕ → Type 0 = λ v. is_token_byte v ≡ true in
     (b, method ++ rest, refl, token_inside b (All-head P b method all))
 
-pub request_inside : (h : RequestHead) (rest : List ℕ) → IsRequestHead h → BeginsInside (request_line h ++ rest)
+pub request_inside : (h : RequestHead) (rest : List ℕ) → IsRequestHead h → BeginsInside (start_line h ++ rest)
 request_inside h rest valid =
     subst BeginsInside (sym (append_assoc h.method (32 ∷ (h.target ++ 32 ∷ (print_version h.minor ++ print_end h.line_end))) rest))
     (inside_by_method h.method _ valid.method.0 valid.method.1)
@@ -61,12 +58,12 @@ pub extra_is_no_request : (buf : List ℕ) → HasNoRequest buf → begins_extra
 unfolding begins_extra_line
 extra_is_no_request buf none extra = λ more h rest x.
     let valid = x.reads.0 in
-    let parts : buf ++ more ≡ print_blank h.blank ++ section_of (request_line h) h.fields h.last rest =
+    let parts : buf ++ more ≡ print_blank h.blank ++ section_of (start_line h) h.fields h.last rest =
     x.reads.1 ∙ request_parts h rest in
     elim (blank_cases (print_blank h.blank) _ buf more (blank_breaks h.blank) (request_inside h _ valid) parts) [
       | inl w ↦ not_extra buf w.2 extra
       | inr w ↦
-          let z = extra_refuses (request_line h) h.fields h.last rest more w.0 (request_starts h valid) valid.fields x.lines w.2
+          let z = extra_refuses (start_line h) h.fields h.last rest more w.0 (request_starts h valid) valid.fields x.lines w.2
           (sym (ap (λ (l : List ℕ). begins_line_there (skip_lines 65 l)) w.3) ∙ extra) in
           none h z.0 (valid, w.1 ∙ ap (λ (l : List ℕ). print_blank h.blank ++ l) z.1 ∙ sym (request_parts h z.0))
     ]
@@ -77,11 +74,11 @@ fits : (buf : List ℕ) (more : List ℕ) (h : RequestHead) → ReadsRequest (bu
 unfolding begins_extra_line
 fits buf more h x none =
     let valid = x.0 in
-    let parts : buf ++ more ≡ print_blank h.blank ++ section_of (request_line h) h.fields h.last [] = x.1 ∙ request_parts h [] in
+    let parts : buf ++ more ≡ print_blank h.blank ++ section_of (start_line h) h.fields h.last [] = x.1 ∙ request_parts h [] in
     elim (blank_cases (print_blank h.blank) _ buf more (blank_breaks h.blank) (request_inside h _ valid) parts) [
       | inl w ↦
           let k : RequestHead = record h { fields = [] } in (
-            w.0 ++ section_of (request_line h) [] h.last [],
+            w.0 ++ section_of (start_line h) [] h.last [],
             k,
             record {
               reads = (
@@ -92,14 +89,14 @@ fits buf more h x none =
                   minor = valid.minor;
                   fields = All-nil IsField;
                 },
-                sym (append_assoc buf w.0 _) ∙ ap (λ (l : List ℕ). l ++ section_of (request_line h) [] h.last []) (sym w.1)
+                sym (append_assoc buf w.0 _) ∙ ap (λ (l : List ℕ). l ++ section_of (start_line h) [] h.last []) (sym w.1)
                     ∙ sym (request_parts k []),
               );
               lines = omega arith;
             },
           )
       | inr w ↦
-          let found = no_extra_fits (request_line h) h.fields h.last more w.0 (request_starts h valid) valid.fields w.2
+          let found = no_extra_fits (start_line h) h.fields h.last more w.0 (request_starts h valid) valid.fields w.2
           (sym (ap (λ (l : List ℕ). begins_line_there (skip_lines 65 l)) w.3) ∙ none) in
           let k : RequestHead = record h { fields = found.0 } in (
             found.1,

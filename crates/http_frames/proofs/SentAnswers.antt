@@ -60,7 +60,7 @@ three_digits code low high =
     long_or_short : (n : ℕ) → (2 < n) ⊎ (n ≤ 2)
     long_or_short n = grind arith
 
--- ---- the framing that the lines tell
+-- ---- the framing that the lines say
 
 abbrev unless_204 : Bool → ℕ → List Header
 unless_204 bare n = if bare then [] else length_header n ∷ []
@@ -68,7 +68,7 @@ unless_204 bare n = if bare then [] else length_header n ∷ []
 abbrev by_code : Bool → Result Framing FrameError → Result Framing FrameError
 by_code bodiless stated = if bodiless then Ok (Sized 0) else stated
 
--- the body is as long as the lines tell
+-- the body is as long as the lines say
 framed : (code : ℕ) (lines : List Header) (bare : Bool) (n : ℕ) → (code == 204) ≡ bare → n ≤ 67108864 → (has_no_body code ≡ true → n ≡ 0)
     → IsSilent lines → answer_framing code (lines ++ unless_204 bare n) ≡ Ok (Sized n)
 unfolding answer_framing

@@ -51,7 +51,7 @@ fields_valid (h ∷ headers) all =
     (record { name = plain.name; raw = All-cons (λ x. is_value_byte x ≡ true) 32 h.value refl plain.value.bytes })
     (fields_valid headers (All-tail IsPlainHeader h headers all))
 
--- ---- the framing that the lines tell
+-- ---- the framing that the lines say
 
 pub own : IsNumeralModel (AllDigits 10) (digits_value 10)
 own = record { to = λ ds h. h; from = λ ds h. h; same = λ ds h. refl }
@@ -104,7 +104,7 @@ all_front p q (x ∷ xs) ys h =
     let parts = neither (p x) (list_any p xs) h in
     ap (λ (t : Bool). (not t || q x) && list_all (λ h. not (p h) || q h) (xs ++ ys)) parts.0 ∙ all_front p q xs ys parts.1
 
--- the line that tells the length, where it is written
+-- the line that gives the length, where it is written
 abbrev pub added_length : Bool → ℕ → List Header
 added_length told n = if told then length_header n ∷ [] else []
 
@@ -163,7 +163,7 @@ sound_sent lines told n framing silent few =
     ap₂ (λ (c l : Bool). if not c then Err Coding else (if not l then Err Length else framing))
     (codings_sent lines told n silent) (lengths_sent lines told n silent few)
 
--- the length that is told is the framing
+-- the length that is given is the framing
 pub stated_sent : (limit : ℕ) (without : Result Framing FrameError) (lines : List Header) (told : Bool) (n : ℕ) → IsSilent lines
     → n ≤ limit → n < 10 ^ 10
     → stated_framing limit without (lines ++ added_length told n) ≡ (if told then Ok (Sized n) else without)
@@ -231,7 +231,7 @@ added_plain false n few = All-nil IsPlainHeader
 pub close_is_plain : IsPlainHeader close_header
 close_is_plain = record { name = connection_token; value = close_plain }
 
--- the text of the line that tells the length
+-- the text of the line that gives the length
 pub added_text : (told : Bool) (n : ℕ) → flat_map header_text (added_length told n) ≡ (if told then length_line n else [])
 added_text true n = append-nil (length_line n)
 added_text false n = refl

@@ -25,7 +25,7 @@ host_token = token_by (codes "Host") (omega arith) refl
 abbrev host_header : List ℕ → Header
 host_header host = record { name = codes "Host"; value = host }
 
--- the body is as long as the lines tell
+-- the body is as long as the lines say
 framed : (method : List ℕ) (lines : List Header) (told : Bool) (n : ℕ) → needs_length method ≡ told → n ≤ 131072 → (told ≡ false → n ≡ 0)
     → IsSilent lines → request_framing method (lines ++ added_length told n) ≡ Ok (Sized n)
 unfolding request_framing

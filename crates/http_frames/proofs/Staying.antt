@@ -24,7 +24,7 @@ take_same n bytes more fits = sym (take-append-le n bytes more fits)
 
 -- ---- heads
 
-no_request_more : (bytes z : List ℕ) → IsNoRequest bytes → IsNoRequest (bytes ++ z)
+pub no_request_more : (bytes z : List ℕ) → IsNoRequest bytes → IsNoRequest (bytes ++ z)
 no_request_more bytes z never = λ more head rest h.
     never (z ++ more) head rest (subst (λ (l : List ℕ). BeginsRequest l head rest) (append_assoc bytes z more) h)
 

@@ -14,7 +14,7 @@ use Rattle.http_frames.specs.Bodies.{body_reading}
 abbrev pub is_interim : ℕ → Bool
 is_interim code = nat_le 100 code && nat_lt code 200
 
--- behind interim heads at the front of the bytes stands the rest
+-- after interim heads at the front of the bytes stands the rest
 pub data Passes : List ℕ → List ℕ → Type 0 where
   no_more : (bytes : List ℕ) → Passes bytes bytes
   one_more : (bytes rest : List ℕ) (start : AnswerStart) → IsAnswerHeadOf bytes start → is_interim start.code ≡ true
@@ -26,7 +26,7 @@ pub record IsLastHead (bytes rest : List ℕ) (start : AnswerStart) : Type 0 whe
   pub head : IsAnswerHeadOf rest start
   pub last : is_interim start.code ≡ false
 
--- the last head says how its body ends, and the bytes behind it read so
+-- the last head says how its body ends, and the bytes after it read so
 pub record AnswersBody (bytes : List ℕ) (start : AnswerStart) (reading : Result (Option (List ℕ)) FrameError) : Type 0 where
   pub rest : List ℕ
   pub head : IsLastHead bytes rest start

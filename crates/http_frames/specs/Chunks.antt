@@ -43,11 +43,11 @@ CanBeBody limits bytes = (more : List ℕ) × (content : List ℕ) × IsBodyWith
 abbrev pub LacksBody : List ℕ → Type 0
 LacksBody bytes = (whole rest content : List ℕ) → bytes ≡ whole ++ rest → ¬ (Chunked whole content)
 
--- whole chunks: behind them any body makes a body
+-- whole chunks: after them any body makes a body
 abbrev pub AreChunks : List ℕ → Type 0
 AreChunks bytes = (body content : List ℕ) → Chunked body content → (joined : List ℕ) × Chunked (bytes ++ body) joined
 
--- behind the bytes begins a chunk line, or the line end of a chunk
+-- after the bytes begins a chunk line, or the line end of a chunk
 abbrev pub LineBegins : List ℕ → Type 0
 LineBegins bytes = AreChunks bytes ⊎ AreChunks (bytes ++ crlf_bytes)
 

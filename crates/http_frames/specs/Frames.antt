@@ -100,7 +100,7 @@ pub record RefusesRequestFraming (bytes : List ℕ) (e : FrameError) : Type 0 wh
   pub front : RequestFront bytes head rest
   pub says : framing_of head ≡ Err e
 
--- a whole head, and behind it no body within the limits
+-- a whole head, and after it no body within the limits
 pub record RefusesRequestBody (bytes : List ℕ) (e : FrameError) : Type 0 where
   pub head : RequestHead
   pub body : List ℕ
@@ -130,7 +130,7 @@ pub data Interim : List ℕ → List ℕ → Type 0 where
   interim : (bytes middle rest : List ℕ) (head : ResponseHead) → AnswerFront bytes head middle → is_interim (status_code head) ≡ true
       → Interim middle rest → Interim bytes rest
 
--- behind interim heads the head that is not interim, and then the rest
+-- after interim heads the head that is not interim, and then the rest
 pub record LastFront (bytes : List ℕ) (head : ResponseHead) (rest : List ℕ) : Type 0 where
   pub from : List ℕ
   pub interims : Interim bytes from
@@ -167,7 +167,7 @@ pub record RefusesLastFraming (bytes : List ℕ) (e : FrameError) : Type 0 where
   pub front : LastFront bytes head rest
   pub says : answer_framing_of head ≡ Err e
 
--- behind the last head stands no body within the limits
+-- after the last head stands no body within the limits
 pub record RefusesLastBody (bytes : List ℕ) (e : FrameError) : Type 0 where
   pub head : ResponseHead
   pub body : List ℕ

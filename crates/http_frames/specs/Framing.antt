@@ -37,7 +37,7 @@ needs_length method = bytes_eq method (codes "PUT") || bytes_eq method (codes "P
 abbrev pub has_no_body : ℕ → Bool
 has_no_body code = code == 204 || code == 304
 
--- a body of the length that the header tells
+-- a body of the length that the header gives
 abbrev pub sized_framing : ℕ → Header → Result Framing FrameError
 sized_framing limit header =
     if nat_le (digits_value 10 header.value) limit then Ok (Sized (digits_value 10 header.value)) else Err BodyTooLong

@@ -5,6 +5,8 @@ pub mod Phases
 pub mod Walks
 pub mod Lines
 pub mod Heads
+pub mod HeadPlaces
+pub mod HeadWalks
 pub mod Writing
 pub mod Bodies
 pub mod Reading

@@ -11,7 +11,7 @@ unfoldable pub skip_breaks : List ℕ → List ℕ
 skip_breaks [] = []
 skip_breaks (b ∷ bytes) = if is_break b then skip_breaks bytes else b ∷ bytes
 
--- the bytes behind so many line feeds
+-- the bytes after so many line feeds
 unfoldable pub skip_lines : ℕ → List ℕ → Option (List ℕ)
 skip_lines zero bytes = Some bytes
 skip_lines (suc n) [] = None
@@ -26,6 +26,6 @@ abbrev pub begins_line_there : Option (List ℕ) → Bool
 begins_line_there None = false
 begins_line_there (Some rest) = begins_line rest
 
--- behind the start line and 64 header lines another has begun
+-- after the start line and 64 header lines another has begun
 unfoldable pub begins_extra_line : List ℕ → Bool
 begins_extra_line head = begins_line_there (skip_lines (header_lines + 1) (skip_breaks head))

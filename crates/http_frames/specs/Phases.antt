@@ -5,13 +5,13 @@ use Rattle.httparse.specs.Grammar.{is_ows}
 use Rattle.http_frames.specs.declared.chunks.Phase.{Phase}
 use Rattle.http_frames.specs.declared.chunks.Phase.TheVariants.{Line, Size, Pad, Extension, SizeReturn, Data, DataEnd, DataReturn, Trailer, TrailerReturn, TrailerText, Done}
 
--- behind the size of a chunk: blanks, an extension, or the line's end
+-- after the size of a chunk: blanks, an extension, or the line's end
 abbrev pub behind_size : ℕ → ℕ → Option Phase
 behind_size size b =
     if is_ows b then Some (Pad size)
     else (if b == 59 then Some (Extension size) else (if b == 13 then Some (SizeReturn size) else None))
 
--- behind the line of a chunk; the one of size 0 is the last
+-- after the line of a chunk; the one of size 0 is the last
 abbrev pub behind_line : ℕ → Phase
 behind_line size = if size == 0 then Trailer else Data size
 
@@ -28,7 +28,7 @@ next_in_extension size b =
 abbrev pub next_in_trailer : ℕ → Phase
 next_in_trailer b = if b == 10 then Done else (if b == 13 then TrailerReturn else TrailerText)
 
--- the place behind the byte b, or none where b cannot stand here
+-- the place after the byte b, or none where b cannot stand here
 unfoldable pub next_phase : Phase → ℕ → Option Phase
 next_phase Line b = if is_ascii_hexdigit b then Some (Size 1 (digit_value b)) else None
 next_phase (Size digits size) b = next_in_size digits size b
@@ -87,7 +87,7 @@ begun_content TrailerReturn = 0
 begun_content TrailerText = 0
 begun_content Done = 0
 
--- the shortest rest behind a size, from the line's end on
+-- the shortest rest after a size, from the line's end on
 abbrev pub least_behind : ℕ → ℕ
 least_behind size = if size == 0 then 1 else size + 6
 

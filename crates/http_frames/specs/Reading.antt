@@ -12,10 +12,11 @@ use Rattle.http_frames.specs.declared.reader.Advance.{Advance}
 use Rattle.http_frames.specs.declared.reader.Advance.TheVariants.{More, Whole, Refused, OutOfMemory}
 use Rattle.http_frames.specs.Limits.{request_limits}
 use Rattle.http_frames.specs.Heads.{IsRequestHeadOf, AwaitsRequest, RefusesRequestHead}
+use Rattle.http_frames.specs.HeadWalks.{IsWalkedHead}
 use Rattle.http_frames.specs.Framing.{request_framing}
 use Rattle.http_frames.specs.Bodies.{HasWalked, body_reading}
 
--- the head at the front of the bytes says how its body ends, and the bytes behind it read so
+-- the head at the front of the bytes says how its body ends, and the bytes after it read so
 pub record ReadsBody (bytes : List ℕ) (start : RequestStart) (reading : Result (Option (List ℕ)) FrameError) : Type 0 where
   pub head : IsRequestHeadOf bytes start
   pub framing : Framing
@@ -50,7 +51,7 @@ pub record Fed : Type 0 where
   pub is_open : Bool
 
 abbrev pub is_open_stage : Stage → Bool
-is_open_stage Head = true
+is_open_stage (Head walk) = true
 is_open_stage (Body started) = true
 is_open_stage Closed = false
 
@@ -64,7 +65,7 @@ pub record IsStarted (bytes : List ℕ) (started : Started) : Type 0 where
   pub walked : HasWalked request_limits started.head.length (drop started.head.length bytes) started.walk
 
 abbrev pub IsStageOf : List ℕ → Stage → Type 0
-IsStageOf bytes Head = ⊤
+IsStageOf bytes (Head walk) = IsWalkedHead bytes walk
 IsStageOf bytes (Body started) = IsStarted bytes started
 IsStageOf bytes Closed = ⊤
 
@@ -75,8 +76,7 @@ IsAdvance bytes stage (Whole request) = IsReadRequest bytes request
 IsAdvance bytes stage (Refused e) = Refuses bytes e × (e ≢ Memory)
 IsAdvance bytes stage (OutOfMemory kept) = kept ≡ stage
 
--- what a first step may lead to
-abbrev pub IsStart : List ℕ → Result (Option Started) FrameError → Type 0
-IsStart bytes (Ok (Some started)) = IsStarted bytes started
-IsStart bytes (Ok None) = AwaitsRequest bytes
-IsStart bytes (Err e) = (e ≡ Memory) ⊎ Refuses bytes e
+-- what a whole head may lead to
+abbrev pub IsStart : List ℕ → Result Started FrameError → Type 0
+IsStart bytes (Ok started) = IsStarted bytes started
+IsStart bytes (Err e) = Refuses bytes e × (e ≢ Memory)

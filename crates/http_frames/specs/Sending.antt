@@ -29,7 +29,7 @@ length_header n = record { name = codes "Content-Length"; value = decimal n }
 
 -- ---- requests
 
--- the line that tells the length, where the method wants one
+-- the line that gives the length, where the method wants one
 abbrev pub length_headers : Request → List Header
 length_headers request = if needs_length request.method then length_header (length request.body) ∷ [] else []
 
@@ -66,7 +66,7 @@ ReadsBack request host bytes = IsSendable request host → IsRequestFrame bytes 
 
 -- ---- answers
 
--- the line that tells the length, unless the code is 204
+-- the line that gives the length, unless the code is 204
 abbrev pub reply_length_headers : Reply → List Header
 reply_length_headers reply = if reply.code == 204 then [] else length_header (length reply.body) ∷ []
 

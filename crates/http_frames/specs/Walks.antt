@@ -22,7 +22,7 @@ can_fit limits walk =
     nat_le (walk.content + begun_content walk.phase) limits.content
     && nat_le (walk.length + least_rest walk.phase) limits.chunked
 
--- where the line, or the line end behind a chunk, begins in which a phase stands after n bytes
+-- where the line, or the line end after a chunk, begins in which a phase stands after n bytes
 abbrev pub line_start : Phase → ℕ → ℕ → ℕ
 line_start Line n begun = n
 line_start DataEnd n begun = n

@@ -13,7 +13,7 @@ use crate::{FrameError, Reply};
 use mof_values::Bytes;
 use std::alloc::Global;
 
-/// The answer at the front of the bytes, behind the heads of status 100 to 199 (RFC 9110, section 15.2). Bytes behind
+/// The answer at the front of the bytes, after the heads of status 100 to 199 (RFC 9110, section 15.2). Bytes after
 /// its body are ignored.
 ///
 /// An error is that of the shortest prefix of the bytes that has one, and `Torn` where none has. Places count from the

@@ -14,37 +14,37 @@ pub(crate) enum Phase {
     /// At the front of a chunk line.
     Line,
 
-    /// Behind so many digits, which write this size.
+    /// After so many digits, which write this size.
     Size(u8, u64),
 
-    /// Behind blanks after the size.
+    /// After blanks after the size.
     Pad(u64),
 
     /// In the chunk extensions, which are not read.
     Extension(u64),
 
-    /// Behind the CR of a chunk line.
+    /// After the CR of a chunk line.
     SizeReturn(u64),
 
     /// In front of so many bytes of a chunk, one or more.
     Data(u64),
 
-    /// Behind a chunk.
+    /// After a chunk.
     DataEnd,
 
-    /// Behind a chunk and a CR.
+    /// After a chunk and a CR.
     DataReturn,
 
     /// At the front of a line of the trailer.
     Trailer,
 
-    /// Behind a CR at the front of a line of the trailer.
+    /// After a CR at the front of a line of the trailer.
     TrailerReturn,
 
     /// Inside a line of the trailer.
     TrailerText,
 
-    /// Behind the body.
+    /// After the body.
     Done,
 }
 
@@ -124,7 +124,7 @@ impl Walk {
         }
     }
 
-    // Tells whether some rest leaves the content and the whole body within the limits.
+    // Whether some rest leaves the content and the whole body within the limits.
     #[tactic(auto, unfolding(crate::specs::Walks::can_fit, crate::specs::Walks::stepped, crate::specs::Phases::begun_content, crate::specs::Phases::least_rest))]
     fn can_fit(&self, limits: &Limits) -> bool
         requires { self.now.length + self.now.content + begun_content self.now.phase < 2 ^ 62 }
@@ -300,7 +300,7 @@ fn next_in_extension(size: u64, byte: u8) -> Option<Phase>
     }
 }
 
-// Behind the line of a chunk; the one of size 0 is the last.
+// After the line of a chunk; the one of size 0 is the last.
 #[tactic(auto, unfolding(crate::specs::Phases::next_phase, crate::specs::Phases::begun_content, crate::specs::Phases::least_rest))]
 fn behind_line(size: u64) -> Phase
     ensures value { result ≡ behind_line size }
@@ -344,7 +344,7 @@ fn is_data(phase: Phase) -> bool
     matches!(phase, Phase::Data(_))
 }
 
-/// Tells whether the body is at its end.
+/// Whether the body is at its end.
 pub(crate) fn is_done(phase: Phase) -> bool
     ensures { result ≡ is_done phase }
 {
@@ -366,7 +366,7 @@ fn begun_content(phase: Phase) -> u64
     }
 }
 
-// The shortest rest behind the line of a chunk of that size.
+// The shortest rest after the line of a chunk of that size.
 fn least_behind(size: u64) -> u64
     requires { size < 2 ^ 63 }
     ensures { result ≡ least_behind size }

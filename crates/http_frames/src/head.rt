@@ -68,8 +68,8 @@ pub(crate) fn answer_head(alloc: Global, bytes: &[u8]) -> Result<Option<AnswerHe
     }
 }
 
-// The bytes in which the head has to end.
-fn front_of(bytes: &[u8]) -> &[u8]
+/// The bytes in which the head has to end.
+pub(crate) fn front_of(bytes: &[u8]) -> &[u8]
     ensures { result.now ≡ take HEAD_BYTES bytes.now }
 {
     if bytes.len() < HEAD_BYTES {
@@ -79,7 +79,11 @@ fn front_of(bytes: &[u8]) -> &[u8]
     }
 }
 
-fn read_request(front: &[u8], spans: &mut [HeaderSpan]) -> Result<Option<RequestSpans>, FrameError>
+// The head of which the bytes are, and where its parts stand.
+pub(crate) fn read_request(
+    front: &[u8],
+    spans: &mut [HeaderSpan],
+) -> Result<Option<RequestSpans>, FrameError>
     requires { length spans.old ≡ HEADER_LINES }
     ensures within { IfOk result (λ read. IfSome read (IsRequestWithin front.now spans.new)) }
     ensures head { IfOk result (λ read. IfSome read (IsRequestOf front.now spans.new)) }
@@ -177,7 +181,7 @@ fn copy_header(alloc: Global, front: &[u8], span: &HeaderSpan) -> Result<Header,
     })
 }
 
-// Tells whether a header line is begun after the last that a head may have.
+// Whether a header line is begun after the last that a head may have.
 #[tactic(auto, unfolding(crate::specs::Lines::begins_extra_line))]
 fn begins_extra_line(head: &[u8]) -> bool
     ensures { result ≡ begins_extra_line head.now }
@@ -212,7 +216,7 @@ fn skip_breaks(bytes: &[u8]) -> &[u8]
     left
 }
 
-// The bytes behind so many line feeds, or none where there are fewer.
+// The bytes after so many line feeds, or none where there are fewer.
 #[tactic(auto, unfolding(crate::specs::Lines::skip_lines))]
 fn skip_lines(bytes: &[u8], count: usize) -> Option<&[u8]>
     ensures { option_map (λ rest. rest.now) result ≡ skip_lines count bytes.now }

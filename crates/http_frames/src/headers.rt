@@ -20,7 +20,7 @@ pub fn count_named(headers: &[Header], name: &[u8]) -> usize
     headers.iter().filter(|h| is_named(h, name)).count()
 }
 
-/// Tells whether there is a header of that name.
+/// Whether there is a header of that name.
 pub(crate) fn has_named(headers: &[Header], name: &[u8]) -> bool
     ensures { result ≡ has_named name.now headers.now }
 {
@@ -33,7 +33,7 @@ pub(crate) fn is_named(header: &Header, name: &[u8]) -> bool
     is_same(header.name.as_slice(), name)
 }
 
-/// Tells whether the two are the same but for the case of ASCII letters.
+/// Whether the two are the same but for the case of ASCII letters.
 pub(crate) fn is_same(a: &[u8], b: &[u8]) -> bool
     ensures { result ≡ is_same a.now b.now }
 {

@@ -13,6 +13,8 @@ mod chunks;
 mod frame_error;
 mod framing;
 mod head;
+mod head_places;
+mod head_walk;
 mod headers;
 mod laws;
 mod limits;

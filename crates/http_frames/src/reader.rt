@@ -1,6 +1,7 @@
 //! Requests out of pieces.
 ghost use Rattle.std.specs.Prelude.{◌≡◌, ◌≢◌, ◌⊎◌, ◌<◌, ◌≤◌, ◌++◌, ℕ, [], true, IfOk, IfSome, IfNone, IfErr, length};
 ghost use Rattle.http_frames.specs.Heads.{IsRequestHeadOf};
+ghost use Rattle.http_frames.specs.HeadWalks.{IsWalkedHead};
 ghost use Rattle.http_frames.specs.Limits.{request_bytes, request_limits};
 ghost use Rattle.http_frames.specs.Frames.{BeginsWithRequest, AwaitsRest, RefusesRequest};
 ghost use Rattle.http_frames.specs.Reading.{IsStarted, IsStageOf, IsAdvance, IsStart, IsReadRequest, AwaitsMore, Refuses, is_open_stage};
@@ -8,7 +9,8 @@ ghost use Rattle.http_frames.specs.Reading.{IsStarted, IsStageOf, IsAdvance, IsS
 use crate::body::{Progress, read_body};
 use crate::chunks::Walk;
 use crate::framing::{Framing, request_framing};
-use crate::head::{RequestHead, request_head};
+use crate::head::RequestHead;
+use crate::head_walk::{HeadRead, HeadWalk, read_head};
 use crate::limits::REQUEST_LIMITS;
 use crate::{FrameError, Request};
 use mof_values::Bytes;
@@ -27,7 +29,7 @@ pub struct RequestReader {
 
 #[derive(Drop)]
 pub(crate) enum Stage {
-    Head,
+    Head(HeadWalk),
     Body(Started),
     Closed,
 }
@@ -68,7 +70,7 @@ impl RequestReader {
     {
         RequestReader {
             bytes: Vec::new(alloc),
-            stage: Stage::Head,
+            stage: Stage::Head(HeadWalk::new()),
         }
     }
 
@@ -137,47 +139,48 @@ fn step_on(alloc: Global, stage: Stage, bytes: &[u8]) -> Advance
     ensures { IsAdvance bytes.now stage result }
 {
     match stage {
-        Stage::Head => begin(alloc, bytes),
+        Stage::Head(walk) => begin(alloc, walk, bytes),
         Stage::Body(started) => started.go_on(alloc, bytes),
         Stage::Closed => unreachable!(),
     }
 }
 
-fn begin(alloc: Global, bytes: &[u8]) -> Advance
-    ensures { IsAdvance bytes.now Stage.Head result }
+fn begin(alloc: Global, walk: HeadWalk, bytes: &[u8]) -> Advance
+    requires { IsWalkedHead bytes.now walk }
+    ensures { IsAdvance bytes.now (Stage.Head walk) result }
 {
-    match start(alloc, bytes) {
-        Ok(Some(started)) => match started.go_on(alloc, bytes) {
-            Advance::OutOfMemory(_) => Advance::OutOfMemory(Stage::Head),
-            reached => reached,
-        },
-        Ok(None) => Advance::More(Stage::Head),
-        Err(FrameError::Memory) => Advance::OutOfMemory(Stage::Head),
+    match read_head(alloc, walk, bytes) {
+        Ok(HeadRead::Whole(head)) => begin_body(alloc, walk, head, bytes),
+        Ok(HeadRead::More(reached)) => Advance::More(Stage::Head(reached)),
+        Err(FrameError::Memory) => Advance::OutOfMemory(Stage::Head(walk)),
         Err(error) => Advance::Refused(error),
     }
 }
 
-// Reads a head, and what it says of the body.
-fn start(alloc: Global, bytes: &[u8]) -> Result<Option<Started>, FrameError>
-    ensures { IsStart bytes.now result }
+fn begin_body(alloc: Global, walk: HeadWalk, head: RequestHead, bytes: &[u8]) -> Advance
+    requires { IsRequestHeadOf bytes.now head }
+    ensures { IsAdvance bytes.now (Stage.Head walk) result }
 {
-    match request_head(alloc, bytes) {
-        Ok(Some(head)) => start_body(head, bytes),
-        Ok(None) => Ok(None),
-        Err(error) => Err(error),
+    match start_body(head, bytes) {
+        Ok(started) => match started.go_on(alloc, bytes) {
+            Advance::OutOfMemory(_) => Advance::OutOfMemory(Stage::Head(walk)),
+            reached => reached,
+        },
+        Err(error) => Advance::Refused(error),
     }
 }
 
-fn start_body(head: RequestHead, bytes: &[u8]) -> Result<Option<Started>, FrameError>
+// What a head says of the body.
+fn start_body(head: RequestHead, bytes: &[u8]) -> Result<Started, FrameError>
     requires { IsRequestHeadOf bytes.now head }
     ensures { IsStart bytes.now result }
 {
     match request_framing(head.method.as_slice(), head.headers.as_slice()) {
-        Ok(framing) => Ok(Some(Started {
+        Ok(framing) => Ok(Started {
             head,
             framing,
             walk: Walk::new(),
-        })),
+        }),
         Err(error) => Err(error),
     }
 }

@@ -1,5 +1,7 @@
-use Rattle.std.proofs.Common.{sym, ◌∙◌, ap₂}
+use Rattle.std.proofs.Common.{◌≡◌, sym, ◌∙◌, ap₂, subst, inl, inr}
+use Rattle.std.specs.Prelude.{Err}
 use Rattle.http_frames.specs.Framing.{request_framing}
+use Rattle.http_frames.proofs.RequestFramings.{IsRequestFraming, request_framing_is}
 use Rattle.http_frames.proofs.Walking.{walked_start, request_starts}
 use Rattle.http_frames.proofs.reader.start_body.Goals as goal
 
@@ -9,3 +11,11 @@ returns-in-Ok c = record {
   framing = ap₂ request_framing (sym c.as_slice.ensures) (sym c.as_slice-2.ensures) ∙ sym c.request_framing.ensures ∙ c.in-Ok.is;
   walked = walked_start _ _ _ c.new.result c.new.ensures request_starts;
 }
+
+pub returns-in-Err : goal.returns-in-Err
+returns-in-Err c =
+    let says : request_framing c.args.head.method c.args.head.headers ≡ Err c.in-Err.error =
+    ap₂ request_framing (sym c.as_slice.ensures) (sym c.as_slice-2.ensures) ∙ sym c.request_framing.ensures ∙ c.in-Err.is in (
+      inr (inl (record { start = c.args.head; head = c.requires; says = says })),
+      (subst IsRequestFraming says (request_framing_is c.args.head.method c.args.head.headers)).1,
+    )
