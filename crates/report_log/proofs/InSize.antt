@@ -4,6 +4,7 @@ use Rattle.std.specs.List.{AllByRecursion, AllZip}
 use Rattle.std.proofs.lemmas.List.Elements.{All-from_recursion}
 use Rattle.std.proofs.lemmas.Option.{slice_get_cases}
 use Rattle.std.proofs.lemmas.Slice.Zip.{AllZip-long}
+use Rattle.dsc_outside.specs.Clock.{last_moment}
 use Rattle.dsc_document.specs.declared.document.Document.{Document}
 use Rattle.dsc_document.specs.declared.document.Resource.{Resource}
 use Rattle.resource_kinds.specs.declared.entry.Entry.{Entry}
@@ -11,7 +12,7 @@ use Rattle.report_log.specs.declared.report.Frame.{Frame}
 use Rattle.report_log.specs.declared.report.Missed.{Missed}
 use Rattle.report_log.specs.declared.report.Report.{Report}
 use Rattle.report_log.specs.Report.{IsMissed, IsReport, listed_limit, missed_places}
-use Rattle.report_log.specs.Sizes.{DocumentInSize, Fits, FrameInSize, PartsInSize, ReportInSize, last_second}
+use Rattle.report_log.specs.Sizes.{DocumentInSize, Fits, FrameInSize, PartsInSize, ReportInSize}
 use Rattle.report_log.proofs.Grown.{length-first}
 
 module _ (document : Document) (trace : List Entry) (in_size : DocumentInSize document) where
@@ -38,7 +39,7 @@ module _ (document : Document) (trace : List Entry) (in_size : DocumentInSize do
         ids = All-from_recursion (λ missed. Fits 256 missed.id) report.listed (ids_fit first report.listed is.listed);
         parts = subst PartsInSize (sym is.parts) framed.parts;
         times = record {
-          start = subst (λ (n : ℕ). n ≤ last_second) (sym is.start) framed.times.start;
-          end = subst (λ (n : ℕ). n ≤ last_second) (sym is.end) framed.times.end;
+          start = subst (λ (n : ℕ). n ≤ last_moment) (sym is.start) framed.times.start;
+          end = subst (λ (n : ℕ). n ≤ last_moment) (sym is.end) framed.times.end;
         };
       }

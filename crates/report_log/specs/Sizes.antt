@@ -1,14 +1,11 @@
 -- Reports in size.
 use Rattle.std.specs.Prelude.{ℕ, ◌≤◌, List, length, All, encode_utf8_all}
+use Rattle.dsc_outside.specs.Clock.{last_moment}
 use Rattle.dsc_document.specs.declared.document.Document.{Document}
 use Rattle.report_log.specs.declared.report.PartMark.{PartMark}
 use Rattle.report_log.specs.declared.report.Frame.{Frame}
 use Rattle.report_log.specs.declared.report.Report.{Report}
 use Rattle.report_log.specs.Report.{listed_limit}
-
--- 9999-12-30T22:00:00Z, in seconds since 1970-01-01
-abbrev pub last_second : ℕ
-last_second = 253402207200
 
 -- at most so many bytes of UTF-8
 abbrev pub Fits : ℕ → List ℕ → Type 0
@@ -19,8 +16,8 @@ pub record PartsInSize (parts : List PartMark) : Type 0 where
   pub names : All (λ part. Fits 255 part.name) parts
 
 pub record TimesInSize (from to : ℕ) : Type 0 where
-  pub start : from ≤ last_second
-  pub end : to ≤ last_second
+  pub start : from ≤ last_moment
+  pub end : to ≤ last_moment
 
 pub record FrameInSize (frame : Frame) : Type 0 where
   pub parts : PartsInSize frame.parts

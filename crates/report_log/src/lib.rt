@@ -10,10 +10,12 @@ mod making;
 mod marks;
 mod report;
 mod room;
+mod sizes;
 
 pub use making::report_of;
 pub use report::{FailureKind, Frame, Missed, Outcome, PartMark, Reason, Report};
 pub use room::{ReportRoom, room_for};
+pub use sizes::is_in_size;
 
 #[cfg(test)]
 mod tests;

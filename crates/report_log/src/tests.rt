@@ -5,7 +5,7 @@ use crate::marks::{Mark, marked};
 use dsc_document::{Document, Resource};
 use mof_values::{Ident, Instance, Items, Text};
 use resource_kinds::{Entry, Failure, SetAnswer, TestAnswer};
-use runs::{calls, has_no_memory, is_in_size, is_known, is_settled};
+use runs::{calls, has_no_memory, is_document_in_size, is_known, is_settled};
 use std::process::Abort;
 use std::test::Fail;
 
@@ -50,7 +50,7 @@ fn document(rt: &impl AllocGlobal, count: u32) -> Result<Document, Fail> {
 fn report(rt: &(impl AllocGlobal + Abort), count: u32, run: &str) -> Result<Report, Fail> {
     let document = document(rt, count)?;
     let calls = calls(rt, run)?;
-    assert!(rt; is_in_size(&document));
+    assert!(rt; is_document_in_size(&document));
     assert!(rt; is_known(document.resources.as_slice().len(), &calls));
     assert!(rt; has_no_memory(&calls));
     assert!(rt; is_settled(rt.alloc(), &document, &calls)?);
@@ -122,5 +122,6 @@ fn the_first_64_are_listed(rt: HostRuntime) -> Result<(), Fail> {
         write!(wanted, " [A]{place} Skipped")?;
     }
     assert_eq!(rt; shown(&rt, &report)?.as_str(), wanted.as_str());
+    assert!(rt; is_in_size(&report));
     Ok(())
 }

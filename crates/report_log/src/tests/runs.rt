@@ -65,7 +65,7 @@ pub fn calls(rt: &impl AllocGlobal, run: &str) -> Result<Vec<Entry>, Fail> {
 }
 
 /// Tells whether the document is in size.
-pub fn is_in_size(document: &Document) -> bool
+pub fn is_document_in_size(document: &Document) -> bool
     ensures { OnTrue result (DocumentInSize document.now) }
 {
     let resources = document.resources.as_slice();
