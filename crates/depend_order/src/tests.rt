@@ -98,7 +98,7 @@ fn every_size_has_an_answer(rt: HostRuntime) -> Result<(), Fail> {
     for count in [0, 1, 2, 7, 63, 64, 65, 4096] {
         for closed in [false, true] {
             let depends = chain(&rt, count, closed)?;
-            let mut wanted = (0..count).collect(rt.alloc())?;
+            let mut wanted: Vec<u32> = (0..count).collect(rt.alloc())?;
             if !closed {
                 wanted.reverse();
             }
