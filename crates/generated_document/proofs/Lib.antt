@@ -1,5 +1,6 @@
 pub mod Contents
 pub mod Decimals
+pub mod Exists
 pub mod Fits
 pub mod Kept
 pub mod Lengths

@@ -39,7 +39,7 @@ module _ (part : Part) (n : ℕ) (reads : Reads part.bytes (generated_instances 
 
   -- it is that of the generated instances, with the name of the part
   pub document_is : (document : Document) → AreParts (part ∷ []) document → document ≡ joined (part ∷ []) (document_of (generated_instances n) ∷ [])
-  document_is document are = of_documents document are.documents are.whole are.joined
+  document_is document are = of_documents document are.are_joined.documents are.are_joined.whole are.are_joined.joined
 
   pub resources_are : (document : Document) → AreParts (part ∷ []) document → document.resources ≡ resources 0 n
   resources_are document are = ap (λ (d : Document). d.resources) (document_is document are)

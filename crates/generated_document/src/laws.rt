@@ -1,9 +1,10 @@
-//! Laws of generated documents. The call does nothing; its clause is the law.
+//! Laws of generated documents. The call does nothing; its clauses are the laws.
 ghost use Rattle.std.specs.Prelude.{◌≤◌};
-ghost use Rattle.generated_document.specs.Laws.{IsNeverRefused};
+ghost use Rattle.generated_document.specs.Laws.{Exists, IsNeverRefused};
 
-/// The text of a count in the range is a document: no refusal applies to it, want of memory aside.
+/// The text of a count in the range declares a document, and no refusal applies to it, out of memory aside.
 pub fn generated_laws(count: u32)
     requires few { count ≤ 4096 }
     ensures never_refused { IsNeverRefused count }
+    ensures exists { Exists count }
 {}

@@ -18,7 +18,7 @@ use Rattle.partial_merge.specs.declared.error.PartFault.{PartFault}
 use Rattle.partial_merge.specs.declared.error.PartFault.TheVariants.{Mof, Doc}
 use Rattle.partial_merge.specs.declared.error.MergeError.TheVariants as refusals
 use Rattle.partial_merge.specs.Laws.{AtMostOneDocument, AtMostOneRefusal, NeverBoth}
-use Rattle.partial_merge.specs.Parts.{AreParts, IsWhole, joined}
+use Rattle.partial_merge.specs.Parts.{AreJoined, AreParts, IsWhole, joined}
 use Rattle.partial_merge.specs.Refused.{HasFault, HasUnknown, HasCycle, IsFirstFault}
 use Rattle.dsc_document.proofs.FirstUnknown.{one_spot, one_unknown, unknown_unknown}
 use Rattle.dsc_document.proofs.OneRule.{one_wins}
@@ -62,12 +62,15 @@ documents_once (part ∷ parts) (d ∷ one) (e ∷ other) is also =
 -- parts are at most one document, whatever its resources depend on
 pub parts_once : (parts : List Part) (one other : Document) → AreParts parts one → AreParts parts other → one ≡ other
 parts_once parts one other is also =
-    is.joined ∙ ap (joined parts) (documents_once parts is.documents also.documents is.whole also.whole) ∙ sym also.joined
+    joined_once is.are_joined also.are_joined
+  where
+    joined_once : AreJoined parts one → AreJoined parts other → one ≡ other
+    joined_once is also = is.joined ∙ ap (joined parts) (documents_once parts is.documents also.documents is.whole also.whole) ∙ sym also.joined
 
 -- parts that are one document have no fault
 pub no_fault : (parts : List Part) (document : Document) (index : ℕ) (fault : PartFault) → AreParts parts document → IsFirstFault parts index fault → ⊥
 no_fault parts document index fault are first =
-    go (slice_get parts index) (slice_get are.documents index) (AllZip-left IsWhole parts are.documents are.whole index) first.here
+    go (slice_get parts index) (slice_get are.are_joined.documents index) (AllZip-left IsWhole parts are.are_joined.documents are.are_joined.whole index) first.here
   where
     go : (o : Option Part) (found : Option Document) → MatchOption o (Unit {0}) (λ part. IsSomeAnd found (IsWhole part)) → IsSomeAnd o (λ part. HasFault part fault) → ⊥
     go None found whole has = absurd has

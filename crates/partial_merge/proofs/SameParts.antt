@@ -10,6 +10,7 @@ use Rattle.partial_merge.specs.declared.error.MergeError.{MergeError}
 use Rattle.partial_merge.specs.declared.error.MergeError.TheVariants as refusals
 use Rattle.partial_merge.specs.Parts.{AreParts, IsWhole, joined}
 use Rattle.partial_merge.specs.Merged.{Merged}
+use Rattle.partial_merge.proofs.OnePart.{one_name}
 use Rattle.partial_merge.specs.Refused.{HasFault, IsFirstFault, IsUnspelled, Refused}
 
 module _ (part other : Part) (named : part.name ≡ other.name) (of : part.bytes ≡ other.bytes) where
@@ -37,10 +38,12 @@ module _ (part other : Part) (named : part.name ≡ other.name) (of : part.bytes
 
   are_same : (document : Document) → AreParts (part ∷ []) document → AreParts (other ∷ []) document
   are_same document are = record {
-    names = λ i j d before within. absurd (omega (arith, before, within));
-    documents = are.documents;
-    whole = all_same are.documents are.whole;
-    joined = are.joined ∙ joined_same are.documents;
+    are_joined = record {
+      names = one_name other;
+      documents = are.are_joined.documents;
+      whole = all_same are.are_joined.documents are.are_joined.whole;
+      joined = are.are_joined.joined ∙ joined_same are.are_joined.documents;
+    };
     few = are.few;
     ids = are.ids;
   }
@@ -49,7 +52,7 @@ module _ (part other : Part) (named : part.name ≡ other.name) (of : part.bytes
   merged_same document merged = record { parts_are = are_same document merged.parts_are; known = merged.known; ordered = merged.ordered }
 
   first_same : (index : ℕ) (fault : PartFault) → IsFirstFault (part ∷ []) index fault → IsFirstFault (other ∷ []) index fault
-  first_same zero fault first = record { here = fault_same fault first.here; before = λ k before. absurd (omega (arith, before)) }
+  first_same zero fault first = record { names = one_name other; here = fault_same fault first.here; before = λ k before. absurd (omega (arith, before)) }
   first_same (suc index) fault first = absurd first.here
 
   pub refused_same : (refusal : MergeError) → Refused (part ∷ []) refusal → Refused (other ∷ []) refusal

@@ -11,22 +11,26 @@ use Rattle.dsc_document.specs.declared.document.Document.{Document}
 use Rattle.dsc_document.specs.declared.document.Resource.{Resource}
 use Rattle.dsc_document.specs.Dependencies.{HasDistinctIds}
 use Rattle.dsc_document.specs.Rules.{PartRules}
+use Rattle.dsc_document.specs.declared.limits.TheConstants.{MAX_RESOURCES}
 use Rattle.partial_merge.specs.declared.part.Part.{Part}
 
--- the most resources of a document
-abbrev pub resources_limit : ℕ
-resources_limit = 4096
+-- the part that a text is under a name
+abbrev pub text_part : List ℕ → List ℕ → Part
+text_part name bytes = record { name = name; digest = sha256 bytes; bytes = bytes; whole = refl }
 
--- the part that bytes are, which has no name
+-- the part that a text is, which has no name
 abbrev pub unnamed_part : List ℕ → Part
-unnamed_part bytes = record { name = []; digest = sha256 bytes; bytes = bytes; whole = refl }
+unnamed_part bytes = text_part [] bytes
 
--- the part's bytes spell instances that keep the rules of a part, and these declare the document. That its digest is
--- the digest of its bytes is a fact of every part
-pub record IsWhole (part : Part) (document : Document) : Type 0 where
+-- the bytes spell instances that keep the rules of a part, and these declare the document
+pub record Declares (bytes : List ℕ) (document : Document) : Type 0 where
   pub instances : List Instance
-  pub spelled : Reads part.bytes instances
+  pub spelled : Reads bytes instances
   pub rules : PartRules instances document
+
+-- the part's bytes declare the document. That its digest is the digest of its bytes is a fact of every part
+abbrev pub IsWhole : Part → Document → Type 0
+IsWhole part document = Declares part.bytes document
 
 -- the resource as one of the part at a place
 abbrev pub in_part : ℕ → Resource → Resource
@@ -51,11 +55,23 @@ joined parts documents = record {
   parts = map (λ part. part.name) parts;
 }
 
--- the document is that of whole parts: names differ, ids differ, and there are not too many resources
-pub record AreParts (parts : List Part) (document : Document) : Type 0 where
-  pub names : AllPairs (λ a b. SameName a.name b.name → ⊥) parts
+-- the document with these names of parts
+abbrev pub named : Document → List (List ℕ) → Document
+named document names = record { version = document.version; resources = document.resources; others = document.others; parts = names }
+
+-- no two parts have the same name
+abbrev pub NamesDiffer : List Part → Type 0
+NamesDiffer parts = AllPairs (λ a b. SameName a.name b.name → ⊥) parts
+
+-- names differ, each part is whole, and the document is all that they declare
+pub record AreJoined (parts : List Part) (document : Document) : Type 0 where
+  pub names : NamesDiffer parts
   pub documents : List Document
   pub whole : AllZip IsWhole parts documents
   pub joined : document ≡ joined parts documents
-  pub few : length document.resources ≤ resources_limit
+
+-- the parts are joined to the document, which has not too many resources, and whose ids differ
+pub record AreParts (parts : List Part) (document : Document) : Type 0 where
+  pub are_joined : AreJoined parts document
+  pub few : length document.resources ≤ MAX_RESOURCES
   pub ids : HasDistinctIds document

@@ -14,7 +14,7 @@ use Rattle.partial_merge.specs.declared.error.PartFault.{PartFault}
 use Rattle.partial_merge.specs.declared.error.PartFault.TheVariants.{Mof, Doc}
 use Rattle.partial_merge.specs.declared.error.MergeError.{MergeError}
 use Rattle.partial_merge.specs.declared.error.MergeError.TheVariants as refusals
-use Rattle.partial_merge.specs.Parts.{AreParts, IsWhole}
+use Rattle.partial_merge.specs.Parts.{AreParts, IsWhole, NamesDiffer}
 
 -- the bytes spell no instances and are refused so; never for want of memory
 pub record IsUnspelled (bytes : List ℕ) (refusal : MofError) : Type 0 where
@@ -23,10 +23,13 @@ pub record IsUnspelled (bytes : List ℕ) (refusal : MofError) : Type 0 where
   pub refused : Refuses bytes refusal
 
 -- the bytes spell no instances, or the instances that they spell break this rule of parts
+abbrev pub IsFault : List ℕ → PartFault → Type 0
+IsFault bytes (Mof refusal) = IsUnspelled bytes refusal
+IsFault bytes (Doc refusal) =
+    (instances : List Instance) × Reads bytes instances × IsRefusal instances refusal × (condition_of refusal < 9)
+
 abbrev pub HasFault : Part → PartFault → Type 0
-HasFault part (Mof refusal) = IsUnspelled part.bytes refusal
-HasFault part (Doc refusal) =
-    (instances : List Instance) × Reads part.bytes instances × IsRefusal instances refusal × (condition_of refusal < 9)
+HasFault part fault = IsFault part.bytes fault
 
 -- the refusal is a fault of the first part, of which the fact holds, or want of memory
 abbrev pub IsFaultOfFirst : (PartFault → Type 0) → MergeError → Type 0
@@ -34,8 +37,9 @@ IsFaultOfFirst P (refusals.Part index fault) = (index ≡ 0) × P fault
 IsFaultOfFirst P refusals.Memory = ⊤
 IsFaultOfFirst P _ = ⊥
 
--- the part at the index has the fault, and every part before it is whole
+-- names differ, the part at the index has the fault, and every part before it is whole
 pub record IsFirstFault (parts : List Part) (index : ℕ) (fault : PartFault) : Type 0 where
+  pub names : NamesDiffer parts
   pub here : IsSomeAnd (slice_get parts index) (λ part. HasFault part fault)
   pub before : (k : ℕ) → k < index → IsSomeAnd (slice_get parts k) (λ part. (document : Document) × IsWhole part document)
 

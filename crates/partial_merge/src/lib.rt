@@ -11,10 +11,11 @@ mod laws;
 mod merge_one;
 mod part;
 
+pub use depend_order::OrderedDocument;
 pub use dsc_document::Spot;
 pub use error::{MergeError, PartFault};
 pub use laws::merge_laws;
-pub use merge_one::merge;
+pub use merge_one::{merge, merge_ordered, merge_text};
 pub use part::{Part, part_of};
 
 #[cfg(test)]

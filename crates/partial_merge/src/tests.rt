@@ -1,27 +1,87 @@
-//! What one part is merged to, and what it is refused for.
+//! What ample memory answers: parts, and what one part is merged to or refused for.
 use super::*;
-use dsc_document::{DocError, Document};
+use dsc_document::DocError;
 use mof_codec::MofError;
 use mof_values::{Items, Text};
 use std::test::Fail;
 
 const HEADER: &str = "instance of OMI_ConfigurationDocument{Version=\"2.0.0\";};";
 
-// A log resource of each id, with what it depends on, and then headers.
-fn document(
-    rt: &impl AllocGlobal,
-    resources: &[(&str, &str)],
-    headers: usize,
-) -> Result<String, Fail> {
+// Log resources by their ids, with what each depends on.
+type Rows = &'static [(&'static str, &'static str)];
+
+enum Wanted {
+    Order(&'static [u32]),
+    Unknown(u32, &'static str),
+    Cycle(&'static [u32]),
+}
+
+// An answer for each order, unknown id and cycle.
+const RESOURCES: [(Rows, Wanted); 10] = [
+    (&[], Wanted::Order(&[])),
+    (&[("[Log]A", "")], Wanted::Order(&[0])),
+    (
+        &[("[Log]A", "\"[Log]C\""), ("[Log]B", ""), ("[Log]C", "")],
+        Wanted::Order(&[1, 2, 0]),
+    ),
+    (
+        &[("[Log]A", "\"[LOG]b\",\"[Log]B\""), ("[Log]B", "")],
+        Wanted::Order(&[1, 0]),
+    ),
+    (&[("[Log]A", "\"[Log]Z\"")], Wanted::Unknown(0, "[Log]Z")),
+    (
+        &[
+            ("[Log]A", "\"[Log]B\""),
+            ("[Log]B", "\"[log]a\",\"[Log]Y\",\"[Log]Z\""),
+        ],
+        Wanted::Unknown(1, "[Log]Y"),
+    ),
+    // an unknown id wins over a cycle
+    (
+        &[("[Log]A", "\"[Log]A\""), ("[Log]B", "\"Log]B\"")],
+        Wanted::Unknown(1, "Log]B"),
+    ),
+    (&[("[Log]A", "\"[log]a\"")], Wanted::Cycle(&[0])),
+    (
+        &[("[Log]A", "\"[Log]B\""), ("[Log]B", "\"[Log]A\"")],
+        Wanted::Cycle(&[0, 1]),
+    ),
+    (
+        &[
+            ("[Log]A", ""),
+            ("[Log]B", "\"[Log]C\""),
+            ("[Log]C", "\"[Log]B\""),
+        ],
+        Wanted::Cycle(&[1, 2]),
+    ),
+];
+
+// The header, and then a log resource for each row.
+fn document(rt: &impl AllocGlobal, resources: Rows) -> Result<String, Fail> {
     let mut text = String::new(rt.alloc());
+    text.push_str(HEADER)?;
     for (id, depends) in resources {
         write!(
             text,
             "instance of MSFT_LogResource{{ResourceID=\"{id}\";Message=\"m\";DependsOn={{{depends}}};}};"
         )?;
     }
-    for _ in 0..headers {
-        text.push_str(HEADER)?;
+    Ok(text)
+}
+
+// The header, and then so many log resources, each of which depends on the next.
+fn chain(rt: &impl AllocGlobal, count: u32) -> Result<String, Fail> {
+    let mut text = String::new(rt.alloc());
+    text.push_str(HEADER)?;
+    for place in 0..count {
+        write!(
+            text,
+            "instance of MSFT_LogResource{{ResourceID=\"[Log]R{place}\";Message=\"m\";"
+        )?;
+        if place + 1 < count {
+            write!(text, "DependsOn=\"[Log]R{}\";", place + 1)?;
+        }
+        text.push_str("};")?;
     }
     Ok(text)
 }
@@ -30,25 +90,26 @@ fn text(rt: &impl AllocGlobal, word: &str) -> Result<Text, Fail> {
     Ok(Text::of(word.chars().collect(rt.alloc())?))
 }
 
-fn part(rt: &impl AllocGlobal, bytes: &[u8]) -> Result<Part, Fail> {
-    Ok(part_of(text(rt, "Base")?, bytes.to_vec(rt.alloc())?))
+fn is_text(text: &Text, word: &str) -> bool {
+    text.as_slice().iter().copied().eq(word.chars())
 }
 
-fn merged(rt: &impl AllocGlobal, bytes: &[u8]) -> Result<Result<Document, MergeError>, Fail> {
-    Ok(merge(rt.alloc(), &[part(rt, bytes)?]))
+fn merged(
+    rt: &impl AllocGlobal,
+    bytes: &[u8],
+) -> Result<Result<OrderedDocument, MergeError>, Fail> {
+    let name = text(rt, "Base")?;
+    Ok(merge_text(rt.alloc(), &name, bytes))
 }
 
-fn doc(refusal: DocError) -> MergeError {
-    MergeError::Part {
-        index: 0,
-        fault: PartFault::Doc(refusal),
-    }
-}
-
-fn mof(refusal: MofError) -> MergeError {
-    MergeError::Part {
-        index: 0,
-        fault: PartFault::Mof(refusal),
+fn is_answer(found: &Result<OrderedDocument, MergeError>, wanted: &Wanted) -> bool {
+    match (found, wanted) {
+        (Ok(merged), Wanted::Order(order)) => merged.order.as_slice() == *order,
+        (Err(MergeError::DependsUnknown { spot, name }), Wanted::Unknown(index, word)) => {
+            spot.part == 0 && spot.index == *index + 1 && is_text(name, word)
+        }
+        (Err(MergeError::Cycle(walk)), Wanted::Cycle(places)) => walk.as_slice() == *places,
+        _ => false,
     }
 }
 
@@ -56,173 +117,85 @@ fn mof(refusal: MofError) -> MergeError {
 fn a_part_has_the_digest_of_its_bytes(rt: HostRuntime) -> Result<(), Fail> {
     // FIPS 180-4's examples: no bytes, and `abc`
     for (bytes, first, last) in [(&b""[..], 0xe3, 0x55), (b"abc", 0xba, 0xad)] {
-        let part = part(&rt, bytes)?;
-        assert_eq!(rt; (part.digest[0], part.digest[31]), (first, last));
+        let part = part_of(text(&rt, "Base")?, bytes.to_vec(rt.alloc())?);
+        assert!(rt; part.digest[0] == first && part.digest[31] == last);
         let copy = part.copy()?;
-        assert!(rt; copy.name == part.name && copy.bytes == part.bytes);
-        assert_eq!(rt; copy.digest, part.digest);
+        assert!(rt;
+            copy.name == part.name && copy.bytes == part.bytes && copy.digest == part.digest
+        );
     }
     Ok(())
 }
 
 #[test]
-fn one_part_is_a_document(rt: HostRuntime) -> Result<(), Fail> {
-    let rows: [(&[(&str, &str)], usize); 4] = [
-        (&[], 0),
-        (&[("[Log]A", "")], 1),
-        (&[("[Log]A", ""), ("[Log]B", "\"[log]a\"")], 2),
-        (
-            &[("[Log]A", "\"[Log]C\""), ("[Log]B", ""), ("[Log]C", "")],
-            3,
-        ),
-    ];
-    for (resources, count) in rows {
-        let bytes = document(&rt, resources, 1)?;
-        let document = merged(&rt, bytes.as_bytes())??;
-        assert_eq!(rt; document.resources.as_slice().len(), count);
-        for ((place, resource), (id, _)) in document
-            .resources
-            .as_slice()
-            .iter()
-            .enumerate()
-            .zip(resources)
-        {
-            assert!(rt; resource.id == text(&rt, id)?);
-            assert_eq!(rt; (resource.part, resource.index as usize), (0, place));
+fn one_part_has_an_order_or_is_refused(rt: HostRuntime) -> Result<(), Fail> {
+    for (resources, wanted) in RESOURCES {
+        let bytes = document(&rt, resources)?;
+        let found = merged(&rt, bytes.as_bytes())?;
+        assert!(rt; is_answer(&found, &wanted), "{bytes}");
+    }
+    Ok(())
+}
+
+#[test]
+fn every_size_is_merged(rt: HostRuntime) -> Result<(), Fail> {
+    for count in [0, 1, 2, 7, 63, 64, 65, 300] {
+        let bytes = chain(&rt, count)?;
+        let found = merged(&rt, bytes.as_bytes())?;
+        assert!(rt; is_falling(&found, count), "{count}");
+    }
+    Ok(())
+}
+
+// Tells whether the order is `count` - 1 down to 0, and each resource but the last depends on the next.
+fn is_falling(found: &Result<OrderedDocument, MergeError>, count: u32) -> bool {
+    match found {
+        Ok(merged) => {
+            let order = merged.order.as_slice();
+            let depends = merged.depends.as_slice();
+            order.iter().copied().eq((0..count).rev())
+                && depends.len() == order.len()
+                && depends
+                    .iter()
+                    .zip(1..count)
+                    .all(|(places, next)| places.as_slice() == [next].as_slice())
         }
-        assert!(rt; document.version == text(&rt, "2.0.0")?);
-        assert!(rt; matches!(document.parts.as_slice(), [name] if *name == text(&rt, "Base")?));
+        Err(_) => false,
     }
-    Ok(())
 }
 
-#[test]
-fn the_first_fault_of_a_part_is_told(rt: HostRuntime) -> Result<(), Fail> {
-    let cases: [(&[(&str, &str)], usize, DocError); 6] = [
-        (&[("[Log]A", "")], 0, DocError::NoHeader),
+fn faults() -> [(&'static [u8], PartFault); 6] {
+    [
+        (b"x\xff", PartFault::Mof(MofError::Text { at: 1 })),
         (
-            &[],
-            2,
-            DocError::TwoHeaders {
-                first: 0,
-                second: 1,
-            },
+            b"instance of A { X = \"ab",
+            PartFault::Mof(MofError::Syntax { at: 23 }),
         ),
-        (&[("A", "")], 1, DocError::BadResourceId { index: 0 }),
-        (
-            &[("[Log]X", ""), ("[log]x", "")],
-            1,
-            DocError::DuplicateId {
-                first: 0,
-                second: 1,
-            },
-        ),
-        (&[("[Log]A", "7")], 1, DocError::BadDependsOn { index: 0 }),
-        // a fault of the part wins over an unknown id
-        (
-            &[("[Log]A", "\"[Log]Z\""), ("[Log]B", "7")],
-            1,
-            DocError::BadDependsOn { index: 1 },
-        ),
-    ];
-    for (resources, headers, refusal) in cases {
-        let bytes = document(&rt, resources, headers)?;
-        assert_eq!(rt; merged(&rt, bytes.as_bytes())?.err(), Some(doc(refusal)));
-    }
-    Ok(())
-}
-
-#[test]
-fn a_part_that_spells_nothing_is_refused(rt: HostRuntime) -> Result<(), Fail> {
-    for (bytes, refusal) in [
-        (
-            &b"instance of A { X = \"ab"[..],
-            MofError::Syntax { at: 23 },
-        ),
-        (b"x\xff", MofError::Text { at: 1 }),
         (
             b"instance of A { X = 18446744073709551616; };",
-            MofError::NumberRange { at: 20 },
+            PartFault::Mof(MofError::NumberRange { at: 20 }),
         ),
-    ] {
-        assert_eq!(rt; merged(&rt, bytes)?.err(), Some(mof(refusal)));
-    }
-    assert_eq!(rt; merged(&rt, b"")?.err(), Some(doc(DocError::NoHeader)));
-    Ok(())
+        (b"", PartFault::Doc(DocError::NoHeader)),
+        (
+            b"instance of OMI_ConfigurationDocument{};instance of B{ResourceID=\"B\";};",
+            PartFault::Doc(DocError::BadResourceId { index: 1 }),
+        ),
+        // a fault of the part wins over an unknown id
+        (
+            b"instance of OMI_ConfigurationDocument{};instance of B{ResourceID=\"[B]b\";DependsOn=\"[B]z\";};instance of B{ResourceID=\"[B]c\";DependsOn=7;};",
+            PartFault::Doc(DocError::BadDependsOn { index: 2 }),
+        ),
+    ]
 }
 
 #[test]
-fn the_first_unknown_id_is_told(rt: HostRuntime) -> Result<(), Fail> {
-    let rows: [(&[(&str, &str)], u32, &str); 4] = [
-        (&[("[Log]A", "\"[Log]Z\"")], 0, "[Log]Z"),
-        (
-            &[
-                ("[Log]A", "\"[Log]B\""),
-                ("[Log]B", "\"[log]a\",\"[Log]Y\",\"[Log]Z\""),
-            ],
-            1,
-            "[Log]Y",
-        ),
-        (
-            &[("[Log]A", "\"[Log]Z\""), ("[Log]B", "\"[Log]Y\"")],
-            0,
-            "[Log]Z",
-        ),
-        // an unknown id wins over a cycle
-        (
-            &[("[Log]A", "\"[Log]A\""), ("[Log]B", "\"Log]B\"")],
-            1,
-            "Log]B",
-        ),
-    ];
-    for (resources, index, name) in rows {
-        let bytes = document(&rt, resources, 1)?;
-        let name = text(&rt, name)?;
-        let wanted = MergeError::DependsUnknown {
-            spot: Spot { part: 0, index },
-            name,
-        };
-        assert_eq!(rt; merged(&rt, bytes.as_bytes())?.err(), Some(wanted));
-    }
-    Ok(())
-}
-
-#[test]
-fn a_spot_counts_every_instance_of_the_part(rt: HostRuntime) -> Result<(), Fail> {
-    let mut bytes = String::new(rt.alloc());
-    bytes.push_str("instance of Other{};")?;
-    bytes.push_str(HEADER)?;
-    bytes.push_str(document(&rt, &[("[Log]A", "\"[Log]Z\"")], 0)?.as_str())?;
-    let name = text(&rt, "[Log]Z")?;
-    let wanted = MergeError::DependsUnknown {
-        spot: Spot { part: 0, index: 2 },
-        name,
-    };
-    assert_eq!(rt; merged(&rt, bytes.as_bytes())?.err(), Some(wanted));
-    Ok(())
-}
-
-#[test]
-fn dependencies_that_lead_round_are_told(rt: HostRuntime) -> Result<(), Fail> {
-    let rows: [(&[(&str, &str)], &[u32]); 3] = [
-        (
-            &[("[Log]A", "\"[Log]B\""), ("[Log]B", "\"[Log]A\"")],
-            &[0, 1],
-        ),
-        (&[("[Log]A", "\"[log]a\"")], &[0]),
-        (
-            &[
-                ("[Log]A", ""),
-                ("[Log]B", "\"[Log]C\""),
-                ("[Log]C", "\"[Log]B\""),
-            ],
-            &[1, 2],
-        ),
-    ];
-    for (resources, cycle) in rows {
-        let bytes = document(&rt, resources, 1)?;
-        let wanted = MergeError::Cycle(Items::of(cycle.to_vec(rt.alloc())?));
-        assert_eq!(rt; merged(&rt, bytes.as_bytes())?.err(), Some(wanted));
+fn a_part_with_a_fault_is_refused(rt: HostRuntime) -> Result<(), Fail> {
+    for (bytes, wanted) in faults() {
+        let found = merged(&rt, bytes)?;
+        assert!(rt;
+            matches!(&found, Err(MergeError::Part { index: 0, fault }) if *fault == wanted),
+            "{wanted:?}"
+        );
     }
     Ok(())
 }
