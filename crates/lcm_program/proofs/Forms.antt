@@ -6,7 +6,7 @@ use Rattle.std.proofs.lemmas.Str.Parse.{numerals_by_value, tells_digits}
 use Rattle.std.proofs.lemmas.Fmt.{digits_value-decimal}
 use Rattle.lcm_program.specs.declared.words.Command.{Command}
 use Rattle.lcm_program.specs.declared.words.Command.TheVariants.{Test, Check, Order, Canon, Checksum, Generate}
-use Rattle.lcm_program.specs.Words.{IsCount, IsForm, IsUsage}
+use Rattle.lcm_program.specs.Words.{IsCount, IsForm, IsInRange, IsUsage}
 
 -- the command that words in a form ask for
 asked : List (List ℕ) → Command
@@ -38,6 +38,15 @@ abbrev first_sum : List (List ℕ) → ℕ
 first_sum words = sum (get_or words 0 [])
 
 -- the form that begins with `generate`
+
+pub in_range : (command : Command) (words : List (List ℕ)) → IsForm command words → IsInRange command
+in_range Test words form = tt
+in_range Check words form = tt
+in_range Order words form = tt
+in_range Canon words form = tt
+in_range Checksum words form = tt
+in_range (Generate count) words form = (form.2.1, form.2.2)
+
 generate_form : (command : Command) (rest : List (List ℕ)) → IsForm command (codes "generate" ∷ rest)
     → (count : ℕ) × (command ≡ Generate count) × (word : List ℕ) × (rest ≡ word ∷ []) × IsCount word count
 generate_form Test rest form = absurd (omega (arith, ap first_sum form))

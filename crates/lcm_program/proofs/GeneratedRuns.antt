@@ -21,13 +21,14 @@ use Rattle.resource_kinds.specs.declared.entry.Entry.{Entry}
 use Rattle.resource_kinds.specs.declared.entry.Entry.TheVariants.{Tested, Set}
 use Rattle.resource_kinds.specs.declared.wanted.Wanted.{Wanted}
 use Rattle.resource_kinds.specs.declared.wanted.Wanted.TheVariants.{Variable}
-use Rattle.resource_kinds.specs.Trace.{EndsInReboot, Succeeded, entry_failures, has_succeeded, host_failure, host_failures, missed_count, set_failures, test_failures}
+use Rattle.resource_kinds.specs.Trace.{EndsWith, Succeeded, entry_failures, has_succeeded, host_failure, host_failures, missed_count, set_failures, test_failures}
 use Rattle.resource_kinds.specs.True.{AnswersKnown, AnswersTrue, IsTrueEntry, SetsKnown, SetsTrue, True}
 use Rattle.resource_kinds.specs.Wanted.{folded_utf8, wanted_of}
+use Rattle.lcm_core.specs.declared.modes.RunEnd.{RunEnd}
+use Rattle.lcm_core.specs.declared.modes.RunEnd.TheVariants as ends
 use Rattle.lcm_core.specs.declared.modes.RunMode.TheVariants.{Repair}
-use Rattle.lcm_core.specs.Legal.{GoesOn}
 use Rattle.lcm_core.specs.RepairLaws.{EntryBlames, RepairSucceeds, SetBlames, TestBlames}
-use Rattle.lcm_program.specs.Ran.{RanToLast}
+use Rattle.dsc_node.specs.Ran.{Ran}
 use Rattle.lcm_program.proofs.GeneratedVariables.{AskVariables, AsksVariable, each_sound, some_within}
 
 -- ---- one entry
@@ -126,10 +127,8 @@ module _ (document : Document) (ask : AskVariables document) where
   last_plain [] e plain = plain.0
   last_plain (f ∷ front) e plain = last_plain front e plain.1
 
-  goes_on : (trace : List Entry) → AllByRecursion IsPlain trace → GoesOn trace ⊎ EndsInReboot trace → GoesOn trace
-  goes_on trace plain (inl more) = more
-  goes_on trace plain (inr (r, (front, is))) =
-      absurd ((last_plain front (Set r sets.Reboot) (subst (λ (t : List Entry). AllByRecursion IsPlain t) is plain)).1 r refl)
+  ends_plain : (trace : List Entry) → AllByRecursion IsPlain trace → (r : ℕ) → EndsWith trace (Set r sets.Reboot) → ⊥
+  ends_plain trace plain r (front, is) = (last_plain front (Set r sets.Reboot) (subst (λ (t : List Entry). AllByRecursion IsPlain t) is plain)).1 r refl
 
 -- ---- the run
 
@@ -147,20 +146,26 @@ count_all trace (suc n) all =
     omega (arith, sum_by-append (one_if_succeeded trace) (places_below n) (n ∷ []), sum_by-cons (one_if_succeeded trace) n [], behind, ap one_if here)
 
 module _ (succeeds : RepairSucceeds) (document : Document) (order : List ℕ) (trace : List Entry) (before after : HostState)
-    (ask : AskVariables document) (nobody : before.wanting ≡ [])
-    (run : RanToLast document Repair order trace (Some before) (Some after) 0 0) (none : host_failures trace ≡ 0) where
-  chain : True document before trace after
-  chain = let (state, is, told) = run.run.is_true in subst (λ (h : HostState). True document before trace h) (sym (same_Some after state is)) told
+    (ask : AskVariables document) (nobody : before.wanting ≡ []) (none : host_failures trace ≡ 0) where
+  told_true : (end : RunEnd) → Ran document Repair order end trace (Some before) (Some after) 0 0 → True document before trace after
+  told_true end run = let (state, is, told) = run.is_true in subst (λ (h : HostState). True document before trace h) (sym (same_Some after state is)) told
 
-  pub finishes : GoesOn trace
-  finishes = goes_on document ask trace (all_plain document ask before after trace chain nobody none) run.came
+  -- it comes to its last resource
+  pub finishes : (end : RunEnd) → (end ≡ ends.Finished) ⊎ ((r : ℕ) × (end ≡ ends.RebootAsked r)) → Ran document Repair order end trace (Some before) (Some after) 0 0
+      → Ran document Repair order ends.Finished trace (Some before) (Some after) 0 0
+  finishes end (inl is) run = subst (λ (e : RunEnd). Ran document Repair order e trace (Some before) (Some after) 0 0) is run
+  finishes end (inr (r, is)) run =
+      let asked = subst (λ (e : RunEnd). Ran document Repair order e trace (Some before) (Some after) 0 0) is run in
+      absurd (ends_plain document ask trace (all_plain document ask before after trace (told_true end run) nobody none) r asked.ended)
 
-  pub each_succeeds : (r : ℕ) → r < length document.resources → Succeeded trace r
-  each_succeeds r lt =
-      let plain = all_plain document ask before after trace chain nobody none in
-      succeeds document order before after trace r
-      (record { ordered = run.run.is_order; legal = run.run.legal; whole = run.run.whole; finished = finishes; is_true = chain })
-      (All-from_recursion (λ e. EntryBlames e → ⊥) trace (blames_nothing document ask trace plain)) lt (each_sound document r ask lt)
+  module _ (run : Ran document Repair order ends.Finished trace (Some before) (Some after) 0 0) where
+    pub each_succeeds : (r : ℕ) → r < length document.resources → Succeeded trace r
+    each_succeeds r lt =
+        let chain = told_true ends.Finished run in
+        let plain = all_plain document ask before after trace chain nobody none in
+        succeeds document order before after trace r
+        (record { ordered = run.is_order; legal = run.legal; whole = run.whole; finished = run.ended; is_true = chain })
+        (All-from_recursion (λ e. EntryBlames e → ⊥) trace (blames_nothing document ask trace plain)) lt (each_sound document r ask lt)
 
-  pub none_missed : missed_count document trace ≡ 0
-  none_missed = omega (arith, count_all trace (length document.resources) each_succeeds)
+    pub none_missed : missed_count document trace ≡ 0
+    none_missed = omega (arith, count_all trace (length document.resources) each_succeeds)

@@ -1,11 +1,9 @@
-pub mod Answered
 pub mod Counts
 pub mod Forms
 pub mod GeneratedRuns
 pub mod GeneratedVariables
 pub mod Inputs
-pub mod Monitored
-pub mod Refusals
+pub mod Readings
 pub mod Results
-pub mod ToolInputs
-pub mod ToolTexts
+pub mod Tests
+pub mod Tools

@@ -1,9 +1,14 @@
--- The word `checksum`.
-use Rattle.std.specs.Prelude.{◌≡◌, ℕ, ◌<◌, ◌≤◌, List, ◌++◌, length, codes, Ok, Err}
+-- The command `checksum`.
+use Rattle.std.specs.Prelude.{◌≡◌, ◌⊎◌, ℕ, List, ◌++◌, codes, Option, Err}
+use Rattle.dsc_terms.specs.Counts.{Rose}
 use Rattle.sha2.specs.Sha256.{sha256}
 use Rattle.shared_key.specs.Checksum.{checksum_of}
-use Rattle.lcm_program.specs.declared.status.InputError.TheVariants.{TooLong}
-use Rattle.lcm_program.specs.Tool.{Answer}
+use Rattle.dsc_node.specs.declared.status.InputError.{InputError}
+use Rattle.dsc_node.specs.declared.status.Status.{Status}
+use Rattle.dsc_node.specs.declared.status.Status.TheVariants.{Memory}
+use Rattle.lcm_program.specs.Input.{IsInput, Reading, ReadsBytes}
+use Rattle.lcm_program.specs.Objects.{Known, Objects}
+use Rattle.lcm_program.specs.Tool.{RanTool, Shows}
 
 -- the most bytes of an input: 64 MiB
 abbrev pub checksum_limit : ℕ
@@ -13,7 +18,18 @@ checksum_limit = 67108864
 abbrev pub checksum_line : List ℕ → List ℕ
 checksum_line digest = checksum_of digest ++ codes "\n"
 
--- an input within the limit is answered by the checksum of its SHA-256 digest, a longer one is refused
-abbrev pub AnswersChecksum : List ℕ → Answer → Type 0
-AnswersChecksum all (Ok text) = (length all ≤ checksum_limit) × (text ≡ checksum_line (sha256 all))
-AnswersChecksum all (Err error) = (error ≡ TooLong) × (checksum_limit < length all)
+-- the checksum of the SHA-256 digest (FIPS 180-4)
+abbrev pub IsChecksumLine : List ℕ → List ℕ → Type 0
+IsChecksumLine bytes text = text ≡ checksum_line (sha256 bytes)
+
+abbrev pub AnswersChecksum : Reading (List ℕ)
+AnswersChecksum = Shows (ReadsBytes checksum_limit) IsChecksumLine
+
+-- the input is refused, or a read failed
+abbrev pub HasRefusal : Option (List ℕ) → ℕ → ℕ → Type 0
+HasRefusal input before now = ((error : InputError) × IsInput AnswersChecksum input (Err error)) ⊎ Rose before now
+
+-- memory is taken for the line of a refusal alone
+pub record Checksummed {S K D H L C : Type 0} (o : Known S K D H L C) (status : Status) (before after : Objects S K D H L C) : Type 0 where
+  pub tool : RanTool AnswersChecksum o status before after
+  pub memory : status ≡ Memory → HasRefusal (o.source.left before.input) (o.source.faults before.input) (o.source.faults after.input)

@@ -1,21 +1,22 @@
--- The word `generate`: the repair of a document that is made of a number, on an empty machine.
-use Rattle.std.specs.Prelude.{◌≡◌, ◌⊎◌, ℕ, ◌-◌, Bool, true, false, List, ◌++◌, length, Option, Some, codes, count_by, get_or}
+-- The command `generate`: the repair of a document that is made of a number, on an empty machine.
+use Rattle.std.specs.Prelude.{◌≡◌, ℕ, ◌-◌, Bool, true, false, List, ◌++◌, length, Option, Some, codes, count_by, get_or}
 use Rattle.std.specs.Fmt.{decimal}
 use Rattle.dsc_outside.specs.Host.{HostState, empty_host}
 use Rattle.dsc_document.specs.declared.document.Document.{Document}
 use Rattle.generated_document.specs.Contents.{HasContents}
 use Rattle.generated_document.specs.Generated.{IsGenerated}
+use Rattle.lcm_core.specs.declared.modes.RunEnd.TheVariants.{Finished}
 use Rattle.lcm_core.specs.declared.modes.RunMode.TheVariants.{Repair}
-use Rattle.lcm_core.specs.Legal.{GoesOn}
 use Rattle.resource_kinds.specs.declared.entry.Entry.{Entry}
 use Rattle.resource_kinds.specs.declared.entry.Entry.TheVariants.{Tested, Set}
 use Rattle.resource_kinds.specs.Trace.{host_failures, missed_count, succeeded_count}
-use Rattle.lcm_program.specs.declared.status.Status.{Status}
-use Rattle.lcm_program.specs.declared.status.Status.TheVariants.{Memory}
-use Rattle.lcm_program.specs.Lines.{id_at, resources_line}
-use Rattle.lcm_program.specs.Quoted.{quoted}
-use Rattle.lcm_program.specs.Ran.{RanToLast}
-use Rattle.lcm_program.specs.Tool.{TellsText}
+use Rattle.dsc_node.specs.declared.status.Status.{Status}
+use Rattle.dsc_node.specs.declared.status.Status.TheVariants.{Done, WriteFault, Memory}
+use Rattle.dsc_node.specs.Lines.{id_at, resources_line}
+use Rattle.dsc_node.specs.Quoted.{quoted}
+use Rattle.dsc_node.specs.Ran.{Ran}
+use Rattle.lcm_program.specs.Objects.{IsUntouched, Known, Objects}
+use Rattle.lcm_program.specs.Printed.{Holds, IsCutShort}
 
 abbrev pub is_test : Entry → Bool
 is_test (Tested place answer) = true
@@ -40,19 +41,27 @@ generated_lines count document order trace =
 
 -- the text tells of the repair of the document of that count, on an empty machine that did not fail: it came to its last
 -- resource, and every resource succeeded
-pub record TellsGenerated (count : ℕ) (text : List ℕ) : Type 0 where
+pub record IsGeneratedText (count : ℕ) (text : List ℕ) : Type 0 where
   pub document : Document
   pub generated : IsGenerated count document
   pub contents : HasContents count document
   pub order : List ℕ
   pub trace : List Entry
   pub after : HostState
-  pub run : RanToLast document Repair order trace (Some empty_host) (Some after) 0 0
-  pub finished : GoesOn trace
+  pub run : Ran document Repair order Finished trace (Some empty_host) (Some after) 0 0
   pub blameless : host_failures trace ≡ 0
   pub all : missed_count document trace ≡ 0
   pub lines : text ≡ generated_lines count document order trace
 
--- such a text is printed, or a part from its front where the output failed; or memory was refused
-abbrev pub TellsGenerate : {K : Type 0} → ℕ → (K → Option (List ℕ)) → (K → ℕ) → Status → K → K → Type 0
-TellsGenerate count held faults status old new = (status ≡ Memory) ⊎ ((text : List ℕ) × TellsGenerated count text × TellsText held faults text status old new)
+-- such a text is printed, or a part from its front where the output failed; or memory was refused and nothing is printed
+abbrev pub GenerateEnds : {S K D H L C : Type 0} → ℕ → Known S K D H L C → Status → Objects S K D H L C → Objects S K D H L C → Type 0
+GenerateEnds count o Done before after = (text : List ℕ) × IsGeneratedText count text × Holds o.sink text before.output after.output
+GenerateEnds count o WriteFault before after = (text : List ℕ) × IsGeneratedText count text × IsCutShort o.sink text before.output after.output
+GenerateEnds count o Memory before after = after.output ≡ before.output
+GenerateEnds count o _ before after = ⊥
+
+-- a document of that many resources was repaired; the input was not read
+pub record Generated {S K D H L C : Type 0} (count : ℕ) (o : Known S K D H L C) (status : Status) (before after : Objects S K D H L C) : Type 0 where
+  pub input : after.input ≡ before.input
+  pub untouched : IsUntouched before after
+  pub ends : GenerateEnds count o status before after

@@ -1,7 +1,10 @@
--- What an input is: instances, and the document that they declare; or why it is refused.
-use Rattle.std.specs.Prelude.{◌≢◌, ℕ, ◌≤◌, List, [], ◌∷◌, length}
+-- What an input is: bytes, the instances that they spell, or the document that they declare; or the error for which it is refused.
+use Rattle.std.specs.Prelude.{◌≡◌, ◌≢◌, ℕ, ◌<◌, ◌≤◌, List, [], ◌∷◌, length, Option, Result, Ok, Err, IfSome, ⊤}
+use Rattle.dsc_terms.specs.Counts.{Rose}
+use Rattle.mof_values.specs.declared.instance.Instance.{Instance}
 use Rattle.mof_syntax.specs.declared.mof_error.MofError.{MofError}
 use Rattle.mof_syntax.specs.Limits.{document_limit}
+use Rattle.mof_syntax.specs.Refusals as syntax
 use Rattle.dsc_document.specs.declared.document.Document.{Document}
 use Rattle.partial_merge.specs.declared.part.Part.{Part}
 use Rattle.partial_merge.specs.declared.error.MergeError.{MergeError}
@@ -9,26 +12,70 @@ use Rattle.partial_merge.specs.declared.error.MergeError.TheVariants as merge
 use Rattle.partial_merge.specs.Merged.{Merged}
 use Rattle.partial_merge.specs.Parts.{unnamed_part}
 use Rattle.partial_merge.specs.Refused.{IsUnspelled, Refused}
+use Rattle.dsc_node.specs.declared.status.InputError.{InputError}
+use Rattle.dsc_node.specs.declared.status.InputError.TheVariants.{TooLong, Mof, Merge}
+use Rattle.lcm_program.specs.declared.input.Unread.{Unread}
+use Rattle.lcm_program.specs.declared.input.Unread.TheVariants as unread
+use Rattle.lcm_program.specs.declared.refusal.Refusal.{Refusal}
+use Rattle.lcm_program.specs.declared.refusal.Refusal.TheVariants as refusals
 
 -- the most bytes of an input: those of a document
 abbrev pub input_limit : ℕ
 input_limit = document_limit
 
+-- ---- readings: what bytes are read as, or the error for which they are refused
+
+abbrev pub Reading : Type 0 → Type 1
+Reading A = List ℕ → Result A InputError → Type 0
+
+-- bytes of at most this number
+abbrev pub ReadsBytes : ℕ → Reading (List ℕ)
+ReadsBytes limit all (Ok bytes) = (bytes ≡ all) × (length all ≤ limit)
+ReadsBytes limit all (Err error) = (error ≡ TooLong) × (limit < length all)
+
+-- the instances that the bytes spell; of the refusals that apply to bytes within the limit, the one that wins
+abbrev pub ReadsInstances : Reading (List Instance)
+ReadsInstances all (Ok instances) = syntax.Reads all instances
+ReadsInstances all (Err TooLong) = input_limit < length all
+ReadsInstances all (Err (Mof error)) = (length all ≤ input_limit) × IsUnspelled all error
+ReadsInstances all (Err (Merge error)) = ⊥
+
 -- the part that an input is, which has no name
 abbrev pub parts_of : List ℕ → List Part
 parts_of all = unnamed_part all ∷ []
 
--- the document that the bytes declare
-abbrev pub IsDocument : List ℕ → Document → Type 0
-IsDocument all document = Merged (parts_of all) document
-
 -- the bytes are within the limit and declare no document, and of the refusals that apply to them this one wins
-pub record IsUnmerged (all : List ℕ) (error : MergeError) : Type 0 where
+pub record IsNoDocument (all : List ℕ) (error : MergeError) : Type 0 where
   pub fits : length all ≤ input_limit
   pub wins : Refused (parts_of all) error
   pub cause : error ≢ merge.Memory
 
--- the bytes are within the limit and spell no instances, and of the refusals that apply to them this one wins
-pub record IsRefusedFor (bytes : List ℕ) (error : MofError) : Type 0 where
-  pub fits : length bytes ≤ input_limit
-  pub why : IsUnspelled bytes error
+-- the document that the bytes declare
+abbrev pub ReadsDocument : Reading Document
+ReadsDocument all (Ok document) = Merged (parts_of all) document
+ReadsDocument all (Err TooLong) = input_limit < length all
+ReadsDocument all (Err (Mof error)) = ⊥
+ReadsDocument all (Err (Merge error)) = IsNoDocument all error
+
+-- ---- inputs
+
+-- the whole input, that of the source where it is told, is read so
+pub record IsInput {A : Type 0} (reads : List ℕ → A → Type 0) (input : Option (List ℕ)) (answer : A) : Type 0 where
+  pub all : List ℕ
+  pub input_is : IfSome input (λ told. told ≡ all)
+  pub is_answer : reads all answer
+
+-- the input has more bytes
+abbrev pub IsLonger : List ℕ → ℕ → Type 0
+IsLonger all most = most < length all
+
+-- why an input is refused: for the error that it is read as, or because a read failed
+abbrev pub IsRefused : {A : Type 0} → Reading A → Refusal → Option (List ℕ) → ℕ → ℕ → Type 0
+IsRefused reads (refusals.Input error) input before now = IsInput reads input (Err error)
+IsRefused reads refusals.ReadFault input before now = Rose before now
+IsRefused reads _ input before now = ⊥
+
+-- why an input was not read
+abbrev pub IsUnread : {A : Type 0} → Reading A → Unread → Option (List ℕ) → ℕ → ℕ → Type 0
+IsUnread reads (unread.Refused refusal) input before now = IsRefused reads refusal input before now
+IsUnread reads unread.Memory input before now = ⊤

@@ -13,13 +13,13 @@ use Rattle.partial_merge.specs.declared.error.PartFault.{PartFault}
 use Rattle.partial_merge.specs.declared.error.PartFault.TheVariants as parts
 use Rattle.partial_merge.specs.declared.error.MergeError.{MergeError}
 use Rattle.partial_merge.specs.declared.error.MergeError.TheVariants as merge
-use Rattle.lcm_program.specs.Quoted.{quoted}
+use Rattle.dsc_node.specs.Quoted.{quoted}
 use Rattle.lcm_program.specs.declared.refusal.Refusal.{Refusal}
 use Rattle.lcm_program.specs.declared.refusal.Refusal.TheVariants.{Usage, Input, ReadFault}
-use Rattle.lcm_program.specs.declared.status.InputError.{InputError}
-use Rattle.lcm_program.specs.declared.status.InputError.TheVariants.{TooLong, Mof, Merge}
-use Rattle.lcm_program.specs.declared.status.Status.{Status}
-use Rattle.lcm_program.specs.declared.status.Status.TheVariants as statuses
+use Rattle.dsc_node.specs.declared.status.InputError.{InputError}
+use Rattle.dsc_node.specs.declared.status.InputError.TheVariants.{TooLong, Mof, Merge}
+use Rattle.dsc_node.specs.declared.status.Status.{Status}
+use Rattle.dsc_node.specs.declared.status.Status.TheVariants as statuses
 
 abbrev pub status_of : Refusal → Status
 status_of (Usage word) = statuses.Usage word

@@ -1,5 +1,5 @@
 -- The forms of the command line.
-use Rattle.std.specs.Prelude.{◌≡◌, ℕ, ◌+◌, ◌<◌, ◌≤◌, List, [], ◌∷◌, ◌++◌, length, take, codes}
+use Rattle.std.specs.Prelude.{◌≡◌, ℕ, ◌+◌, ◌<◌, ◌≤◌, List, [], ◌∷◌, ◌++◌, length, take, codes, ⊤}
 use Rattle.std.specs.Fmt.{decimal}
 use Rattle.lcm_program.specs.declared.words.Command.{Command}
 use Rattle.lcm_program.specs.declared.words.Command.TheVariants.{Test, Check, Order, Canon, Checksum, Generate}
@@ -20,6 +20,11 @@ IsForm Order words = words ≡ codes "order" ∷ []
 IsForm Canon words = words ≡ codes "canon" ∷ []
 IsForm Checksum words = words ≡ codes "checksum" ∷ []
 IsForm (Generate count) words = (word : List ℕ) × (words ≡ codes "generate" ∷ word ∷ []) × IsCount word count
+
+-- the number of a command is one that its words can give
+abbrev pub IsInRange : Command → Type 0
+IsInRange (Generate count) = (0 < count) × (count ≤ generated_limit)
+IsInRange _ = ⊤
 
 -- some form begins with these words
 abbrev pub BeginsForm : List (List ℕ) → Type 0

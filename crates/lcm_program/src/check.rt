@@ -1,17 +1,16 @@
-//! The word `check`: how many resources the document of the input has.
-ghost use Rattle.std.specs.Prelude.{◌≡◌, IfOk, IfErr, string_bytes};
-ghost use Rattle.lcm_program.specs.Documents.{AnswersOf, TellsCount};
-ghost use Rattle.lcm_program.specs.Tool.{Answered};
-ghost use Rattle.lcm_program.specs.Unread.{IsUnread};
+//! The command `check`: how many resources the document of the input has.
+ghost use Rattle.std.specs.Prelude.{◌≡◌, IfErr, IfOk, Ok};
+ghost use Rattle.lcm_program.specs.Check.{AnswersCheck};
+ghost use Rattle.lcm_program.specs.Input.{IsInput, IsUnread};
 
 use crate::input::{Unread, read_document};
 use dsc_outside::Source;
 use std::alloc::Global;
 
 /// Reads the input to its end, and tells how many resources its document has.
-pub fn read_count<S: Source>(alloc: Global, input: &mut S) -> Result<String, Unread>
-    ensures ok { IfOk result (λ text. Answered (AnswersOf TellsCount) (S.left input.old) (Ok (string_bytes text))) }
-    ensures err { IfErr result (λ e. IsUnread e (S.left input.old) (S.faults input.old) (S.faults input.new)) }
+pub fn read_count<S: Source>(alloc: Global, input: &mut S) -> Result<Vec<u8>, Unread>
+    ensures ok { IfOk result (λ text. IsInput AnswersCheck (S.left input.old) (Ok text.items)) }
+    ensures err { IfErr result (λ e. IsUnread AnswersCheck e (S.left input.old) (S.faults input.old) (S.faults input.new)) }
 {
     let document = match read_document(alloc, input) {
         Ok(document) => document,
@@ -20,5 +19,5 @@ pub fn read_count<S: Source>(alloc: Global, input: &mut S) -> Result<String, Unr
     let count = document.resources.as_slice().len();
     let mut text = String::new(alloc);
     write!(text, "ok {count}\n")?;
-    Ok(text)
+    Ok(text.into_bytes())
 }

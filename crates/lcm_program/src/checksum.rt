@@ -1,10 +1,10 @@
-//! The word `checksum`: the SHA-256 digest of the input, as a line of text.
-ghost use Rattle.std.specs.Prelude.{◌≡◌, ◌++◌, codes, IfOk, IfErr};
+//! The command `checksum`: the SHA-256 digest of the input, as a line of text.
+ghost use Rattle.std.specs.Prelude.{◌≡◌, IfErr, IfOk, Ok};
 ghost use Rattle.lcm_program.specs.Checksum.{AnswersChecksum, checksum_line};
-ghost use Rattle.lcm_program.specs.Tool.{Answered, IsRefusalOf};
+ghost use Rattle.lcm_program.specs.Input.{IsInput, IsRefused};
 
 use crate::refusal::Refusal;
-use crate::status::InputError;
+use dsc_node::InputError;
 use dsc_outside::{Failed, Source};
 use sha2::{Digest, Sha256};
 use shared_key::checksum_text;
@@ -12,11 +12,23 @@ use shared_key::checksum_text;
 /// The most bytes of an input.
 const LIMIT: usize = 67_108_864;
 
-/// The digest of the input, which is read to its end piece by piece and not kept.
-pub fn read_digest<S: Source>(input: &mut S) -> Result<[u8; 32], Refusal>
-    ensures ok { IfOk result (λ digest. Answered AnswersChecksum (S.left input.old) (Ok (checksum_line digest))) }
+/// The checksum of the input, and a line end. The input is read to its end piece by piece and not kept.
+pub fn read_checksum<S: Source>(input: &mut S) -> Result<[u8; 65], Refusal>
+    ensures ok { IfOk result (λ line. IsInput AnswersChecksum (S.left input.old) (Ok line)) }
     ensures err { IfErr result (λ refusal.
-        IsRefusalOf AnswersChecksum refusal (S.left input.old) (S.faults input.old) (S.faults input.new)) }
+        IsRefused AnswersChecksum refusal (S.left input.old) (S.faults input.old) (S.faults input.new)) }
+{
+    match read_digest(input) {
+        Ok(digest) => Ok(checksum_line(&digest)),
+        Err(refusal) => Err(refusal),
+    }
+}
+
+// The digest of the input.
+fn read_digest<S: Source>(input: &mut S) -> Result<[u8; 32], Refusal>
+    ensures ok { IfOk result (λ digest. IsInput AnswersChecksum (S.left input.old) (Ok (checksum_line digest))) }
+    ensures err { IfErr result (λ refusal.
+        IsRefused AnswersChecksum refusal (S.left input.old) (S.faults input.old) (S.faults input.new)) }
 {
     let mut hash = Sha256::new();
     let mut total = 0;
@@ -36,8 +48,8 @@ pub fn read_digest<S: Source>(input: &mut S) -> Result<[u8; 32], Refusal>
     }
 }
 
-/// The checksum of the digest, and a line end.
-pub fn checksum_line(digest: &[u8; 32]) -> [u8; 65]
+// The checksum of the digest, and a line end.
+fn checksum_line(digest: &[u8; 32]) -> [u8; 65]
     ensures { result ≡ checksum_line digest.now }
 {
     let mut line = [b'\n'; 65];

@@ -1,40 +1,46 @@
 //! The command line of the program: the store, the host's folder, and the words of the command.
-use std::alloc::{AllocError, Global};
+ghost use Rattle.std.specs.Prelude.{map, string_bytes};
+ghost use Rattle.lcm_program.specs.CommandLine.{IsCommandLine};
+
+use std::alloc::AllocError;
 use std::env::{self, Env};
 use std::io::ErrorKind;
 
 /// What `node` is called with.
 #[derive(Debug, Drop)]
-pub struct CommandLine {
+pub struct CommandLine<'a> {
     /// The folder that stands for the machine.
-    pub host: String,
+    pub host: &'a str,
 
-    pub words: Vec<String>,
+    pub words: &'a [String],
 }
 
-impl CommandLine {
-    /// Reads the arguments. With fewer than two, or where one is not in UTF-8, there are no words.
-    pub fn read<R: AllocGlobal + Env>(rt: &R) -> Result<CommandLine, AllocError> {
-        let mut arguments = match env::args(rt) {
-            Ok(arguments) => arguments,
-            Err(e) if e.kind() == ErrorKind::OutOfMemory => return Err(AllocError),
-            Err(_) => return Ok(CommandLine::empty(rt.alloc())),
-        };
-        let _program = arguments.next();
-        let _store = arguments.next();
-        match arguments.next() {
-            None => Ok(CommandLine::empty(rt.alloc())),
-            Some(host) => Ok(CommandLine {
-                host,
-                words: arguments.collect(rt.alloc())?,
-            }),
+impl<'a> CommandLine<'a> {
+    /// Reads the arguments: the program's name, STORE, HOST and the words. Where STORE or HOST is missing or empty there are no
+    /// words.
+    pub fn of(arguments: &'a [String]) -> CommandLine<'a>
+        ensures { IsCommandLine (map string_bytes arguments.now) result.host.now (map string_bytes result.words.now) }
+    {
+        match arguments {
+            [_program, store, host, words @ ..] if !store.is_empty() && !host.is_empty() => {
+                CommandLine {
+                    host: host.as_str(),
+                    words,
+                }
+            }
+            _ => CommandLine {
+                host: "",
+                words: &[],
+            },
         }
     }
+}
 
-    fn empty(alloc: Global) -> CommandLine {
-        CommandLine {
-            host: String::new(alloc),
-            words: Vec::new(alloc),
-        }
+/// The arguments, or none where one of them is not in UTF-8.
+pub fn arguments<R: AllocGlobal + Env>(rt: &R) -> Result<Vec<String>, AllocError> {
+    match env::args(rt) {
+        Ok(arguments) => Ok(arguments.collect(rt.alloc())?),
+        Err(e) if e.kind() == ErrorKind::OutOfMemory => Err(AllocError),
+        Err(_) => Ok(Vec::new(rt.alloc())),
     }
 }

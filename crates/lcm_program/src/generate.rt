@@ -1,14 +1,13 @@
-//! The word `generate`: the repair of a document that is made of a number, on an empty machine in memory.
+//! The command `generate`: the repair of a document that is made of a number, on an empty machine in memory.
 ghost use Rattle.std.specs.Prelude.{◌≡◌, ◌<◌, ◌≤◌, ◌-◌, ◌++◌, All, IfOk, OnOk, count_by, length, string_bytes};
 ghost use Rattle.resource_kinds.specs.Trace.{place_of};
-ghost use Rattle.lcm_program.specs.Generate.{TellsGenerated, calls_line, ends_line, generated_lines, is_set, is_test};
+ghost use Rattle.lcm_program.specs.Generate.{IsGeneratedText, calls_line, ends_line, generated_lines, is_set, is_test};
 
-use crate::lines::{count_succeeded, id, push_resources};
-use crate::merged_run::run_merged;
 use dsc_document::Document;
+use dsc_node::{count_succeeded, id, order_of_merged, push_resources, run_kinds};
 use dsc_outside::{HostContents, ReliableHost};
 use generated_document::generated_document;
-use lcm_core::{RunMode, repair_laws};
+use lcm_core::{RunEnd, RunMode, repair_laws};
 use mof_codec::push_literal;
 use mof_values::Memory;
 use resource_kinds::{Entry, Kinds, Resources};
@@ -19,13 +18,18 @@ use std::alloc::{AllocError, Global};
 pub fn repair_generated(alloc: Global, count: u32) -> Result<String, Memory>
     requires some { 0 < count }
     requires few { count ≤ 4096 }
-    ensures { IfOk result (λ text. TellsGenerated count (string_bytes text)) }
+    ensures { IfOk result (λ text. IsGeneratedText count (string_bytes text)) }
 {
     let document = generated_document(alloc, count)?;
     let mut kinds = Kinds::new(alloc, ReliableHost::of(HostContents::empty(alloc)));
-    let order = run_merged(alloc, &document, RunMode::Repair, &mut kinds)?;
-    repair_laws();
-    Ok(lines(alloc, count, &document, &order, kinds.calls())?)
+    let order = order_of_merged(alloc, &document)?;
+    match run_kinds(alloc, &document, &order, RunMode::Repair, &mut kinds) {
+        RunEnd::Finished | RunEnd::RebootAsked(_) => {
+            repair_laws();
+            Ok(lines(alloc, count, &document, &order, kinds.calls())?)
+        }
+        RunEnd::Memory => Err(Memory),
+    }
 }
 
 // The lines of such a repair.

@@ -1,16 +1,12 @@
 //! What the input is: bytes, instances, and the document that they declare.
-ghost use Rattle.std.specs.Prelude.{◌≡◌, ◌≢◌, ◌⊎◌, ◌≤◌, length, IfOk, IfErr, IfSome};
-ghost use Rattle.mof_syntax.specs.Refusals as syntax;
+ghost use Rattle.std.specs.Prelude.{◌≡◌, ◌≢◌, ◌⊎◌, IfErr, IfOk, Ok};
 ghost use Rattle.lcm_program.specs.declared.input.Unread.TheVariants.{Memory};
-ghost use Rattle.lcm_program.specs.Canon.{IsNotTold};
-ghost use Rattle.lcm_program.specs.Input.{IsDocument, input_limit};
-ghost use Rattle.lcm_program.specs.Tool.{Answered};
-ghost use Rattle.lcm_program.specs.Unread.{IsUnread, IsUntaken};
+ghost use Rattle.lcm_program.specs.Input.{IsInput, IsUnread, ReadsBytes, ReadsDocument, ReadsInstances, input_limit};
 
 use crate::refusal::Refusal;
-use crate::status::InputError;
 use crate::streams::{ReadError, read_all};
 use dsc_document::Document;
+use dsc_node::InputError;
 use dsc_outside::Source;
 use mof_codec::{MofError, read};
 use mof_values::{Instance, Text};
@@ -45,8 +41,8 @@ impl<T: Drop> From<AllocFailed<T>> for Unread {
 
 /// Reads the input to its end, and the document that it declares, as one part without a name.
 pub fn read_document<S: Source>(alloc: Global, input: &mut S) -> Result<Document, Unread>
-    ensures ok { IfOk result (λ document. Answered IsDocument (S.left input.old) document) }
-    ensures err { IfErr result (λ e. IsUnread e (S.left input.old) (S.faults input.old) (S.faults input.new)) }
+    ensures ok { IfOk result (λ document. IsInput ReadsDocument (S.left input.old) (Ok document)) }
+    ensures err { IfErr result (λ e. IsUnread ReadsDocument e (S.left input.old) (S.faults input.old) (S.faults input.new)) }
 {
     let bytes = match read_bytes(alloc, input) {
         Ok(bytes) => bytes,
@@ -72,8 +68,8 @@ fn unmerged(error: MergeError) -> Unread
 
 /// Reads the input to its end, and the instances that it spells.
 pub fn read_instances<S: Source>(alloc: Global, input: &mut S) -> Result<Vec<Instance>, Unread>
-    ensures ok { IfOk result (λ instances. Answered (λ all is. syntax.Reads all is) (S.left input.old) instances.items) }
-    ensures err { IfErr result (λ e. IsNotTold e (S.left input.old) (S.faults input.old) (S.faults input.new)) }
+    ensures ok { IfOk result (λ instances. IsInput ReadsInstances (S.left input.old) (Ok instances.items)) }
+    ensures err { IfErr result (λ e. IsUnread ReadsInstances e (S.left input.old) (S.faults input.old) (S.faults input.new)) }
 {
     let bytes = match read_bytes(alloc, input) {
         Ok(bytes) => bytes,
@@ -87,9 +83,8 @@ pub fn read_instances<S: Source>(alloc: Global, input: &mut S) -> Result<Vec<Ins
 
 // Reads the input to its end.
 fn read_bytes<S: Source>(alloc: Global, input: &mut S) -> Result<Vec<u8>, Unread>
-    ensures ok { IfOk result (λ bytes. IfSome (S.left input.old) (λ all. bytes.items ≡ all)) }
-    ensures fits { IfOk result (λ bytes. length bytes.items ≤ input_limit) }
-    ensures err { IfErr result (λ e. IsUntaken e (S.left input.old) (S.faults input.old) (S.faults input.new)) }
+    ensures ok { IfOk result (λ bytes. IsInput (ReadsBytes input_limit) (S.left input.old) (Ok bytes.items)) }
+    ensures err { IfErr result (λ e. IsUnread (ReadsBytes input_limit) e (S.left input.old) (S.faults input.old) (S.faults input.new)) }
 {
     match read_all(alloc, input, LIMIT) {
         Ok(bytes) => Ok(bytes),

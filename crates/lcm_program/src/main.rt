@@ -10,33 +10,29 @@ mod checksum;
 mod command_line;
 mod generate;
 mod input;
-mod lines;
 mod merge_words;
-mod merged_run;
 mod mof_words;
 mod order;
+mod printing;
 mod program;
 mod refusal;
-mod status;
 mod streams;
 mod test;
 mod words;
 
 pub use canon::read_canonical;
 pub use check::read_count;
-pub use checksum::{checksum_line, read_digest};
-use command_line::CommandLine;
+pub use checksum::read_checksum;
+use command_line::{CommandLine, arguments};
+use dsc_node::Status;
 use dsc_outside::Absent;
 use dsc_outside::real::{FolderHost, InSource, OutSink};
 pub use generate::repair_generated;
 pub use input::{Unread, read_document, read_instances};
-pub use lines::{count_succeeded, id, lines_of};
-pub use merged_run::run_merged;
-pub use order::{order_of_merged, read_order};
+pub use order::read_order;
 pub use program::node;
 pub use refusal::Refusal;
 pub use resource_kinds::{Entry, Failure, Kinds, Resources, SetAnswer, TestAnswer};
-pub use status::{InputError, Status};
 use std::alloc::AllocError;
 use std::process::ExitCode;
 pub use streams::{ReadError, read_all, write_all};
@@ -46,23 +42,25 @@ pub use words::{Command, UsageError, read_words};
 mod tests;
 
 fn main(rt: HostRuntime) -> ExitCode {
-    let status = match CommandLine::read(&rt) {
-        Ok(line) => run_node(&rt, line),
+    let status = match arguments(&rt) {
+        Ok(arguments) => run_node(&rt, &CommandLine::of(&arguments)),
         Err(AllocError) => Status::Memory,
     };
     ExitCode::from(status.number())
 }
 
 // Makes the real objects and calls `node`. No command uses a disk, a link or a clock yet.
-fn run_node(rt: &HostRuntime, line: CommandLine) -> Status {
-    let CommandLine { host, words } = line;
+fn run_node(rt: &HostRuntime, line: &CommandLine) -> Status {
+    let Ok(host) = String::from_str(rt.alloc(), line.host) else {
+        return Status::Memory;
+    };
     let mut input = InSource::new(rt.reader());
     let mut output = OutSink::new(rt);
     let mut kinds = Kinds::new(rt.alloc(), FolderHost::new(rt, host));
     let (mut disk, mut link, mut clock) = (Absent::new(), Absent::new(), Absent::new());
     node(
         rt.alloc(),
-        &words,
+        line.words,
         &mut input,
         &mut output,
         &mut disk,

@@ -1,44 +1,27 @@
-//! The word `order`: the ids of the resources of the input's document, in the order of their dependencies.
-ghost use Rattle.std.specs.Prelude.{◌≡◌, ◌<◌, List, All, length, IfOk, IfErr, string_bytes};
+//! The command `order`: the ids of the resources of the input's document, in the order of their dependencies.
+ghost use Rattle.std.specs.Prelude.{◌≡◌, ◌<◌, All, length, IfErr, IfOk, Ok, string_bytes};
 ghost use Rattle.std.specs.List.{flat_map};
-ghost use Rattle.partial_merge.specs.declared.part.Part.{Part};
-ghost use Rattle.partial_merge.specs.Merged.{Merged};
-ghost use Rattle.depend_order.specs.Documents.{IsOrderOfDocument};
-ghost use Rattle.lcm_program.specs.Documents.{AnswersOf, TellsOrder, id_line};
-ghost use Rattle.lcm_program.specs.Tool.{Answered};
-ghost use Rattle.lcm_program.specs.Unread.{IsUnread};
+ghost use Rattle.lcm_program.specs.Input.{IsInput, IsUnread};
+ghost use Rattle.lcm_program.specs.Order.{AnswersOrder, id_line};
 
 use crate::input::{Unread, read_document};
-use crate::lines::id;
-use depend_order::{OrderError, order};
 use dsc_document::Document;
+use dsc_node::{id, order_of_merged};
 use dsc_outside::Source;
 use mof_codec::push_literal;
 use std::alloc::{AllocError, Global};
 
 /// Reads the input to its end, and tells the ids of its document in the order of their dependencies, a line each.
-pub fn read_order<S: Source>(alloc: Global, input: &mut S) -> Result<String, Unread>
-    ensures ok { IfOk result (λ text. Answered (AnswersOf TellsOrder) (S.left input.old) (Ok (string_bytes text))) }
-    ensures err { IfErr result (λ e. IsUnread e (S.left input.old) (S.faults input.old) (S.faults input.new)) }
+pub fn read_order<S: Source>(alloc: Global, input: &mut S) -> Result<Vec<u8>, Unread>
+    ensures ok { IfOk result (λ text. IsInput AnswersOrder (S.left input.old) (Ok text.items)) }
+    ensures err { IfErr result (λ e. IsUnread AnswersOrder e (S.left input.old) (S.faults input.old) (S.faults input.new)) }
 {
     let document = match read_document(alloc, input) {
         Ok(document) => document,
         Err(unread) => return Err(unread),
     };
     let order = order_of_merged(alloc, &document)?;
-    Ok(id_lines(alloc, &document, &order)?)
-}
-
-/// The order of the resources of a merged document, which has one.
-pub fn order_of_merged(alloc: Global, document: &Document) -> Result<Vec<u32>, AllocError>
-    requires merged { (parts : List Part) × Merged parts document.now }
-    ensures { IfOk result (λ order. IsOrderOfDocument document.now order.items) }
-{
-    match order(alloc, document) {
-        Ok(order) => Ok(order),
-        Err(OrderError::Memory) => Err(AllocError),
-        Err(OrderError::Cycle(_)) => unreachable!(),
-    }
+    Ok(id_lines(alloc, &document, &order)?.into_bytes())
 }
 
 // The ids at these places, a line each.

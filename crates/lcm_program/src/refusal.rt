@@ -4,7 +4,7 @@ ghost use Rattle.lcm_program.specs.Refusal.{status_of, refusal_line, error_words
 
 use crate::merge_words::push_merge_error;
 use crate::mof_words::push_mof_error;
-use crate::status::{InputError, Status};
+use dsc_node::{InputError, Status};
 use std::alloc::{AllocError, Global};
 
 /// Why the program did nothing.

@@ -4,7 +4,7 @@ ghost use Rattle.std.specs.Io.KnownBytes.{Appends, IsAtEnd};
 ghost use Rattle.dsc_terms.specs.Counts.{Rose};
 ghost use Rattle.dsc_outside.specs.Causes.{HasCause};
 ghost use Rattle.lcm_program.specs.Streams.{AppendsPart};
-ghost use Rattle.lcm_program.specs.Tool.{Answered, IsLonger};
+ghost use Rattle.lcm_program.specs.Input.{IsInput, IsLonger};
 
 use dsc_outside::{Failed, Sink, Source};
 use std::alloc::Global;
@@ -28,7 +28,7 @@ pub fn read_all<S: Source>(
     ensures fits { IfOk result (λ v. length v.items ≤ limit) }
     ensures end { OnOk result (IsAtEnd (S.left source.new)) }
     ensures held { S.held source.new ≡ S.held source.old }
-    ensures too_long { IsErrOf result ReadError.TooLong → Answered IsLonger (S.left source.old) limit }
+    ensures too_long { IsErrOf result ReadError.TooLong → IsInput IsLonger (S.left source.old) limit }
     ensures failed { IsErrOf result ReadError.Failed → Rose (S.faults source.old) (S.faults source.new) }
     ensures later { S.faults source.old ≤ S.faults source.new }
 {

@@ -1,7 +1,7 @@
 use Rattle.std.proofs.Common.{◌<◌, ◌++◌, take, length, arith, length-append}
 use Rattle.std.proofs.KnownBytes.{Consumes-trans}
 use Rattle.lcm_program.specs.Checksum.{checksum_limit}
-use Rattle.lcm_program.proofs.ToolInputs.{longer}
+use Rattle.lcm_program.proofs.Inputs.{longer}
 use Rattle.lcm_program.proofs.checksum.read_digest.Goals as goal
 
 pub returns-then-total-gt-LIMIT-clause-err : goal.returns-then-total-gt-LIMIT-clause-err

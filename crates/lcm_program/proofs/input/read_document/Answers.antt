@@ -1,5 +1,5 @@
 use Rattle.std.proofs.Common.{◌∙◌}
-use Rattle.lcm_program.proofs.Inputs.{merged_input, unmerged_unread}
+use Rattle.lcm_program.proofs.Inputs.{merged_input, too_long_unread, unmerged_unread}
 use Rattle.lcm_program.proofs.input.read_document.Goals as goal
 
 pub returns-in-Ok-merge-clause-ok : goal.returns-in-Ok-merge-clause-ok
@@ -11,4 +11,4 @@ pub returns-clause-err : goal.returns-clause-err
 returns-clause-err g c =
     unmerged_unread (g.S.Ends.left c.args.input.now) _ _ c.in-Ok.bytes.items c.part_of-part.result c.in-Err-merge.error c.unmerged.result
     c.in-Ok.ensures.ok (c.part_of-part.ensures.name ∙ c.of.ensures ∙ c.new.ensures.items) c.part_of-part.ensures.bytes
-    c.in-Ok.ensures.fits c.in-Err-merge.ensures.refused c.unmerged.ensures
+    c.in-Err-merge.ensures.refused c.unmerged.ensures

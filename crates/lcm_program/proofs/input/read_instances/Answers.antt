@@ -1,7 +1,7 @@
-use Rattle.lcm_program.proofs.Inputs.{mof_unspelled}
+use Rattle.lcm_program.proofs.Inputs.{spelled_input, too_long_unspelled, unspelled_unread}
 use Rattle.lcm_program.proofs.input.read_instances.Goals as goal
 
 pub returns-clause-err : goal.returns-clause-err
 returns-clause-err g c =
-    mof_unspelled (g.S.Ends.left c.args.input.now) _ _ c.in-Ok.bytes.items _ c.in-Err-read.error c.unspelled.result
-    c.in-Ok.ensures.ok c.deref.ensures.value c.in-Ok.ensures.fits c.in-Err-read.ensures.only c.in-Err-read.ensures.refused c.unspelled.ensures
+    unspelled_unread (g.S.Ends.left c.args.input.now) _ _ c.in-Ok.bytes.items _ c.in-Err-read.error c.unspelled.result
+    c.in-Ok.ensures.ok c.deref.ensures.value c.in-Err-read.ensures.only c.in-Err-read.ensures.refused c.unspelled.ensures

@@ -1,6 +1,6 @@
 use Rattle.std.proofs.Common.{◌≡◌, take, string_bytes}
 use Rattle.std.specs.List.{flat_map}
-use Rattle.lcm_program.specs.Documents.{id_line}
+use Rattle.lcm_program.specs.Order.{id_line}
 use Rattle.lcm_program.proofs.order.id_lines.Given as goal
 
 abbrev pub invariant-loop-place : goal.invariant-loop-place

@@ -1,70 +1,34 @@
-use Rattle.std.proofs.Common.{◌≡◌, ℕ, refl, subst}
-use Rattle.lcm_program.specs.declared.refusal.Refusal.TheVariants.{Usage}
-use Rattle.lcm_program.specs.declared.words.Command.TheVariants.{Test, Check, Order, Canon, Checksum, Generate}
-use Rattle.lcm_program.specs.Generate.{TellsGenerate}
-use Rattle.lcm_program.proofs.Forms.{one_form}
+use Rattle.std.proofs.Common.{refl, subst}
+use Rattle.lcm_program.specs.declared.words.Command.{Command}
+use Rattle.lcm_program.specs.Did.{Did}
+use Rattle.lcm_program.specs.Objects.{known, objects}
+use Rattle.lcm_program.proofs.Forms.{in_range, one_form}
+use Rattle.lcm_program.proofs.Tools.{did_nothing}
 use Rattle.lcm_program.proofs.program.node.Goals as goal
 
-pub returns-in-Ok-Test-clause-usage : goal.returns-in-Ok-Test-clause-usage
-returns-in-Ok-Test-clause-usage g c = λ word is. absurd (c.test.ensures.refused (Usage word) is).2
+-- words that are in a form ask for one command
 
--- words that are in no form are not these
+pub do_command-requires-clause-range : goal.do_command-requires-clause-range
+do_command-requires-clause-range g c = in_range c.in-Ok.command _ c.in-Ok.ensures.ok
 
-pub returns-in-Err-clause-order_each : goal.returns-in-Err-clause-order_each
-returns-in-Err-clause-order_each g c = λ form. absurd (c.in-Err.ensures.usage.no_form Order form)
+pub returns-in-Ok-clause-did : goal.returns-in-Ok-clause-did
+returns-in-Ok-clause-did g c = λ command form.
+    subst (λ (x : Command). Did (known g.S.Ends g.K.Ends g.D.Disk g.H.Host g.L.Link g.C.Clock) x c.do_command.result
+    (objects c.args.input.now c.args.output.now c.args.disk.now c.args.kinds.now c.args.link.now c.args.clock.now)
+    (objects c.do_command.new.input c.do_command.new.output c.do_command.new.disk c.do_command.new.kinds c.do_command.new.link c.do_command.new.clock))
+    (one_form c.in-Ok.command command _ c.in-Ok.ensures.ok form) c.do_command.ensures.did
 
-pub returns-in-Err-clause-canon : goal.returns-in-Err-clause-canon
-returns-in-Err-clause-canon g c = λ form. absurd (c.in-Err.ensures.usage.no_form Canon form)
+pub returns-in-Ok-clause-nothing : goal.returns-in-Ok-clause-nothing
+returns-in-Ok-clause-nothing g c = λ none. absurd (none c.in-Ok.command c.in-Ok.ensures.ok)
 
-pub returns-in-Err-clause-canon_each : goal.returns-in-Err-clause-canon_each
-returns-in-Err-clause-canon_each g c = λ form. absurd (c.in-Err.ensures.usage.no_form Canon form)
+-- words that are in no form ask for none
 
-pub returns-in-Err-clause-checksum : goal.returns-in-Err-clause-checksum
-returns-in-Err-clause-checksum g c = λ form. absurd (c.in-Err.ensures.usage.no_form Checksum form)
+pub returns-in-Err-clause-did : goal.returns-in-Err-clause-did
+returns-in-Err-clause-did g c = λ command form. absurd (c.in-Err.ensures.usage.no_form command form)
 
-pub returns-in-Err-clause-checksum_memory : goal.returns-in-Err-clause-checksum_memory
-returns-in-Err-clause-checksum_memory g c = λ form is. absurd (c.in-Err.ensures.usage.no_form Checksum form)
-
-pub returns-in-Err-clause-unread : goal.returns-in-Err-clause-unread
-returns-in-Err-clause-unread g c = λ refusal is form. absurd (c.in-Err.ensures.usage.no_form Test form)
-
-pub returns-in-Err-clause-each : goal.returns-in-Err-clause-each
-returns-in-Err-clause-each g c = λ form. absurd (c.in-Err.ensures.usage.no_form Test form)
-
-pub returns-in-Err-clause-check : goal.returns-in-Err-clause-check
-returns-in-Err-clause-check g c = λ form. absurd (c.in-Err.ensures.usage.no_form Check form)
-
-pub returns-in-Err-clause-check_each : goal.returns-in-Err-clause-check_each
-returns-in-Err-clause-check_each g c = λ form. absurd (c.in-Err.ensures.usage.no_form Check form)
-
-pub returns-in-Err-clause-order : goal.returns-in-Err-clause-order
-returns-in-Err-clause-order g c = λ form. absurd (c.in-Err.ensures.usage.no_form Order form)
-
-pub returns-in-Err-clause-generate : goal.returns-in-Err-clause-generate
-returns-in-Err-clause-generate g c = λ count form. absurd (c.in-Err.ensures.usage.no_form (Generate count) form)
-
--- words that are in a form are in one
-
-pub returns-in-Ok-Test-clause-no_form : goal.returns-in-Ok-Test-clause-no_form
-returns-in-Ok-Test-clause-no_form g c = λ none. absurd (none c.in-Ok-Test.field-0 c.in-Ok-Test.ensures.ok)
-
-pub returns-in-Ok-Check-clause-no_form : goal.returns-in-Ok-Check-clause-no_form
-returns-in-Ok-Check-clause-no_form g c = λ none. absurd (none c.in-Ok-Check.field-0 c.in-Ok-Check.ensures.ok)
-
-pub returns-in-Ok-Order-clause-no_form : goal.returns-in-Ok-Order-clause-no_form
-returns-in-Ok-Order-clause-no_form g c = λ none. absurd (none c.in-Ok-Order.field-0 c.in-Ok-Order.ensures.ok)
-
-pub returns-in-Ok-Canon-clause-no_form : goal.returns-in-Ok-Canon-clause-no_form
-returns-in-Ok-Canon-clause-no_form g c = λ none. absurd (none c.in-Ok-Canon.field-0 c.in-Ok-Canon.ensures.ok)
-
-pub returns-in-Ok-Checksum-clause-no_form : goal.returns-in-Ok-Checksum-clause-no_form
-returns-in-Ok-Checksum-clause-no_form g c = λ none. absurd (none c.in-Ok-Checksum.field-0 c.in-Ok-Checksum.ensures.ok)
-
-pub returns-in-Ok-Generate-clause-no_form : goal.returns-in-Ok-Generate-clause-no_form
-returns-in-Ok-Generate-clause-no_form g c = λ none. absurd (none c.in-Ok-Generate.field-0 c.in-Ok-Generate.ensures.ok)
-
-pub returns-in-Ok-Generate-clause-generate : goal.returns-in-Ok-Generate-clause-generate
-returns-in-Ok-Generate-clause-generate g c = λ count form.
-    let given = one_form (Generate c.in-Ok-Generate.count) (Generate count) _ (rw c.in-Ok-Generate.field-0-is at c.in-Ok-Generate.ensures.ok) form in
-    let same : c.in-Ok-Generate.count ≡ count = cc in
-    (subst (λ (n : ℕ). TellsGenerate n g.K.Ends.held g.K.Ends.faults c.generate.result c.args.output.now c.generate.new.output) same c.generate.ensures.tells, refl, refl)
+pub returns-in-Err-clause-nothing : goal.returns-in-Err-clause-nothing
+returns-in-Err-clause-nothing g c = λ none.
+    did_nothing (known g.S.Ends g.K.Ends g.D.Disk g.H.Host g.L.Link g.C.Clock)
+    (objects c.args.input.now c.args.output.now c.args.disk.now c.args.kinds.now c.args.link.now c.args.clock.now)
+    (objects c.args.input.now c.refuse.new.output c.args.disk.now c.args.kinds.now c.args.link.now c.args.clock.now)
+    _ c.in-Err.field-0.word c.refuse.result refl (record { offline = record { disk = refl; link = refl; clock = refl }; kinds = refl }) c.in-Err.ensures.usage c.refuse.ensures

@@ -1,6 +1,6 @@
 use Rattle.std.proofs.Common.{◌≡◌, ◌<◌, ◌++◌, take, length, ap, arith, rules}
 use Rattle.std.proofs.KnownBytes.{Consumes-trans}
-use Rattle.lcm_program.proofs.ToolInputs.{longer_front}
+use Rattle.lcm_program.proofs.Inputs.{longer_front}
 use Rattle.lcm_program.proofs.streams.read_all.Goals as goal
 
 pub returns-then-len-limit-clause-too_long : goal.returns-then-len-limit-clause-too_long

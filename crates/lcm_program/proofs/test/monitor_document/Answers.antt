@@ -1,28 +1,39 @@
-use Rattle.std.proofs.Common.{◌++◌, ◌∙◌, ap}
-use Rattle.lcm_program.specs.Lines.{overlap_line, run_lines}
+use Rattle.std.proofs.Common.{◌∙◌, ◌++◌, inr, ap}
+use Rattle.lcm_core.specs.declared.modes.RunEnd.TheVariants.{Finished}
+use Rattle.lcm_core.specs.declared.modes.RunMode.TheVariants.{Monitor}
+use Rattle.lcm_core.proofs.Traces.{legal_places}
 use Rattle.resource_kinds.specs.Kinds.{calls_of}
-use Rattle.lcm_program.proofs.Monitored.{monitored_goes_on, monitored_keeps, tells_run}
+use Rattle.dsc_node.specs.Lines.{overlap_line, run_lines}
+use Rattle.lcm_program.proofs.Tests.{is_run_text, monitored_all, monitored_keeps}
 use Rattle.lcm_program.proofs.test.monitor_document.Goals as goal
 
-pub returns-clause-lines : goal.returns-clause-lines
-returns-clause-lines g c =
+pub outcome_of-requires-clause-known : goal.outcome_of-requires-clause-known
+outcome_of-requires-clause-known g c =
+    rw c.calls.ensures (legal_places c.args.document.now Monitor c.deref.result.now (calls_of c.run_kinds.new.kinds) c.run_kinds.ensures.ran.legal)
+
+pub returns-in_err-outcome_of-in-Finished-clause-run : goal.returns-in_err-outcome_of-in-Finished-clause-run
+returns-in_err-outcome_of-in-Finished-clause-run g c = inr (c.run_kinds.result, (c.deref.result.now, c.run_kinds.ensures.ran))
+
+pub returns-in_err-outcome_of-in-Finished-clause-host : goal.returns-in_err-outcome_of-in-Finished-clause-host
+returns-in_err-outcome_of-in-Finished-clause-host g c =
+    monitored_keeps c.args.document.now c.deref.result.now c.run_kinds.result (calls_of c.run_kinds.new.kinds) _ _ _ _ c.run_kinds.ensures.ran
+
+pub returns-in-Finished : goal.returns-in-Finished
+returns-in-Finished g c =
+    let document = c.args.document.now in
+    let order = c.deref.result.now in
+    let trace = calls_of c.run_kinds.new.kinds in
     let overlaps = c.in_ok-overlap.overlap in
-    tells_run c.args.document.now _ _ overlaps c.in_ok-overlap.ensures.apart c.in_ok-overlap.ensures.overlap
-    (c.in_ok-lines.ensures ∙ ap (λ calls. run_lines c.args.document.now calls ++ overlap_line overlaps) c.calls-calls.ensures)
-
-pub returns-in_err-_order-clause-host : goal.returns-in_err-_order-clause-host
-returns-in_err-_order-clause-host g c = monitored_keeps c.args.document.now (calls_of c.run_merged.new.kinds) _ _ _ _ c.run_merged.ensures.any
-
-pub returns-in_err-good-clause-host : goal.returns-in_err-good-clause-host
-returns-in_err-good-clause-host g c = monitored_keeps c.args.document.now (calls_of c.run_merged.new.kinds) _ _ _ _ c.run_merged.ensures.any
-
-pub returns-in_err-lines-clause-host : goal.returns-in_err-lines-clause-host
-returns-in_err-lines-clause-host g c = monitored_keeps c.args.document.now (calls_of c.run_merged.new.kinds) _ _ _ _ c.run_merged.ensures.any
+    let ran = monitored_all document order c.run_kinds.result trace _ _ _ _ c.in-Finished.is c.run_kinds.ensures.ran in
+    record {
+      run = inr (Finished, (order, ran));
+      host = monitored_keeps document order Finished trace _ _ _ _ ran;
+      ok = (order, ran);
+      lines = is_run_text document trace _ overlaps c.in_ok-overlap.ensures.apart c.in_ok-overlap.ensures.overlap
+          (c.in_ok-outcome_of-in-Finished.ensures.lines ∙ ap (λ calls. run_lines document calls ++ overlap_line overlaps) c.calls.ensures);
+      missed = rw c.calls.ensures at c.in_ok-outcome_of-in-Finished.ensures.missed;
+    }
 
 pub returns-clause-host : goal.returns-clause-host
-returns-clause-host g c = monitored_keeps c.args.document.now (calls_of c.run_merged.new.kinds) _ _ _ _ c.run_merged.ensures.any
-
-pub returns-clause-finished : goal.returns-clause-finished
-returns-clause-finished g c =
-    let run = c.in_ok-_order.ensures.to_last in
-    monitored_goes_on c.args.document.now _ (calls_of c.run_merged.new.kinds) run.run.legal run.came
+returns-clause-host g c =
+    monitored_keeps c.args.document.now c.deref.result.now c.run_kinds.result (calls_of c.run_kinds.new.kinds) _ _ _ _ c.run_kinds.ensures.ran

@@ -1,0 +1,332 @@
+#!/usr/bin/env python3
+"""Makes the inputs of checks/ample, and what must come of each.
+
+    make_ample.py FOLDER
+
+writes FOLDER/cases, a line for each case, with tabs between: the file of its input, the file of the lines that must come, the
+exit status, the seconds of processor time that it may take, the words, and its name.
+What must come is worked out here, by the rules of the README, and not by the program.
+"""
+import hashlib
+import heapq
+import os
+import sys
+
+HEADER = 'instance of OMI_ConfigurationDocument{Version="2.0.0";};'
+LIMIT = 2_097_152  # the most bytes of a text
+SLOW = 3  # seconds that a text may take
+
+folder = sys.argv[1]
+cases = open(os.path.join(folder, "cases"), "w")
+files = {}  # the name of the file that holds these bytes, by their digest
+
+
+def file_of(text):
+    """The name of a file that holds the bytes or the text."""
+    content = text.encode() if isinstance(text, str) else text
+    digest = hashlib.sha256(content).digest()
+    if digest not in files:
+        files[digest] = str(len(files))
+        with open(os.path.join(folder, files[digest]), "wb") as file:
+            file.write(content)
+    return files[digest]
+
+
+def case(name, words, text, status, lines, seconds=SLOW):
+    """Writes a case; the text and the lines are bytes or text."""
+    cases.write(f"{file_of(text)}\t{file_of(lines)}\t{status}\t{seconds}\t{words}\t{name}\n")
+
+
+# ---- documents: resources by their ids and what each depends on, by place
+
+
+def resource(place, depends, ids):
+    names = ",".join(f'"{ids[q]}"' for q in depends)
+    return f'instance of MSFT_EnvironmentResource{{ResourceID="{ids[place]}";Name="V{place}";Value="1";DependsOn={{{names}}};}};\n'
+
+
+def document(ids, depends, header):
+    """The resources in turn, and the header before that place."""
+    parts = [resource(r, depends[r], ids) for r in range(len(depends))]
+    parts.insert(header, HEADER + "\n")
+    return "".join(parts)
+
+
+def order_of(depends):
+    """Each place of the order is the earliest resource whose dependencies stand before it."""
+    open_, wanted_by = [len(set(d)) for d in depends], [[] for _ in depends]
+    for r, d in enumerate(depends):
+        for q in set(d):
+            wanted_by[q].append(r)
+    ready, order = [r for r, n in enumerate(open_) if n == 0], []
+    heapq.heapify(ready)
+    while ready:
+        r = heapq.heappop(ready)
+        order.append(r)
+        for p in wanted_by[r]:
+            open_[p] -= 1
+            if open_[p] == 0:
+                heapq.heappush(ready, p)
+    return order
+
+
+def environment_ids(count):
+    return [f"[Environment]R{r}" for r in range(count)]
+
+
+def document_cases(name, depends, headers, words=("check", "order", "test")):
+    """What `check`, `order` and `test` answer of it on a machine without variables."""
+    count, ids = len(depends), environment_ids(len(depends))
+    order = order_of(depends)
+    assert len(order) == count
+    verdict = f"not compliant {count}" if count else "compliant"
+    lines = {
+        "check": (0, f"ok {count}\n"),
+        "order": (0, "".join(f'"{ids[r]}"\n' for r in order)),
+        "test": (1 if count else 0, "".join(f'test "{ids[r]}" no\n' for r in order) + f"resources {count} succeeded 0\n{verdict}\n"),
+    }
+    for header in headers:
+        text = document(ids, depends, header)
+        for word in words:
+            case(f"{name}, the header at {header}", word, text, *lines[word])
+
+
+def headers_of(count):
+    return sorted({0, count // 2, count})
+
+
+def documents():
+    for count in [*range(41), 300, 4096]:
+        document_cases(f"{count} resources", [[] for _ in range(count)], headers_of(count))
+    for most in range(1, 13):
+        for count in (40, 300):
+            behind = [list(range(r + 1, min(r + 1 + most, count))) for r in range(count)]
+            document_cases(f"{count} resources, each on {most} after it", behind, [count], ("check", "order"))
+            before = [list(range(max(0, r - most), r)) for r in range(count)]
+            document_cases(f"{count} resources, each on {most} before it", before, [0], ("order", "test"))
+    count = 4096
+    document_cases("a chain of 4096 from the last", [[r + 1] if r + 1 < count else [] for r in range(count)], [count])
+    document_cases("a chain of 4096 from the first", [[r - 1] if r else [] for r in range(count)], [count])
+    document_cases("4096 resources on 12 after them", [list(range(r + 1, min(r + 13, count))) for r in range(count)], [0])
+    document_cases("4096 resources on the first", [[0] if r else [] for r in range(count)], [count])
+    document_cases("a resource on all other 4095", [list(range(1, count)) if r == 0 else [] for r in range(count)], [count])
+
+
+def cycles():
+    """The walk begins at the least resource that is left, and here that one is on the cycle."""
+    for length in (1, 2, 3, 12, 300):
+        for before, after in ((0, 0), (3, 2), (700, 500)):
+            count = before + length + after
+            depends = [[] for _ in range(count)]
+            for step in range(length):
+                depends[before + step] = [before + (step + 1) % length]
+            for r in range(before + length, count):
+                depends[r] = [before]
+            text = document(environment_ids(count), depends, count)
+            walk = "".join(f" {before + step}" for step in range(length))
+            for word in ("check", "order", "test"):
+                case(f"a cycle of {length} after {before}", word, text, 3, f"refused Cycle{walk}\n")
+
+
+def unknown_ids():
+    for count in (1, 2, 7, 40, 300, 4096):
+        for place in sorted({0, 1, count // 2, count - 1} & set(range(count))):
+            ids = environment_ids(count) + ["[Environment]Missing"]
+            for header in headers_of(count):
+                depends = [[count] if r >= place else [] for r in range(count)]
+                index = place + (1 if header <= place else 0)
+                text = document(ids, depends, header)
+                case(f"an unknown id at {place} of {count}, the header at {header}", "check", text, 3, f'refused DependsUnknown 0.{index} "[Environment]Missing"\n')
+
+
+def log(id_, more=""):
+    return f'instance of MSFT_LogResource{{ResourceID="{id_}";Message="m";{more}}};'
+
+
+def long_values():
+    for name in ("x" * 253, "ä" * 126 + "x", "€" * 84 + "x"):
+        id_ = "[E]" + name
+        assert len(id_.encode()) == 256
+        case("an id of 256 bytes", "order", log(id_) + HEADER, 0, f'"{id_}"\n')
+        case("a dependency of 256 bytes", "order", log("[E]A", f'DependsOn="{id_}";') + log(id_) + HEADER, 0, f'"{id_}"\n"[E]A"\n')
+        case("an unknown id of 256 bytes", "order", log("[E]A", f'DependsOn="{id_}";') + HEADER, 3, f'refused DependsUnknown 0.0 "{id_}"\n')
+        case("an id of 257 bytes", "order", log(id_ + "x") + HEADER, 3, "refused Part 0 BadResourceId 0\n")
+        case("two ids of 256 bytes", "check", log(id_) + HEADER + log(id_.upper() if name.isascii() else id_), 3, "refused Part 0 DuplicateId 0 2\n")
+    name = "n" * 255
+    head = "instance of A\n{\n"
+    for spelled in (name, "ä" * 255):
+        case("a property of 255 characters", "canon", f"{head} {spelled} = 1;\n}};\n", 0, f"{head} {spelled} = 1;\n}};\n")
+        case("a class of 255 characters", "canon", f"instance of {spelled}\n{{\n}};\n", 0, f"instance of {spelled}\n{{\n}};\n")
+        case("an alias of 255 characters", "canon", f"instance of A as ${spelled}\n{{\n}};\n", 0, f"instance of A as ${spelled}\n{{\n}};\n")
+        case("a property of 256 characters", "canon", f"{head} {spelled}x = 1;\n}};\n", 3, f"refused TooMany {len(head) + 1}\n")
+        case("a property that stands twice", "check", f"instance of A{{{spelled}=1;{spelled}=2;}};{HEADER}", 3, f"refused Part 0 DuplicateProperty 0 {spelled}\n")
+    for size in (0, 1, 100 * 1024, 64 * 1024, 64 * 1024 + 1, LIMIT - 200):
+        text = f'{head} X = "{"x" * size}";\n}};\n'
+        case(f"a literal of {size} bytes", "canon", text, 0, text)
+        resource_ = f'instance of MSFT_EnvironmentResource{{ResourceID="[E]A";Name="V";Value="{"x" * size}";}};'[: LIMIT]
+        if len(resource_) + len(HEADER) <= LIMIT:
+            case(f"a value of {size} bytes", "test", resource_ + HEADER, 1, 'test "[E]A" no\nresources 1 succeeded 0\nnot compliant 1\n')
+        log_ = f'instance of MSFT_LogResource{{ResourceID="[L]A";Message="{"m" * size}";}};'
+        if len(log_) + len(HEADER) <= LIMIT:
+            case(f"a message of {size} bytes", "test", log_ + HEADER, 1, 'test "[L]A" no\nresources 1 succeeded 0\nnot compliant 1\n')
+    many = ",".join(["1"] * 4096)
+    spelled = ", ".join(["1"] * 4096)
+    case("an array of 4096", "canon", f"{head} X = {{{many}}};\n}};\n", 0, f"{head} X = {{{spelled}}};\n}};\n")
+    properties = "".join(f" P{n} = {n};\n" for n in range(256))
+    case("256 properties", "canon", f"{head}{properties}}};\n", 0, f"{head}{properties}}};\n")
+
+
+# ---- texts of 2 MB
+
+
+def good_texts():
+    """Good texts that leave room for 2 KB: of one literal, of many instances, of comments, and of separators."""
+    room = LIMIT - 2048
+    frame = 'instance of A\n{\n X = "%s";\n};\n'
+    yield "a literal", frame % ("x" * (room - len(frame) + 2))
+    one = 'instance of A\n{\n X = "' + "y" * 490 + '";\n};\n'
+    yield "instances", one * min(4000, room // len(one))
+    yield "a comment", "/*" + "c" * (room - 4) + "*/"
+    yield "separators", " \n" * (room // 2)
+
+
+def refusals():
+    """Every refusal of a text, after 2 MB of a good one."""
+    for kind, good in good_texts():
+        at = len(good)
+        instances = good.count("instance of")
+        tails = [
+            ("a byte that begins no character", b"\xff", f"Text {at}"),
+            ("a cut character", b"\xe2\x82", f"Text {at}"),
+            ("no declaration", "x", f"Syntax {at}"),
+            ("a declaration that is cut short", "instance o", f"Syntax {at + 10}"),
+            ("an open literal", 'instance of A { X = "ab', f"Syntax {at + 23}"),
+            ("an open comment", "/* ab", f"Syntax {at + 5}"),
+            ("a pragma", "#pragma", f"OutOfProfile {at} pragma"),
+            ("qualifiers", "[a]", f"OutOfProfile {at} qualifiers"),
+            ("a class", "class A {};", f"OutOfProfile {at} class"),
+            ("a qualifier", "Qualifier A;", f"OutOfProfile {at} qualifier"),
+            ("a character", "instance of A { X = 'a'; };", f"OutOfProfile {at + 20} character"),
+            ("a floating-point constant", "instance of A { X = 1.5; };", f"OutOfProfile {at + 20} real"),
+            ("an integer out of range", "instance of A { X = 18446744073709551616; };", f"NumberRange {at + 20}"),
+            ("an identifier of 256 characters", f"instance of {'n' * 256} {{}};", f"TooMany {at + 12}"),
+        ]
+        for name, tail, line in tails:
+            tail = tail.encode() if isinstance(tail, str) else tail
+            case(f"{name} after {kind}", "canon", good.encode() + tail, 3, f"refused {line}\n")
+            case(f"{name} after {kind}", "check", good.encode() + tail, 3, f"refused Part 0 {line}\n")
+        rules = [
+            ("NoHeader", "", "NoHeader"),
+            ("a property twice", "instance of A{X=1;x=2;};", f"DuplicateProperty {instances} x"),
+            ("two aliases", "instance of A as $a {};instance of A as $A {};", f"TwoAliases {instances} {instances + 1}"),
+            ("two headers", HEADER + HEADER, f"TwoHeaders {instances} {instances + 1}"),
+            ("an unknown alias", HEADER + "instance of A{X=$b;};", f"AliasUnknown {instances + 1}"),
+            ("a bad id", HEADER + 'instance of A{ResourceID="A";};', f"BadResourceId {instances + 1}"),
+            ("two ids", HEADER + log("[L]A") + log("[l]a"), f"DuplicateId {instances + 1} {instances + 2}"),
+            ("a bad dependency", HEADER + log("[L]A", "DependsOn=1;"), f"BadDependsOn {instances + 1}"),
+        ]
+        for name, tail, line in rules:
+            case(f"{name} after {kind}", "check", good + tail, 3, f"refused Part 0 {line}\n")
+        tail = HEADER + log("[L]A", 'DependsOn="[L]Z";')
+        case(f"an unknown id after {kind}", "check", good + tail, 3, f'refused DependsUnknown 0.{instances + 1} "[L]Z"\n')
+        tail = HEADER + log("[L]A", 'DependsOn="[L]A";')
+        case(f"a cycle after {kind}", "check", good + tail, 3, "refused Cycle 0\n")
+    one = "instance of A\n{\n};\n"
+    for count in (4096, 4097):
+        case(f"{count} instances", "canon", one * count, 0, one * count)
+    case("4098 instances", "canon", one * 4098, 3, f"refused TooMany {len(one) * 4097}\n")
+    case("4096 resources and a header", "check", "".join(log(f"[L]{n}") for n in range(4096)) + HEADER, 0, "ok 4096\n")
+    many = "instance of A{X={" + "1," * 4096
+    for tail, line in (
+        ('"', "TooMany"), ("$A", "TooMany"), ("-", "TooMany"), ("18446744073709551616};};", "NumberRange"), ("1.5};};", "OutOfProfile"), ("};};", "Syntax")):
+        case(f"4096 elements and {tail[:2]}", "canon", many + tail, 3, f"refused {line} {len(many)}{' real' if line == 'OutOfProfile' else ''}\n")
+    many = "instance of A{};" * 4097
+    for tail, line in (("i", "TooMany"), ("Ix", "TooMany"), ("class", "OutOfProfile"), ("x", "Syntax")):
+        case(f"4097 instances and {tail}", "canon", many + tail, 3, f"refused {line} {len(many)}{' class' if line == 'OutOfProfile' else ''}\n")
+    case("2,097,153 bytes of no character", "canon", b"\xff" * (LIMIT + 1), 3, "refused TooLong\n")
+    long = "\n" * (LIMIT - 40) + 'instance of A { X = 1.5; };'
+    case("257 properties", "canon", "instance of A{" + "".join(f"P{n}=1;" for n in range(257)) + "};", 3,
+         f"refused TooMany {14 + sum(len(f'P{n}=1;') for n in range(256))}\n")
+    case("4097 elements", "canon", "instance of A{X={" + "1," * 4096 + "1};};", 3, f"refused TooMany {17 + 2 * 4096}\n")
+    case("line ends up to the limit", "canon", long, 3, f"refused OutOfProfile {LIMIT - 20} real\n")
+    for size, status, line in ((LIMIT, 0, ""), (LIMIT + 1, 3, "refused TooLong\n")):
+        case(f"{size} spaces", "canon", " " * size, status, line)
+    for size, line in ((LIMIT, "Part 0 NoHeader"), (LIMIT + 1, "TooLong")):
+        for word in ("check", "order", "test"):
+            case(f"{size} spaces", word, " " * size, 3, f"refused {line}\n")
+
+
+def utf16():
+    for mark, encoding in ((b"\xff\xfe", "utf-16-le"), (b"\xfe\xff", "utf-16-be")):
+        room = LIMIT // 2 - 1
+        value = "ä€x" * ((room - len(HEADER) - 200) // 3)
+        text = f'instance of A\n{{\n X = "{value}";\n}};\n'
+        whole = mark + text.encode(encoding)
+        utf8 = text.encode()
+        case(f"{encoding} of 2 MB", "canon", whole, 0, utf8)
+        case(f"{encoding} of 2 MB, a byte more", "canon", whole + b"\n", 3, f"refused Text {len(whole)}\n")
+        case(f"{encoding} of 2 MB, torn in its last character", "canon", whole[:-1], 3, f"refused Text {len(whole) - 2}\n")
+        half = "\ud800".encode(encoding, "surrogatepass")
+        case(f"{encoding} of 2 MB, half a pair at its end", "canon", whole + half, 3, f"refused Text {len(whole)}\n")
+        document_ = mark + (f'instance of MSFT_LogResource{{ResourceID="[L]A";Message="{value}";}};' + HEADER).encode(encoding)
+        case(f"{encoding} document of 2 MB", "test", document_, 1, 'test "[L]A" no\nresources 1 succeeded 0\nnot compliant 1\n')
+        case(f"{encoding} document of 2 MB, a byte more", "check", document_ + b"\n", 3, f"refused Part 0 Text {len(document_)}\n")
+
+
+def hostile():
+    """Texts of 2 MB that must not take long."""
+    head = "instance of A { X = "
+    room = LIMIT - 1024
+    case("an identifier of 2 MB", "canon", "instance of " + "n" * room + " {};", 3, "refused TooMany 12\n")
+    case("an alias of 2 MB", "canon", "instance of A as $" + "n" * room + " {};", 3, "refused TooMany 18\n")
+    case("a keyword that goes on for 2 MB", "canon", "instance" + "n" * room, 3, "refused Syntax 8\n")
+    case("a number of 2 MB", "canon", head + "9" * room + "; };", 3, f"refused NumberRange {len(head)}\n")
+    case("a binary number of 2 MB", "canon", head + "1" * room + "b; };", 3, f"refused NumberRange {len(head)}\n")
+    case("a hexadecimal number of 2 MB", "canon", head + "0x" + "f" * room + "; };", 3, f"refused NumberRange {len(head)}\n")
+    case("an open literal of 2 MB", "canon", head + '"' + "x" * room, 3, f"refused Syntax {len(head) + 1 + room}\n")
+    case("an open literal of 1 MB of escapes", "canon", head + '"' + "\\n" * (room // 2), 3, f"refused Syntax {len(head) + 1 + room // 2 * 2}\n")
+    case("700,000 literals", "canon", head + '"" ' * (room // 3), 3, f"refused Syntax {len(head) + room // 3 * 3}\n")
+    case("an open comment of 2 MB", "canon", "/*" + "*" * room, 3, f"refused Syntax {2 + room}\n")
+    case("a line comment of 2 MB", "canon", "//" + "/" * room, 0, "")
+    case("500,000 comments", "canon", "/**/" * (room // 4) + "x", 3, f"refused Syntax {room // 4 * 4}\n")
+    case("an id of 2 MB", "check", log("[L]" + "x" * (room // 1)) + HEADER, 3, "refused Part 0 BadResourceId 0\n")
+    case("a dependency of 2 MB", "check", log("[L]A", 'DependsOn="' + "x" * (room - 512) + '";') + HEADER, 3, f'refused DependsUnknown 0.0 "{"x" * (room - 512)}"\n')
+    segments = (room - 512) // 2
+    deep = lambda id_, n, end="": f'instance of MSFT_FileDirectoryConfiguration{{ResourceID="[F]{id_}";DestinationPath="{"/a" * n}{end}";}};'
+    tested = lambda ids, answer: "".join(f'test "[F]{id_}" {answer}\n' for id_ in ids) + f"resources {len(ids)} succeeded 0\nnot compliant {len(ids)}\n"
+    case("a path of a million segments", "test", deep("A", segments) + HEADER, 1, tested("A", "no"))
+    case("two paths of 500,000 segments", "test", deep("A", segments // 2) + deep("B", segments // 2, "/b") + HEADER, 1, tested("AB", "no") + "overlapping\n")
+    case("a path of a million segments that leads up", "test", deep("A", segments - 2, "/..") + HEADER, 1, tested("A", "fault BadPath"))
+    entries = lambda id_, name, value: f'instance of MSFT_EnvironmentResource{{ResourceID="[E]{id_}";Name="{name}";Path=TRUE;Value="{value}";}};'
+    answer = 'test "[E]A" no\nresources 1 succeeded 0\nnot compliant 1\n'
+    numbers, size = [], 0
+    while size < room - 1024:
+        numbers.append(str(len(numbers)))
+        size += len(numbers[-1]) + 1
+    case("a Path value of different entries", "test", entries("A", "V", ";".join(numbers)) + HEADER, 1, answer)
+    case("a Path value of 500,000 entries", "test", entries("A", "V", "abc;" * 500_000) + HEADER, 1, answer)
+    case("a Path value of a million entries", "test", entries("A", "V", "a;" * 1_000_000) + HEADER, 1, answer)
+
+
+def generated():
+    for count in [*range(1, 65), 4096]:
+        depends = [[] for _ in range(count)]
+        ids = [f"[Environment]R{count - 1 - r}" for r in range(count)]  # the resources fall from the last to the first
+        for r in range(count):
+            number = count - 1 - r
+            if number:
+                depends[r] = [count - 1 - (number - 1) // 2]
+        order = order_of(depends)
+        lines = f'generated {count}\nresources {count} succeeded {count}\ntests {2 * count} sets {count}\n'
+        case(f"a repair of {count}", f"generate {count}", "", 0, lines + f'first "{ids[order[0]]}" last "{ids[order[-1]]}"\n')
+
+
+documents()
+cycles()
+unknown_ids()
+long_values()
+refusals()
+utf16()
+hostile()
+generated()
+cases.close()

@@ -1,0 +1,13 @@
+-- The exit statuses.
+use Rattle.std.specs.Prelude.{ℕ}
+use Rattle.dsc_node.specs.declared.status.Status.{Status}
+use Rattle.dsc_node.specs.declared.status.Status.TheVariants.{Done, NotCompliant, Usage, InputRefused, ReadFault, WriteFault, Memory}
+
+abbrev pub number_of : Status → ℕ
+number_of Done = 0
+number_of (NotCompliant count) = 1
+number_of (Usage word) = 2
+number_of (InputRefused error) = 3
+number_of ReadFault = 4
+number_of WriteFault = 4
+number_of Memory = 8

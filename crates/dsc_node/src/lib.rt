@@ -1,0 +1,19 @@
+//! The node's part of a command: how it ends, and runs over merged documents.
+//!
+//! `order_of_merged` gives the order of a merged document. `run_merged` runs over its resources in that order, on any machine;
+//! `run_kinds` is the same over the kinds of resources of a host, where the trace is true of the host. `lines_of` gives the text
+//! that is printed of a run. `Status` is how a command ended.
+#![tactic(auto)]
+
+mod lines;
+mod order;
+mod run;
+mod status;
+
+pub use lines::{count_succeeded, id, lines_of, push_resources};
+pub use order::order_of_merged;
+pub use run::{run_kinds, run_merged};
+pub use status::{InputError, Status};
+
+#[cfg(test)]
+mod tests;

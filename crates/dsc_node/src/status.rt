@@ -1,0 +1,58 @@
+//! How the program ends.
+ghost use Rattle.std.specs.Prelude.{◌≡◌};
+ghost use Rattle.dsc_node.specs.Status.{number_of};
+
+use mof_codec::MofError;
+use partial_merge::MergeError;
+
+/// Why the input was refused.
+#[derive(Debug, Drop, PartialEq)]
+pub enum InputError {
+    /// It is longer than the command takes: 2,097,152 bytes of a document, 67,108,864 bytes for a checksum.
+    TooLong,
+
+    /// It spells no instances. `MofError::TooLong` and `MofError::Memory` are never told so.
+    Mof(MofError),
+
+    /// It declares no document. `MergeError::Memory` is never told so.
+    Merge(MergeError),
+}
+
+/// How the program ended.
+#[derive(Debug, Drop, PartialEq)]
+pub enum Status {
+    Done,
+
+    /// So many resources did not succeed: their last Test did not answer yes.
+    NotCompliant { count: u32 },
+
+    /// The words are in no form; `word` is the place of the first word that no form goes on with, or their count.
+    Usage { word: u32 },
+
+    InputRefused(InputError),
+
+    /// Reading the input failed.
+    ReadFault,
+
+    /// Writing the output failed.
+    WriteFault,
+
+    /// Memory was refused.
+    Memory,
+}
+
+impl Status {
+    /// The exit status of the program.
+    pub fn number(&self) -> u8
+        ensures { result ≡ number_of self.now }
+    {
+        match self {
+            Status::Done => 0,
+            Status::NotCompliant { .. } => 1,
+            Status::Usage { .. } => 2,
+            Status::InputRefused(_) => 3,
+            Status::ReadFault | Status::WriteFault => 4,
+            Status::Memory => 8,
+        }
+    }
+}

@@ -1,0 +1,79 @@
+//! Answers, printed.
+ghost use Rattle.std.specs.Prelude.{◌≡◌, IfErr, IfOk, string_bytes};
+ghost use Rattle.lcm_program.specs.Endings.{RefusalEnds, UnreadEnds};
+ghost use Rattle.lcm_program.specs.Printed.{Prints};
+ghost use Rattle.lcm_program.specs.Test.{PrintsRun};
+
+use crate::input::Unread;
+use crate::refusal::Refusal;
+use crate::streams::write_all;
+use crate::test::Outcome;
+use dsc_node::Status;
+use dsc_outside::{Failed, Sink};
+use std::alloc::Global;
+
+/// Prints the text with which a tool answers, or the line of its refusal.
+pub fn print_answer<K: Sink>(
+    alloc: Global,
+    output: &mut K,
+    answer: Result<Vec<u8>, Unread>,
+) -> Status
+    ensures ok { IfOk answer (λ text. Prints K.Ends text.items result output.old output.new) }
+    ensures err { IfErr answer (λ unread. UnreadEnds K.Ends unread result output.old output.new) }
+{
+    match answer {
+        Ok(text) => print_text(output, &text),
+        Err(unread) => print_unread(alloc, output, unread),
+    }
+}
+
+/// Prints the lines of a run, or the line of the refusal for which there was none.
+pub fn print_run<K: Sink>(alloc: Global, output: &mut K, run: Result<Outcome, Unread>) -> Status
+    ensures ok { IfOk run (λ outcome. PrintsRun K.Ends (string_bytes outcome.lines) outcome.missed result output.old output.new) }
+    ensures err { IfErr run (λ unread. UnreadEnds K.Ends unread result output.old output.new) }
+{
+    let outcome = match run {
+        Ok(outcome) => outcome,
+        Err(unread) => return print_unread(alloc, output, unread),
+    };
+    if let Err(Failed) = write_all(output, outcome.lines.as_bytes()) {
+        return Status::WriteFault;
+    }
+    if outcome.missed == 0 {
+        return Status::Done;
+    }
+    Status::NotCompliant {
+        count: outcome.missed,
+    }
+}
+
+/// Prints the text.
+pub fn print_text<K: Sink>(output: &mut K, text: &[u8]) -> Status
+    ensures { Prints K.Ends text.now result output.old output.new }
+{
+    match write_all(output, text) {
+        Ok(()) => Status::Done,
+        Err(Failed) => Status::WriteFault,
+    }
+}
+
+// Prints why the input was not read.
+fn print_unread<K: Sink>(alloc: Global, output: &mut K, unread: Unread) -> Status
+    ensures { UnreadEnds K.Ends unread result output.old output.new }
+{
+    match unread {
+        Unread::Refused(refusal) => refuse(alloc, output, refusal),
+        Unread::Memory => Status::Memory,
+    }
+}
+
+/// Prints the line of a refusal; its status stays where that fails.
+pub fn refuse<K: Sink>(alloc: Global, output: &mut K, refusal: Refusal) -> Status
+    ensures { RefusalEnds K.Ends refusal result output.old output.new }
+{
+    let Ok(line) = refusal.line(alloc) else {
+        return Status::Memory;
+    };
+    let _ = write_all(output, line.as_bytes());
+    refusal.status()
+}
