@@ -10,6 +10,7 @@ const HEADER: &str = "instance of OMI_ConfigurationDocument{Version=\"2.0.0\";};
 // Log resources by their ids, with what each depends on.
 type Rows = &'static [(&'static str, &'static str)];
 
+#[derive(Clone, Copy)]
 enum Wanted {
     Order(&'static [u32]),
     Unknown(u32, &'static str),
