@@ -53,7 +53,7 @@ instances_decide all (Err (Merge e)) (Err f) p q = absurd p
 
 -- a document is within the limit
 document_fits : (all : List ℕ) (d : Document) → Merged (parts_of all) d → length all ≤ input_limit
-document_fits all d merged = go merged.parts_are.documents merged.parts_are.whole
+document_fits all d merged = go merged.parts_are.are_joined.documents merged.parts_are.are_joined.whole
   where
     go : (documents : List Document) → AllZip IsWhole (parts_of all) documents → length all ≤ input_limit
     go [] whole = absurd whole
