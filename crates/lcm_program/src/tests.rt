@@ -75,7 +75,7 @@ impl Sink for Drip {
 
 /// Words, the place at which the input fails, the room of the output, and what must come.
 #[derive(Clone, Copy)]
-struct Case {
+struct StreamRow {
     words: &'static str,
     failing: usize,
     room: usize,
@@ -90,8 +90,14 @@ const NO: &str = "test \"[E]A\" no\nresources 1 succeeded 0\nnot compliant 1\n";
 const GENERATED: &str =
     "generated 1\nresources 1 succeeded 1\ntests 2 sets 1\nfirst \"[Environment]R0\" last \"[Environment]R0\"\n";
 
-fn case(words: &'static str, failing: usize, room: usize, lines: &'static str, status: u8) -> Case {
-    Case {
+fn row(
+    words: &'static str,
+    failing: usize,
+    room: usize,
+    lines: &'static str,
+    status: u8,
+) -> StreamRow {
+    StreamRow {
         words,
         failing,
         room,
@@ -100,29 +106,29 @@ fn case(words: &'static str, failing: usize, room: usize, lines: &'static str, s
     }
 }
 
-fn cases() -> [Case; 17] {
+fn rows() -> [StreamRow; 17] {
     [
-        case("test", ALL, ALL, NO, 1),
-        case("test", ALL, 7, "test \"[", 4),
-        case("test", 0, ALL, "refused ReadFault\n", 4),
-        case("test", 1, 7, "refused", 4),
-        case("check", ALL, ALL, "ok 1\n", 0),
-        case("check", ALL, 2, "ok", 4),
-        case("check", 9, ALL, "refused ReadFault\n", 4),
-        case("order", ALL, ALL, "\"[E]A\"\n", 0),
-        case("order", ALL, 0, "", 4),
-        case("order", 9, 0, "", 4),
-        case("canon", ALL, 11, "instance of", 4),
-        case("canon", 9, ALL, "refused ReadFault\n", 4),
-        case("checksum", 9, ALL, "refused ReadFault\n", 4),
-        case("checksum", ALL, 0, "", 4),
-        case("generate 1", 0, ALL, GENERATED, 0),
-        case("generate 1", 0, 9, "generated", 4),
-        case("tests", 0, 9, "refused U", 2),
+        row("test", ALL, ALL, NO, 1),
+        row("test", ALL, 7, "test \"[", 4),
+        row("test", 0, ALL, "refused ReadFault\n", 4),
+        row("test", 1, 7, "refused", 4),
+        row("check", ALL, ALL, "ok 1\n", 0),
+        row("check", ALL, 2, "ok", 4),
+        row("check", 9, ALL, "refused ReadFault\n", 4),
+        row("order", ALL, ALL, "\"[E]A\"\n", 0),
+        row("order", ALL, 0, "", 4),
+        row("order", 9, 0, "", 4),
+        row("canon", ALL, 11, "instance of", 4),
+        row("canon", 9, ALL, "refused ReadFault\n", 4),
+        row("checksum", 9, ALL, "refused ReadFault\n", 4),
+        row("checksum", ALL, 0, "", 4),
+        row("generate 1", 0, ALL, GENERATED, 0),
+        row("generate 1", 0, 9, "generated", 4),
+        row("tests", 0, 9, "refused U", 2),
     ]
 }
 
-fn run_case<R: AllocGlobal>(rt: &R, case: &Case, output: &mut Drip) -> Result<u8, Fail> {
+fn run_case<R: AllocGlobal>(rt: &R, case: &StreamRow, output: &mut Drip) -> Result<u8, Fail> {
     let alloc = rt.alloc();
     let mut words = Vec::new(alloc);
     for word in case.words.split(' ') {
@@ -146,7 +152,7 @@ fn run_case<R: AllocGlobal>(rt: &R, case: &Case, output: &mut Drip) -> Result<u8
 // With ample memory none of these ends for lack of it.
 #[test]
 fn streams_of_one_byte_at_a_time_and_streams_that_fail(rt: HostRuntime) -> Result<(), Fail> {
-    for case in cases() {
+    for case in rows() {
         let mut output = Drip {
             bytes: Vec::new(rt.alloc()),
             room: case.room,
