@@ -27,3 +27,6 @@ pub use modes::{AfterReboot, ConfigMode, RefreshMode};
 pub use reading::read_meta;
 pub use server::{Server, Site};
 pub use writing::write_meta;
+
+#[cfg(test)]
+mod tests;
