@@ -39,7 +39,7 @@ enum Found {
     Neither,
 }
 
-fn found(alloc: Global, left: Vec<u8>, change: Change) -> Result<Found, LogError> {
+fn reopened(alloc: Global, left: Vec<u8>, change: Change) -> Result<Found, LogError> {
     let mut disk = MemoryDisk::new(left, Vec::new(alloc))?;
     let log = open(alloc, &mut disk)?;
     if holds(&log, b"ab") {
@@ -56,7 +56,7 @@ fn found(alloc: Global, left: Vec<u8>, change: Change) -> Result<Found, LogError
 fn after_stop(alloc: Global, change: Change, stop: DiskStop) -> Result<(Found, bool), LogError> {
     let mut disk = disk(alloc, Some(stop))?;
     let is_done = run(alloc, &mut disk, change).is_ok();
-    Ok((found(alloc, disk.after_stop()?, change)?, is_done))
+    Ok((reopened(alloc, disk.after_stop()?, change)?, is_done))
 }
 
 const PARTS: &[DiskPart] = &[
