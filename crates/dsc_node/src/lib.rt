@@ -10,7 +10,7 @@ mod order;
 mod run;
 mod status;
 
-pub use lines::{count_succeeded, id, lines_of, push_resources};
+pub use lines::{id, lines_of, push_resources};
 pub use order::order_of_merged;
 pub use run::{run_kinds, run_merged};
 pub use status::{InputError, Status};

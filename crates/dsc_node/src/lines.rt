@@ -1,8 +1,7 @@
 //! The printed lines of a run.
-ghost use Rattle.std.specs.Prelude.{◌≡◌, ◌<◌, ◌≤◌, ◌-◌, ◌++◌, length, count_by, codes, map, All, OnOk, IfOk, string_bytes};
+ghost use Rattle.std.specs.Prelude.{◌≡◌, ◌<◌, ◌≤◌, ◌-◌, ◌++◌, length, codes, All, OnOk, IfOk, string_bytes};
 ghost use Rattle.std.specs.List.{flat_map};
-ghost use Rattle.dsc_terms.specs.Lists.{places_below};
-ghost use Rattle.resource_kinds.specs.Trace.{place_of, entry_is_yes, has_succeeded, succeeded_count};
+ghost use Rattle.resource_kinds.specs.Trace.{place_of, succeeded_count};
 ghost use Rattle.resource_kinds.specs.Names.{failure_name};
 ghost use Rattle.dsc_node.specs.Lines.{test_words, set_words, id_at, line_of, overlap_line, resources_line, verdict, summary, run_lines};
 
@@ -32,44 +31,6 @@ pub fn lines_of(
     push_summary(&mut out, total, good)?;
     push_overlap(&mut out, overlaps)?;
     Ok(out)
-}
-
-/// How many of so many resources succeeded: the last entry of each is a test that answered yes.
-pub fn count_succeeded(alloc: Global, count: usize, calls: &[Entry]) -> Result<usize, AllocError>
-    requires known { All (λ e. place_of e < count) calls.now }
-    ensures value { IfOk result (λ good. good ≡ count_by (has_succeeded calls.now) (places_below count)) }
-    ensures bound { IfOk result (λ good. good ≤ count) }
-{
-    let marks = succeeded_marks(alloc, count, calls)?;
-    Ok(count_marks(&marks))
-}
-
-// Tells of each resource whether it succeeded.
-fn succeeded_marks(alloc: Global, count: usize, calls: &[Entry]) -> Result<Vec<bool>, AllocError>
-    requires known { All (λ e. place_of e < count) calls.now }
-    ensures { IfOk result (λ marks. marks.items ≡ map (has_succeeded calls.now) (places_below count)) }
-{
-    let mut marks = vec![in alloc; false; count]?;
-    for entry in calls {
-        marks[entry.place() as usize] = is_yes(entry);
-    }
-    Ok(marks)
-}
-
-fn count_marks(marks: &[bool]) -> usize
-    ensures value { result ≡ count_by (λ mark. mark) marks.now }
-    ensures bound { result ≤ length marks.now }
-{
-    marks.iter().filter(|mark| **mark).count()
-}
-
-fn is_yes(entry: &Entry) -> bool
-    ensures { result ≡ entry_is_yes entry.now }
-{
-    match entry {
-        Entry::Tested { answer, .. } => matches!(answer, TestAnswer::Yes),
-        Entry::Set { .. } => false,
-    }
 }
 
 fn push_line(out: &mut String, document: &Document, entry: &Entry) -> Result<(), AllocError>

@@ -1,13 +1,14 @@
 //! The command `generate`: the repair of a document that is made of a number, on an empty machine in memory.
 ghost use Rattle.std.specs.Prelude.{◌≡◌, ◌<◌, ◌≤◌, ◌-◌, ◌++◌, All, IfOk, OnOk, count_by, length, string_bytes};
 ghost use Rattle.resource_kinds.specs.Trace.{place_of};
+ghost use Rattle.lcm_core.specs.RunLaws.{EndsAtYes};
 ghost use Rattle.lcm_program.specs.Generate.{IsGeneratedText, calls_line, ends_line, generated_lines, is_set, is_test};
 
 use dsc_document::Document;
-use dsc_node::{count_succeeded, id, order_of_merged, push_resources, run_kinds};
+use dsc_node::{id, order_of_merged, push_resources, run_kinds};
 use dsc_outside::{HostContents, ReliableHost};
 use generated_document::generated_document;
-use lcm_core::{RunEnd, RunMode, repair_laws};
+use lcm_core::{RunEnd, RunMode, count_succeeded, repair_laws};
 use mof_codec::push_literal;
 use mof_values::Memory;
 use resource_kinds::{Entry, Kinds, Resources};
@@ -43,10 +44,11 @@ fn lines(
     requires some { 0 < length order.now }
     requires order { All (λ r. r < length document.now.resources) order.now }
     requires known { All (λ e. place_of e < length document.now.resources) calls.now }
+    requires ends { EndsAtYes calls.now }
     ensures { IfOk result (λ text. string_bytes text ≡ generated_lines count document.now order.now calls.now) }
 {
     let total = document.resources.as_slice().len();
-    let good = count_succeeded(alloc, total, calls)?;
+    let good = count_succeeded(calls);
     let mut text = String::new(alloc);
     write!(text, "generated {count}\n")?;
     push_resources(&mut text, total, good)?;

@@ -4,15 +4,16 @@ ghost use Rattle.partial_merge.specs.declared.part.Part.{Part};
 ghost use Rattle.partial_merge.specs.Merged.{Merged};
 ghost use Rattle.resource_kinds.specs.Kinds.{calls_of, host_of};
 ghost use Rattle.resource_kinds.specs.Trace.{missed_count, place_of};
+ghost use Rattle.lcm_core.specs.RunLaws.{EndsAtYes};
 ghost use Rattle.lcm_core.specs.declared.modes.RunEnd.{RunEnd};
 ghost use Rattle.dsc_node.specs.Lines.{IsRunText, overlap_line, run_lines};
 ghost use Rattle.lcm_program.specs.Test.{IsRunOf, IsUntested, Monitored};
 
 use crate::input::{Unread, read_document};
 use dsc_document::Document;
-use dsc_node::{count_succeeded, lines_of, order_of_merged, run_kinds};
+use dsc_node::{lines_of, order_of_merged, run_kinds};
 use dsc_outside::{Host, Source};
-use lcm_core::{RunEnd, RunMode};
+use lcm_core::{RunEnd, RunMode, count_succeeded};
 use mof_values::Memory;
 use resource_kinds::{Entry, Kinds, Resources, overlaps};
 use std::alloc::{AllocError, Global};
@@ -82,11 +83,12 @@ fn outcome_of(
 ) -> Result<Outcome, AllocError>
     requires few { length document.now.resources < 2 ^ 32 }
     requires known { All (λ e. place_of e < length document.now.resources) calls.now }
+    requires ends { EndsAtYes calls.now }
     ensures lines { IfOk result (λ outcome. string_bytes outcome.lines ≡ run_lines document.now calls.now ++ overlap_line overlap) }
     ensures missed { IfOk result (λ outcome. outcome.missed ≡ missed_count document.now calls.now) }
 {
     let count = document.resources.as_slice().len();
-    let good = count_succeeded(alloc, count, calls)?;
+    let good = count_succeeded(calls);
     let lines = lines_of(alloc, document, calls, good, overlap)?;
     let missed = (count - good) as u32;
     Ok(Outcome { lines, missed })

@@ -4,6 +4,7 @@ use Rattle.dsc_outside.specs.ReliableHost.{told_by}
 use Rattle.depend_order.proofs.DocumentOrders.{order_below}
 use Rattle.lcm_core.specs.declared.modes.RunEnd.TheVariants.{Finished}
 use Rattle.lcm_core.specs.declared.modes.RunMode.TheVariants.{Repair}
+use Rattle.lcm_core.proofs.Successes.{legal_ends}
 use Rattle.lcm_core.proofs.Traces.{legal_places}
 use Rattle.resource_kinds.specs.Kinds.{calls_of, host_of}
 use Rattle.resource_kinds.specs.Trace.{host_failures}
@@ -20,6 +21,10 @@ lines-requires-clause-order c =
 pub lines-requires-clause-known : goal.lines-requires-clause-known
 lines-requires-clause-known c =
     rw c.calls.ensures (legal_places c.in_ok-document.document Repair c.deref.result.now (calls_of c.run_kinds.new.kinds) c.run_kinds.ensures.ran.legal)
+
+pub lines-requires-clause-ends : goal.lines-requires-clause-ends
+lines-requires-clause-ends c =
+    rw c.calls.ensures (legal_ends c.in_ok-document.document Repair c.deref.result.now (calls_of c.run_kinds.new.kinds) c.run_kinds.ensures.ran.legal)
 
 pub returns-in-Finished : goal.returns-in-Finished
 returns-in-Finished c =

@@ -1,6 +1,7 @@
 use Rattle.std.proofs.Common.{◌∙◌, ◌++◌, inr, ap}
 use Rattle.lcm_core.specs.declared.modes.RunEnd.TheVariants.{Finished}
 use Rattle.lcm_core.specs.declared.modes.RunMode.TheVariants.{Monitor}
+use Rattle.lcm_core.proofs.Successes.{legal_ends}
 use Rattle.lcm_core.proofs.Traces.{legal_places}
 use Rattle.resource_kinds.specs.Kinds.{calls_of}
 use Rattle.dsc_node.specs.Lines.{overlap_line, run_lines}
@@ -10,6 +11,10 @@ use Rattle.lcm_program.proofs.test.monitor_document.Goals as goal
 pub outcome_of-requires-clause-known : goal.outcome_of-requires-clause-known
 outcome_of-requires-clause-known g c =
     rw c.calls.ensures (legal_places c.args.document.now Monitor c.deref.result.now (calls_of c.run_kinds.new.kinds) c.run_kinds.ensures.ran.legal)
+
+pub outcome_of-requires-clause-ends : goal.outcome_of-requires-clause-ends
+outcome_of-requires-clause-ends g c =
+    rw c.calls.ensures (legal_ends c.args.document.now Monitor c.deref.result.now (calls_of c.run_kinds.new.kinds) c.run_kinds.ensures.ran.legal)
 
 pub returns-in_err-outcome_of-in-Finished-clause-run : goal.returns-in_err-outcome_of-in-Finished-clause-run
 returns-in_err-outcome_of-in-Finished-clause-run g c = inr (c.run_kinds.result, (c.deref.result.now, c.run_kinds.ensures.ran))
