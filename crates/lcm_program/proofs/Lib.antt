@@ -5,5 +5,5 @@ pub mod GeneratedVariables
 pub mod Inputs
 pub mod Readings
 pub mod Results
-pub mod Tests
+pub mod Monitoring
 pub mod Tools

@@ -6,7 +6,7 @@ use Rattle.lcm_program.specs.Input.{ReadsBytes, ReadsDocument, ReadsInstances}
 use Rattle.lcm_program.specs.Objects.{known, objects}
 use Rattle.lcm_program.specs.Order.{AnswersOrder, AreIdLines}
 use Rattle.lcm_program.proofs.Readings.{bytes_decide, document_decides, instances_decide, shown_decides}
-use Rattle.lcm_program.proofs.Tests.{tested}
+use Rattle.lcm_program.proofs.Monitoring.{tested}
 use Rattle.lcm_program.proofs.Tools.{generated, not_summed, ran_tool, summed}
 use Rattle.lcm_program.proofs.program.do_command.Goals as goal
 

@@ -5,7 +5,7 @@ use Rattle.lcm_core.proofs.Successes.{legal_ends}
 use Rattle.lcm_core.proofs.Traces.{legal_places}
 use Rattle.resource_kinds.specs.Kinds.{calls_of}
 use Rattle.dsc_node.specs.Lines.{overlap_line, run_lines}
-use Rattle.lcm_program.proofs.Tests.{is_run_text, monitored_all, monitored_keeps}
+use Rattle.lcm_program.proofs.Monitoring.{is_run_text, monitored_all, monitored_keeps}
 use Rattle.lcm_program.proofs.test.monitor_document.Goals as goal
 
 pub outcome_of-requires-clause-known : goal.outcome_of-requires-clause-known
