@@ -14,6 +14,7 @@ use std::env;
 use std::process::ExitCode;
 
 /// What is asked for.
+#[derive(Clone, Copy)]
 enum Ask {
     Open,
     Append { count: u32, size: u32 },
