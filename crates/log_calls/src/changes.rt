@@ -18,8 +18,11 @@ pub fn append_all<D: Disk>(
     let Ok(size) = u32::try_from(body.len()) else {
         return Ok(());
     };
+    if log.is_spent() {
+        return Ok(());
+    }
     for _ in 0..count {
-        if log.is_spent() || !log.has_room(size) {
+        if !log.has_room(size) {
             return Ok(());
         }
         log.append(disk, body)?;

@@ -1,15 +1,18 @@
-//! Makes calls of a log in a file, and says how many bodies it then holds: a tool for measurements.
+//! Makes calls of a log in a file: a tool for measurements.
 //!
 //! The arguments are FILE `append` COUNT SIZE, FILE `rewrite` COUNT SIZE or FILE `open`. An append adds so many bodies
 //! of that size one by one, a rewrite puts them in place of all that was there, and an open does no more than that.
 //! It ends with 0; with 2 where the arguments are others, and with 4 where the log could not do it.
 #![tactic(auto)]
 
+ghost use Rattle.std.specs.Prelude.{◌≡◌};
+
 mod changes;
 
 use changes::{append_all, rewrite_all};
 use dsc_outside::real::FileDisk;
 use gate_log::{LogError, Shape, open_log};
+use std::cmp::min;
 use std::env;
 use std::process::ExitCode;
 
@@ -48,11 +51,16 @@ fn read_arguments(rt: &HostRuntime) -> Option<(String, Ask)> {
     }
 }
 
+// The longest body of a node's store.
+const LARGEST: u32 = 16_842_752;
+
 // The size of a node's store.
-fn shape() -> Shape {
+fn shape() -> Shape
+    ensures { result ≡ record { bank = 67108864; largest = 16842752 } }
+{
     Shape {
         bank: 67_108_864,
-        largest: 16_842_752,
+        largest: LARGEST,
     }
 }
 
@@ -62,11 +70,11 @@ fn run(rt: &HostRuntime, file: String, ask: &Ask) -> Result<(), LogError> {
     match ask {
         Ask::Open => {}
         Ask::Append { count, size } => {
-            let body = vec![in rt.alloc(); 7u8; *size as usize]?;
+            let body = vec![in rt.alloc(); 7u8; min(*size, LARGEST) as usize]?;
             append_all(&mut log, &mut disk, *count, &body)?;
         }
         Ask::Rewrite { count, size } => {
-            let body = vec![in rt.alloc(); 7u8; *size as usize]?;
+            let body = vec![in rt.alloc(); 7u8; min(*size, LARGEST) as usize]?;
             rewrite_all(&mut log, &mut disk, *count, &body)?;
         }
     }
