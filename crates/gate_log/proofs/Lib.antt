@@ -9,3 +9,4 @@ pub mod Opened
 pub mod Failing
 pub mod Both
 pub mod Answer
+pub mod Ready

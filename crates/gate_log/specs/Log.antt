@@ -106,7 +106,7 @@ pub record PutMore (old : LogTerm) (body : List ℕ) (new : LogTerm) : Type 0 wh
 -- what an answer of put says
 abbrev pub Put : {T : Type 0} → LogTerm → List ℕ → ℕ → ℕ → Result T LogError → LogTerm → Type 0
 Put old body before after (Ok v) new = PutMore old body new
-Put old body before after (Err Disk) new = Rose before after × (new.spent ≡ true)
+Put old body before after (Err Disk) new = Rose before after × (new ≡ spoilt old)
 Put old body before after (Err (NotAStore at)) new = ⊥
 Put old body before after (Err Memory) new = ⊥
 
@@ -122,7 +122,7 @@ pub record Switched (old new : LogTerm) : Type 0 where
 -- what an answer of finish_rewrite says
 abbrev pub Finished : {T : Type 0} → LogTerm → ℕ → ℕ → Result T LogError → LogTerm → Type 0
 Finished old before after (Ok v) new = Switched old new
-Finished old before after (Err Disk) new = Rose before after × (new.spent ≡ true)
+Finished old before after (Err Disk) new = Rose before after × (new ≡ spoilt old)
 Finished old before after (Err (NotAStore at)) new = ⊥
 Finished old before after (Err Memory) new = ⊥
 
