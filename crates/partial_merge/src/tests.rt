@@ -107,7 +107,7 @@ fn is_answer(found: &Result<OrderedDocument, MergeError>, wanted: &Wanted) -> bo
     match (found, wanted) {
         (Ok(merged), Wanted::Order(order)) => merged.order.as_slice() == *order,
         (Err(MergeError::DependsUnknown { spot, name }), Wanted::Unknown(index, word)) => {
-            spot.part == 0 && spot.index == *index + 1 && is_text(name, word)
+            spot.part == 0 && index.checked_add(1) == Some(spot.index) && is_text(name, word)
         }
         (Err(MergeError::Cycle(walk)), Wanted::Cycle(places)) => walk.as_slice() == *places,
         _ => false,
