@@ -1,7 +1,7 @@
 /* partner FILE append COUNT SIZE, partner FILE rewrite COUNT SIZE, partner FILE open: the plain program beside the log.
 
    An append writes a cell after the closed gate, syncs, opens the gate, and syncs. A rewrite writes as many bytes as the
-   log does, and syncs. An open reads the file. */
+   log does, and syncs. An open reads the file into memory. */
 #define _FILE_OFFSET_BITS 64
 #include <fcntl.h>
 #include <stdio.h>
@@ -26,9 +26,10 @@ int main(int count, char **words) {
     int file = open(words[1], O_RDWR | O_CREAT, 0666);
     need(file >= 0, "open");
     if (!strcmp(words[2], "open")) {
-        char *bytes = malloc(1 << 20);
-        off_t at = 0;
-        for (ssize_t n; (n = pread(file, bytes, 1 << 20, at)) > 0; at += n) {
+        struct stat now;
+        need(!fstat(file, &now), "stat");
+        char *bytes = malloc(now.st_size);
+        for (ssize_t at = 0, n; (n = pread(file, bytes + at, now.st_size - at, at)) > 0; at += n) {
         }
         return 0;
     }
