@@ -11,6 +11,7 @@ pub mod Memory
 pub mod MemoryClock
 pub mod MemoryDisk
 pub mod MemoryHost
+pub mod MemoryLink
 pub mod Paths
 pub mod Real
 pub mod ReliableHost

@@ -4,21 +4,13 @@ use Rattle.std.specs.Io.{StartsWith}
 use Rattle.dsc_outside.specs.declared.link.LinkError.{LinkError}
 use Rattle.dsc_outside.specs.declared.link.LinkError.TheVariants as errors
 use Rattle.dsc_outside.specs.declared.link.Peer.{Peer}
+use Rattle.dsc_outside.specs.declared.exchange.Exchange.{Exchange}
+use Rattle.dsc_outside.specs.declared.exchange.Outcome.{Outcome}
+use Rattle.dsc_outside.specs.declared.exchange.Outcome.TheVariants.{Answered, Failed, TooLong}
 
 -- an answer has fewer bytes
 abbrev pub answer_limit : ℕ
 answer_limit = 67108864
-
--- what came of a request
-pub data Outcome : Type 0 where
-  Answered : List ℕ → Outcome
-  Failed : Outcome
-  TooLong : Outcome
-
-pub record Exchange : Type 0 where
-  pub peer : Peer
-  pub request : List ℕ
-  pub outcome : Outcome
 
 -- the error is this outcome; want of memory tells nothing of it
 abbrev pub IsFault : LinkError → Outcome → Type 0

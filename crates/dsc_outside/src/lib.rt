@@ -5,11 +5,11 @@
 //! do not, and the clauses on content hold where it is told. A layer above is generic over the traits, and so cannot
 //! know which of the two it was given.
 //!
-//! `MemorySource`, `MemorySink`, `MemoryDisk`, `MemoryHost` and `MemoryClock` are exact: they fail in the calls that
-//! they were told to fail in, the disk and the host also from their stop on, the clock also where it has no moment to
-//! give, and in no other but where they find no memory for what they keep. `ReliableHost` fails in none, and `Absent`
-//! in each. The module `real` has standard input and output, a file as a disk, the folder that stands for the machine,
-//! and the clock of the system; it is the edge that is trusted.
+//! `MemorySource`, `MemorySink`, `MemoryDisk`, `MemoryHost`, `MemoryLink` and `MemoryClock` are exact: they fail in the
+//! calls that they were told to fail in, the disk and the host also from their stop on, the link and the clock also
+//! where they have no answer or no moment to give, and in no other but where they find no memory for what they keep.
+//! `ReliableHost` fails in none, and `Absent` in each. The module `real` has standard input and output, a file as a
+//! disk, the folder that stands for the machine, and the clock of the system; it is the edge that is trusted.
 #![tactic(auto)]
 
 mod absent;
@@ -17,6 +17,7 @@ mod clock;
 mod disk;
 mod ends;
 mod entries;
+mod exchange;
 mod failed;
 mod host;
 mod link;
@@ -30,17 +31,15 @@ pub use clock::{Clock, LAST_MOMENT};
 pub use disk::Disk;
 pub use ends::Ends;
 pub use entries::{LogEntry, Package};
+pub use exchange::{Exchange, Outcome};
 pub use failed::Failed;
 pub use host::{Host, HostError, PathState};
 pub use link::{Link, LinkError, Peer};
 pub use memory::{
     CallOutcome, DiskCall, DiskPart, DiskStop, Done, HostContents, MemoryClock, MemoryDisk,
-    MemoryHost, MemorySink, MemorySource, PathEntry, RecordedCall, ReliableHost, Standing, Stop,
-    Variable,
+    MemoryHost, MemoryLink, MemorySink, MemorySource, PathEntry, RecordedCall, ReliableHost,
+    Standing, Stop, Variable,
 };
 pub use mof_values::Memory;
 pub use sink::Sink;
 pub use source::Source;
-
-#[cfg(test)]
-mod tests;

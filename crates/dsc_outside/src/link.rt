@@ -1,7 +1,8 @@
 //! Links to other machines.
 ghost use Rattle.std.specs.Prelude.{◌≡◌, ◌<◌, ◌+◌, ℕ, List, Option, OnErr, OnOk, length};
 ghost use Rattle.dsc_outside.specs.Causes.{HasCauseOf};
-ghost use Rattle.dsc_outside.specs.Link.{Exchange, AddsExchange, LeavesAnswer, answer_limit};
+ghost use Rattle.dsc_outside.specs.Link.{AddsExchange, LeavesAnswer, answer_limit};
+ghost use Rattle.dsc_outside.specs.declared.exchange.Exchange.{Exchange};
 ghost use Rattle.dsc_outside.specs.declared.link.LinkError.TheVariants.{Memory};
 
 use mof_values::Text;

@@ -1,8 +1,10 @@
 //! Makes calls of the host that a folder is, and prints what each of them answers: a tool for tests on a real machine.
 //!
-//! The folder is the program's one argument. Each line of standard input is a call, its subject and its text, with
-//! tabs between: `state PATH`, `same PATH TEXT`, `put PATH TEXT`, `make PATH`, `remove PATH`, `value NAME`,
-//! `set NAME TEXT`, `unset NAME` and `log ID TEXT`. It ends with 0, and with 2 where it cannot go on.
+//! The folder is the program's one argument. Each line of standard input is a call, its subject and its texts, with
+//! tabs between: `state PATH`, `same PATH TEXT`, `put PATH TEXT`, `make PATH`, `remove PATH`, `value NAME TEXT`, which
+//! asks whether the variable has that value, `set NAME TEXT`, `unset NAME`, `log ID TEXT`, `logged ID TEXT`,
+//! `package NAME VERSION TEXT`, `installed NAME VERSION` and `wanting ID`. A text that begins with `0x` stands for the
+//! bytes of its hex digits. It ends with 0, and with 2 where it cannot go on.
 #![tactic(auto)]
 
 use dsc_outside::real::FolderHost;
@@ -36,19 +38,77 @@ fn make_calls(rt: &HostRuntime) -> io::Result<()> {
 // Makes the call of that line.
 fn answer_to<H: Host>(alloc: Global, host: &mut H, line: &str) -> &'static str {
     let (call, rest) = line.split_once('\t').unwrap_or((line, ""));
-    let (subject, text) = rest.split_once('\t').unwrap_or((rest, ""));
-    let bytes = text.as_bytes();
+    let (subject, rest) = rest.split_once('\t').unwrap_or((rest, ""));
+    if call == "package" {
+        let (version, text) = rest.split_once('\t').unwrap_or((rest, ""));
+        return add_package(alloc, host, subject, version, text);
+    }
+    match bytes_of(alloc, rest) {
+        Some(bytes) => make_call(alloc, host, call, subject, &bytes),
+        None => "no text",
+    }
+}
+
+// The bytes of a text.
+fn bytes_of(alloc: Global, text: &str) -> Option<Vec<u8>> {
+    match text.strip_prefix("0x") {
+        Some(digits) => hex::decode(alloc, digits).ok(),
+        None => text.as_bytes().to_vec(alloc).ok(),
+    }
+}
+
+fn add_package<H: Host>(
+    alloc: Global,
+    host: &mut H,
+    name: &str,
+    version: &str,
+    text: &str,
+) -> &'static str {
+    match bytes_of(alloc, text) {
+        Some(bytes) => done(host.package_put(name, version, &bytes)),
+        None => "no text",
+    }
+}
+
+fn make_call<H: Host>(
+    alloc: Global,
+    host: &mut H,
+    call: &str,
+    subject: &str,
+    bytes: &[u8],
+) -> &'static str {
     match call {
         "state" => seen(host.path_state(subject)),
         "same" => told(host.file_equals(subject, bytes)),
         "put" => done(host.put_file(subject, bytes)),
         "make" => done(host.make_dir(subject)),
         "remove" => done(host.remove(subject)),
-        "value" => told(host.env_state(subject, &mut Vec::new(alloc))),
+        "value" => has_value(host, subject, bytes, &mut Vec::new(alloc)),
         "set" => done(host.env_put(subject, bytes)),
         "unset" => done(host.env_remove(subject)),
+        "wanting" => told(host.reboot_wanted(subject)),
+        _ => call_on_lists(host, call, subject, bytes),
+    }
+}
+
+// Makes a call on the log or the packages, of which the last text is UTF-8.
+fn call_on_lists<H: Host>(host: &mut H, call: &str, subject: &str, bytes: &[u8]) -> &'static str {
+    let Ok(text) = str::from_utf8(bytes) else {
+        return "no text";
+    };
+    match call {
         "log" => done(host.log_add(subject, text)),
+        "logged" => told(host.log_has(subject, text)),
+        "installed" => told(host.package_has(subject, text)),
         _ => "no call",
+    }
+}
+
+// Tells whether the variable has the value.
+fn has_value<H: Host>(host: &mut H, name: &str, value: &[u8], found: &mut Vec<u8>) -> &'static str {
+    match host.env_state(name, found) {
+        Ok(true) if found.as_slice() != value => "other",
+        outcome => told(outcome),
     }
 }
 

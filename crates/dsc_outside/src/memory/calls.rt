@@ -45,6 +45,13 @@ impl Calls {
         }
     }
 
+    /// Answers whether the next call is to fail.
+    pub fn is_to_fail(&self) -> bool
+        ensures { result ≡ is_to_fail self.now }
+    {
+        self.failing.contains(&self.begun) || is_past(self.stop, self.begun)
+    }
+
     /// Counts a call that begins, and fails it where its number is in the list or the stop has come.
     pub fn begin(&mut self) -> Result<(), Failed>
         ensures fails { IsErr result ↔ IsTrue (is_to_fail self.old) }

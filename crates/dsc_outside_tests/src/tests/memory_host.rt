@@ -4,7 +4,9 @@ use super::host_calls::Call::{
     Wanting,
 };
 use super::host_calls::{Row, expect};
-use crate::{Done as Part, HostContents, MemoryHost, PathEntry, ReliableHost, Standing, Stop};
+use dsc_outside::{
+    Done as Part, HostContents, MemoryHost, PathEntry, ReliableHost, Standing, Stop,
+};
 use mof_values::Bytes;
 use std::alloc::{AllocError, Global};
 use std::test::Fail;

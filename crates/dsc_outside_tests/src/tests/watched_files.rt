@@ -70,7 +70,7 @@ impl<'a> Watch<'a> {
     }
 }
 
-/// Files of which a write takes two bytes at most. What is named `pipe` is looked at through its link.
+/// Files of which a write takes two bytes at most.
 #[derive(Drop)]
 pub struct WatchedFiles<'a, R: Files> {
     pub rt: R,
@@ -167,9 +167,6 @@ impl<'a, R: Files> Files for WatchedFiles<'a, R> {
 
     fn symlink_metadata(&self, path: &str) -> io::Result<Metadata> {
         self.watch.begin(SystemCall::Look)?;
-        if path.ends_with("/pipe") {
-            return self.rt.metadata(path);
-        }
         self.rt.symlink_metadata(path)
     }
 

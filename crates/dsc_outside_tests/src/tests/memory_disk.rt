@@ -1,7 +1,9 @@
 use super::disk_calls::Answer::{Bytes, Done, Lost, Number};
 use super::disk_calls::Ask::{Cut, Length, Read, Sync, Write};
 use super::disk_calls::{Answer, Ask, DiskRow, is_answered};
-use crate::{CallOutcome, Clock, DiskPart, DiskStop, Failed, Memory, MemoryClock, MemoryDisk};
+use dsc_outside::{
+    CallOutcome, Clock, DiskPart, DiskStop, Failed, Memory, MemoryClock, MemoryDisk,
+};
 use std::alloc::{AllocError, Global};
 use std::test::Fail;
 

@@ -1,7 +1,7 @@
 //! Calls of a disk and what they answer, as rows of tables.
 ghost use Rattle.std.specs.Prelude.{◌≤◌, IfSome, length};
 
-use crate::{Disk, Failed};
+use dsc_outside::{Disk, Failed};
 use std::alloc::{AllocError, Global};
 
 /// A call of a disk.

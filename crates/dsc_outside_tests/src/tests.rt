@@ -1,7 +1,5 @@
 mod disk_calls;
 mod folder_faults;
-mod folder_lists;
-mod folder_paths;
 mod host_calls;
 mod memory_disk;
 mod memory_forms;

@@ -1,5 +1,5 @@
-use crate::real::{InSource, OutSink};
-use crate::{Failed, Sink, Source};
+use dsc_outside::real::{InSource, OutSink};
+use dsc_outside::{Failed, Sink, Source};
 use std::cell::Cell;
 use std::fmt::Display;
 use std::io;

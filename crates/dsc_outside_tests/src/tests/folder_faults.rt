@@ -1,18 +1,19 @@
-use super::host_calls::Answer::{Done, Empty, Failed, File, Folder, No, Nothing, Other, Yes};
+//! A folder that is a host, over files of the system of which each call is counted, and one fails.
+use super::host_calls::Answer::{Done, Empty, Failed, File, Folder, No, Nothing, Yes};
 use super::host_calls::Call::{
     AddEntry, AddPackage, HasEntry, HasPackage, Make, Put, Remove, Same, Set, State, Unset, Value,
 };
-use super::host_calls::Row;
-use super::scratch::Act::Missing;
-use super::scratch::Step::{At, Calls, Either, Failing, Watched};
-use super::scratch::{Act, Step, play};
-use super::watched_files::SystemCall;
+use super::host_calls::{Row, expect, expect_one_of};
+use super::scratch::make_folder;
 use super::watched_files::SystemCall::{
     Create, List, Look, MakeFolder, Mode, Open, Read, RemoveFolder, Rename, Sync, SyncFolder,
     Unlink, Write,
 };
+use super::watched_files::{SystemCall, Watch, WatchedFiles};
+use dsc_outside::real::FolderHost;
+use std::alloc::{AllocError, Global};
+use std::fs;
 use std::io::ErrorKind;
-use std::os::fd::AsRawFd;
 use std::rt::Files;
 use std::test::Fail;
 
@@ -20,11 +21,11 @@ use std::test::Fail;
 // its change, and where it was done.
 type Case<'a> = (Row<'a>, &'a [SystemCall], &'a [Row<'a>], &'a [Row<'a>]);
 
-const BEFORE: &[Step<'_>] = &[Calls(&[
+const BEFORE: &[Row<'_>] = &[
     (Put("a/file", b"old"), Done),
     (Make("b/c"), Done),
     (Set("path", b"old"), Done),
-])];
+];
 
 const CASES: &[Case<'_>] = &[
     (
@@ -114,50 +115,86 @@ const CASES: &[Case<'_>] = &[
     ),
 ];
 
-const NOTHING_STAGED: Step<'static> = At("host/root/a/.nimchout-staged", Missing);
+// The folder of the host.
+fn folder_in(alloc: Global, scratch: &str) -> Result<String, AllocError> {
+    format!(in alloc; "{scratch}/host")
+}
 
-fn expect_either<'a>(
-    rt: &HostRuntime,
-    failing: usize,
-    kind: ErrorKind,
-    rows: &'a [Row<'a>],
-    undone: &'a [Row<'a>],
-    done: &'a [Row<'a>],
+fn make_before(rt: &HostRuntime, scratch: &str) -> Result<(), Fail> {
+    let folder = folder_in(rt.alloc(), scratch)?;
+    expect(rt.alloc(), &mut FolderHost::new(rt, folder), BEFORE)
+}
+
+// Expects these answers of a host in that folder.
+fn expect_in<F: Files + Drop>(
+    alloc: Global,
+    files: F,
+    folder: String,
+    rows: &[Row<'_>],
 ) -> Result<(), Fail> {
-    let steps = [
-        Failing(failing, kind, rows),
-        Either(undone, done),
-        NOTHING_STAGED,
-    ];
-    play(rt, "host", BEFORE, &steps)
+    expect(alloc, &mut FolderHost::new(files, folder), rows)
+}
+
+fn expect_watched(
+    rt: &HostRuntime,
+    scratch: &str,
+    watch: &Watch<'_>,
+    row: Row<'_>,
+) -> Result<(), Fail> {
+    let folder = folder_in(rt.alloc(), scratch)?;
+    let files = WatchedFiles { rt, watch };
+    expect_in(rt.alloc(), files, folder, &[row])
+}
+
+fn expect_after(
+    rt: &HostRuntime,
+    scratch: &str,
+    undone: &[Row<'_>],
+    done: &[Row<'_>],
+) -> Result<(), Fail> {
+    let folder = folder_in(rt.alloc(), scratch)?;
+    expect_one_of(rt.alloc(), &mut FolderHost::new(rt, folder), undone, done)
+}
+
+fn expect_nothing_staged(rt: &HostRuntime, scratch: &str) -> Result<(), Fail> {
+    let place = format!(in rt.alloc(); "{scratch}/host/root/a/.nimchout-staged")?;
+    if fs::exists(rt, place.as_str())? {
+        return Err(Fail::new("a file that was being written is left"));
+    }
+    Ok(())
+}
+
+// Makes the call over files that are watched, and expects its answer, and that all of the first rows or all of the
+// second have theirs after it.
+fn play(
+    rt: &HostRuntime,
+    watch: &Watch<'_>,
+    row: Row<'_>,
+    undone: &[Row<'_>],
+    done: &[Row<'_>],
+) -> Result<(), Fail> {
+    let scratch = make_folder(rt)?;
+    make_before(rt, &scratch)?;
+    expect_watched(rt, &scratch, watch, row)?;
+    expect_after(rt, &scratch, undone, done)?;
+    expect_nothing_staged(rt, &scratch)?;
+    fs::remove_dir_all(rt, scratch)?;
+    Ok(())
+}
+
+// Makes the call, and expects that it makes these calls of the system and no other.
+fn expect_done(rt: &HostRuntime, case: &Case<'_>) -> Result<(), Fail> {
+    let (row, calls, _, done) = case;
+    let watch = Watch::new(calls, usize::MAX, ErrorKind::Other);
+    play(rt, &watch, *row, done, done)?;
+    watch.expect_all()
 }
 
 // Makes the call where that call of the system fails.
 fn expect_failing(rt: &HostRuntime, case: &Case<'_>, failing: usize) -> Result<(), Fail> {
     let ((call, _), _, undone, done) = case;
-    let rows = [(*call, Failed)];
-    expect_either(rt, failing, ErrorKind::StorageFull, &rows, undone, done)
-}
-
-fn expect_calls<'a>(
-    rt: &HostRuntime,
-    calls: &'a [SystemCall],
-    rows: &'a [Row<'a>],
-    done: &'a [Row<'a>],
-) -> Result<(), Fail> {
-    play(
-        rt,
-        "host",
-        BEFORE,
-        &[Watched(calls, rows), Calls(done), NOTHING_STAGED],
-    )
-}
-
-// Makes the call, and expects that it makes these calls of the system.
-fn expect_done(rt: &HostRuntime, case: &Case<'_>) -> Result<(), Fail> {
-    let (row, calls, _, done) = case;
-    let rows = [*row];
-    expect_calls(rt, calls, &rows, done)
+    let watch = Watch::new(&[], failing, ErrorKind::StorageFull);
+    play(rt, &watch, (*call, Failed), undone, done)
 }
 
 #[test]
@@ -190,77 +227,11 @@ const DENIED: &[(Row<'_>, usize)] = &[
     ((HasEntry("i", "m"), Failed), 0),
 ];
 
-fn expect_denied(rt: &HostRuntime, row: &Row<'_>, failing: usize) -> Result<(), Fail> {
-    let rows = [*row];
-    expect_either(rt, failing, ErrorKind::PermissionDenied, &rows, &[], &[])
-}
-
 #[test]
 fn what_may_not_be_looked_at_is_not_taken_for_nothing(rt: HostRuntime) -> Result<(), Fail> {
     for (row, failing) in DENIED {
-        expect_denied(&rt, row, *failing)?;
+        let watch = Watch::new(&[], *failing, ErrorKind::PermissionDenied);
+        play(&rt, &watch, *row, &[], &[])?;
     }
     Ok(())
-}
-
-fn expect_pipe(rt: &HostRuntime, pipe: &str) -> Result<(), Fail> {
-    const ROWS: &[Row<'_>] = &[(State("pipe"), Other), (Same("pipe", b""), No)];
-    let before = [
-        At("host", Act::MakeFolder),
-        At("host/root", Act::MakeFolder),
-        At("host/root/pipe", Act::Link(pipe)),
-    ];
-    play(
-        rt,
-        "host",
-        &before,
-        &[Watched(&[Look, Look, Look, Look], ROWS)],
-    )
-}
-
-#[test]
-fn a_pipe_is_no_file_and_is_not_opened(rt: HostRuntime) -> Result<(), Fail> {
-    let (reader, writer) = rt.pipe()?;
-    drop(writer);
-    let pipe = format!(in rt.alloc(); "/proc/self/fd/{}", reader.as_raw_fd())?;
-    expect_pipe(&rt, &pipe)?;
-    drop(reader);
-    Ok(())
-}
-
-#[test]
-fn a_file_keeps_its_mode(rt: HostRuntime) -> Result<(), Fail> {
-    const STEPS: &[Step<'_>] = &[
-        At("host/root/a/file", Act::Mode(0o640)),
-        Calls(&[(Put("a/file", b"new"), Done)]),
-        At("host/root/a/file", Act::HasMode(0o640)),
-        At("host/root/a/file", Act::Mode(0o4711)),
-        Calls(&[(Put("a/file", b"newer"), Done)]),
-        At("host/root/a/file", Act::HasMode(0o4711)),
-    ];
-    play(&rt, "host", BEFORE, STEPS)
-}
-
-#[test]
-fn what_is_left_of_a_stopped_change_is_no_hindrance(rt: HostRuntime) -> Result<(), Fail> {
-    const STEPS: &[Step<'_>] = &[
-        At("host/root/b/c/.nimchout-staged", Act::Write("a part")),
-        At("host/env/.nimchout-staged", Act::Link("../../outside/kept")),
-        Calls(&[
-            (State("b/c"), Empty),
-            (State("b/c/.nimchout-staged"), Failed),
-            (Remove("b/c/.nimchout-staged"), Failed),
-            (Put("b/c/file", b"1"), Done),
-            (Set("other", b"2"), Done),
-            (Value("other", b"2"), Yes),
-        ]),
-        At("host/root/b/c", Act::Names(1)),
-        At("host/env", Act::Names(2)),
-        At("host/root/b/c/.nimchout-staged", Act::MakeFolder),
-        Calls(&[
-            (Put("b/c/file", b"3"), Failed),
-            (Same("b/c/file", b"1"), Yes),
-        ]),
-    ];
-    play(&rt, "host", BEFORE, STEPS)
 }

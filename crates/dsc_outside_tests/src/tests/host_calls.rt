@@ -1,5 +1,5 @@
 //! Calls of a host, and what they are to answer, as rows of tables.
-use crate::{Host, HostError, PathState};
+use dsc_outside::{Host, HostError, PathState};
 use std::alloc::{AllocError, Global};
 use std::test::Fail;
 
@@ -130,8 +130,8 @@ fn is_answered<H: Host>(
     Ok(answer == wanted && buffer.strip_prefix(b">") == Some(appended(call, wanted)))
 }
 
-/// Makes the calls, up to one that has not its answer, and answers whether all have theirs.
-pub fn are_answered<H: Host>(
+// Makes the calls, up to one that has not its answer, and answers whether all have theirs.
+fn are_answered<H: Host>(
     alloc: Global,
     host: &mut H,
     rows: &[Row<'_>],
@@ -153,4 +153,17 @@ pub fn expect<H: Host>(alloc: Global, host: &mut H, rows: &[Row<'_>]) -> Result<
         }
     }
     Ok(())
+}
+
+/// Expects of all calls of the first rows, or of all of the second, their answers.
+pub fn expect_one_of<H: Host>(
+    alloc: Global,
+    host: &mut H,
+    first: &[Row<'_>],
+    second: &[Row<'_>],
+) -> Result<(), Fail> {
+    if are_answered(alloc, host, first)? {
+        return Ok(());
+    }
+    expect(alloc, host, second)
 }

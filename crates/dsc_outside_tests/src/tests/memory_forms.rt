@@ -1,4 +1,4 @@
-use crate::{Failed, HostError, LinkError, MemorySink, MemorySource, Sink, Source};
+use dsc_outside::{Failed, HostError, LinkError, MemorySink, MemorySource, Sink, Source};
 use std::alloc::{AllocError, Global};
 use std::test::Fail;
 

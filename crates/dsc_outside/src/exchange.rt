@@ -1,0 +1,23 @@
+//! Exchanges over a link.
+use crate::Peer;
+use mof_values::Bytes;
+
+/// What came of a request.
+#[derive(Clone, Debug, Drop, PartialEq)]
+pub enum Outcome {
+    /// All bytes that were answered.
+    Answered(Bytes),
+
+    Failed,
+
+    /// 67,108,864 bytes were reached.
+    TooLong,
+}
+
+/// A request, the machine that it was sent to, and what came of it.
+#[derive(Clone, Debug, Drop, PartialEq)]
+pub struct Exchange {
+    pub peer: Peer,
+    pub request: Bytes,
+    pub outcome: Outcome,
+}
