@@ -1,16 +1,15 @@
 -- Bytes are a store, or fail.
-use Rattle.std.proofs.Common.{◌≡◌, ◌≢◌, ◌⊎◌, inl, inr, ℕ, zero, suc, ◌+◌, ◌-◌, ◌≤◌, ◌<◌, ◌^◌, Bool, true, false, List, [], ◌∷◌, ◌++◌, length, get_or, take, drop, refl, sym, ◌∙◌, ap, subst, arith, length-append, length-drop}
+use Rattle.std.proofs.Common.{◌≡◌, ◌≢◌, ◌⊎◌, inl, inr, ℕ, zero, suc, ◌+◌, ◌≤◌, ◌<◌, ◌^◌, Bool, true, false, List, [], ◌∷◌, ◌++◌, length, get_or, take, drop, refl, sym, ◌∙◌, ap, subst, arith, length-drop}
 use Rattle.std.specs.Int.{w32, to_be_bytes, from_be_bytes}
 use Rattle.std.proofs.lemmas.Nat.{be_bytes_4}
 use Rattle.std.proofs.lemmas.Bool.{cases_lt, cases_eq}
 use Rattle.std.proofs.lemmas.List.{get_or-take, get_or-drop, length-take-le, take_more_same}
 use Rattle.std.proofs.Math.ListN.{get_or-eq_default}
 use Rattle.gate_log.specs.declared.shape.Shape.{Shape}
-use Rattle.gate_log.specs.Text.{Holds, Selects, behind, begin, end_of, cells, magic, IsLive, HasCells, IsBank, IsText, Gives, fresh, text, HasNumber, IsTooLong, FailsFrom, no_gate, no_length, too_long, no_body, FailsInBank, FailsAt, wrong_magic, wrong_bank}
-use Rattle.gate_log.specs.Log.{IsNoStore}
+use Rattle.gate_log.specs.Text.{Holds, behind, begin, end_of, cells, magic, IsLive, HasCells, IsBank, fresh, text, HasNumber, IsTooLong, FailsFrom, no_gate, no_length, too_long, no_body, FailsInBank, wrong_magic, wrong_bank}
 use Rattle.gate_log.specs.Laws.{AreBytes, AnswerExists}
 use Rattle.gate_log.proofs.Holds.{holds_both, holds_byte}
-use Rattle.gate_log.proofs.Cells.{cells-push, length-cells-push, fit-push, begin_past}
+use Rattle.gate_log.proofs.Cells.{cells-push, length-cells-push, fit-push}
 
 -- ---- the length that stands in four bytes
 

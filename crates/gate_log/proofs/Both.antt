@@ -1,12 +1,12 @@
 -- The laws of the text of a store.
-use Rattle.std.proofs.Common.{◌≡◌, ◌≢◌, ◌⊎◌, inl, inr, ℕ, ◌+◌, ◌-◌, ◌≤◌, ◌<◌, ◌^◌, Bool, List, [], ◌∷◌, ◌++◌, length, get_or, take, drop, refl, sym, ◌∙◌, ap, subst, arith, append_assoc, length-append}
+use Rattle.std.proofs.Common.{◌≡◌, ◌≢◌, inl, inr, ℕ, ◌+◌, ◌≤◌, ◌<◌, ◌^◌, Bool, List, [], ◌∷◌, ◌++◌, length, get_or, refl, sym, ◌∙◌, ap, subst, arith, append_assoc, length-append}
 use Rattle.std.specs.Int.{w32, to_be_bytes, from_be_bytes}
 use Rattle.std.proofs.lemmas.Nat.{from_be_bytes-to_be_bytes_4}
 use Rattle.std.proofs.lemmas.List.{get_or-take}
 use Rattle.gate_log.specs.declared.shape.Shape.{Shape}
-use Rattle.gate_log.specs.Text.{Holds, Selects, behind, begin, cells, magic, AllFit, IsLive, IsText, Gives, fresh, text, HasNumber, IsTooLong, FailsFrom, no_gate, no_length, too_long, no_body, FailsAt, wrong_magic, wrong_bank}
-use Rattle.gate_log.specs.Log.{IsNoStore}
-use Rattle.gate_log.specs.Laws.{OneList, NeverBoth}
+use Rattle.gate_log.specs.Text.{Holds, Selects, behind, begin, cells, magic, AllFit, Gives, fresh, text, HasNumber, FailsFrom, no_gate, no_length, too_long, no_body, FailsAt, wrong_magic, wrong_bank}
+use Rattle.gate_log.specs.Laws.{OneList, NeverBoth, FrontGiven}
+use Rattle.gate_log.specs.Replay.{IsRefused, FailsFirst, no_text, no_meaning}
 use Rattle.gate_log.proofs.Holds.{holds_drop, holds_first, holds_second, holds_one, holds_long}
 use Rattle.gate_log.proofs.Cells.{length-behind}
 use Rattle.gate_log.proofs.Unique.{gives_one, same_tail, same_behind, same_bank}
@@ -72,6 +72,32 @@ never largest limit from fails gate image (first ∷ reached) (body ∷ bodies) 
     (subst (λ (n : ℕ). Holds n (gate ∷ []) image) (omega (arith, long)) here)
     (subst (λ (n : ℕ). FailsFrom largest limit n image fails) (omega (arith, long_r, step)) f)
 
+-- of two lists of cells at one place, the one with a closed gate after it begins with the other
+front_of : (largest from gate : ℕ) (image : List ℕ) (front bodies : List (List ℕ)) → largest < 2 ^ 32 → Holds from (cells front) image → AllFit largest front → Holds from (cells bodies) image → AllFit largest bodies
+    → gate ≢ 165 → Holds (from + length (cells bodies)) (gate ∷ []) image → (rest : List (List ℕ)) × (bodies ≡ front ++ rest)
+front_of largest from gate image [] bodies small r fit_r b fit_b shut here = (bodies, refl)
+front_of largest from gate image (first ∷ front) [] small r fit_r b fit_b shut here =
+    let there = holds_first from (165 ∷ []) (behind first ++ cells front) image r in
+    absurd (shut (holds_one from gate 165 image (subst (λ (n : ℕ). Holds n (gate ∷ []) image) (omega arith) here) there))
+front_of largest from gate image (first ∷ front) (body ∷ bodies) small r fit_r b fit_b shut here =
+    let one = holds_first from (165 ∷ behind first) (cells front) image r in
+    let other = holds_first from (165 ∷ behind body) (cells bodies) image b in
+    let same : first ≡ body = same_body from first body image (omega (arith, fit_r.0, small)) (omega (arith, fit_b.0, small)) one other in
+    let step : length (behind first) ≡ length (behind body) = ap (λ (l : List ℕ). length (behind l)) same in
+    let past = from + length (165 ∷ behind body) in
+    let rest : Holds past (cells front) image = subst (λ (n : ℕ). Holds n (cells front) image) (omega (arith, step)) (holds_second from (165 ∷ behind first) (cells front) image r) in
+    let there = holds_second from (165 ∷ behind body) (cells bodies) image b in
+    let more = front_of largest past gate image front bodies small rest fit_r.1 there fit_b.1 shut (subst (λ (n : ℕ). Holds n (gate ∷ []) image) (omega (arith, length-append (behind body) (cells bodies))) here) in
+    (more.0, ap (λ (l : List ℕ). l ∷ bodies) (sym same) ∙ ap (λ (l : List (List ℕ)). first ∷ l) more.1)
+
+pub front_given : FrontGiven
+front_given shape second image front bodies small long live has (fresh short) = absurd (omega (arith, short, long))
+front_given shape second image front bodies small long live has (text also closed bodies' long' t) =
+    let selects = subst (λ (s : ℕ). Selects s second) (holds_one 7 live.selector t.head.selector image live.selected t.head.selected) live.selects in
+    let same : second ≡ also = same_bank t.head.selector second also selects t.head.selects in
+    let r = subst (λ (b : Bool). Holds (begin shape b) (cells front) image) same has.is in
+    front_of shape.largest (begin shape also) t.bank.gate image front bodies' small r has.fit t.bank.cells.is t.bank.cells.fit t.bank.shut (subst (λ (n : ℕ). Holds n (t.bank.gate ∷ []) image) t.bank.place t.bank.closes)
+
 magic_holds : (at : ℕ) (image : List ℕ) → at < 7 → Holds 0 magic image → get_or image at 0 ≡ get_or magic at 0
 magic_holds at image less is = sym (get_or-take 7 image at 0 less) ∙ ap (λ (l : List ℕ). get_or l at 0) is
 
@@ -88,3 +114,14 @@ never_both shape image bodies at small (text second closed bodies' long t) it = 
         let r = subst (λ (b : Bool). Holds (begin shape b) (cells fails.bodies) image) same fails.cells.is in
         never shape.largest (begin shape second + shape.bank) (begin shape second) at' t.bank.gate image fails.bodies bodies' small r fails.cells.fit t.bank.cells.is t.bank.cells.fit
         (omega (arith, t.bank.cells.within)) t.bank.shut (subst (λ (n : ℕ). Holds n (t.bank.gate ∷ []) image) t.bank.place t.bank.closes) f
+
+-- an image that gives bodies of which none is refused is not refused, for a store above
+pub never_refused : (shape : Shape) (Took : List (List ℕ) → Type 0) (Refused : List (List ℕ) → List ℕ → Type 0) (image : List ℕ) (bodies : List (List ℕ)) (at : ℕ) → shape.largest < 2 ^ 32 → Gives shape image bodies
+    → ((front rest : List (List ℕ)) (body : List ℕ) → bodies ≡ front ++ body ∷ rest → Refused front body → ⊥) → IsRefused shape Took Refused image at → ⊥
+never_refused shape Took Refused image bodies at small gives none it = by at it.fails
+  where
+    by : (place : ℕ) → FailsFirst shape Took Refused image place → ⊥
+    by place (no_text place' fails took) = never_both shape image bodies place' small gives (record { long = it.long; fails = fails })
+    by place (no_meaning second front body live has refused) =
+        let more = front_given shape second image (front ++ body ∷ []) bodies small it.long live has gives in
+        none front more.0 body (more.1 ∙ append_assoc front (body ∷ []) more.0) refused

@@ -1,13 +1,15 @@
 -- Where the grammar fails, as it was seen.
-use Rattle.std.proofs.Common.{◌≡◌, ◌≢◌, ◌⊎◌, inl, inr, ℕ, ◌+◌, ◌-◌, ◌≤◌, ◌<◌, ◌^◌, Bool, List, [], ◌∷◌, length, get_or, take, drop, sym, ◌∙◌, ap, subst, arith, length-drop, zero, suc, Option, Some, None}
+use Rattle.std.proofs.Common.{◌≡◌, ◌≢◌, ◌⊎◌, inl, inr, ℕ, ◌+◌, ◌-◌, ◌≤◌, ◌<◌, ◌^◌, Bool, List, [], ◌∷◌, length, get_or, take, drop, refl, sym, ◌∙◌, ap, subst, arith, length-drop, zero, suc, Option, Some, None}
 use Rattle.std.specs.Prelude.{IfSome, min}
 use Rattle.std.specs.Int.{w32, to_be_bytes}
 use Rattle.std.proofs.lemmas.List.{drop_more, take_all, length-take, get_or-take}
 use Rattle.gate_log.specs.declared.shape.Shape.{Shape}
-use Rattle.gate_log.specs.Text.{Holds, HasNumber, IsTooLong, FailsFrom, no_gate, no_length, too_long, no_body, FailsInBank, FailsAt, wrong_magic, wrong_bank, IsLive, magic}
+use Rattle.gate_log.specs.Text.{Holds, HasNumber, IsTooLong, FailsFrom, no_gate, no_length, too_long, no_body, wrong_magic, wrong_bank, IsLive, magic}
 use Rattle.gate_log.specs.declared.error.LogError.{LogError}
 use Rattle.gate_log.specs.declared.error.LogError.TheVariants.{Disk, NotAStore, Memory}
 use Rattle.gate_log.specs.Steps.{Unread}
+use Rattle.gate_log.specs.Opening.{FailsInHead, FailsInOrder, no_cell, refused_cell}
+use Rattle.gate_log.specs.Replay.{FailsFirst, no_text, no_meaning}
 use Rattle.dsc_terms.specs.Counts.{Rose}
 use Rattle.gate_log.proofs.Holds.{take_take}
 
@@ -83,23 +85,37 @@ never_few P n None head seven le long read few = tt
 never_few P n (Some held) head seven le long read few = absurd (omega (arith, got_of 0 n held head read le, seven, long, few))
 
 pub magic_is_wrong : (shape : Shape) (n at : ℕ) (seen : Option (List ℕ)) (head : List ℕ) → length head ≡ 7 → 7 ≤ n → IfSome seen (λ held. 9 < length held) → IfSome seen (λ held. take n head ≡ take (length head) (drop 0 held))
-    → (at < 7) × (take at head ≡ take at magic) × (get_or head at 0 ≢ get_or magic at 0) → IfSome seen (λ held. FailsAt shape held at)
+    → (at < 7) × (take at head ≡ take at magic) × (get_or head at 0 ≢ get_or magic at 0) → IfSome seen (λ held. FailsInHead shape held at)
 magic_is_wrong shape n at None head seven enough long read wrong = tt
 magic_is_wrong shape n at (Some held) head seven enough long read wrong =
-    let is : head ≡ take 7 held = sym (take_all n head (omega arith)) ∙ read ∙ ap (λ (k : ℕ). take k held) seven in
-    wrong_magic at wrong.0 (omega (arith, long, wrong.0))
-    (sym (take_take at (7 - at) 7 held (omega (arith, wrong.0))) ∙ ap (λ (l : List ℕ). take at l) (sym is) ∙ wrong.1)
-    (λ same. wrong.2 (ap (λ (l : List ℕ). get_or l at 0) is ∙ get_or-take 7 held at 0 wrong.0 ∙ same))
+    let is : head ≡ take 7 held = sym (take_all n head (omega arith)) ∙ read ∙ ap (λ (k : ℕ). take k held) seven in (
+      wrong_magic at wrong.0 (omega (arith, long, wrong.0))
+          (sym (take_take at (7 - at) 7 held (omega (arith, wrong.0))) ∙ ap (λ (l : List ℕ). take at l) (sym is) ∙ wrong.1)
+          (λ same. wrong.2 (ap (λ (l : List ℕ). get_or l at 0) is ∙ get_or-take 7 held at 0 wrong.0 ∙ same)),
+      refl,
+    )
+
+-- what is seen of the head is seen of the image, before a body was taken
+pub unread_head : (rose later : Type 0) (seen : Option (List ℕ)) (shape : Shape) (Took : List (List ℕ) → Type 0) (Refused : List (List ℕ) → List ℕ → Type 0) (e : LogError) → Took [] → (rose → later) → Unread rose seen (FailsInHead shape) e → Unread later seen (FailsFirst shape Took Refused) e
+unread_head rose later seen shape Took Refused Disk first on cause = on cause
+unread_head rose later seen shape Took Refused Memory first on cause = tt
+unread_head rose later None shape Took Refused (NotAStore at) first on cause = tt
+unread_head rose later (Some held) shape Took Refused (NotAStore at) first on cause = no_text at cause.0 (subst (λ (l : List (List ℕ)). Took l) (sym cause.1) first)
 
 -- what is seen of a bank is seen of the image, whose head makes that bank live
-pub unread_bank : (rose later : Type 0) (seen mid : Option (List ℕ)) (shape : Shape) (second : Bool) (e : LogError) → mid ≡ seen → IfSome seen (IsLive second) → (rose → later) → Unread rose mid (FailsInBank shape second) e → Unread later seen (FailsAt shape) e
-unread_bank rose later seen mid shape second Disk same head on cause = on cause
-unread_bank rose later seen mid shape second Memory same head on cause = tt
-unread_bank rose later seen mid shape second (NotAStore at) same head on cause = by seen head (subst (λ (o : Option (List ℕ)). IfSome o (λ held. FailsInBank shape second held at)) same cause)
+pub unread_bank : (rose later : Type 0) (seen mid : Option (List ℕ)) (shape : Shape) (second : Bool) (Took : List (List ℕ) → Type 0) (Refused : List (List ℕ) → List ℕ → Type 0) (e : LogError) → mid ≡ seen → IfSome seen (IsLive second) → (rose → later)
+    → Unread rose mid (FailsInOrder shape second Took Refused) e → Unread later seen (FailsFirst shape Took Refused) e
+unread_bank rose later seen mid shape second Took Refused Disk same head on cause = on cause
+unread_bank rose later seen mid shape second Took Refused Memory same head on cause = tt
+unread_bank rose later seen mid shape second Took Refused (NotAStore at) same head on cause = by seen head (subst (λ (o : Option (List ℕ)). IfSome o (λ held. FailsInOrder shape second Took Refused held at)) same cause)
   where
-    by : (o : Option (List ℕ)) → IfSome o (IsLive second) → IfSome o (λ held. FailsInBank shape second held at) → IfSome o (λ held. FailsAt shape held at)
+    of_bank : (held : List ℕ) (place : ℕ) → IsLive second held → FailsInOrder shape second Took Refused held place → FailsFirst shape Took Refused held place
+    of_bank held place live (no_cell place' fails took) = no_text place' (wrong_bank second place' live fails) took
+    of_bank held place live (refused_cell front body cells refused) = no_meaning second front body live cells refused
+
+    by : (o : Option (List ℕ)) → IfSome o (IsLive second) → IfSome o (λ held. FailsInOrder shape second Took Refused held at) → IfSome o (λ held. FailsFirst shape Took Refused held at)
     by None live fails = tt
-    by (Some held) live fails = wrong_bank second at live fails
+    by (Some held) live fails = of_bank held at live fails
 
 pub rose_sooner : (before mid after : ℕ) → before ≤ mid → Rose mid after → Rose before after
 rose_sooner before mid after le rose = omega (arith, le, rose)

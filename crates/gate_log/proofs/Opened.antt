@@ -1,12 +1,19 @@
 -- A log that was opened is of its disk.
-use Rattle.std.proofs.Common.{◌≡◌, ℕ, Bool, ◌+◌, ◌≤◌, List, [], ◌∷◌, ◌++◌, length, refl, sym, ◌∙◌, ap, subst, arith, Option, Some, None, false}
+use Rattle.std.proofs.Common.{◌≡◌, ℕ, Bool, ◌+◌, ◌≤◌, ◌<◌, List, [], ◌∷◌, ◌++◌, length, refl, sym, ◌∙◌, ap, subst, arith, Option, Some, None, false}
 use Rattle.std.specs.Prelude.{IfSome}
 use Rattle.std.proofs.lemmas.Option.{none-some, same_Some}
-use Rattle.dsc_outside.specs.Disk.{Each}
+use Rattle.dsc_terms.specs.Counts.{Rose}
+use Rattle.dsc_outside.specs.Disk.{Each, Still}
+use Rattle.dsc_outside.proofs.Moments.{still_then}
 use Rattle.gate_log.specs.declared.shape.Shape.{Shape}
 use Rattle.dsc_outside.specs.declared.disk.Disk.{Ghosts}
 use Rattle.gate_log.specs.Text.{magic, IsText, Gives, fresh, text}
-use Rattle.gate_log.specs.Log.{LogTerm, Opened, Keeps, log_at}
+use Rattle.gate_log.specs.declared.error.LogError.{LogError}
+use Rattle.gate_log.specs.declared.error.LogError.TheVariants.{Disk, NotAStore, Memory}
+use Rattle.gate_log.specs.Log.{LogTerm, Keeps, log_at}
+use Rattle.gate_log.specs.Replay.{Opened, Unopened, IsRefused, FailsFirst}
+use Rattle.gate_log.specs.Opening.{StillWhereRefused}
+use Rattle.gate_log.specs.Steps.{Unread}
 
 pub told_length : (o : Option (List ℕ)) (n : ℕ) (c : List ℕ) → o ≡ Some c → IfSome o (λ held. n ≡ length held) → n ≡ length c
 told_length None n c is told = absurd (none-some c is)
@@ -16,13 +23,31 @@ pub fresh_keeps : (shape : Shape) (d c : List ℕ) → length d ≤ 9 → length
 fresh_keeps shape d c short_d short_c [] (fresh short) = fresh short_c
 fresh_keeps shape d c short_d short_c bodies (text second closed bodies' long t) = absurd (omega arith)
 
-pub new_text : (shape : Shape) (c : List ℕ) (found : List (List ℕ)) → 1 ≤ shape.bank → found ≡ [] → c ≡ magic ++ 49 ∷ 0 ∷ [] → IsText shape false 8 c found
-new_text shape c found some none is = subst (λ (l : List (List ℕ)). IsText shape false 8 c l) (sym none) (subst (λ (k : List ℕ). IsText shape false 8 k []) (sym is) (record {
+pub new_text : (shape : Shape) (c : List ℕ) → 1 ≤ shape.bank → c ≡ magic ++ 49 ∷ 0 ∷ [] → IsText shape false 8 c []
+new_text shape c some is = subst (λ (k : List ℕ). IsText shape false 8 k []) (sym is) (record {
   head = record { selector = 49; head = refl; selected = refl; selects = omega arith };
   bank = record { cells = record { is = refl; within = some; fit = tt }; gate = 0; shut = omega arith; closes = refl; place = refl };
-}))
+})
 
-pub opened : {D : Type 0} (d : Ghosts D) (old new : D) (shape : Shape) (second : Bool) (closed : ℕ) (found : List (List ℕ)) (log : LogTerm) → log ≡ log_at shape second closed found
-    → Each (d.images new) (λ c. IsText shape second closed c found) → IfSome (d.seen new) (λ held. closed + 1 ≡ length held) → IfSome (d.seen old) (λ held. Gives shape held found) → Opened d old new shape log
-opened d old new shape second closed found log is texts long gave =
-    subst (λ (l : LogTerm). Opened d old new shape l) (sym is) (record { same_shape = refl; spent = refl; of = record { each = texts; long = long }; found = gave })
+pub opened : {D : Type 0} (d : Ghosts D) (old new : D) (shape : Shape) (Took : List (List ℕ) → Type 0) (second : Bool) (closed : ℕ) (found : List (List ℕ)) (log : LogTerm) → log ≡ log_at shape second closed → Took found
+    → Each (d.images new) (λ c. IsText shape second closed c found) → IfSome (d.seen new) (λ held. closed + 1 ≡ length held) → IfSome (d.seen old) (λ held. Gives shape held found) → Opened d old new shape Took log
+opened d old new shape Took second closed found log is took texts long gave =
+    subst (λ (l : LogTerm). Opened d old new shape Took l) (sym is) (record { found = found; took = took; same_shape = refl; spent = refl; of = record { each = texts; long = long }; gave = gave })
+
+-- a call that left the disk as it was
+pub still_refused : {D : Type 0} (d : Ghosts D) (old new : D) (e : LogError) → Still d.seen d.images d.moment d.left_since old new → StillWhereRefused d old new e
+still_refused d old new Disk still = tt
+still_refused d old new (NotAStore at) still = still
+still_refused d old new Memory still = tt
+
+-- the cause of an error, seen after calls that left the disk as it was
+pub unopened : {D : Type 0} (d : Ghosts D) (rose : Type 0) (old mid new : D) (shape : Shape) (Took : List (List ℕ) → Type 0) (Refused : List (List ℕ) → List ℕ → Type 0) (end : ℕ) (e : LogError) → Still d.seen d.images d.moment d.left_since old mid
+    → 9 < end → IfSome (d.seen mid) (λ held. end ≡ length held) → (rose → Rose (d.faults old) (d.faults new)) → Unread rose (d.seen mid) (FailsFirst shape Took Refused) e → StillWhereRefused d mid new e → Unopened d old new shape Took Refused e
+unopened d rose old mid new shape Took Refused end Disk still long is_end on cause after = on cause
+unopened d rose old mid new shape Took Refused end Memory still long is_end on cause after = tt
+unopened d rose old mid new shape Took Refused end (NotAStore at) still long is_end on cause after =
+    record { refused = subst (λ (o : Option (List ℕ)). IfSome o (λ held. IsRefused shape Took Refused held at)) still.same (by (d.seen mid) is_end cause); still = still_then d.seen d.images d.moment d.left_since old mid new still after }
+  where
+    by : (o : Option (List ℕ)) → IfSome o (λ held. end ≡ length held) → IfSome o (λ held. FailsFirst shape Took Refused held at) → IfSome o (λ held. IsRefused shape Took Refused held at)
+    by None is fails = tt
+    by (Some held) is fails = record { long = omega (arith, long, is); fails = fails }

@@ -1,12 +1,15 @@
 -- What was read is what stands there.
-use Rattle.std.proofs.Common.{◌≡◌, ◌≢◌, ℕ, Bool, true, false, zero, suc, ◌+◌, ◌≤◌, ◌<◌, List, [], ◌∷◌, ◌++◌, length, get_or, take, drop, refl, sym, ◌∙◌, ap, subst, arith, Option, Some, None}
+use Rattle.std.proofs.Common.{◌≡◌, ◌≢◌, ℕ, Bool, true, false, zero, suc, ◌+◌, ◌-◌, ◌≤◌, ◌<◌, List, [], ◌∷◌, ◌++◌, length, get_or, take, drop, refl, sym, ◌∙◌, ap, subst, arith, Option, Some, None}
 use Rattle.std.specs.Prelude.{IfSome, option_map}
 use Rattle.std.specs.Int.{w32, to_be_bytes}
-use Rattle.std.proofs.lemmas.List.{take_at, drop_more, take_all}
+use Rattle.std.proofs.lemmas.List.{drop_more, take_all, length-take-le, take-append-le}
 use Rattle.gate_log.specs.declared.shape.Shape.{Shape}
-use Rattle.gate_log.specs.Text.{Holds, Selects, behind, begin, cells, magic, IsLive, IsBank}
-use Rattle.gate_log.specs.Steps.{StandsAt, ReadUpTo}
-use Rattle.gate_log.proofs.Holds.{holds_both}
+use Rattle.gate_log.specs.Text.{Holds, Selects, behind, begin, end_of, cells, magic, IsLive, IsBank, FailsFrom}
+use Rattle.gate_log.specs.Steps.{StandsAt, ReadUpTo, Unread}
+use Rattle.gate_log.specs.Opening.{HandedUpTo, HandedOn, FailsInOrder, no_cell, refused_cell, Untaken}
+use Rattle.gate_log.specs.declared.error.LogError.{LogError}
+use Rattle.gate_log.specs.declared.error.LogError.TheVariants.{Disk, NotAStore, Memory}
+use Rattle.gate_log.proofs.Holds.{holds_both, take_take}
 use Rattle.gate_log.proofs.Cells.{cells-push, length-cells-push, fit-push}
 use Rattle.std.proofs.Math.Dec.{eqb}
 use Rattle.std.proofs.lemmas.Bool.{eqb-true, eqb-false}
@@ -27,8 +30,9 @@ cell_told largest at None mid head body n got five enough gate size all fits fir
 cell_told largest at (Some held) mid head body n got five enough gate size all fits first same second =
     cell_here largest at held head body n got five enough gate size all fits first (subst (λ (o : Option (List ℕ)). IfSome o (λ held. take got body ≡ take (length body) (drop (at + 5) held))) same second)
 
-pub all_of : (n : ℕ) (into items : List ℕ) → length into ≡ n → take n (into ++ drop (length into) items) ≡ into
-all_of n into items is = take_at into (drop (length into) items) n is
+-- the front of a buffer whose items were read anew
+pub all_of : (n len : ℕ) (into items : List ℕ) → n ≤ length into → n ≤ len → take n (take len (into ++ drop (length into) items)) ≡ take n into
+all_of n len into items enough room = take_take n (len - n) len (into ++ drop (length into) items) (omega (arith, room)) ∙ take-append-le n into (drop (length into) items) enough
 
 read_more : (shape : Shape) (second : Bool) (at : ℕ) (held : List ℕ) (bodies : List (List ℕ)) (body : List ℕ) → at + 5 + length body < begin shape second + shape.bank → ReadUpTo shape second at held bodies → StandsAt shape.largest at held (Some body)
     → ReadUpTo shape second (at + (length body + 5)) held (bodies ++ body ∷ [])
@@ -52,25 +56,75 @@ read_all shape second at held bodies so_far here = record {
   place = so_far.place;
 }
 
-pub told_none : (shape : Shape) (second : Bool) (at : ℕ) (seen : Option (List ℕ)) (bodies : List (List ℕ)) → 1 ≤ shape.bank → at ≡ begin shape second → bodies ≡ [] → IfSome seen (λ held. ReadUpTo shape second at held bodies)
-told_none shape second at None bodies some is none = tt
-told_none shape second at (Some held) bodies some is none = subst (λ (l : List (List ℕ)). ReadUpTo shape second at held l) (sym none) (record { place = omega (arith, is); read = record { is = refl; within = some; fit = tt } })
+told_none : (shape : Shape) (second : Bool) (at : ℕ) (seen : Option (List ℕ)) → 1 ≤ shape.bank → at ≡ begin shape second → IfSome seen (λ held. ReadUpTo shape second at held [])
+told_none shape second at None some is = tt
+told_none shape second at (Some held) some is = record { place = omega (arith, is); read = record { is = refl; within = some; fit = tt } }
 
-pub told_more : (shape : Shape) (second : Bool) (at m : ℕ) (seen mid : Option (List ℕ)) (bodies more : List (List ℕ)) (body : List ℕ) → more ≡ bodies ++ body ∷ [] → length body + 5 ≡ m → at + 5 + length body < begin shape second + shape.bank → IfSome seen (λ held. ReadUpTo shape second at held bodies)
-    → mid ≡ seen → IfSome mid (λ held. StandsAt shape.largest at held (Some body)) → IfSome seen (λ held. ReadUpTo shape second (at + m) held more)
-told_more shape second at m None mid bodies more body is size inside so_far same here = tt
-told_more shape second at m (Some held) mid bodies more body is size inside so_far same here =
+told_more : (shape : Shape) (second : Bool) (at m : ℕ) (seen mid : Option (List ℕ)) (bodies : List (List ℕ)) (body : List ℕ) → length body + 5 ≡ m → at + 5 + length body < begin shape second + shape.bank → IfSome seen (λ held. ReadUpTo shape second at held bodies)
+    → mid ≡ seen → IfSome mid (λ held. StandsAt shape.largest at held (Some body)) → IfSome seen (λ held. ReadUpTo shape second (at + m) held (bodies ++ body ∷ []))
+told_more shape second at m None mid bodies body size inside so_far same here = tt
+told_more shape second at m (Some held) mid bodies body size inside so_far same here =
     let there = subst (λ (o : Option (List ℕ)). IfSome o (λ held. StandsAt shape.largest at held (Some body))) same here in
     let done = read_more shape second at held bodies body inside so_far there in
-    subst (λ (l : List (List ℕ)). ReadUpTo shape second (at + m) held l) (sym is) (subst (λ (n : ℕ). ReadUpTo shape second (at + n) held (bodies ++ body ∷ [])) size done)
+    subst (λ (n : ℕ). ReadUpTo shape second (at + n) held (bodies ++ body ∷ [])) size done
 
-pub told_all : {V : Type 0} (f : V → List ℕ) (shape : Shape) (second : Bool) (at : ℕ) (seen mid : Option (List ℕ)) (bodies : List (List ℕ)) (o : Option V) → o ≡ None → IfSome seen (λ held. ReadUpTo shape second at held bodies)
+told_all : (f : ℕ → List ℕ) (shape : Shape) (second : Bool) (at : ℕ) (seen mid : Option (List ℕ)) (bodies : List (List ℕ)) (o : Option ℕ) → o ≡ None → IfSome seen (λ held. ReadUpTo shape second at held bodies)
     → mid ≡ seen → IfSome mid (λ held. StandsAt shape.largest at held (option_map f o)) → IfSome seen (λ held. IsBank shape second at held bodies)
 told_all f shape second at None mid bodies o none so_far same here = tt
-told_all {V} f shape second at (Some held) mid bodies o none so_far same here =
+told_all f shape second at (Some held) mid bodies o none so_far same here =
     let there = subst (λ (m : Option (List ℕ)). IfSome m (λ held. StandsAt shape.largest at held (option_map f o))) same here in
-    let gate = subst (λ (p : Option V). StandsAt shape.largest at held (option_map f p)) none there in
+    let gate = subst (λ (p : Option ℕ). StandsAt shape.largest at held (option_map f p)) none there in
     read_all shape second at held bodies so_far gate
+
+-- nothing was handed on at the begin of a bank
+pub handed_none : (shape : Shape) (second : Bool) (at : ℕ) (seen : Option (List ℕ)) (Took : List (List ℕ) → Type 0) → 1 ≤ shape.bank → at ≡ begin shape second → Took [] → HandedUpTo shape second seen Took at
+handed_none shape second at seen Took some is took = record { bodies = []; took = took; read = told_none shape second at seen some is }
+
+-- one body more
+pub handed_more : (shape : Shape) (second : Bool) (at n : ℕ) (seen mid : Option (List ℕ)) (Took Takes : List (List ℕ) → Type 0) (items body : List ℕ) (so_far : HandedUpTo shape second seen Took at) → body ≡ take n items → n ≤ length items
+    → at + 5 + n < begin shape second + shape.bank → mid ≡ seen → IfSome mid (λ held. StandsAt shape.largest at held (Some (take n items))) → Takes (so_far.bodies ++ body ∷ []) → HandedUpTo shape second seen Takes (at + (n + 5))
+handed_more shape second at n seen mid Took Takes items body so_far is enough inside same here took =
+    let long : length (take n items) ≡ n = length-take-le n items enough in
+    record { bodies = so_far.bodies ++ take n items ∷ []; took = subst (λ (l : List ℕ). Takes (so_far.bodies ++ l ∷ [])) is took; read = told_more shape second at (n + 5) seen mid so_far.bodies (take n items) (omega (arith, long)) (omega (arith, long, inside)) so_far.read same here }
+
+-- all of them
+pub handed_all : (f : ℕ → List ℕ) (shape : Shape) (second : Bool) (at : ℕ) (seen mid : Option (List ℕ)) (Took : List (List ℕ) → Type 0) (o : Option ℕ) → o ≡ None → HandedUpTo shape second seen Took at
+    → mid ≡ seen → IfSome mid (λ held. StandsAt shape.largest at held (option_map f o)) → HandedOn shape second seen Took at
+handed_all f shape second at seen mid Took o none so_far same here =
+    record { found = so_far.bodies; took = so_far.took; bank = told_all f shape second at seen mid so_far.bodies o none so_far.read same here }
+
+-- ---- where it fails first
+
+-- the grammar, after bodies that were taken
+pub unread_cell : (rose later : Type 0) (shape : Shape) (second : Bool) (at limit : ℕ) (seen mid : Option (List ℕ)) (Took : List (List ℕ) → Type 0) (Refused : List (List ℕ) → List ℕ → Type 0) (e : LogError) → HandedUpTo shape second seen Took at
+    → mid ≡ seen → limit ≡ begin shape second + shape.bank → (rose → later) → Unread rose mid (FailsFrom shape.largest limit at) e → Unread later seen (FailsInOrder shape second Took Refused) e
+unread_cell rose later shape second at limit seen mid Took Refused Disk so_far same is on cause = on cause
+unread_cell rose later shape second at limit seen mid Took Refused Memory so_far same is on cause = tt
+unread_cell rose later shape second at limit seen mid Took Refused (NotAStore place) so_far same is on cause =
+    by seen so_far.read (subst (λ (o : Option (List ℕ)). IfSome o (λ held. FailsFrom shape.largest limit at held place)) same cause)
+  where
+    by : (o : Option (List ℕ)) → IfSome o (λ held. ReadUpTo shape second at held so_far.bodies) → IfSome o (λ held. FailsFrom shape.largest limit at held place) → IfSome o (λ held. FailsInOrder shape second Took Refused held place)
+    by None read fails = tt
+    by (Some held) read fails =
+        let there = subst (λ (n : ℕ). FailsFrom shape.largest n at held place) is fails in
+        no_cell place (record { bodies = so_far.bodies; cells = read.read; fails = subst (λ (n : ℕ). FailsFrom shape.largest (begin shape second + shape.bank) n held place) read.place there }) so_far.took
+
+-- a body that was refused
+pub untaken_cell : (later : Type 0) (shape : Shape) (second : Bool) (at n : ℕ) (seen mid : Option (List ℕ)) (Took Takes : List (List ℕ) → Type 0) (Refused : List (List ℕ) → List ℕ → Type 0) (items body : List ℕ) (e : LogError) (so_far : HandedUpTo shape second seen Took at)
+    → body ≡ take n items → n ≤ length items → at + 5 + n < begin shape second + shape.bank → mid ≡ seen → IfSome mid (λ held. StandsAt shape.largest at held (Some (take n items))) → Untaken (Refused so_far.bodies body) at e
+    → Unread later seen (FailsInOrder shape second Takes Refused) e
+untaken_cell later shape second at n seen mid Took Takes Refused items body Disk so_far same_body enough inside same here cause = absurd cause
+untaken_cell later shape second at n seen mid Took Takes Refused items body Memory so_far same_body enough inside same here cause = tt
+untaken_cell later shape second at n seen mid Took Takes Refused items body (NotAStore place) so_far same_body enough inside same here cause =
+    by seen so_far.read (subst (λ (o : Option (List ℕ)). IfSome o (λ held. StandsAt shape.largest at held (Some (take n items)))) same here)
+  where
+    by : (o : Option (List ℕ)) → IfSome o (λ held. ReadUpTo shape second at held so_far.bodies) → IfSome o (λ held. StandsAt shape.largest at held (Some (take n items))) → IfSome o (λ held. FailsInOrder shape second Takes Refused held place)
+    by None read there = tt
+    by (Some held) read there =
+        let long : length (take n items) ≡ n = length-take-le n items enough in
+        let more = read_more shape second at held so_far.bodies (take n items) (omega (arith, long, inside)) read there in
+        let is : end_of shape second so_far.bodies + 5 ≡ place = omega (arith, read.place, cause.0) in
+        subst (λ (p : ℕ). FailsInOrder shape second Takes Refused held p) is (refused_cell so_far.bodies (take n items) more.read (subst (λ (l : List ℕ). Refused so_far.bodies l) same_body cause.1))
 
 -- the gate that was read
 pub gate_told : (largest at : ℕ) (seen : Option (List ℕ)) (head : List ℕ) (n : ℕ) → length head ≡ 5 → 1 ≤ n → get_or head 0 0 ≢ 165

@@ -6,7 +6,7 @@ use Rattle.dsc_outside.specs.Disk.{Each, AnyMoment}
 use Rattle.gate_log.specs.declared.shape.Shape.{Shape}
 use Rattle.gate_log.specs.declared.error.LogError.{LogError}
 use Rattle.gate_log.specs.declared.error.LogError.TheVariants.{Disk, NotAStore, Memory}
-use Rattle.gate_log.specs.Text.{Gives, IsText, IsLive, Holds, AllFit, FailsAt, need_of, begin, end_of, cells}
+use Rattle.gate_log.specs.Text.{Gives, IsText, Holds, AllFit, FailsAt, need_of, begin, end_of, cells}
 
 -- what contracts see of a log
 pub record LogTerm : Type 0 where
@@ -19,8 +19,6 @@ pub record LogTerm : Type 0 where
   pub long : ℕ
   -- a call answered Disk
   pub spent : Bool
-  -- the bodies that the opening found
-  pub found : List (List ℕ)
   -- up to where the other bank is filled, where a rewrite is begun
   pub filled : Option ℕ
 
@@ -99,7 +97,6 @@ pub record PutMore (old : LogTerm) (body : List ℕ) (new : LogTerm) : Type 0 wh
   pub shape : new.shape ≡ old.shape
   pub second : new.second ≡ old.second
   pub closed : new.closed ≡ old.closed
-  pub found : new.found ≡ old.found
   pub spent : new.spent ≡ false
   pub room : room_to_put new + need_of body ≡ room_to_put old
 
@@ -114,7 +111,6 @@ Put old body before after (Err Memory) new = ⊥
 pub record Switched (old new : LogTerm) : Type 0 where
   pub shape : new.shape ≡ old.shape
   pub second : new.second ≡ not old.second
-  pub found : new.found ≡ old.found
   pub spent : new.spent ≡ false
   pub filled : new.filled ≡ None
   pub room : room_in new ≡ room_to_put old
@@ -127,23 +123,10 @@ Finished old before after (Err (NotAStore at)) new = ⊥
 Finished old before after (Err Memory) new = ⊥
 
 -- a log that was opened, its closed gate at the disk's end
-abbrev pub log_at : Shape → Bool → ℕ → List (List ℕ) → LogTerm
-log_at shape second closed found = record { shape = shape; second = second; closed = closed; long = closed + 1; spent = false; found = found; filled = None }
-
--- what an opening that ended well gives
-pub record Opened {D : Type 0} (d : Ghosts D) (old new : D) (shape : Shape) (log : LogTerm) : Type 0 where
-  pub same_shape : log.shape ≡ shape
-  pub spent : log.spent ≡ false
-  pub of : IsLogOf d new log log.found
-  pub found : IfSome (d.seen old) (λ held. Gives shape held log.found)
+abbrev pub log_at : Shape → Bool → ℕ → LogTerm
+log_at shape second closed = record { shape = shape; second = second; closed = closed; long = closed + 1; spent = false; filled = None }
 
 -- the grammar fails here, in an image of more than nine bytes
 pub record IsNoStore (shape : Shape) (image : List ℕ) (at : ℕ) : Type 0 where
   pub long : 9 < length image
   pub fails : FailsAt shape image at
-
--- the cause of an opening's error
-abbrev pub Unopened : {D : Type 0} → Ghosts D → D → D → Shape → LogError → Type 0
-Unopened d old new shape Disk = Rose (d.faults old) (d.faults new)
-Unopened d old new shape (NotAStore at) = IfSome (d.seen old) (λ held. IsNoStore shape held at)
-Unopened d old new shape Memory = Unit {0}

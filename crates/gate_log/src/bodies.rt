@@ -1,42 +1,53 @@
-//! The bodies that an opening found.
-ghost use Rattle.std.specs.Prelude.{◌≡◌, map};
+//! The bodies of a store, kept.
+ghost use Rattle.std.specs.Prelude.{◌≡◌, [], List, ℕ, map};
 
+use crate::replay::{Replay, TakeError};
+use std::alloc::Global;
 use std::marker::Model;
 
-/// The bodies that an opening found, as slices, in the order in which they were appended.
+/// Keeps the bodies of a store, in the order in which they were appended, and refuses none.
 #[derive(Drop)]
-pub struct Bodies<'a> {
-    left: &'a [Vec<u8>],
+pub struct Bodies {
+    alloc: Global,
+    kept: Vec<Vec<u8>>,
 }
 
-impl<'a> Model for Bodies<'a> {
+impl Model for Bodies {
     ghost use Rattle.std.specs.Prelude.{List, ℕ, map};
 
     ghost Value = { List (List ℕ) };
 
-    ghost view = { λ b. map (λ v. v.items) b.left.now };
+    ghost view = { λ b. map (λ v. v.items) b.kept.items };
 }
 
-impl<'a> Bodies<'a> {
-    pub(crate) fn of(left: &'a [Vec<u8>]) -> Bodies<'a>
-        ensures { result ≡ map (λ v. v.items) left.now }
+impl Bodies {
+    /// No bodies.
+    pub fn new(alloc: Global) -> Bodies
+        ensures { result ≡ [] }
     {
-        Bodies { left }
+        Bodies {
+            alloc,
+            kept: Vec::new(alloc),
+        }
+    }
+
+    /// The bodies, in order.
+    pub fn as_slice(&self) -> &[Vec<u8>]
+        ensures { map (λ v. v.items) result.now ≡ self.now }
+    {
+        &self.kept
     }
 }
 
-impl<'a> Iterator for Bodies<'a> {
-    ghost use Rattle.std.specs.Iterator.{YieldsFirstRef, item_count};
+impl Replay for Bodies {
+    ghost use Rattle.std.specs.Prelude.{◌≡◌, List, ℕ};
 
-    type Item = &'a [u8];
+    ghost took = { λ kept bodies. kept ≡ bodies };
 
-    ghost next_gives = { YieldsFirstRef (λ s. s) };
+    ghost refused = { λ kept bodies body. ⊥ };
 
-    ghost remaining = { item_count (λ s. s) };
-
-    fn next(&mut self) -> Option<&'a [u8]> {
-        let (first, others) = self.left.split_first()?;
-        self.left = others;
-        Some(first)
+    fn take(&mut self, body: &[u8]) -> Result<(), TakeError> {
+        self.kept.push(body.to_vec(self.alloc)?)?;
+        Ok(())
     }
 }

@@ -8,7 +8,8 @@
 //! A layer above may rely on this: every image that a crash at any moment of a call may leave gives the bodies before or
 //! after it, and after `Ok` the bodies after it. `specs/Text.antt` says which bytes give which bodies, `specs/Log.antt` what
 //! a log and its answers are, and `specs/Standing.antt` has the words in which a store says what its images stand for.
-//! A log keeps no disk; each call takes the disk that the log is of. No call takes memory but `open_log`.
+//! A log keeps no disk; each call takes the disk that the log is of. No call takes memory but
+//! `replay_log`, which opens a store and hands its bodies to the layer above, one after the other, as they are read.
 #![tactic(auto)]
 
 mod appending;
@@ -18,6 +19,7 @@ mod laws;
 mod log;
 mod opening;
 mod reading;
+mod replay;
 mod rewriting;
 mod shape;
 mod through;
@@ -26,7 +28,8 @@ pub use bodies::Bodies;
 pub use error::LogError;
 pub use laws::image_laws;
 pub use log::Log;
-pub use opening::open_log;
+pub use opening::replay_log;
+pub use replay::{Replay, TakeError};
 pub use shape::Shape;
 
 #[cfg(test)]

@@ -1,11 +1,11 @@
 //! A log of bodies in the live one of two banks.
-ghost use Rattle.std.specs.Prelude.{◌≡◌, [], ◌∷◌, ◌++◌, ℕ, ◌+◌, ◌-◌, ◌≤◌, ◌<◌, ◌^◌, leb, Bool, List, length, OnOk, true, false};
+ghost use Rattle.std.specs.Prelude.{◌≡◌, [], ◌∷◌, ◌++◌, ℕ, ◌+◌, ◌-◌, ◌≤◌, ◌<◌, ◌^◌, leb, List, length, OnOk, true, false};
 ghost use Rattle.gate_log.specs.Text.{need_of, IsLive};
 
 use crate::appending::append_cell;
-use crate::bodies::Bodies;
 use crate::error::LogError;
-use crate::rewriting::{finish_cells, put_cell};
+use crate::reading::lengthen;
+use crate::rewriting::{finish_cells, put_cell, with_zeros};
 use crate::shape::{Shape, begin};
 use dsc_outside::Disk;
 use std::cmp::max;
@@ -24,39 +24,32 @@ pub struct Log {
     spent: bool,
     // room for the longest cell and a gate
     buffer: Vec<u8>,
-    found: Vec<Vec<u8>>,
     // up to where the other bank is filled, where a rewrite is begun
     filled: Option<u64>,
 }
 
 impl Model for Log {
-    ghost use Rattle.std.specs.Prelude.{◌≡◌, ◌≤◌, ◌^◌, ◌+◌, length, map};
+    ghost use Rattle.std.specs.Prelude.{◌≤◌, ◌^◌, ◌+◌, vec_capacity};
     ghost use Rattle.gate_log.specs.Log.{LogTerm};
 
     ghost Value = { LogTerm };
 
-    ghost view = { λ l. record { shape = l.shape; second = l.second; closed = l.closed; long = l.long; spent = l.spent; found = map (λ v. v.items) l.found.items; filled = l.filled } };
+    ghost view = { λ l. record { shape = l.shape; second = l.second; closed = l.closed; long = l.long; spent = l.spent; filled = l.filled } };
 
-    ghost invariant = { λ l. (length l.buffer.items ≡ l.shape.largest + 6) × (l.shape.bank ≤ 2 ^ 62) × (l.closed + 1 ≤ l.long) };
+    ghost invariant = { λ l. (l.shape.largest + 6 ≤ vec_capacity l.buffer) × (l.shape.bank ≤ 2 ^ 62) × (l.closed + 1 ≤ l.long) };
 }
 
 impl Log {
     ghost use Rattle.gate_log.specs.Text.{Gives};
     ghost use Rattle.gate_log.specs.Log.{LogTerm, IsLogOf, HasPutOn, AtAnyMoment, BeforeOrAfter, OldOrNew, Appended, Put, Finished, begun, room_in, room_to_put, log_at};
-    ghost use Rattle.std.specs.Prelude.{map, Option};
+    ghost use Rattle.std.specs.Prelude.{Option, vec_capacity};
 
     /// A log whose closed gate stands at the disk's end.
-    pub(crate) fn of(
-        shape: Shape,
-        second: bool,
-        closed: u64,
-        buffer: Vec<u8>,
-        found: Vec<Vec<u8>>,
-    ) -> Log
+    pub(crate) fn of(shape: Shape, second: bool, closed: u64, buffer: Vec<u8>) -> Log
         requires fits { closed + 1 < 2 ^ 64 }
-        requires buffer { length buffer.items ≡ shape.largest + 6 }
+        requires buffer { shape.largest + 6 ≤ vec_capacity buffer }
         requires bank { shape.bank ≤ 2 ^ 62 }
-        ensures { result ≡ log_at shape second closed (map (λ v. v.items) found.items) }
+        ensures { result ≡ log_at shape second closed }
     {
         Log {
             shape,
@@ -65,16 +58,8 @@ impl Log {
             long: closed + 1,
             spent: false,
             buffer,
-            found,
             filled: None,
         }
-    }
-
-    /// The bodies that the opening found, in order; later ones are not added to it.
-    pub fn bodies(&self) -> Bodies<'_>
-        ensures { result ≡ self.now.found }
-    {
-        Bodies::of(&self.found)
     }
 
     /// Whether a call answered `Disk`. Then no call that changes the disk may follow.
@@ -109,6 +94,7 @@ impl Log {
     {
         let need = body.len() as u64 + 5;
         self.spent = true; // until the cell is on the disk
+        lengthen(&mut self.buffer, body.len() + 5);
         append_cell(disk, self.closed, &mut self.buffer, body)?;
         self.spent = false;
         self.filled = None;
@@ -156,6 +142,8 @@ impl Log {
         };
         let end = at + 5 + body.len() as u64;
         self.spent = true;
+        let room = self.shape.largest as usize + 6;
+        lengthen(&mut self.buffer, with_zeros(body.len() + 6, room));
         put_cell(disk, &mut self.buffer, self.long, at, body)?;
         self.spent = false;
         self.long = max(max(self.long, at), end + 1);
@@ -182,6 +170,8 @@ impl Log {
             unreachable!()
         };
         self.spent = true;
+        let room = self.shape.largest as usize + 6;
+        lengthen(&mut self.buffer, with_zeros(1, room));
         finish_cells(disk, &mut self.buffer, self.long, at, self.second)?;
         self.spent = false;
         self.second = !self.second;

@@ -1,15 +1,18 @@
 //! A store is opened.
-ghost use Rattle.std.specs.Prelude.{◌≡◌, ◌≢◌, ◌+◌, ◌≤◌, ◌<◌, ◌^◌, [], ◌∷◌, ◌++◌, ℕ, List, length, take, get_or, map, IfOk, IfErr, OnOk, IfSome, IfNone};
+ghost use Rattle.std.specs.Prelude.{◌≡◌, ◌≢◌, ◌+◌, ◌≤◌, ◌<◌, ◌^◌, [], ◌∷◌, ◌++◌, length, take, get_or, IfOk, IfErr, OnOk, IfSome, IfNone, vec_capacity};
 ghost use Rattle.dsc_terms.specs.Counts.{Rose};
 ghost use Rattle.dsc_outside.specs.Causes.{HasCause};
 ghost use Rattle.dsc_outside.specs.Disk.{Each, From, Only, AnyMoment, Still};
-ghost use Rattle.gate_log.specs.Text.{IsText, IsLive, Gives, FailsAt, magic};
-ghost use Rattle.gate_log.specs.Log.{AtAnyMoment, Keeps, Opened, Unopened};
+ghost use Rattle.gate_log.specs.Text.{IsLive, magic};
+ghost use Rattle.gate_log.specs.Log.{AtAnyMoment, Keeps};
+ghost use Rattle.gate_log.specs.Replay.{FailsFirst, Opened, Unopened};
+ghost use Rattle.gate_log.specs.Opening.{FailsInHead, Replayed, StillWhereRefused};
 ghost use Rattle.gate_log.specs.Steps.{Unread};
 
 use crate::error::LogError;
 use crate::log::Log;
 use crate::reading::read_cells;
+use crate::replay::Replay;
 use crate::shape::Shape;
 use crate::through::{cut_through, length_of, read_from, settle};
 use dsc_outside::{Disk, Failed};
@@ -51,7 +54,7 @@ fn read_head<D: Disk>(disk: &mut D, shape: Shape) -> Result<bool, LogError>
     requires long { IfSome (D.seen disk.old) (λ held. 9 < length held) }
     ensures still { Still D.seen D.images D.moment D.left_since disk.old disk.new }
     ensures head { IfOk result (λ second. IfSome (D.seen disk.old) (IsLive second)) }
-    ensures cause { IfErr result (Unread (Rose (D.faults disk.old) (D.faults disk.new)) (D.seen disk.old) (FailsAt shape)) }
+    ensures cause { IfErr result (Unread (Rose (D.faults disk.old) (D.faults disk.new)) (D.seen disk.old) (FailsInHead shape)) }
     ensures count { D.faults disk.old ≤ D.faults disk.new }
 {
     let mut head = [0; 7];
@@ -70,52 +73,66 @@ fn read_head<D: Disk>(disk: &mut D, shape: Shape) -> Result<bool, LogError>
     Ok(selector[0] == 0x32)
 }
 
-// The bodies of a store, whose end is cut after the closed gate.
-fn read_old<D: Disk>(
-    alloc: Global,
+// The bodies of a store are handed on, and its end is cut after the closed gate.
+fn replay_old<D: Disk, R: Replay>(
     disk: &mut D,
     shape: Shape,
     end: u64,
-) -> Result<(Vec<Vec<u8>>, bool, u64), LogError>
+    buffer: &mut Vec<u8>,
+    replay: &mut R,
+) -> Result<(bool, u64), LogError>
     requires only { Only (D.seen disk.old) (D.images disk.old) }
     requires end { IfSome (D.seen disk.old) (λ held. end ≡ length held) }
     requires long { 9 < end }
     requires small { shape.largest < 2 ^ 32 }
     requires some { 1 ≤ shape.bank }
     requires bank { shape.bank ≤ 2 ^ 62 }
-    ensures ok { IfOk result (λ r. Each (D.images disk.new) (λ c. IsText shape r.1 r.2 c (map (λ v. v.items) r.0.items))) }
-    ensures seen { IfOk result (λ r. IfSome (D.seen disk.new) (λ held. r.2 + 1 ≡ length held)) }
-    ensures found { IfOk result (λ r. IfSome (D.seen disk.old) (λ held. Gives shape held (map (λ v. v.items) r.0.items))) }
-    ensures within { IfOk result (λ r. r.2 + 1 < 2 ^ 64) }
+    requires room { shape.largest ≤ vec_capacity buffer.old }
+    requires first { R.took replay.old [] }
+    ensures ok { IfOk result (λ r. Replayed D.Disk disk.old disk.new shape (R.took replay.new) r.0 r.1) }
+    ensures seen { IfOk result (λ r. IfSome (D.seen disk.new) (λ held. r.1 + 1 ≡ length held)) }
+    ensures within { IfOk result (λ r. r.1 + 1 < 2 ^ 64) }
+    ensures room { vec_capacity buffer.old ≤ vec_capacity buffer.new }
     ensures any_moment { AnyMoment D.moment D.left_since disk.old disk.new (From (Keeps shape) (D.images disk.old)) }
-    ensures cause { IfErr result (Unread (Rose (D.faults disk.old) (D.faults disk.new)) (D.seen disk.old) (FailsAt shape)) }
+    ensures still { IfErr result (StillWhereRefused D.Disk disk.old disk.new) }
+    ensures cause { IfErr result (Unread (Rose (D.faults disk.old) (D.faults disk.new)) (D.seen disk.old) (FailsFirst shape (R.took replay.new) (R.refused replay.new))) }
     ensures count { D.faults disk.old ≤ D.faults disk.new }
 {
     let second = read_head(disk, shape)?;
-    let (found, closed) = read_cells(alloc, disk, shape, second, end)?;
+    let closed = read_cells(disk, shape, second, end, buffer, replay)?;
     cut_through(disk, closed + 1)?;
-    Ok((found, second, closed))
+    Ok((second, closed))
 }
 
-/// Opens the store of a disk; a file of at most nine bytes becomes a new one.
+/// Opens the store of a disk, and hands its bodies on one after the other, each as soon as it is read; a file of at most nine
+/// bytes becomes a new store.
 ///
-/// The log is of the disk afterwards, and its bodies are those that the disk read as. A crash at any moment leaves what an
-/// image gave before.
-pub fn open_log<D: Disk>(alloc: Global, disk: &mut D, shape: Shape) -> Result<Log, LogError>
+/// After `Ok` the log is of the disk, with the bodies that the disk read as, and all of them were taken. `NotAStore` names the
+/// first failure in the order of the file: the byte at which the grammar fails, or the first byte of a body that was refused.
+/// Then the file is as it was. A crash at any moment leaves what an image gave before.
+///
+/// The memory is the room for one cell, touched up to the longest body that is read, and what the replay takes.
+pub fn replay_log<D: Disk, R: Replay>(
+    alloc: Global,
+    disk: &mut D,
+    shape: Shape,
+    replay: &mut R,
+) -> Result<Log, LogError>
     requires some { 1 ≤ shape.bank }
     requires bank { shape.bank ≤ 2 ^ 62 }
-    ensures ok { IfOk result (Opened D.Disk disk.old disk.new shape) }
-    ensures refused { IfErr result (Unopened D.Disk disk.old disk.new shape) }
+    requires first { R.took replay.old [] }
+    ensures ok { IfOk result (Opened D.Disk disk.old disk.new shape (R.took replay.new)) }
+    ensures refused { IfErr result (Unopened D.Disk disk.old disk.new shape (R.took replay.new) (R.refused replay.new)) }
     ensures any_moment { AtAnyMoment D.Disk disk.old disk.new (From (Keeps shape) (D.images disk.old)) }
     ensures count { D.faults disk.old ≤ D.faults disk.new }
 {
-    let buffer = vec![in alloc; 0u8; shape.largest as usize + 6]?;
+    let mut buffer = Vec::with_capacity(alloc, shape.largest as usize + 6)?;
     settle(disk)?;
     let end = length_of(disk)?;
     if end <= 9 {
         make_new(disk)?;
-        return Ok(Log::of(shape, false, 8, buffer, Vec::new(alloc)));
+        return Ok(Log::of(shape, false, 8, buffer));
     }
-    let (found, second, closed) = read_old(alloc, disk, shape, end)?;
-    Ok(Log::of(shape, second, closed, buffer, found))
+    let (second, closed) = replay_old(disk, shape, end, &mut buffer, replay)?;
+    Ok(Log::of(shape, second, closed, buffer))
 }

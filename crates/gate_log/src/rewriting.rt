@@ -10,10 +10,19 @@ ghost use Rattle.gate_log.specs.Steps.{IsInOther, IsWhole};
 use crate::appending::fill;
 use crate::through::{write_on, write_through};
 use dsc_outside::{Disk, Failed};
-use std::cmp::min;
+use std::cmp::{max, min};
 
 // How many zeros are written at once, at most.
 const ZEROS: usize = 65_536;
+
+/// How long the buffer is made for so many bytes, and for zeros in front of them, within its room.
+pub(crate) fn with_zeros(size: usize, room: usize) -> usize
+    requires { size ≤ room }
+    ensures size { size ≤ result }
+    ensures room { result ≤ room }
+{
+    max(size, min(room, ZEROS))
+}
 
 // Writes zeros from the disk's end up to a place, by way of the buffer.
 fn fill_up<D: Disk>(disk: &mut D, buffer: &mut [u8], long: u64, to: u64) -> Result<(), Failed>

@@ -1,5 +1,5 @@
 //! Many appends, and a rewrite of many bodies.
-ghost use Rattle.std.specs.Prelude.{◌≡◌, ◌≤◌, ◌<◌, ◌+◌, ◌*◌, List, ℕ, length};
+ghost use Rattle.std.specs.Prelude.{◌≤◌, length};
 ghost use Rattle.gate_log.specs.Log.{IsReady};
 
 use dsc_outside::Disk;

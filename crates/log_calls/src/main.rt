@@ -1,17 +1,20 @@
 //! Makes calls of a log in a file: a tool for measurements.
 //!
-//! The arguments are FILE `append` COUNT SIZE, FILE `rewrite` COUNT SIZE or FILE `open`. An append adds so many bodies
-//! of that size one by one, a rewrite puts them in place of all that was there, and an open does no more than that.
+//! The arguments are FILE `append` COUNT SIZE, FILE `rewrite` COUNT SIZE, FILE `open` or FILE `keep`. An append adds so many
+//! bodies of that size one by one, a rewrite puts them in place of all that was there, an open does no more than that, and
+//! `keep` keeps the bodies that were there.
 //! It ends with 0; with 2 where the arguments are others, and with 4 where the log could not do it.
 #![tactic(auto)]
 
 ghost use Rattle.std.specs.Prelude.{◌≡◌};
 
 mod changes;
+mod passing;
 
 use changes::{append_all, rewrite_all};
 use dsc_outside::real::FileDisk;
-use gate_log::{LogError, Shape, open_log};
+use gate_log::{Bodies, LogError, Shape, replay_log};
+use passing::Passing;
 use std::cmp::min;
 use std::env;
 use std::process::ExitCode;
@@ -20,6 +23,7 @@ use std::process::ExitCode;
 #[derive(Clone, Copy)]
 enum Ask {
     Open,
+    Keep,
     Append { count: u32, size: u32 },
     Rewrite { count: u32, size: u32 },
 }
@@ -39,8 +43,10 @@ fn read_arguments(rt: &HostRuntime) -> Option<(String, Ask)> {
     let _program = arguments.next();
     let file = arguments.next()?;
     let what = arguments.next()?;
-    if what.as_str() == "open" {
-        return Some((file, Ask::Open));
+    match what.as_str() {
+        "open" => return Some((file, Ask::Open)),
+        "keep" => return Some((file, Ask::Keep)),
+        _ => {}
     }
     let count = arguments.next()?.as_str().parse::<u32>().ok()?;
     let size = arguments.next()?.as_str().parse::<u32>().ok()?;
@@ -66,9 +72,13 @@ fn shape() -> Shape
 
 fn run(rt: &HostRuntime, file: String, ask: &Ask) -> Result<(), LogError> {
     let mut disk = FileDisk::new(rt, file);
-    let mut log = open_log(rt.alloc(), &mut disk, shape())?;
+    if let Ask::Keep = ask {
+        replay_log(rt.alloc(), &mut disk, shape(), &mut Bodies::new(rt.alloc()))?;
+        return Ok(());
+    }
+    let mut log = replay_log(rt.alloc(), &mut disk, shape(), &mut Passing)?;
     match ask {
-        Ask::Open => {}
+        Ask::Open | Ask::Keep => {}
         Ask::Append { count, size } => {
             let body = vec![in rt.alloc(); 7u8; min(*size, LARGEST) as usize]?;
             append_all(&mut log, &mut disk, *count, &body)?;

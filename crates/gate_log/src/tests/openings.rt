@@ -1,5 +1,5 @@
 //! Files that are opened as stores.
-use super::stores::{add_two, holds, open, rewrite};
+use super::stores::{add_two, bodies_of, holds, rewrite};
 use crate::LogError;
 use dsc_outside::MemoryDisk;
 use std::alloc::Global;
@@ -10,8 +10,8 @@ type Row<'a> = (&'a [u8], Result<usize, u64>);
 
 fn answer(alloc: Global, bytes: &[u8]) -> Result<Result<usize, u64>, LogError> {
     let mut disk = MemoryDisk::new(bytes.to_vec(alloc)?, Vec::new(alloc))?;
-    match open(alloc, &mut disk) {
-        Ok(log) => Ok(Ok(log.bodies().count())),
+    match bodies_of(alloc, &mut disk) {
+        Ok(bodies) => Ok(Ok(bodies.as_slice().len())),
         Err(LogError::NotAStore { at }) => Ok(Err(at)),
         Err(error) => Err(error),
     }
@@ -67,7 +67,7 @@ fn is_rewritten(alloc: Global) -> Result<bool, LogError> {
     let bytes = disk.after_stop()?;
     let is_second = bytes.len() == 98 && bytes[7] == 0x32;
     let mut disk = MemoryDisk::new(bytes, Vec::new(alloc))?;
-    Ok(is_second && holds(&open(alloc, &mut disk)?, b"c"))
+    Ok(is_second && holds(bodies_of(alloc, &mut disk)?.as_slice(), b"c"))
 }
 
 #[test]
@@ -79,8 +79,8 @@ fn a_bank_that_is_full_is_rewritten(rt: HostRuntime) -> Result<(), Fail> {
 // Whether an opening whose first sync fails answers Disk, and the next one opens a new store.
 fn fails_and_opens(alloc: Global) -> Result<bool, LogError> {
     let mut disk = MemoryDisk::new(Vec::new(alloc), vec![in alloc; 0]?)?;
-    match open(alloc, &mut disk) {
-        Err(LogError::Disk) => Ok(open(alloc, &mut disk)?.bodies().count() == 0),
+    match bodies_of(alloc, &mut disk) {
+        Err(LogError::Disk) => Ok(bodies_of(alloc, &mut disk)?.as_slice().is_empty()),
         _ => Ok(false),
     }
 }

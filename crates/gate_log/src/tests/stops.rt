@@ -1,5 +1,5 @@
 //! Stops in each call of an append and of a rewrite.
-use super::stores::{add, add_two, holds, open, rewrite};
+use super::stores::{add, add_two, bodies_of, holds, open, rewrite};
 use crate::LogError;
 use dsc_outside::{DiskPart, DiskStop, MemoryDisk};
 use std::alloc::Global;
@@ -41,13 +41,13 @@ enum Found {
 
 fn reopened(alloc: Global, left: Vec<u8>, change: Change) -> Result<Found, LogError> {
     let mut disk = MemoryDisk::new(left, Vec::new(alloc))?;
-    let log = open(alloc, &mut disk)?;
-    if holds(&log, b"ab") {
+    let bodies = bodies_of(alloc, &mut disk)?;
+    if holds(bodies.as_slice(), b"ab") {
         return Ok(Found::Old);
     }
     let is_new = match change {
-        Change::Append => log.bodies().count() == 3,
-        Change::Rewrite => holds(&log, b"c"),
+        Change::Append => bodies.as_slice().len() == 3,
+        Change::Rewrite => holds(bodies.as_slice(), b"c"),
     };
     Ok(if is_new { Found::New } else { Found::Neither })
 }

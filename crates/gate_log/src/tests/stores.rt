@@ -3,7 +3,7 @@ ghost use Rattle.std.specs.Prelude.{◌≡◌, IfOk};
 ghost use Rattle.gate_log.specs.declared.shape.Shape.{Shape};
 ghost use Rattle.gate_log.specs.Log.{IsReady};
 
-use crate::{Log, LogError, Shape, open_log};
+use crate::{Bodies, Log, LogError, Shape, replay_log};
 use dsc_outside::{Disk, Memory};
 use std::alloc::Global;
 
@@ -23,12 +23,19 @@ pub fn small() -> Shape
     }
 }
 
-/// Opens a small store.
+/// Opens a small store, whatever its bodies are.
 pub fn open<D: Disk>(alloc: Global, disk: &mut D) -> Result<Log, LogError>
     ensures shape { IfOk result (λ log. log.shape ≡ record { bank = 64; largest = 32 }) }
     ensures of { IfOk result (IsReady D.Disk disk.new) }
 {
-    open_log(alloc, disk, small())
+    replay_log(alloc, disk, small(), &mut Bodies::new(alloc))
+}
+
+/// The bodies of a small store.
+pub fn bodies_of<D: Disk>(alloc: Global, disk: &mut D) -> Result<Bodies, LogError> {
+    let mut bodies = Bodies::new(alloc);
+    replay_log(alloc, disk, small(), &mut bodies)?;
+    Ok(bodies)
 }
 
 /// Appends a body where it has room.
@@ -73,10 +80,10 @@ pub fn add_two<D: Disk>(alloc: Global, disk: &mut D) -> Result<Log, LogError>
     Ok(log)
 }
 
-/// Whether the log's bodies are each twenty times these bytes, in order.
-pub fn holds(log: &Log, bytes: &[u8]) -> bool {
+/// Whether the bodies are each twenty times these bytes, in order.
+pub fn holds(bodies: &[Vec<u8>], bytes: &[u8]) -> bool {
     let mut at = 0;
-    for body in log.bodies() {
+    for body in bodies {
         if at >= bytes.len() || body.len() != 20 || body[0] != bytes[at] || body[19] != bytes[at] {
             return false;
         }

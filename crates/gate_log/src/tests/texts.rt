@@ -1,5 +1,5 @@
 //! Bodies of many sizes, and the texts of errors.
-use crate::{LogError, Shape, open_log};
+use crate::{Bodies, LogError, Shape, replay_log};
 use dsc_outside::MemoryDisk;
 use std::alloc::Global;
 use std::fmt::Write;
@@ -16,15 +16,16 @@ const LARGE: Shape = Shape {
 fn comes_back(alloc: Global, size: usize) -> Result<bool, LogError> {
     let body = vec![in alloc; 7u8; size]?;
     let mut disk = MemoryDisk::new(Vec::new(alloc), Vec::new(alloc))?;
-    let mut log = open_log(alloc, &mut disk, LARGE)?;
+    let mut log = replay_log(alloc, &mut disk, LARGE, &mut Bodies::new(alloc))?;
     if size > 196_608 || !log.has_room(size as u32) {
         return Ok(false);
     }
     log.append(&mut disk, &body)?;
     let mut disk = MemoryDisk::new(disk.after_stop()?, Vec::new(alloc))?;
-    let log = open_log(alloc, &mut disk, LARGE)?;
-    match log.bodies().next() {
-        Some(found) => Ok(found == body.as_slice()),
+    let mut bodies = Bodies::new(alloc);
+    replay_log(alloc, &mut disk, LARGE, &mut bodies)?;
+    match bodies.as_slice().first() {
+        Some(found) => Ok(found.as_slice() == body.as_slice()),
         None => Ok(false),
     }
 }

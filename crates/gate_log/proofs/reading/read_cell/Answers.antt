@@ -1,6 +1,7 @@
-use Rattle.std.proofs.Common.{◌≡◌, ◌⊎◌, ◌+◌, ◌-◌, ◌<◌, ◌≤◌, inl, inr, ℕ, List, length, get_or, drop, sym, ◌∙◌, ap, subst, arith, rules, Some}
+use Rattle.std.proofs.Common.{◌≡◌, ◌+◌, ◌-◌, ◌<◌, ◌≤◌, inl, inr, ℕ, List, length, get_or, take, drop, sym, ◌∙◌, ap, subst, arith, rules, Some}
 use Rattle.std.specs.Prelude.{IfSome}
 use Rattle.std.specs.Int.{w32, to_be_bytes}
+use Rattle.std.proofs.lemmas.List.{length-take-le}
 use Rattle.gate_log.specs.Steps.{StandsAt}
 use Rattle.gate_log.proofs.WhatIsRead.{cell_told, gate_told, all_of}
 use Rattle.gate_log.proofs.Failing.{ends_here, ends_in_length, is_too_long, ends_in_body, never_less}
@@ -55,23 +56,30 @@ returns-then-size-end-clause-cause g c =
     ends_in_body c.args.largest c.args.limit c.args.at c.args.end c.in_ok-n.n c.length_in-size.result (g.D.Disk.seen c.args.disk.now) head five (omega (arith, c.if-n-lt5.false)) (search rules) gate c.length_in-size.ensures c.in_ok-n.ensures.bytes c.requires.end
     (omega (arith, c.if-size-largest.false)) (omega (arith, c.if-limit-at-lt6.false, c.if-size-limit.false)) (omega (arith, c.if-end-at-lt5.false, c.if-size-end.true))
 
-pub returns-then-got-len-clause-cause : goal.returns-then-got-len-clause-cause
-returns-then-got-len-clause-cause g c =
-    let into = c.read_from-2.new.into in
-    let long : length into ≡ c.in_ok-body.body.len = search rules in
-    let size : length into ≡ c.length_in-size.result = omega (arith, c.in_ok-body.ensures.len) in
-    never_less _ (c.args.at + 5) c.args.end c.in_ok-got.got (g.D.Disk.seen c.args.disk.now) (g.D.Disk.seen c.read_from.new.disk) into c.read_from.ensures.still.same c.in_ok-got.ensures.size c.requires.end c.in_ok-got.ensures.bytes
-    (omega (arith, size, c.if-end-at-lt5.false, c.if-size-end.false)) (omega (arith, long, c.if-got-len.true))
+pub returns-then-got-size-clause-cause : goal.returns-then-got-size-clause-cause
+returns-then-got-size-clause-cause g c =
+    let size = c.length_in-size.result in
+    let mid = g.D.Disk.seen c.read_from.new.disk in
+    let enough : size ≤ length c.read_front.new.buffer = search rules in
+    let body = take size c.read_front.new.buffer in
+    let long : length body ≡ size = length-take-le size c.read_front.new.buffer enough in
+    let read = subst (λ (k : ℕ). IfSome mid (λ held. take c.in_ok-got.got body ≡ take k (drop (c.args.at + 5) held))) (sym long) c.in_ok-got.ensures.bytes in
+    never_less _ (c.args.at + 5) c.args.end c.in_ok-got.got (g.D.Disk.seen c.args.disk.now) mid body c.read_from.ensures.still.same (omega (arith, long, c.in_ok-got.ensures.size)) c.requires.end read
+    (omega (arith, long, c.if-end-at-lt5.false, c.if-size-end.false)) (omega (arith, long, c.if-got-size.true))
 
 pub returns-clause-cell : goal.returns-clause-cell
 returns-clause-cell g c =
     let head = c.read_from.new.into in
-    let into = c.read_from-2.new.into in
+    let size = c.length_in-size.result in
+    let mid = g.D.Disk.seen c.read_from.new.disk in
     let five : length head ≡ 5 = search rules in
     let gate : get_or head 0 0 ≡ 165 = search rules in
-    let long : length into ≡ c.in_ok-body.body.len = search rules in
-    let size : length into ≡ c.length_in-size.result = omega (arith, c.in_ok-body.ensures.len) in
-    let is_size : to_be_bytes w32 (length into) ≡ drop 1 head = ap (λ (n : ℕ). to_be_bytes w32 n) size ∙ c.length_in-size.ensures in
-    let told = cell_told c.args.largest c.args.at (g.D.Disk.seen c.args.disk.now) (g.D.Disk.seen c.read_from.new.disk) head into c.in_ok-n.n c.in_ok-got.got five (omega arith) gate is_size (omega arith) (omega arith)
-    c.in_ok-n.ensures.bytes c.read_from.ensures.still.same c.in_ok-got.ensures.bytes in
-    subst (λ (l : List ℕ). IfSome (g.D.Disk.seen c.args.disk.now) (λ held. StandsAt c.args.largest c.args.at held (Some l))) (sym (all_of c.in_ok-body.body.len into c.in_ok-body.body.items long)) told
+    let room : size ≤ c.lengthen.new.buffer.len = search rules in
+    let enough : size ≤ length c.read_front.new.buffer = search rules in
+    let body = take size c.read_front.new.buffer in
+    let long : length body ≡ size = length-take-le size c.read_front.new.buffer enough in
+    let read = subst (λ (k : ℕ). IfSome mid (λ held. take c.in_ok-got.got body ≡ take k (drop (c.args.at + 5) held))) (sym long) c.in_ok-got.ensures.bytes in
+    let is_size : to_be_bytes w32 (length body) ≡ drop 1 head = ap (λ (n : ℕ). to_be_bytes w32 n) long ∙ c.length_in-size.ensures in
+    let told = cell_told c.args.largest c.args.at (g.D.Disk.seen c.args.disk.now) mid head body c.in_ok-n.n c.in_ok-got.got five (omega (arith, c.if-n-lt5.false)) gate is_size (omega (arith, long, c.if-got-size.false)) (omega (arith, long, c.if-size-largest.false))
+    c.in_ok-n.ensures.bytes c.read_from.ensures.still.same read in
+    subst (λ (l : List ℕ). IfSome (g.D.Disk.seen c.args.disk.now) (λ held. StandsAt c.args.largest c.args.at held (Some l))) (sym (all_of size c.lengthen.new.buffer.len c.read_front.new.buffer c.lengthen.new.buffer.items enough room)) told

@@ -1,49 +1,48 @@
-use Rattle.std.proofs.Common.{◌≡◌, ◌+◌, ◌∙◌, ℕ, not, length, sym, ap, subst, max, arith, Some, IfSome}
+use Rattle.std.proofs.Common.{◌≡◌, ◌+◌, ℕ, List, not, length, sym, subst, max, arith, Option, Some, IfSome}
 use Rattle.std.proofs.lemmas.Grind.{common_steps}
-use Rattle.dsc_outside.specs.Disk.{AnyMoment}
-use Rattle.gate_log.specs.declared.shape.Shape.{Shape}
-use Rattle.gate_log.specs.Log.{LogTerm, IsOf, HasPut}
-use Rattle.gate_log.specs.Log.{OldOrNew}
+use Rattle.dsc_outside.specs.declared.disk.Disk.{Ghosts}
+use Rattle.dsc_outside.specs.Disk.{Each}
+use Rattle.gate_log.specs.Log.{LogTerm, IsOf, IsLogOf, HasPut, HasPutOn, AtAnyMoment, OldOrNew}
+use Rattle.gate_log.specs.Text.{Holds, IsText, begin, cells}
 use Rattle.gate_log.specs.Steps.{IsWhole}
-use Rattle.gate_log.proofs.Cells.{text_gives}
 use Rattle.gate_log.proofs.Rewrites.{is_whole}
 use Rattle.gate_log.proofs.log.Log.finish_rewrite.Goals as goal
 
+-- what the calls need of the log, by the fields that it keeps
+record Begun (seen : Option (List ℕ)) (images : List ℕ → Type 0) (kept : LogTerm) (bodies put : List (List ℕ)) (at : ℕ) : Type 0 where
+  of : IsOf seen images kept bodies
+  has : HasPut seen kept put
+  whole : IsWhole kept.shape kept.second at put
+
+begun : (seen : Option (List ℕ)) (images : List ℕ → Type 0) (log kept : LogTerm) (bodies put : List (List ℕ)) (at : ℕ) → kept ≡ log → kept.filled ≡ Some at → IsOf seen images log bodies → HasPut seen log put → Begun seen images kept bodies put at
+begun seen images log kept bodies put at same is of has =
+    let has_it = subst (λ (t : LogTerm). HasPut seen t put) (sym same) has in
+    record { of = subst (λ (t : LogTerm). IsOf seen images t bodies) (sym same) of; has = has_it; whole = is_whole seen kept put at has_it is }
+
+-- every moment of the call, by what the log keeps
+at_each_moment : {D : Type 0} (d : Ghosts D) (old new : D) (log kept : LogTerm) (bodies put : List (List ℕ)) (at : ℕ) → kept ≡ log → kept.filled ≡ Some at → IsLogOf d old log bodies → HasPutOn d old log put
+    → (IsWhole kept.shape kept.second at put → IfSome (d.seen old) (Holds (begin kept.shape (not kept.second)) (cells put)) → Each (d.images old) (λ f. IsText kept.shape kept.second kept.closed f bodies) → AtAnyMoment d old new (OldOrNew kept.shape bodies put))
+    → AtAnyMoment d old new (OldOrNew log.shape bodies put)
+at_each_moment d old new log kept bodies put at same is of has moments =
+    let b = begun (d.seen old) (d.images old) log kept bodies put at same is of has in
+    subst (λ (t : LogTerm). AtAnyMoment d old new (OldOrNew t.shape bodies put)) same (moments b.whole b.has.holds b.of.each)
+
 pub returns-in_err-finish_cells-clause-any_moment : goal.returns-in_err-finish_cells-clause-any_moment
 returns-in_err-finish_cells-clause-any_moment g c = λ bodies put of has.
-    let seen = g.D.Disk.seen c.args.disk.now in
-    let inside = c.self.inside in
-    let at = c.in-Some.at in
-    let is : c.args.self.now.filled ≡ Some at = ap (λ (t : LogTerm). t.filled) (sym c.self.view_is) ∙ c.in-Some.is in
-    let of_it = subst (λ (t : LogTerm). IsOf seen (g.D.Disk.images c.args.disk.now) t bodies) (sym c.self.view_is) of in
-    let has_it = subst (λ (t : LogTerm). HasPut seen t put) (sym c.self.view_is) has in
-    let whole = subst (λ (t : LogTerm). IsWhole t.shape t.second at put) (sym c.self.view_is) (is_whole seen c.args.self.now put at has is) in
-    subst (λ (s : Shape). AnyMoment g.D.Disk.moment g.D.Disk.left_since c.args.disk.now c.finish_cells.new.disk (OldOrNew s bodies put)) (ap (λ (t : LogTerm). t.shape) c.self.view_is)
-    (c.finish_cells.ensures.any_moment inside.shape inside.closed bodies put c.self.invariant.2 whole has_it.holds of_it.each)
+    at_each_moment g.D.Disk c.args.disk.now c.finish_cells.new.disk c.args.self.now _ bodies put c.in-Some.at c.self.view_is c.in-Some.is of has
+    (c.finish_cells.ensures.any_moment c.self.inside.shape c.self.inside.closed bodies put c.self.invariant.2)
 
 pub returns-clause-any_moment : goal.returns-clause-any_moment
 returns-clause-any_moment g c = λ bodies put of has.
-    let seen = g.D.Disk.seen c.args.disk.now in
-    let inside = c.self.inside in
-    let at = c.in-Some.at in
-    let is : c.args.self.now.filled ≡ Some at = ap (λ (t : LogTerm). t.filled) (sym c.self.view_is) ∙ c.in-Some.is in
-    let of_it = subst (λ (t : LogTerm). IsOf seen (g.D.Disk.images c.args.disk.now) t bodies) (sym c.self.view_is) of in
-    let has_it = subst (λ (t : LogTerm). HasPut seen t put) (sym c.self.view_is) has in
-    let whole = subst (λ (t : LogTerm). IsWhole t.shape t.second at put) (sym c.self.view_is) (is_whole seen c.args.self.now put at has is) in
-    subst (λ (s : Shape). AnyMoment g.D.Disk.moment g.D.Disk.left_since c.args.disk.now c.finish_cells.new.disk (OldOrNew s bodies put)) (ap (λ (t : LogTerm). t.shape) c.self.view_is)
-    (c.finish_cells.ensures.any_moment inside.shape inside.closed bodies put c.self.invariant.2 whole has_it.holds of_it.each)
+    at_each_moment g.D.Disk c.args.disk.now c.finish_cells.new.disk c.args.self.now _ bodies put c.in-Some.at c.self.view_is c.in-Some.is of has
+    (c.finish_cells.ensures.any_moment c.self.inside.shape c.self.inside.closed bodies put c.self.invariant.2)
 
 pub returns-clause-ok : goal.returns-clause-ok
 returns-clause-ok g c = λ bodies put of has.
-    let seen = g.D.Disk.seen c.args.disk.now in
     let inside = c.self.inside in
-    let at = c.in-Some.at in
-    let is : c.args.self.now.filled ≡ Some at = ap (λ (t : LogTerm). t.filled) (sym c.self.view_is) ∙ c.in-Some.is in
-    let of_it = subst (λ (t : LogTerm). IsOf seen (g.D.Disk.images c.args.disk.now) t bodies) (sym c.self.view_is) of in
-    let has_it = subst (λ (t : LogTerm). HasPut seen t put) (sym c.self.view_is) has in
-    let whole = subst (λ (t : LogTerm). IsWhole t.shape t.second at put) (sym c.self.view_is) (is_whole seen c.args.self.now put at has is) in
-    let texts = c.in_ok-finish_cells.ensures.ok inside.shape inside.closed bodies put c.self.invariant.2 whole has_it.holds of_it.each in
-    let longest : max inside.long (at + 1) ≡ c.max-self-inside.result = grind (arith, common_steps, c.max-self-inside.ensures) in
+    let b = begun (g.D.Disk.seen c.args.disk.now) (g.D.Disk.images c.args.disk.now) c.args.self.now _ bodies put c.in-Some.at c.self.view_is c.in-Some.is of has in
+    let texts = c.in_ok-finish_cells.ensures.ok inside.shape inside.closed bodies put c.self.invariant.2 b.whole b.has.holds b.of.each in
+    let longest : max inside.long (c.in-Some.at + 1) ≡ c.max-self-inside.result = grind (arith, common_steps, c.max-self-inside.ensures) in
     record {
       each = texts;
       long = subst (λ (n : ℕ). IfSome (g.D.Disk.seen c.finish_cells.new.disk) (λ held. n ≡ length held)) longest c.in_ok-finish_cells.ensures.long;
