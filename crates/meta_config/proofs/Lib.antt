@@ -1,3 +1,15 @@
+pub mod PartPlaces
+pub mod ReadBack
+pub mod WrittenTexts
+pub mod WrittenAccepted
+pub mod WrittenMetas
+pub mod ReadMetas
+pub mod WellFormed
+pub mod Apart
+pub mod GivenValues
+pub mod WrittenUrls
+pub mod CharsRead
+pub mod Searches
 pub mod Pieces
 pub mod Slashes
 pub mod Ports

@@ -1,7 +1,6 @@
 -- Bytes mean one meta-configuration, or are refused.
-use Rattle.std.proofs.Common.{◌≡◌, ◌≢◌, ℕ, Bool, true, false, cond, List, [], ◌∷◌, Option, Some, None, option_map, option_and_then, Result, Ok, Err, refl, sym, subst, ap, ◌∙◌}
+use Rattle.std.proofs.Common.{◌≡◌, ◌≢◌, inl, ℕ, Bool, true, false, cond, List, [], ◌∷◌, Option, Some, None, option_map, option_and_then, Result, Ok, Err, refl, sym, subst, ap, ◌∙◌}
 use Rattle.std.specs.Prelude.{IfSome, IfOk, IfErr, ⊤}
-use Rattle.std.specs.Option.{option_or}
 use Rattle.mof_values.specs.declared.instance.Instance.{Instance}
 use Rattle.mof_syntax.specs.Refusals as mof
 use Rattle.mof_syntax.specs.Refusals.{Reads}
@@ -15,7 +14,8 @@ use Rattle.meta_config.specs.declared.server.Site.{Site}
 use Rattle.meta_config.specs.declared.tables.Class.{Class}
 use Rattle.meta_config.specs.declared.tables.Class.TheVariants as classes
 use Rattle.meta_config.specs.Making.{meta_of}
-use Rattle.meta_config.specs.Refusals.{Answers, IsRefused, Means, Refuses, bad_url, bad_value, depends_unknown, duplicate_partial, first_found, first_of, has_other_site, no_meta, refusal_of, refusal_of_text, second_from, site_at, too_long, too_many_names, too_many_partials, two_managers, two_metas, two_servers}
+use Rattle.meta_config.specs.Parts.{IsMeta}
+use Rattle.meta_config.specs.Refusals.{Answers, Means, Refuses, bad_url, bad_value, depends_unknown, duplicate_partial, first_found, first_of, has_other_site, no_meta, refusal_of, refusal_of_text, second_from, site_at, too_long, too_many_names, too_many_partials, two_managers, two_metas, two_servers}
 
 -- a refusal of instances
 abbrev pub IsOfInstances : MetaError → Type 0
@@ -140,6 +140,7 @@ means_nothing bytes is refusal read found meta m =
 -- what is answered to the instances that the bytes spell
 pub record Said (bytes : List ℕ) (answer : Result Meta MetaError) : Type 0 where
   pub ok : IfOk answer (λ meta. Means bytes meta)
+  pub is_meta : IfOk answer IsMeta
   pub refused : IfErr answer (λ e. Refuses bytes e)
   pub only : IfErr answer (λ e. e ≢ Memory → (meta : Meta) → Means bytes meta → ⊥)
 
@@ -160,11 +161,13 @@ pub said : (bytes : List ℕ) (is : List Instance) (answer : Result Meta MetaErr
     → IfOk answer (λ meta. meta ≡ meta_of is) → Said bytes answer
 said bytes is (Ok meta) read accepted made = record {
   ok = record { instances = is; read = read; accepted = accepted; made = made };
+  is_meta = inl (bytes, record { instances = is; read = read; accepted = accepted; made = made });
   refused = tt;
   only = tt;
 }
 said bytes is (Err refusal) read found made = record {
   ok = tt;
+  is_meta = tt;
   refused = memory_or bytes is refusal read found;
   only = λ other meta m. means_nothing bytes is refusal read (found other) meta m;
 }

@@ -5,4 +5,5 @@ pub mod Urls
 pub mod Making
 pub mod Writing
 pub mod Refusals
+pub mod Parts
 pub mod Laws

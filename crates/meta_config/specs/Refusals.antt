@@ -1,5 +1,5 @@
 -- Why instances declare no meta-configuration. Each refusal is found at the least index, and the first that is found wins.
-use Rattle.std.specs.Prelude.{◌≡◌, ◌≢◌, ℕ, ◌+◌, Bool, true, false, not, ◌&&◌, if◌then◌else◌, nat_le, List, [], ◌∷◌, ◌++◌, length, drop, take, Option, Some, None, is_some, is_none, option_map, option_and_then, find, count_by, codes, Result, MatchResult, ⊤}
+use Rattle.std.specs.Prelude.{◌≡◌, ◌≢◌, ℕ, ◌+◌, Bool, false, not, ◌&&◌, if◌then◌else◌, nat_le, List, [], ◌∷◌, length, drop, take, Option, Some, None, is_none, option_map, option_and_then, find, count_by, Result, MatchResult, ⊤}
 use Rattle.std.specs.List.{list_any, position_from}
 use Rattle.std.specs.Option.{option_map_or, option_or}
 use Rattle.mof_values.specs.declared.instance.Instance.{Instance}
@@ -21,10 +21,16 @@ use Rattle.meta_config.specs.Writing.{text_of_meta}
 
 -- ---- searches
 
+abbrev pub beside : {Y : Type 0} → ℕ → Y → ℕ × Y
+beside n y = (n, y)
+
+abbrev pub before : ℕ → ℕ → ℕ × ℕ
+before n first = (first, n)
+
 -- the first place from a number on at which something is found, with what is found there
 abbrev pub first_found : {X Y : Type 0} → (X → Option Y) → ℕ → List X → Option (ℕ × Y)
 first_found f n [] = None
-first_found f n (x ∷ xs) = elim (f x) [ None ↦ first_found f (n + 1) xs | (Some y) ↦ Some (n, y) ]
+first_found f n (x ∷ xs) = option_or (option_map (beside n) (f x)) (first_found f (n + 1) xs)
 
 -- the first place behind another at which the test passes, beside that other
 abbrev pub second_from : (Instance → Bool) → List Instance → ℕ → Option (ℕ × ℕ)
@@ -89,7 +95,7 @@ earlier_of before i =
 -- the first partial configuration, from a number on, whose name one before it has
 abbrev pub duplicate_from : List Instance → ℕ → List Instance → Option (ℕ × ℕ)
 duplicate_from all n [] = None
-duplicate_from all n (i ∷ is) = elim (earlier_of (take n all) i) [ None ↦ duplicate_from all (n + 1) is | (Some first) ↦ Some (first, n) ]
+duplicate_from all n (i ∷ is) = option_or (option_map (before n) (earlier_of (take n all) i)) (duplicate_from all (n + 1) is)
 
 unfoldable pub duplicate_partial : List Instance → Option MetaError
 duplicate_partial instances = option_map (λ p. DuplicatePartial p.0 p.1) (duplicate_from instances 0 instances)
@@ -109,9 +115,10 @@ abbrev pub first_of : List (Option MetaError) → Option MetaError
 first_of [] = None
 first_of (o ∷ os) = option_or o (first_of os)
 
-abbrev pub refusal_of : List Instance → Option MetaError
-refusal_of instances = first_of
-    (no_meta instances
+-- each of them, if it is found
+abbrev pub refusals_of : List Instance → List (Option MetaError)
+refusals_of instances =
+    no_meta instances
     ∷ two_metas instances
     ∷ two_managers classes.Download instances
     ∷ two_managers classes.Report instances
@@ -123,7 +130,10 @@ refusal_of instances = first_of
     ∷ too_long (meta_of instances)
     ∷ duplicate_partial instances
     ∷ depends_unknown instances
-    ∷ [])
+    ∷ []
+
+abbrev pub refusal_of : List Instance → Option MetaError
+refusal_of instances = first_of (refusals_of instances)
 
 -- ---- what bytes mean
 

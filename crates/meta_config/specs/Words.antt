@@ -1,5 +1,5 @@
 -- The words of the settings, and what a value means. Words compare by fold.
-use Rattle.std.specs.Prelude.{ℕ, Bool, true, false, ◌&&◌, if◌then◌else◌, nat_lt, nat_le, List, [], ◌∷◌, Option, Some, None, is_some, option_and_then, ℤ, pos, length, take, drop, codes, encode_utf8_all}
+use Rattle.std.specs.Prelude.{ℕ, Bool, true, false, ◌&&◌, if◌then◌else◌, nat_lt, nat_le, List, [], ◌∷◌, Option, Some, None, is_some, option_and_then, pos, length, take, drop, codes, encode_utf8_all}
 use Rattle.std.specs.List.{list_all}
 use Rattle.std.specs.Option.{option_map_or}
 use Rattle.mof_values.specs.declared.value.Scalar.{Scalar}

@@ -2,6 +2,7 @@
 ghost use Rattle.std.specs.Prelude.{◌≡◌, ◌≢◌, ◌<◌, ◌^◌, IfOk, IfErr, length};
 ghost use Rattle.meta_config.specs.declared.meta.Meta.{Meta};
 ghost use Rattle.meta_config.specs.Making.{meta_of};
+ghost use Rattle.meta_config.specs.Parts.{IsMeta};
 ghost use Rattle.meta_config.specs.Refusals.{Answers, Means, Refuses, refusal_of, refusal_of_text, too_long};
 
 use crate::checks::{
@@ -26,6 +27,7 @@ const TEXT_LIMIT: usize = 262_144;
 /// The first fault, at the least index; see [`MetaError`].
 pub fn read_meta(alloc: Global, bytes: &[u8]) -> Result<Meta, MetaError>
     ensures ok { IfOk result (λ meta. Means bytes.now meta) }
+    ensures is_meta { IfOk result IsMeta }
     ensures refused { IfErr result (λ e. Refuses bytes.now e) }
     ensures only { IfErr result (λ e. e ≢ MetaError.Memory → (meta : Meta) → Means bytes.now meta → ⊥) }
 {

@@ -1,0 +1,86 @@
+-- Meta-configurations that were read are read back from their text.
+use Rattle.std.proofs.Common.{◌≡◌, inl, inr, ℕ, ◌≤◌, true, false, nat_le, List, [], ◌++◌, length, codes, encode_utf8_all, refl, sym, ap, subst, ◌∙◌, arith}
+use Rattle.std.specs.Fmt.{decimal}
+use lib.Utf8.{encode}
+use Rattle.mof_syntax.specs.Canonical.{canonical_property}
+use Rattle.mof_codec.proofs.OneRefusal.{reads_once}
+use Rattle.meta_config.specs.declared.meta.Meta.{Meta}
+use Rattle.meta_config.specs.Making.{meta_of, usual}
+use Rattle.meta_config.specs.Parts.{IsMeta}
+use Rattle.meta_config.specs.Refusals.{Means}
+use Rattle.meta_config.specs.Writing.{boolean_property, instances_of, text_of_meta, text_property}
+use Rattle.meta_config.proofs.Ports.{port_spelled}
+use Rattle.meta_config.proofs.ReadMetas.{read_is_well_formed}
+use Rattle.meta_config.proofs.WellFormed.{IsWellFormed}
+use Rattle.meta_config.proofs.WrittenAccepted.{written_accepted}
+use Rattle.meta_config.proofs.WrittenMetas.{written_declare}
+use Rattle.meta_config.proofs.WrittenTexts.{at_most, written_reads}
+
+-- ---- the usual meta-configuration
+
+line : List ℕ → List ℕ → List ℕ
+line name value = codes " " ++ name ++ codes " = " ++ value ++ codes ";\n"
+
+-- the text of the usual one, around its numbers
+usual_text : List ℕ → List ℕ → List ℕ
+unfolding line
+usual_text first second =
+    encode_utf8_all ((codes "instance of " ++ codes "MSFT_DSCMetaConfiguration" ++ [] ++ codes "\n{\n" ++ (
+    canonical_property (text_property (codes "ConfigurationMode") (codes "ApplyAndMonitor"))
+    ++ (canonical_property (text_property (codes "RefreshMode") (codes "Push"))
+    ++ (canonical_property (boolean_property (codes "RebootNodeIfNeeded") false)
+    ++ (canonical_property (text_property (codes "ActionAfterReboot") (codes "ContinueConfiguration"))
+    ++ (line (codes "ConfigurationModeFrequencyMins") first
+    ++ (line (codes "RefreshFrequencyMins") second
+    ++ (canonical_property (boolean_property (codes "AllowModuleOverwrite") false) ++ []))))))
+    ) ++ codes "};\n") ++ [])
+
+fifteen : decimal 15 ≡ codes "15"
+fifteen = sym (port_spelled (codes "15") 15 refl).spelled
+
+thirty : decimal 30 ≡ codes "30"
+thirty = sym (port_spelled (codes "30") 30 refl).spelled
+
+usual_is_short : nat_le (length (text_of_meta usual)) 262144 ≡ true
+unfolding usual_text line encode
+usual_is_short = λ k. nat_le (length (usual_text (fifteen k) (thirty k))) 262144
+
+usual_is_well_formed : IsWellFormed usual
+usual_is_well_formed = record {
+  mode_mins = omega arith;
+  refresh_mins = omega arith;
+  managers = (refl, refl, refl);
+  names = tt;
+  names_once = refl;
+  few_names = refl;
+  partials = tt;
+  few_partials = refl;
+  apart = tt;
+  known = tt;
+  short = usual_is_short;
+}
+
+-- ---- the laws
+
+pub is_well_formed : (meta : Meta) → IsMeta meta → IsWellFormed meta
+is_well_formed meta (inl read) = read_is_well_formed read.0 meta read.1
+is_well_formed meta (inr is) = subst IsWellFormed (sym is) usual_is_well_formed
+
+pub reads_back : (meta : Meta) → IsMeta meta → Means (text_of_meta meta) meta
+reads_back meta is =
+    let w = is_well_formed meta is in
+    record {
+      instances = instances_of meta;
+      read = written_reads meta w;
+      accepted = written_accepted meta w;
+      made = sym (written_declare meta w);
+    }
+
+pub text_fits : (meta : Meta) → IsMeta meta → length (text_of_meta meta) ≤ 262144
+text_fits meta is = at_most (length (text_of_meta meta)) 262144 (is_well_formed meta is).short
+
+pub means_one : (bytes : List ℕ) (one other : Meta) → Means bytes one → Means bytes other → one ≡ other
+means_one bytes one other a b = a.made ∙ ap meta_of (reads_once bytes a.instances b.instances a.read b.read) ∙ sym b.made
+
+pub texts_tell_apart : (one other : Meta) → IsMeta one → IsMeta other → text_of_meta one ≡ text_of_meta other → one ≡ other
+texts_tell_apart one other a b e = means_one (text_of_meta other) one other (subst (λ bytes. Means bytes one) e (reads_back one a)) (reads_back other b)
