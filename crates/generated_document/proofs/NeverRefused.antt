@@ -10,6 +10,8 @@ use Rattle.partial_merge.specs.declared.error.PartFault.{PartFault}
 use Rattle.partial_merge.specs.declared.error.PartFault.TheVariants.{Mof, Doc}
 use Rattle.partial_merge.specs.declared.error.MergeError.{MergeError}
 use Rattle.partial_merge.specs.declared.error.MergeError.TheVariants as refusals
+use Rattle.partial_merge.proofs.OnePart.{one_differs}
+use Rattle.partial_merge.proofs.OnePartRefusals.{one_not_many, one_not_same}
 use Rattle.partial_merge.specs.Refused.{HasFault, IsFirstFault, Refused}
 use Rattle.generated_document.specs.Generated.{generated_instances}
 use Rattle.generated_document.proofs.Kept.{rules_kept}
@@ -28,6 +30,9 @@ module _ (part : Part) (n : ℕ) (few : n ≤ 4096) (reads : Reads part.bytes (g
   no_first_fault (suc index) fault first = first.here
 
   pub only_memory : (error : MergeError) → Refused (part ∷ []) error → error ≡ refusals.Memory
+  only_memory (refusals.TwoNames i j) refused = absurd (one_differs part i j refused.repeats)
+  only_memory (refusals.TooMany count) refused = absurd (one_not_many part count refused)
+  only_memory (refusals.DuplicateId first second) refused = absurd (one_not_same part first second refused)
   only_memory (refusals.Part index fault) refused = absurd (no_first_fault index fault refused)
   only_memory (refusals.DependsUnknown spot name) refused =
       absurd (unknown_unknown refused.document spot name refused.unknown

@@ -73,12 +73,19 @@ part_words (parts.Doc error) = rule_words error
 abbrev pub spot_words : Spot → List ℕ
 spot_words spot = decimal spot.part ++ codes "." ++ decimal spot.index
 
+-- two instances with the same id
+abbrev pub same_id_words : Spot → Spot → List ℕ
+same_id_words first second = codes "DuplicateId " ++ spot_words first ++ codes " " ++ spot_words second
+
 abbrev pub place_words : ℕ → List ℕ
 place_words place = codes " " ++ decimal place
 
 -- the name of a merge's refusal, and its values
 abbrev pub merge_words : MergeError → List ℕ
+merge_words (merge.TwoNames first second) = pair_words (codes "TwoNames") first second
 merge_words (merge.Part index fault) = codes "Part " ++ decimal index ++ codes " " ++ part_words fault
+merge_words (merge.TooMany count) = codes "TooMany " ++ decimal count
+merge_words (merge.DuplicateId first second) = same_id_words first second
 merge_words (merge.DependsUnknown spot name) = codes "DependsUnknown " ++ spot_words spot ++ codes " " ++ quoted name
 merge_words (merge.Cycle walk) = codes "Cycle" ++ flat_map place_words walk
 merge_words merge.Memory = codes "Memory"

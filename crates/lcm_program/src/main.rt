@@ -38,9 +38,6 @@ use std::process::ExitCode;
 pub use streams::{ReadError, read_all, write_all};
 pub use words::{Command, UsageError, read_words};
 
-#[cfg(test)]
-mod tests;
-
 fn main(rt: HostRuntime) -> ExitCode {
     let status = match arguments(&rt) {
         Ok(arguments) => run_node(&rt, &CommandLine::of(&arguments)),

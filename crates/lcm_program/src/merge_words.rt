@@ -3,7 +3,7 @@ ghost use Rattle.std.specs.Prelude.{◌≡◌, ◌++◌, codes, encode_utf8_all,
 ghost use Rattle.std.specs.List.{flat_map};
 ghost use Rattle.std.specs.Fmt.{decimal};
 ghost use Rattle.dsc_node.specs.Quoted.{quoted};
-ghost use Rattle.lcm_program.specs.Refusal.{merge_words, part_words, pair_words, place_words, repeated_words, rule_words, spot_words};
+ghost use Rattle.lcm_program.specs.Refusal.{merge_words, part_words, pair_words, place_words, repeated_words, rule_words, same_id_words, spot_words};
 
 use crate::mof_words::push_mof_error;
 use dsc_document::{DocError, Spot};
@@ -17,10 +17,13 @@ pub fn push_merge_error(out: &mut String, error: &MergeError) -> Result<(), Allo
     ensures { OnOk result (string_bytes out.new ≡ string_bytes out.old ++ merge_words error.now) }
 {
     match error {
+        MergeError::TwoNames { first, second } => push_pair(out, "TwoNames", *first, *second),
         MergeError::Part { index, fault } => {
             write!(out, "Part {index} ")?;
             push_part_fault(out, fault)
         }
+        MergeError::TooMany { count } => write!(out, "TooMany {count}"),
+        MergeError::DuplicateId { first, second } => push_same_ids(out, *first, *second),
         MergeError::DependsUnknown { spot, name } => {
             out.push_str("DependsUnknown ")?;
             push_spot(out, *spot)?;
@@ -94,6 +97,16 @@ fn push_ident(out: &mut String, name: &Ident) -> Result<(), AllocError>
     out.push_str(" ")?;
     let text: String = name.as_slice().iter().copied().collect(*out.allocator())?;
     out.push_str(text.as_str())
+}
+
+// Two instances with the same id.
+fn push_same_ids(out: &mut String, first: Spot, second: Spot) -> Result<(), AllocError>
+    ensures { OnOk result (string_bytes out.new ≡ string_bytes out.old ++ same_id_words first second) }
+{
+    out.push_str("DuplicateId ")?;
+    push_spot(out, first)?;
+    out.push_str(" ")?;
+    push_spot(out, second)
 }
 
 fn push_spot(out: &mut String, spot: Spot) -> Result<(), AllocError>

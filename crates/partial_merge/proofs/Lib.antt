@@ -1,3 +1,12 @@
+pub mod Answering
+pub mod Existing
+pub mod FirstNames
+pub mod Joining
+pub mod KnownIds
 pub mod OneMerge
 pub mod OnePart
+pub mod OnePartRefusals
+pub mod Repeating
 pub mod SameParts
+pub mod Sizes
+pub mod Spots

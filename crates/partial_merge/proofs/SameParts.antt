@@ -8,9 +8,9 @@ use Rattle.partial_merge.specs.declared.error.PartFault.{PartFault}
 use Rattle.partial_merge.specs.declared.error.PartFault.TheVariants.{Mof, Doc}
 use Rattle.partial_merge.specs.declared.error.MergeError.{MergeError}
 use Rattle.partial_merge.specs.declared.error.MergeError.TheVariants as refusals
-use Rattle.partial_merge.specs.Parts.{AreParts, IsWhole, joined}
+use Rattle.partial_merge.specs.Parts.{AreJoined, AreParts, IsWhole, joined}
 use Rattle.partial_merge.specs.Merged.{Merged}
-use Rattle.partial_merge.proofs.OnePart.{one_name}
+use Rattle.partial_merge.proofs.OnePart.{one_differs, one_name}
 use Rattle.partial_merge.specs.Refused.{HasFault, IsFirstFault, IsUnspelled, Refused}
 
 module _ (part other : Part) (named : part.name ≡ other.name) (of : part.bytes ≡ other.bytes) where
@@ -36,17 +36,16 @@ module _ (part other : Part) (named : part.name ≡ other.name) (of : part.bytes
   all_same (document ∷ []) whole = (whole_same document whole.0, tt)
   all_same (document ∷ more ∷ rest) whole = absurd whole.1
 
-  are_same : (document : Document) → AreParts (part ∷ []) document → AreParts (other ∷ []) document
-  are_same document are = record {
-    are_joined = record {
-      names = one_name other;
-      documents = are.are_joined.documents;
-      whole = all_same are.are_joined.documents are.are_joined.whole;
-      joined = are.are_joined.joined ∙ joined_same are.are_joined.documents;
-    };
-    few = are.few;
-    ids = are.ids;
+  pub are_joined_same : (document : Document) → AreJoined (part ∷ []) document → AreJoined (other ∷ []) document
+  are_joined_same document are = record {
+    names = one_name other;
+    documents = are.documents;
+    whole = all_same are.documents are.whole;
+    joined = are.joined ∙ joined_same are.documents;
   }
+
+  are_same : (document : Document) → AreParts (part ∷ []) document → AreParts (other ∷ []) document
+  are_same document are = record { are_joined = are_joined_same document are.are_joined; few = are.few; ids = are.ids }
 
   pub merged_same : (document : Document) → Merged (part ∷ []) document → Merged (other ∷ []) document
   merged_same document merged = record { parts_are = are_same document merged.parts_are; known = merged.known; ordered = merged.ordered }
@@ -56,6 +55,19 @@ module _ (part other : Part) (named : part.name ≡ other.name) (of : part.bytes
   first_same (suc index) fault first = absurd first.here
 
   pub refused_same : (refusal : MergeError) → Refused (part ∷ []) refusal → Refused (other ∷ []) refusal
+  refused_same (refusals.TwoNames i j) refused = absurd (one_differs part i j refused.repeats)
+  refused_same (refusals.TooMany count) refused = record {
+    document = refused.document;
+    are_joined = are_joined_same refused.document refused.are_joined;
+    counted = refused.counted;
+    many = refused.many;
+  }
+  refused_same (refusals.DuplicateId i j) refused = record {
+    document = refused.document;
+    are_joined = are_joined_same refused.document refused.are_joined;
+    few = refused.few;
+    repeats = refused.repeats;
+  }
   refused_same (refusals.Part index fault) refused = first_same index fault refused
   refused_same (refusals.DependsUnknown spot name) refused =
       record { document = refused.document; parts_are = are_same refused.document refused.parts_are; unknown = refused.unknown }

@@ -2,3 +2,4 @@ pub mod Laws
 pub mod Merged
 pub mod Parts
 pub mod Refused
+pub mod Repeats

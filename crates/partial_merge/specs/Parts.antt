@@ -1,5 +1,5 @@
 -- Parts, and the document that several of them are together.
-use Rattle.std.specs.Prelude.{◌≡◌, ℕ, ◌≤◌, List, [], AllPairs, length, map, flat_map, slice_get}
+use Rattle.std.specs.Prelude.{◌≡◌, ℕ, ◌≤◌, List, [], ◌∷◌, ◌++◌, AllPairs, Option, length, map, flat_map, option_map, slice_get}
 use Rattle.std.specs.List.{AllZip, enumerate_from}
 use Rattle.std.specs.Option.{option_map_or}
 use Rattle.std.proofs.Common.{refl}
@@ -55,9 +55,21 @@ joined parts documents = record {
   parts = map (λ part. part.name) parts;
 }
 
+-- the document with the resources, the other instances and the name of one more part
+abbrev pub with_part : Document → ℕ → List ℕ → Document → Document
+with_part document place name part = record {
+  version = document.version;
+  resources = document.resources ++ resources_in (place, part);
+  others = document.others ++ part.others;
+  parts = document.parts ++ name ∷ [];
+}
+
 -- the document with these names of parts
 abbrev pub named : Document → List (List ℕ) → Document
 named document names = record { version = document.version; resources = document.resources; others = document.others; parts = names }
+
+abbrev pub part_name_at : List Part → ℕ → Option (List ℕ)
+part_name_at parts place = option_map (λ part. part.name) (slice_get parts place)
 
 -- no two parts have the same name
 abbrev pub NamesDiffer : List Part → Type 0

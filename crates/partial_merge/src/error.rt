@@ -17,11 +17,22 @@ pub enum PartFault {
     Doc(DocError),
 }
 
-/// Why parts have no document, in the order in which the reasons win.
+/// Why parts have no document, in the order in which the reasons win. Parts are counted from 0.
 #[derive(Debug, Drop, PartialEq)]
 pub enum MergeError {
-    /// The first part with a fault, counted from 0.
+    /// Two parts have the same name by fold. Of all such pairs it is the one whose second part is the least, and then
+    /// its first.
+    TwoNames { first: u32, second: u32 },
+
+    /// The first part with a fault.
     Part { index: u32, fault: PartFault },
+
+    /// The parts have so many resources together, which are more than [`MAX_RESOURCES`](dsc_document::MAX_RESOURCES).
+    TooMany { count: u64 },
+
+    /// Two resources have the same id by fold. Of all such pairs it is the one whose second resource stands first in the
+    /// parts' order, and then its first.
+    DuplicateId { first: Spot, second: Spot },
 
     /// The first resource that depends on what is no resource's id, and its first such name.
     DependsUnknown { spot: Spot, name: Text },

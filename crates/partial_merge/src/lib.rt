@@ -1,21 +1,24 @@
 //! Parts of a configuration and the document that they are merged to.
 //!
-//! A `Part` is a named text with its SHA-256 digest, which its type keeps true. `merge` gives the document that one
-//! part declares: a layer above may rely on it that its ids differ, that each dependency is a resource, and that its
-//! resources have an order. A refusal is the first of these that fails, with its place. By `merge_laws` there is one
-//! answer at most, want of memory aside.
+//! A `Part` is a named text with its SHA-256 digest, which its type keeps true. `merge` gives the document that parts
+//! declare together: a layer above may rely on it that their names differ, that it has not too many resources, that the
+//! ids of these differ, that each dependency is a resource, and that they have an order. A refusal is the first of these
+//! that fails, with its place. By `merge_laws` there is one answer at most, want of memory aside.
 #![tactic(auto)]
 
+mod checked;
 mod error;
+mod joined;
 mod laws;
-mod merge_one;
+mod merging;
 mod part;
+mod part_names;
 
 pub use depend_order::OrderedDocument;
 pub use dsc_document::Spot;
 pub use error::{MergeError, PartFault};
-pub use laws::merge_laws;
-pub use merge_one::{merge, merge_ordered, merge_text};
+pub use laws::{merge_laws, one_part_laws};
+pub use merging::{merge, merge_ordered, merge_text};
 pub use part::{Part, part_of};
 
 #[cfg(test)]

@@ -1,6 +1,6 @@
 use Rattle.std.proofs.Common.{refl, rules, ◌≢◌}
 use Rattle.mof_syntax.specs.declared.mof_error.MofError.TheVariants.{Memory}
-use Rattle.partial_merge.proofs.merge_one.instances_of.Goals as goal
+use Rattle.partial_merge.proofs.joined.instances_of.Goals as goal
 
 pub returns-in-Err : goal.returns-in-Err
 returns-in-Err c =
