@@ -1,0 +1,10 @@
+pub mod Lists
+pub mod StagedParts
+pub mod Metas
+pub mod Table
+pub mod Sound
+pub mod Slots
+pub mod Pieces
+pub mod Supply
+pub mod Fits
+pub mod Staging

@@ -1,0 +1,35 @@
+//! The state of a node, the Local Configuration Manager of PowerShell Desired State Configuration, and the table of events that
+//! change it, as plain values.
+//!
+//! A node keeps three lists of parts: Pending, Current and Previous. `Node::why` tells whether an event is allowed, and why not;
+//! `Node::apply` makes the event's change, without memory but what `Node::supply` gave before. A layer above may rely on it that
+//! each event makes exactly the change of its row in the table, and that a sound node stays sound. A node is made again of its
+//! pieces.
+#![tactic(auto)]
+
+mod apply;
+mod error;
+mod event;
+mod fitting;
+mod laws;
+mod limits;
+mod list;
+mod node;
+mod piece;
+mod placing;
+mod staging;
+mod supply;
+mod table;
+
+pub use error::{FitError, StageError};
+pub use event::{Event, Stage, Why};
+pub use fitting::fits;
+pub use laws::{parts_come_from_stages, piece_laws, step_laws};
+pub use list::Staged;
+pub use node::{Kept, Node};
+pub use piece::Piece;
+pub use staging::{staged, stored};
+pub use supply::{Room, Supply};
+
+#[cfg(test)]
+mod tests;

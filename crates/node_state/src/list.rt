@@ -1,0 +1,29 @@
+//! Lists of parts that a node may keep.
+ghost use Rattle.std.specs.Prelude.{◌≡◌};
+ghost use Rattle.node_state.specs.Lists.{IsStaged};
+
+use mof_values::Items;
+use partial_merge::Part;
+
+/// A list of 1 to 8 parts that are merged to a document: names of at most 255 bytes of UTF-8, and at most 16,777,216 bytes together.
+#[derive(Debug, Drop)]
+pub struct Staged {
+    pub(crate) parts: Items<Part>,
+
+    ghost whole: { IsStaged parts },
+}
+
+impl Staged {
+    pub fn parts(&self) -> &[Part]
+        ensures { result.now ≡ self.now.parts }
+    {
+        self.parts.as_slice()
+    }
+
+    pub fn into_parts(self) -> Items<Part>
+        ensures parts { result ≡ self.parts }
+        ensures whole { IsStaged result }
+    {
+        self.parts
+    }
+}

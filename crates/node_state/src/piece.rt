@@ -1,0 +1,24 @@
+//! Nodes in pieces.
+use crate::{Kept, Stage};
+use meta_config::Meta;
+use mof_values::Items;
+use partial_merge::Part;
+
+/// A piece of a node. A new node and the pieces of another, in order, are that other one.
+#[derive(Debug, Drop)]
+pub enum Piece {
+    /// What a node has without parts and reports.
+    Base {
+        agent: u128,
+        registered: bool,
+        reboot: bool,
+        next_job: u64,
+        meta: Meta,
+    },
+
+    /// The parts in one of its stages.
+    Slot(Stage, Items<Part>),
+
+    /// One of its reports.
+    Kept(Kept),
+}

@@ -1,0 +1,37 @@
+//! The memory that events need.
+ghost use Rattle.std.specs.Prelude.{◌≡◌, ◌≤◌, vec_len, vec_capacity};
+
+use crate::Kept;
+use crate::limits::MAX_REPORTS;
+use mof_values::{Items, Memory};
+use partial_merge::Part;
+use std::alloc::Global;
+
+/// Room for the reports of a node.
+#[derive(Debug, Drop)]
+pub struct Room {
+    pub(crate) reports: Vec<Kept>,
+
+    ghost empty: { vec_len reports ≡ 0 },
+    ghost wide: { 16 ≤ vec_capacity reports },
+}
+
+/// The memory that an event needs.
+#[derive(Debug, Drop)]
+pub enum Supply {
+    Nothing,
+
+    /// For an event that keeps a report.
+    Room(Room),
+
+    /// For Restore, a copy of Previous.
+    Copy(Items<Part>),
+}
+
+impl Room {
+    /// Room for the reports that a node keeps.
+    pub fn new(alloc: Global) -> Result<Room, Memory> {
+        let reports = Vec::with_capacity(alloc, MAX_REPORTS)?;
+        Ok(Room { reports })
+    }
+}
