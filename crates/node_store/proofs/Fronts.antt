@@ -1,0 +1,110 @@
+-- The front of the node after an event.
+use Rattle.std.proofs.Common.{◌≡◌, zero, suc, subst, arith, All, List, ℕ, Bool, Option, Some, None, [], ◌∷◌, ◌++◌, map, refl, sym, ap, ◌∙◌}
+use Rattle.std.specs.Prelude.{IfSome}
+use Rattle.std.proofs.lemmas.List.{append-nil, map-append}
+use Rattle.report_log.specs.Sizes.{ReportInSize}
+use Rattle.report_log.specs.declared.report.Report.{Report}
+use Rattle.node_state.specs.declared.node.Kept.{Kept}
+use Rattle.node_state.specs.declared.node.Node.{Node}
+use Rattle.node_state.specs.declared.piece.Piece.{Piece}
+use Rattle.node_state.specs.declared.event.Event.{Event}
+use Rattle.node_state.specs.declared.event.Event.TheVariants as events
+use Rattle.node_state.specs.declared.event.Stage.TheVariants.{Pending, Current, Previous}
+use Rattle.node_state.specs.Table.{after, marked, newest, unsent, without}
+use Rattle.node_state.specs.Sound.{Sound}
+use Rattle.node_state.specs.Pieces.{base_of, front, report_of, slot_of}
+use Rattle.meta_config.specs.Writing.{text_of_meta}
+use Rattle.node_store.specs.Bodies.{BringsText, body_of_piece}
+use Rattle.node_store.specs.Next.{added, at_end, kept_before, reports_after, sent_in, with_mark}
+use Rattle.node_store.specs.Rewriting.{bodies_from_current, bodies_from_pending, bodies_from_previous, bodies_of_reports, front_bodies}
+
+-- no mark changes nothing
+unmarked : (reports : List Kept) → map (with_mark None) reports ≡ reports
+unmarked [] = refl
+unmarked (kept ∷ reports) = ap (λ (l : List Kept). kept ∷ l) (unmarked reports)
+
+same_reports : (reports : List Kept) → map (with_mark None) reports ++ [] ≡ reports
+same_reports reports = append-nil (map (with_mark None) reports) ∙ unmarked reports
+
+more_reports : (reports : List Kept) (report : Report) → map (with_mark None) (newest 15 reports) ++ unsent report ∷ [] ≡ newest 15 reports ++ unsent report ∷ []
+more_reports reports report = ap (λ (l : List Kept). l ++ unsent report ∷ []) (unmarked (newest 15 reports))
+
+-- the reports after an event are those that were kept and the one that is added
+pub reports_are : (node : Node) (event : Event) → reports_after node event ≡ (after node event).reports
+reports_are node (events.Init agent) = same_reports node.reports
+reports_are node (events.SetMeta meta) = same_reports node.reports
+reports_are node events.Registered = same_reports node.reports
+reports_are node (events.Stage staged) = same_reports node.reports
+reports_are node (events.Promote report) = more_reports node.reports report
+reports_are node (events.Note report) = more_reports node.reports report
+reports_are node (events.AskReboot report) = more_reports node.reports report
+reports_are node events.Boot = same_reports node.reports
+reports_are node (events.Sent job) = append-nil (map (marked job) node.reports)
+reports_are node (events.Remove Pending) = same_reports node.reports
+reports_are node (events.Remove Current) = same_reports node.reports
+reports_are node (events.Remove Previous) = same_reports node.reports
+reports_are node events.Restore = same_reports node.reports
+
+map_map : {X Y Z : Type 0} (f : Y → Z) (g : X → Y) (xs : List X) → map f (map g xs) ≡ map (λ x. f (g x)) xs
+map_map f g [] = refl
+map_map f g (x ∷ xs) = ap (λ l. f (g x) ∷ l) (map_map f g xs)
+
+-- the bodies of the pieces of a front, part by part
+pub front_is : (agent : ℕ) (node : Node) (event : Event) → front_bodies agent node event ≡ map body_of_piece (front agent (after node event))
+front_is agent node event =
+    let next = after node event in
+    let body = body_of_piece in
+    let of_report : Kept → List ℕ = λ kept. body (report_of kept) in
+    let mark = with_mark (sent_in event) in
+    let reports : bodies_of_reports node event ≡ map body (map report_of next.reports) =
+    ap (λ (l : List (List ℕ)). l ++ map of_report (at_end (added event))) (sym (map_map of_report mark (kept_before node event)))
+    ∙ sym (map-append of_report (map mark (kept_before node event)) (at_end (added event)))
+    ∙ ap (λ (l : List Kept). map of_report l) (reports_are node event)
+    ∙ sym (map_map body report_of next.reports) in
+    let previous : bodies_from_previous node event ≡ map body (slot_of Previous next.previous ++ map report_of next.reports) =
+    ap (λ (l : List (List ℕ)). map body (slot_of Previous next.previous) ++ l) reports ∙ sym (map-append body (slot_of Previous next.previous) (map report_of next.reports)) in
+    let current : bodies_from_current node event ≡ map body (slot_of Current next.current ++ (slot_of Previous next.previous ++ map report_of next.reports)) =
+    ap (λ (l : List (List ℕ)). map body (slot_of Current next.current) ++ l) previous
+    ∙ sym (map-append body (slot_of Current next.current) (slot_of Previous next.previous ++ map report_of next.reports)) in
+    let pending : bodies_from_pending node event ≡ map body (slot_of Pending next.pending ++ (slot_of Current next.current ++ (slot_of Previous next.previous ++ map report_of next.reports))) =
+    ap (λ (l : List (List ℕ)). map body (slot_of Pending next.pending) ++ l) current
+    ∙ sym (map-append body (slot_of Pending next.pending) (slot_of Current next.current ++ (slot_of Previous next.previous ++ map report_of next.reports))) in
+    ap (λ (l : List (List ℕ)). body (base_of agent next) ∷ l) pending
+
+-- ---- reports in size
+
+abbrev InSize : Kept → Type 0
+InSize kept = ReportInSize kept.report
+
+front_sizes : (sent : Option ℕ) (kept rest : List Kept) → All InSize (map (with_mark sent) kept ++ rest) → All InSize kept
+front_sizes sent [] rest all k d below = absurd (omega arith)
+front_sizes sent (x ∷ xs) rest all zero d below = all zero d (omega arith)
+front_sizes sent (x ∷ xs) rest all (suc k) d below = front_sizes sent xs rest (λ n e less. all (suc n) e (omega (arith, less))) k d (omega (arith, below))
+
+back_size : (kept : List Kept) (report : Option Report) → All InSize (kept ++ at_end report) → IfSome report ReportInSize
+back_size [] None all = tt
+back_size [] (Some report) all = all zero (unsent report) (omega arith)
+back_size (x ∷ xs) report all = back_size xs report (λ n e less. all (suc n) e (omega (arith, less)))
+
+all_in_size : (node : Node) (event : Event) → Sound (after node event) → All InSize (reports_after node event)
+all_in_size node event sound = subst (λ (l : List Kept). All InSize l) (sym (reports_are node event)) sound.reports.sizes
+
+pub kept_in_size : (node : Node) (event : Event) → Sound (after node event) → All (λ kept. ReportInSize kept.report) (kept_before node event)
+kept_in_size node event sound = front_sizes (sent_in event) (kept_before node event) (at_end (added event)) (all_in_size node event sound)
+
+pub added_in_size : (node : Node) (event : Event) → Sound (after node event) → IfSome (added event) ReportInSize
+added_in_size node event sound = back_size (map (with_mark (sent_in event)) (kept_before node event)) (added event) (all_in_size node event sound)
+
+-- the text of the meta-configuration after an event is that of the one that the event brings
+pub brings : (node : Node) (event : Event) (text : List ℕ) → text ≡ text_of_meta (after node event).meta → BringsText event text
+brings node (events.Init agent) text is = tt
+brings node (events.SetMeta meta) text is = is
+brings node events.Registered text is = tt
+brings node (events.Stage staged) text is = tt
+brings node (events.Promote report) text is = tt
+brings node (events.Note report) text is = tt
+brings node (events.AskReboot report) text is = tt
+brings node events.Boot text is = tt
+brings node (events.Sent job) text is = tt
+brings node (events.Remove stage) text is = tt
+brings node events.Restore text is = tt

@@ -1,0 +1,14 @@
+pub mod ByKind
+pub mod Fronts
+pub mod Heads
+pub mod Lengths
+pub mod MetasRead
+pub mod OneBody
+pub mod PartsRead
+pub mod Ranges
+pub mod Replay
+pub mod Reported
+pub mod RewriteSteps
+pub mod Sizes
+pub mod Wholes
+pub mod Rewritten

@@ -1,0 +1,63 @@
+-- Which part stands in front of the bytes.
+use Rattle.std.proofs.Common.{◌≡◌, ℕ, List, ◌++◌, length, Bool, true, false, Ok, Err, refl, sym, ap, subst, ◌∙◌, arith, append_assoc, rules}
+use Rattle.std.specs.Str.{bytes_eq}
+use Rattle.std.proofs.Props.{props}
+use Rattle.std.proofs.lemmas.Slice.Eq.{bytes_eq-Decides}
+use Rattle.sha2.specs.Sha256.{sha256}
+use Rattle.partial_merge.specs.declared.part.Part.{Part}
+use Rattle.store_fields.specs.declared.error.FieldError.{FieldError}
+use Rattle.store_fields.specs.declared.error.FieldError.TheVariants.{Wrong}
+use Rattle.store_fields.specs.Fields.{bytes_of_text, bytes_of_digest, bytes_of_blob, IsText, IsDigest, IsBlob}
+use Rattle.store_fields.specs.Reading.{Reads, IsUnique}
+use Rattle.store_fields.proofs.Numbers.{digest_unique}
+use Rattle.store_fields.proofs.Texts.{text_unique, blob_unique}
+use Rattle.store_fields.proofs.Composing.{taken, wrong}
+use Rattle.node_store.specs.Parts.{bytes_of_part, IsPart}
+
+made : (name digest bytes : List ℕ) → digest ≡ sha256 bytes → Part
+made n d b w = record { name = n; digest = d; bytes = b; whole = w }
+
+one_proof : (d e : List ℕ) → IsProp (d ≡ e)
+one_proof d e = Prim.hlevel props
+
+same_made : (n n' d d' b b' : List ℕ) (w : d ≡ sha256 b) (w' : d' ≡ sha256 b') → n ≡ n' → d ≡ d' → b ≡ b' → made n d b w ≡ made n' d' b' w'
+same_made n n' d d' b b' w w' name digest bytes =
+    subst (λ (b2 : List ℕ). (w2 : d' ≡ sha256 b2) → made n d b w ≡ made n' d' b2 w2) bytes
+    (λ w1. subst (λ (d2 : List ℕ). (w2 : d2 ≡ sha256 b) → made n d b w ≡ made n' d2 b w2) digest
+    (λ w3. ap (λ (m : List ℕ). made m d b w) name ∙ ap (λ (v : d ≡ sha256 b). made n' d b v) (one_proof d (sha256 b) w w3)) w1) w'
+
+-- parts of one name and the same bytes are the same
+pub part_same : (x y : Part) → x.name ≡ y.name → x.digest ≡ y.digest → x.bytes ≡ y.bytes → x ≡ y
+unfolding made
+part_same x y name digest bytes = same_made x.name y.name x.digest y.digest x.bytes y.bytes x.whole y.whole name digest bytes
+
+pub part_opened : (part : Part) (rest : List ℕ) → bytes_of_part part ++ rest ≡ bytes_of_text part.name ++ (bytes_of_digest part.digest ++ (bytes_of_blob part.bytes ++ rest))
+part_opened part rest =
+    append_assoc (bytes_of_text part.name) (bytes_of_digest part.digest ++ bytes_of_blob part.bytes) rest
+    ∙ ap (λ (l : List ℕ). bytes_of_text part.name ++ l) (append_assoc (bytes_of_digest part.digest) (bytes_of_blob part.bytes) rest)
+
+pub part_unique : IsUnique bytes_of_part IsPart
+part_unique x y r s one other e =
+    let name = text_unique 65535 (omega arith) x.name y.name _ _ one.0 other.0 (sym (part_opened x r) ∙ e ∙ part_opened y s) in
+    let digest = digest_unique x.digest y.digest _ _ one.1 other.1 name.1 in
+    let bytes = blob_unique x.bytes y.bytes r s one.2 other.2 digest.1 in
+    (part_same x y name.0 digest.0 bytes.0, bytes.1)
+
+module _ (before m1 m2 after name digest bytes : List ℕ) (first : Reads bytes_of_text (IsText 65535) before m1 (Ok name)) (second : Reads bytes_of_digest IsDigest m1 m2 (Ok digest)) (last : Reads bytes_of_blob IsBlob m2 after (Ok bytes)) where
+  pub part_taken : (part : Part) → part.name ≡ name → part.digest ≡ digest → part.bytes ≡ bytes → Reads bytes_of_part IsPart before after (Ok part)
+  part_taken part n d b =
+      taken bytes_of_part IsPart before after part part_unique
+      (subst (IsText 65535) (sym n) first.found.0, subst IsDigest (sym d) second.found.0, subst IsBlob (sym b) last.found.0)
+      (first.found.1 ∙ ap (λ (l : List ℕ). bytes_of_text name ++ l) (second.found.1 ∙ ap (λ (l : List ℕ). bytes_of_digest digest ++ l) last.found.1)
+      ∙ ap (λ (l : List ℕ). bytes_of_text l ++ (bytes_of_digest digest ++ (bytes_of_blob bytes ++ after))) (sym n)
+      ∙ ap (λ (l : List ℕ). bytes_of_text part.name ++ (bytes_of_digest l ++ (bytes_of_blob bytes ++ after))) (sym d)
+      ∙ ap (λ (l : List ℕ). bytes_of_text part.name ++ (bytes_of_digest part.digest ++ (bytes_of_blob l ++ after))) (sym b)
+      ∙ sym (part_opened part after))
+
+  pub part_not_whole : ((digest ≡ sha256 bytes) → ⊥) → Reads bytes_of_part IsPart before after (Err Wrong)
+  part_not_whole other =
+      wrong bytes_of_part IsPart before after (λ part rest range is.
+      let at1 = first.only part.name _ range.0 (is ∙ part_opened part rest) in
+      let at2 = second.only part.digest _ range.1 at1.1 in
+      let at3 = last.only part.bytes rest range.2 at2.1 in
+      other (at2.0 ∙ part.whole ∙ ap sha256 (sym at3.0)))

@@ -1,0 +1,54 @@
+-- What an image of a node's store stands for.
+use Rattle.std.specs.Prelude.{◌≡◌, ◌⊎◌, ℕ, List, [], ◌∷◌, ◌++◌, map}
+use Rattle.std.specs.List.{AllByRecursion}
+use Rattle.gate_log.specs.declared.shape.Shape.{Shape}
+use Rattle.gate_log.specs.Text.{Gives}
+use Rattle.gate_log.specs.Replay.{IsRefused}
+use Rattle.node_state.specs.declared.node.Node.{Node}
+use Rattle.node_state.specs.declared.event.Event.{Event}
+use Rattle.node_state.specs.declared.piece.Piece.{Piece}
+use Rattle.node_state.specs.Table.{new_node, Step, Steps}
+use Rattle.node_state.specs.Pieces.{Builds}
+use Rattle.node_store.specs.Bodies.{IsEventInRange, IsPieceInRange, body_of_event, body_of_piece}
+
+-- the sizes of a node's store
+abbrev pub node_shape : Shape
+node_shape = record { bank = 67108864; largest = 16842752 }
+
+-- Pieces in front make a node of the new one, and events lead on from there. The bodies are theirs; each field is in its range.
+pub record Leads (bodies : List (List ℕ)) (node : Node) : Type 0 where
+  pub front : List Piece
+  pub events : List Event
+  pub first : Node
+  pub is : bodies ≡ map body_of_piece front ++ map body_of_event events
+  pub builds : Builds new_node front first
+  pub steps : Steps first events node
+  pub pieces : AllByRecursion IsPieceInRange front
+  pub ranges : AllByRecursion IsEventInRange events
+
+-- the image gives bodies that lead to the node
+pub record Stands (image : List ℕ) (node : Node) : Type 0 where
+  pub bodies : List (List ℕ)
+  pub gives : Gives node_shape image bodies
+  pub leads : Leads bodies node
+
+-- these bodies lead to some node
+abbrev pub LeadSomewhere : List (List ℕ) → Type 0
+LeadSomewhere bodies = (node : Node) × Leads bodies node
+
+-- these bodies lead to a node, and with this one after them to none
+pub record EndsAt (bodies : List (List ℕ)) (body : List ℕ) : Type 0 where
+  pub lead : LeadSomewhere bodies
+  pub ends : (node : Node) → Leads (bodies ++ body ∷ []) node → ⊥
+
+-- An image of more than nine bytes stands for no node. The place is the byte at which the text of a store fails, or the first
+-- byte of the first body with which the bodies lead to no node, whichever comes first.
+abbrev pub FailsAt : List ℕ → ℕ → Type 0
+FailsAt image at = IsRefused node_shape LeadSomewhere EndsAt image at
+
+-- the node before the event, or the one after it
+abbrev pub BeforeOrAfter : Node → Event → Node → Type 0
+BeforeOrAfter old event node = (node ≡ old) ⊎ Step old event node
+
+abbrev pub IsEither : Node → Node → Node → Type 0
+IsEither old new node = (node ≡ old) ⊎ (node ≡ new)

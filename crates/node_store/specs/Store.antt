@@ -1,0 +1,85 @@
+-- A store, its disk, and what its calls answer.
+use Rattle.std.specs.Prelude.{◌≡◌, ◌⊎◌, ℕ, Bool, true, false, List, Some, None, IfSome, Result, Ok, Err, ⊤}
+use Rattle.dsc_outside.specs.declared.disk.Disk.{Ghosts}
+use Rattle.dsc_terms.specs.Counts.{Rose}
+use Rattle.gate_log.specs.Log.{LogTerm, IsLogOf}
+use Rattle.node_state.specs.declared.node.Node.{Node}
+use Rattle.node_state.specs.declared.event.Event.{Event}
+use Rattle.node_state.specs.declared.event.Event.TheVariants as events
+use Rattle.node_state.specs.Table.{Step, after, refusal}
+use Rattle.node_store.specs.declared.error.StoreError.{StoreError}
+use Rattle.node_store.specs.declared.error.StoreError.TheVariants.{Spent, NotAllowed, Disk, NotAStore, Memory}
+use Rattle.node_store.specs.Stands.{Leads, FailsAt, node_shape}
+
+-- what contracts see of a store
+pub record StoreTerm : Type 0 where
+  pub log : LogTerm
+  pub node : Node
+  -- there is room for one more report
+  pub reserved : Bool
+
+abbrev pub is_spent : StoreTerm → Bool
+is_spent store = store.log.spent
+
+-- the log is of the disk, and its bodies lead to the node
+pub record IsKeptBy {D : Type 0} (d : Ghosts D) (disk : D) (log : LogTerm) (node : Node) : Type 0 where
+  pub bodies : List (List ℕ)
+  pub of : IsLogOf d disk log bodies
+  pub leads : Leads bodies node
+  pub shape : log.shape ≡ node_shape
+  pub unspent : log.spent ≡ false
+
+-- the store is of the disk
+abbrev pub IsKept : {D : Type 0} → Ghosts D → D → StoreTerm → Type 0
+IsKept d disk store = IsKeptBy d disk store.log store.node
+
+-- it is, or a commit of it answered Disk
+abbrev pub IsReady : {D : Type 0} → Ghosts D → D → StoreTerm → Type 0
+IsReady d disk store = (is_spent store ≡ true) ⊎ IsKept d disk store
+
+-- the store could commit, and its node allowed the event
+pub record WasTried (old : StoreTerm) (event : Event) : Type 0 where
+  pub unspent : is_spent old ≡ false
+  pub allowed : refusal old.node event ≡ None
+
+-- nothing was touched
+pub record Untouched {D : Type 0} (old new : StoreTerm) (before now : D) : Type 0 where
+  pub store : new ≡ old
+  pub disk : now ≡ before
+
+-- committing the event takes memory: for the text of a meta-configuration, for a copy of Previous, and for a report that no room
+-- was reserved for
+abbrev pub TakesMemory : Bool → Event → Type 0
+TakesMemory reserved (events.SetMeta meta) = ⊤
+TakesMemory reserved events.Restore = ⊤
+TakesMemory reserved (events.Promote report) = reserved ≡ false
+TakesMemory reserved (events.Note report) = reserved ≡ false
+TakesMemory reserved (events.AskReboot report) = reserved ≡ false
+TakesMemory reserved _ = ⊥
+
+-- what an answer of commit says, of the store and of the disk with its count
+abbrev pub Committed : {T D : Type 0} → Ghosts D → StoreTerm → Event → D → D → Result T StoreError → StoreTerm → Type 0
+Committed d old event before now (Ok v) new = WasTried old event × Step old.node event new.node × (is_spent new ≡ false)
+Committed d old event before now (Err Spent) new = (is_spent old ≡ true) × Untouched old new before now
+Committed d old event before now (Err (NotAllowed why)) new = (is_spent old ≡ false) × (refusal old.node event ≡ Some why) × Untouched old new before now
+Committed d old event before now (Err Disk) new =
+    WasTried old event × Rose (d.faults before) (d.faults now) × (new.node ≡ old.node) × (is_spent new ≡ true)
+Committed d old event before now (Err Memory) new = WasTried old event × TakesMemory old.reserved event × Untouched old new before now
+Committed d old event before now (Err (NotAStore at)) new = ⊥
+
+-- the cause of an opening's error
+abbrev pub Unopened : {D : Type 0} → Ghosts D → D → D → StoreError → Type 0
+Unopened d old new Disk = Rose (d.faults old) (d.faults new)
+Unopened d old new (NotAStore at) = IfSome (d.seen old) (λ held. FailsAt held at)
+Unopened d old new Memory = ⊤
+Unopened d old new (NotAllowed why) = ⊥
+Unopened d old new Spent = ⊥
+
+-- what writing the node after an event answers: the log's bodies lead to it, or the disk failed
+abbrev pub Wrote : {T D : Type 0} → Ghosts D → D → D → Node → LogTerm → Result T StoreError → Type 0
+Wrote d old new node log (Ok v) = IsKeptBy d new log node
+Wrote d old new node log (Err Disk) = Rose (d.faults old) (d.faults new) × (log.spent ≡ true)
+Wrote d old new node log (Err Spent) = ⊥
+Wrote d old new node log (Err (NotAllowed why)) = ⊥
+Wrote d old new node log (Err (NotAStore at)) = ⊥
+Wrote d old new node log (Err Memory) = ⊥

@@ -1,0 +1,34 @@
+//! The state of a node on a disk, as events.
+//!
+//! A store is a file of two banks (`gate_log`), whose bodies are the events that happened to the node, after the pieces of a node
+//! where the store was rewritten. `specs/Bodies.antt` has the body of each event and piece, one line each; `specs/Stands.antt` says
+//! what an image of a store stands for, and `specs/Store.antt` what a commit answers.
+//!
+//! What is written has exactly the bytes of its definition, and takes no memory where the buffer has room; what is read is
+//! exactly the value whose bytes stand there, and it is refused exactly where there is no such value in range.
+//!
+//! So far the steps of a commit stand here: an event is appended, or the whole node after it is written into the other bank, and a
+//! crash at any moment leaves the node before the event or after it. The calls `open_store` and `commit`, which join them, do not yet.
+#![tactic(auto)]
+
+mod appending;
+mod body;
+mod digests;
+mod error;
+mod laws;
+mod metas;
+mod next;
+mod parts;
+mod reading;
+mod reports;
+mod rewriting;
+mod spelling;
+mod writing;
+
+pub use body::Body;
+pub use error::StoreError;
+pub use laws::{bodies_are_of_one, bodies_fit};
+pub use metas::read_node_meta;
+pub use reading::read_body;
+pub use reports::{NodeForm, put_report, read_report};
+pub use spelling::{put_base, put_event, put_kept, put_parts, put_slot, put_stage_byte};

@@ -1,0 +1,66 @@
+//! An event is written, or the node after it.
+ghost use Rattle.std.specs.Prelude.{◌≡◌, ◌≤◌, None, length, vec_capacity};
+ghost use Rattle.gate_log.specs.Text.{IsLive, need_of};
+ghost use Rattle.gate_log.specs.Log.{AtAnyMoment, room_in};
+ghost use Rattle.gate_log.specs.Standing.{StandsAtAnyMoment};
+ghost use Rattle.meta_config.specs.Writing.{text_of_meta};
+ghost use Rattle.node_state.specs.Table.{IsWithin, after, refusal};
+ghost use Rattle.node_store.specs.Bodies.{BringsText, IsEventInRange, body_of_event};
+ghost use Rattle.node_store.specs.Stands.{BeforeOrAfter, Stands};
+ghost use Rattle.node_store.specs.Store.{IsKeptBy, Wrote};
+
+use crate::appending::append;
+use crate::digests::look_at_digests;
+use crate::error::StoreError;
+use crate::rewriting::rewrite;
+use crate::spelling::put_event;
+use dsc_outside::Disk;
+use gate_log::Log;
+use node_state::{Event, Node};
+
+/// Writes the event, or where the live bank has no room for it the node after it; `text` is the canonical text of the
+/// meta-configuration after it.
+pub fn write<D: Disk>(
+    log: &mut Log,
+    disk: &mut D,
+    room: &mut Vec<u8>,
+    node: &Node,
+    event: &Event,
+    text: &[u8],
+) -> Result<(), StoreError>
+    requires allowed { refusal node.now event.now ≡ None }
+    requires within { IsWithin event.now }
+    requires kept { IsKeptBy D.Disk disk.old log.old node.now }
+    requires text { text.now ≡ text_of_meta (after node.now event.now).meta }
+    requires room { 16842752 ≤ vec_capacity room.old }
+    ensures answer { Wrote D.Disk disk.old disk.new (after node.now event.now) log.new result }
+    ensures any_moment { StandsAtAnyMoment D.Disk disk.old disk.new Stands (BeforeOrAfter node.now event.now) }
+    ensures same_bank { need_of (body_of_event event.now) ≤ room_in log.old → AtAnyMoment D.Disk disk.old disk.new (IsLive log.old.second) }
+    ensures count { D.faults disk.old ≤ D.faults disk.new }
+    ensures room { 16842752 ≤ vec_capacity room.new }
+{
+    spell(room, event, text);
+    if log.has_room(room.len() as u32) {
+        return append(log, disk, room);
+    }
+    rewrite(log, disk, room, node, event, text)
+}
+
+// The event's body takes the place of all that was in the room.
+#[tactic(auto, using(crate::proofs::Sizes::event_small))]
+fn spell(room: &mut Vec<u8>, event: &Event, text: &[u8])
+    requires within { IsWithin event.now }
+    requires text { BringsText event.now text.now }
+    requires room { 16842752 ≤ vec_capacity room.old }
+    ensures body { room.new.items ≡ body_of_event event.now }
+    ensures range { IsEventInRange event.now }
+    ensures small { length room.new.items ≤ 16842752 }
+    ensures room { 16842752 ≤ vec_capacity room.new }
+{
+    look_at_digests(event);
+    room.clear();
+    match put_event(room, event, text) {
+        Ok(()) => {}
+        Err(_) => unreachable!(),
+    }
+}
