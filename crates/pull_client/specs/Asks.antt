@@ -1,0 +1,29 @@
+-- A call that asks a server: what it sends, and what it answers.
+use Rattle.std.specs.Prelude.{◌≡◌, ◌≢◌, ◌⊎◌, ℕ, ◌≤◌, true, false, List, [], ◌∷◌, ◌++◌, Option, Some, None, Result, Err, IsErrOf}
+use Rattle.dsc_terms.specs.Counts.{Rose}
+use Rattle.dsc_outside.specs.declared.link.Peer.{Peer}
+use Rattle.dsc_outside.specs.declared.exchange.Exchange.{Exchange}
+use Rattle.dsc_outside.specs.declared.exchange.Outcome.{Outcome}
+use Rattle.meta_config.specs.declared.server.Server.{Server}
+use Rattle.http_frames.specs.declared.message.Reply.{Reply}
+use Rattle.pull_client.specs.declared.error.PeerError.{PeerError}
+use Rattle.pull_client.specs.declared.error.PeerError.TheVariants.{NotServed, Link, Memory}
+use Rattle.pull_client.specs.Heard.{Heard}
+
+-- one exchange was added, the request to the peer, and its outcome means the answer; out of memory, at most it was
+abbrev pub Exchanged : {T : Type 0} → Peer → List ℕ → (Reply → Result T PeerError → Type 0) → List Exchange → Option (List Exchange) → Result T PeerError → Type 0
+Exchanged peer request Says before after result =
+    ((outcome : Outcome) × Heard Says outcome result
+    × (after ≡ Some (before ++ record { peer = peer; request = request; outcome = outcome } ∷ [])))
+    ⊎ ((result ≡ Err Memory) × (after ≡ Some before))
+
+-- a server that wants https is not asked. Any other is sent the one request, where the link tells its exchanges
+pub record Asks {T : Type 0} (server : Server) (request : List ℕ) (Says : Reply → Result T PeerError → Type 0)
+    (told told_after : Option (List Exchange)) (faults faults_after : ℕ) (result : Result T PeerError) : Type 0 where
+  pub unserved : server.https ≡ true → (result ≡ Err NotServed) × (told_after ≡ told)
+  pub served : server.https ≡ false → result ≢ Err NotServed
+  pub untold : told ≡ None → told_after ≡ None
+  pub exchanged : server.https ≡ false → (before : List Exchange) → told ≡ Some before
+      → Exchanged server.peer request Says before told_after result
+  pub later : faults ≤ faults_after
+  pub link : IsErrOf result Link → Rose faults faults_after

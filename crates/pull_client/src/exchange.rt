@@ -1,0 +1,69 @@
+//! One exchange with a server.
+ghost use Rattle.std.specs.Prelude.{◌≡◌, ◌||◌, ◌==◌, true, false, IfErr};
+ghost use Rattle.dsc_outside.specs.declared.exchange.Outcome.TheVariants.{Answered};
+ghost use Rattle.http_frames.specs.OneAnswer.{ReplyAnswer};
+ghost use Rattle.pull_client.specs.Asks.{Asks};
+ghost use Rattle.pull_client.specs.Heard.{Heard, IsAnswered, IsReply, fault_of, is_accepted};
+
+use crate::PeerError;
+use dsc_outside::{Link, LinkError};
+use http_frames::{FrameError, Reply, read_answer};
+use meta_config::Server;
+use std::alloc::Global;
+
+/// Sends the request to a server that does not want https, and gives the reply that was accepted.
+pub fn exchange<L: Link>(
+    alloc: Global,
+    link: &mut L,
+    server: &Server,
+    request: &[u8],
+) -> Result<Reply, PeerError>
+    requires { server.now.https ≡ false }
+    ensures { Asks server.now request.now IsReply (L.told link.old) (L.told link.new) (L.faults link.old) (L.faults link.new) result }
+{
+    let mut answer = Vec::new(alloc);
+    match link.exchange(&server.peer, request, &mut answer) {
+        Ok(()) => accepted(alloc, &answer),
+        Err(LinkError::Failed) => Err(PeerError::Link),
+        Err(LinkError::TooLong) => Err(PeerError::TooLong),
+        Err(LinkError::Memory) => Err(PeerError::Memory),
+    }
+}
+
+// The reply that the bytes are, if its code is one that is accepted.
+fn accepted(alloc: Global, bytes: &[u8]) -> Result<Reply, PeerError>
+    ensures heard { Heard IsReply (Answered bytes.now) result }
+    ensures answered { IsAnswered result }
+{
+    match read_answer(alloc, bytes) {
+        Ok(reply) => if is_accepted(reply.code) {
+            Ok(reply)
+        } else {
+            Err(PeerError::Status { code: reply.code })
+        },
+        Err(error) => Err(fault_of(error)),
+    }
+}
+
+fn is_accepted(code: u16) -> bool
+    ensures { result ≡ is_accepted code }
+{
+    code == 200 || code == 201 || code == 204
+}
+
+// Out of memory, the reader has not judged the bytes.
+fn fault_of(error: FrameError) -> PeerError
+    ensures { result ≡ fault_of error }
+{
+    match error {
+        FrameError::Memory => PeerError::Memory,
+        FrameError::Head => PeerError::Frame(error),
+        FrameError::HeadTooLong => PeerError::Frame(error),
+        FrameError::Coding => PeerError::Frame(error),
+        FrameError::Length => PeerError::Frame(error),
+        FrameError::NoLength => PeerError::Frame(error),
+        FrameError::BodyTooLong => PeerError::Frame(error),
+        FrameError::Chunk { at } => PeerError::Frame(FrameError::Chunk { at }),
+        FrameError::Torn { at } => PeerError::Frame(FrameError::Torn { at }),
+    }
+}

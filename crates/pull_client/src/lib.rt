@@ -1,0 +1,21 @@
+//! The requests of a node to its pull server, and what is made of the answers.
+//!
+//! A layer above may rely on this: each call sends at most one request, the one that its definition writes, to the
+//! server's peer and to no other; a server of https is sent nothing; a value comes exactly of an answer that is
+//! accepted; and a content is accepted only under the SHA-256 digest that was announced for it. Where the link tells
+//! its exchanges each error is that of the answer, in a fixed order; a failure of the link shows in its count of faults.
+#![tactic(auto)]
+
+mod content;
+mod error;
+mod exchange;
+mod fetching;
+mod moments;
+mod registering;
+mod reporting;
+mod requests;
+
+pub use error::PeerError;
+pub use fetching::{fetch, fetch_module};
+pub use registering::register;
+pub use reporting::report;

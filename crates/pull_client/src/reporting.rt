@@ -1,0 +1,34 @@
+//! Reports.
+ghost use Rattle.std.specs.Prelude.{◌≡◌, true};
+ghost use Rattle.pull_client.specs.Asks.{Asks};
+ghost use Rattle.pull_client.specs.Heard.{IsDone};
+ghost use Rattle.pull_client.specs.Requests.{report_request};
+
+use crate::PeerError;
+use crate::exchange::exchange;
+use crate::requests::report_request;
+use dsc_outside::Link;
+use meta_config::Server;
+use pull_messages::ReportMessage;
+use std::alloc::Global;
+
+/// Sends the server a report of the agent.
+pub fn report<L: Link>(
+    alloc: Global,
+    link: &mut L,
+    server: &Server,
+    agent: u128,
+    message: &ReportMessage,
+) -> Result<(), PeerError>
+    ensures asks { Asks server.now (report_request server.now agent message.now) IsDone (L.told link.old) (L.told link.new) (L.faults link.old) (L.faults link.new) result }
+    ensures unsent { server.now.https ≡ true → link.new ≡ link.old }
+{
+    if server.https {
+        return Err(PeerError::NotServed);
+    }
+    let request = report_request(alloc, server, agent, message)?;
+    match exchange(alloc, link, server, &request) {
+        Ok(_) => Ok(()),
+        Err(error) => Err(error),
+    }
+}
