@@ -1,0 +1,16 @@
+use Rattle.std.proofs.Common.{◌≡◌, ◌+◌, ◌≤◌, ◌++◌, ◌∙◌, ℕ, List, length, sym, subst, ap, arith}
+use Rattle.pull_store.specs.declared.change.Change.TheVariants.{Report}
+use Rattle.pull_store.specs.Bodies.{body_of}
+use Rattle.pull_store.proofs.Sizes.{report_short}
+use Rattle.pull_store.proofs.spelling.spell_report.Goals as goal
+
+pub unreachable-requires : goal.unreachable-requires
+unreachable-requires c =
+    let ok = c.in-Err.ensures.succeeds (omega (arith, report_short c.args.agent c.args.job c.args.body.now c.requires.size, c.clear.ensures.len, c.clear.ensures.capacity, c.requires.capacity)) in
+    cc ok
+
+pub returns-clause-short : goal.returns-clause-short
+returns-clause-short c =
+    let spelled = body_of (Report c.args.agent c.args.job c.args.body.now) in
+    let is : c.put_report.new.into.items ≡ spelled = c.in-Ok.ensures.items ∙ ap (λ (l : List ℕ). l ++ spelled) c.clear.ensures.items in
+    subst (λ (l : List ℕ). length l ≤ 131200) (sym is) (omega (arith, report_short c.args.agent c.args.job c.args.body.now c.requires.size))

@@ -1,0 +1,18 @@
+use Rattle.std.proofs.Common.{◌+◌, ◌≤◌, [], length, sym, subst, arith}
+use Rattle.gate_log.specs.declared.shape.Shape.{Shape}
+use Rattle.pull_store.proofs.Sizes.{length-cell}
+use Rattle.pull_store.proofs.writing.put_body.Goals as goal
+
+pub put-requires-clause-room : goal.put-requires-clause-room
+put-requires-clause-room g c = omega (arith, c.requires.room, length-cell c.args.body.now [])
+
+pub returns-in-Ok : goal.returns-in-Ok
+returns-in-Ok g c =
+    let done = c.in-Ok.ensures in
+    record {
+      ends = (done.answer.spent, done.answer.shape, omega (arith, done.answer.room, length-cell c.args.body.now []));
+      of = done.ok;
+      put = done.put;
+      any_moment = done.any_moment;
+      count = done.count;
+    }

@@ -1,0 +1,32 @@
+-- Laws of rows.
+use Rattle.std.specs.Prelude.{◌≡◌, ◌≢◌, ◌==◌, ℕ, if◌then◌else◌, List, [], ◌∷◌, Option, Some, None}
+use Rattle.pull_store.specs.declared.row.Row.{Row}
+use Rattle.pull_store.specs.declared.row.StoredReport.{StoredReport}
+use Rattle.pull_store.specs.declared.change.Change.{Change}
+use Rattle.pull_store.specs.Rows.{row_of, with_report}
+use Rattle.pull_store.specs.Sound.{AreRows, AreOnce}
+use Rattle.pull_store.specs.Stands.{Changes, Stands}
+use Rattle.pull_store.specs.Steps.{agent_of}
+
+-- the rows that an image stands for: at most 512 of different agents, each with at most four reports of different jobs
+abbrev pub RowsAreSound : Type 0
+RowsAreSound = (image : List ℕ) (rows : List Row) → Stands image rows → AreRows rows
+
+-- a change leaves the rows so, and every other agent's row as it was
+abbrev pub ChangesKeep : Type 0
+ChangesKeep = (old new : List Row) (change : Change) → AreRows old → Changes old change new → AreRows new
+
+abbrev pub OthersStay : Type 0
+OthersStay = (old new : List Row) (change : Change) (agent : ℕ) → agent ≢ agent_of change → Changes old change new → row_of agent new ≡ row_of agent old
+
+-- the body of a job's report
+abbrev pub body_under : ℕ → List StoredReport → Option (List ℕ)
+body_under job [] = None
+body_under job (report ∷ reports) = if report.job == job then Some report.body else body_under job reports
+
+-- each job stands once, with the body last accepted for it
+abbrev pub JobsStandOnce : Type 0
+JobsStandOnce = (job : ℕ) (body : List ℕ) (reports : List StoredReport) → AreOnce reports → AreOnce (with_report job body reports)
+
+abbrev pub LastIsKept : Type 0
+LastIsKept = (job : ℕ) (body : List ℕ) (reports : List StoredReport) → body_under job (with_report job body reports) ≡ Some body

@@ -1,0 +1,50 @@
+-- The rows that an image stands for.
+use Rattle.std.specs.Prelude.{◌≡◌, ◌⊎◌, ℕ, ◌+◌, Bool, List, [], ◌∷◌, ◌++◌, None}
+use Rattle.gate_log.specs.declared.shape.Shape.{Shape}
+use Rattle.gate_log.specs.Text.{Gives}
+use Rattle.pull_store.specs.declared.row.Row.{Row}
+use Rattle.pull_store.specs.declared.change.Change.{Change}
+use Rattle.pull_store.specs.declared.change.Change.TheVariants.{Register, Report}
+use Rattle.pull_messages.specs.declared.registration.Registration.{Registration}
+use Rattle.pull_store.specs.Rows.{after, after_registration, after_report, refusal}
+use Rattle.pull_store.specs.Bodies.{body_of}
+use Rattle.pull_store.specs.Sound.{IsInSize}
+
+-- two banks, and the longest body
+abbrev pub pull_shape : Shape
+pull_shape = record { bank = 335_544_320; largest = 196_608 }
+
+-- one change that is accepted
+pub record Changes (old : List Row) (change : Change) (new : List Row) : Type 0 where
+  pub size : IsInSize change
+  pub accepted : refusal change old ≡ None
+  pub is : new ≡ after change old
+
+-- a registration, or a report, that is accepted
+abbrev pub Registers : List Row → ℕ → Registration → List Row → Type 0
+Registers old agent registration new = Changes old (Register agent registration) new
+
+abbrev pub Reports : List Row → ℕ → ℕ → List ℕ → List Row → Type 0
+Reports old agent job body new = Changes old (Report agent job body) new
+
+-- one body more: it spells a registration or a report that is accepted
+pub record Takes (old : List Row) (body : List ℕ) (new : List Row) : Type 0 where
+  pub change : Change
+  pub spells : body ≡ body_of change
+  pub changes : Changes old change new
+
+-- these bodies, one after the other
+abbrev pub Replays : List Row → List (List ℕ) → List Row → Type 0
+Replays old [] new = new ≡ old
+Replays old (body ∷ bodies) new = (mid : List Row) × Takes old body mid × Replays mid bodies new
+
+-- An image of at most nine bytes gives no bodies, and stands for no rows; a longer one stands for the rows after each body of
+-- its live bank in order.
+pub record Stands (image : List ℕ) (rows : List Row) : Type 0 where
+  pub bodies : List (List ℕ)
+  pub gives : Gives pull_shape image bodies
+  pub replays : Replays [] bodies rows
+
+-- the rows before a change or after it
+abbrev pub BeforeOrAfter : List Row → Change → List Row → Type 0
+BeforeOrAfter old change rows = (rows ≡ old) ⊎ (rows ≡ after change old)

@@ -1,0 +1,91 @@
+-- A store, the disk that it is of, and what its calls answer.
+use Rattle.std.specs.Prelude.{◌≡◌, ◌⊎◌, ℕ, ◌+◌, ◌<◌, ◌≤◌, Bool, true, false, List, [], ◌∷◌, ◌++◌, length, Some, None, Result, Ok, Err, IfSome}
+use Rattle.dsc_outside.specs.declared.disk.Disk.{Ghosts}
+use Rattle.dsc_terms.specs.Counts.{Rose}
+use Rattle.gate_log.specs.Text.{cells, need_of}
+use Rattle.gate_log.specs.Log.{LogTerm, IsLogOf, room_in}
+use Rattle.pull_store.specs.declared.row.Row.{Row}
+use Rattle.pull_store.specs.declared.change.Change.{Change}
+use Rattle.pull_store.specs.declared.change.Refusal.TheVariants as refusals
+use Rattle.pull_store.specs.declared.error.PullError.{PullError}
+use Rattle.pull_store.specs.declared.error.PullError.TheVariants.{Spent, Agents, NoAgent, Full, Disk, NotAStore, Memory}
+use Rattle.pull_store.specs.Rows.{after, refusal}
+use Rattle.pull_store.specs.Bodies.{body_of, bodies_of_rows}
+use Rattle.pull_store.specs.Stands.{Replays, pull_shape}
+
+-- what contracts see of a store
+pub record StoreTerm : Type 0 where
+  pub log : LogTerm
+  pub rows : List Row
+
+abbrev pub is_spent : StoreTerm → Bool
+is_spent store = store.log.spent
+
+-- the store is of the disk: its log is, and the log's bodies lead to its rows
+pub record IsKept {D : Type 0} (d : Ghosts D) (disk : D) (store : StoreTerm) : Type 0 where
+  pub bodies : List (List ℕ)
+  pub of : IsLogOf d disk store.log bodies
+  pub replays : Replays [] bodies store.rows
+  pub shape : store.log.shape ≡ pull_shape
+  pub unspent : store.log.spent ≡ false
+
+-- it is so, or a call answered Disk
+abbrev pub IsReady : {D : Type 0} → Ghosts D → D → StoreTerm → Type 0
+IsReady d disk store = (is_spent store ≡ true) ⊎ IsKept d disk store
+
+-- ---- room
+
+-- the bytes that rows take in a bank: their cells, and one gate
+abbrev pub whole_need : List Row → ℕ
+whole_need rows = length (cells (bodies_of_rows rows)) + 1
+
+abbrev pub bank_room : ℕ
+bank_room = pull_shape.bank
+
+-- the cell has room in the live bank
+abbrev pub HasRoom : StoreTerm → Change → Type 0
+HasRoom store change = need_of (body_of change) ≤ room_in store.log
+
+-- neither the cell has room, nor do the rows after the change fit a bank
+pub record IsFull (store : StoreTerm) (change : Change) (need room : ℕ) : Type 0 where
+  pub cell : room_in store.log < need_of (body_of change)
+  pub needs : need ≡ whole_need (after change store.rows)
+  pub bank : room ≡ bank_room
+  pub rows : room < need
+
+-- ---- answers
+
+-- the change was accepted and has room
+pub record WasTried (old : StoreTerm) (change : Change) : Type 0 where
+  pub unspent : is_spent old ≡ false
+  pub accepted : refusal change old.rows ≡ None
+  pub room : HasRoom old change ⊎ (whole_need (after change old.rows) ≤ bank_room)
+
+-- nothing was touched
+pub record Untouched {D : Type 0} (old new : StoreTerm) (before after : D) : Type 0 where
+  pub store : new ≡ old
+  pub disk : after ≡ before
+
+-- what an answer to a change says, of the store and of the disk with its count
+abbrev pub Changed : {T D : Type 0} → Ghosts D → StoreTerm → Change → D → D → Result T PullError → StoreTerm → Type 0
+Changed d old change before now (Ok v) new = WasTried old change × (new.rows ≡ after change old.rows) × (is_spent new ≡ false)
+Changed d old change before now (Err Spent) new = (is_spent old ≡ true) × Untouched old new before now
+Changed d old change before now (Err Agents) new = (is_spent old ≡ false) × (refusal change old.rows ≡ Some refusals.TooMany) × Untouched old new before now
+Changed d old change before now (Err NoAgent) new = (is_spent old ≡ false) × (refusal change old.rows ≡ Some refusals.Unknown) × Untouched old new before now
+Changed d old change before now (Err (Full need room)) new =
+    (is_spent old ≡ false) × (refusal change old.rows ≡ None) × IsFull old change need room × Untouched old new before now
+Changed d old change before now (Err Disk) new = WasTried old change × Rose (d.faults before) (d.faults now) × (new.rows ≡ old.rows) × (is_spent new ≡ true)
+Changed d old change before now (Err Memory) new = (is_spent old ≡ false) × Untouched old new before now
+Changed d old change before now (Err (NotAStore at)) new = ⊥
+
+-- what the steps that write say
+abbrev pub Written : {T D : Type 0} → Ghosts D → LogTerm → List Row → Change → D → D → Result T PullError → LogTerm → Type 0
+Written d log rows change before now (Ok v) new = HasRoom (record { log = log; rows = rows }) change ⊎ (whole_need (after change rows) ≤ bank_room)
+Written d log rows change before now (Err Disk) new =
+    (HasRoom (record { log = log; rows = rows }) change ⊎ (whole_need (after change rows) ≤ bank_room)) × Rose (d.faults before) (d.faults now) × (new.spent ≡ true)
+Written d log rows change before now (Err (Full need room)) new = IsFull (record { log = log; rows = rows }) change need room × (new ≡ log) × (now ≡ before)
+Written d log rows change before now (Err Spent) new = ⊥
+Written d log rows change before now (Err Agents) new = ⊥
+Written d log rows change before now (Err NoAgent) new = ⊥
+Written d log rows change before now (Err (NotAStore at)) new = ⊥
+Written d log rows change before now (Err Memory) new = ⊥

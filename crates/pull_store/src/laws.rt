@@ -1,0 +1,15 @@
+//! What holds of the rows of a store.
+ghost use Rattle.pull_store.specs.Laws.{RowsAreSound, ChangesKeep, OthersStay, JobsStandOnce, LastIsKept};
+
+/// Rows are at most 512, of different agents, and a change leaves every other agent's row.
+pub fn rows_are_apart()
+    ensures sound { RowsAreSound }
+    ensures keep { ChangesKeep }
+    ensures others { OthersStay }
+{}
+
+/// At most four reports are kept, each job once, and a job that was just put has its new body.
+pub fn jobs_stand_once()
+    ensures once { JobsStandOnce }
+    ensures last { LastIsKept }
+{}
