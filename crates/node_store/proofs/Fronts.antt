@@ -1,6 +1,8 @@
 -- The front of the node after an event.
 use Rattle.std.proofs.Common.{◌≡◌, zero, suc, subst, arith, All, List, ℕ, Bool, Option, Some, None, [], ◌∷◌, ◌++◌, map, refl, sym, ap, ◌∙◌}
 use Rattle.std.specs.Prelude.{IfSome}
+use Rattle.std.proofs.lemmas.Option.{same_Some}
+use Rattle.node_store.specs.Store.{IsTextOf}
 use Rattle.std.proofs.lemmas.List.{append-nil, map-append}
 use Rattle.report_log.specs.Sizes.{ReportInSize}
 use Rattle.report_log.specs.declared.report.Report.{Report}
@@ -108,3 +110,35 @@ brings node events.Boot text is = tt
 brings node (events.Sent job) text is = tt
 brings node (events.Remove stage) text is = tt
 brings node events.Restore text is = tt
+
+not_both : {X : Type 0} {x : X} → None ≡ Some x → ⊥
+not_both is = cc is
+
+-- the text after an event: the one that it brings, or the one before it
+pub text_some : (node : Node) (event : Event) (given : Option (List ℕ)) (text : List ℕ) → IsTextOf event given → given ≡ Some text → text ≡ text_of_meta (after node event).meta
+text_some node (events.SetMeta meta) given text is some = same_Some text (text_of_meta meta) (sym some ∙ is)
+text_some node (events.Init agent) given text is some = absurd (not_both (sym is ∙ some))
+text_some node events.Registered given text is some = absurd (not_both (sym is ∙ some))
+text_some node (events.Stage staged) given text is some = absurd (not_both (sym is ∙ some))
+text_some node (events.Promote report) given text is some = absurd (not_both (sym is ∙ some))
+text_some node (events.Note report) given text is some = absurd (not_both (sym is ∙ some))
+text_some node (events.AskReboot report) given text is some = absurd (not_both (sym is ∙ some))
+text_some node events.Boot given text is some = absurd (not_both (sym is ∙ some))
+text_some node (events.Sent job) given text is some = absurd (not_both (sym is ∙ some))
+text_some node (events.Remove stage) given text is some = absurd (not_both (sym is ∙ some))
+text_some node events.Restore given text is some = absurd (not_both (sym is ∙ some))
+
+pub text_none : (node : Node) (event : Event) (given : Option (List ℕ)) (text : List ℕ) → IsTextOf event given → given ≡ None → text ≡ text_of_meta node.meta → text ≡ text_of_meta (after node event).meta
+text_none node (events.SetMeta meta) given text is none old = absurd (not_both (sym none ∙ is))
+text_none node (events.Init agent) given text is none old = old
+text_none node events.Registered given text is none old = old
+text_none node (events.Stage staged) given text is none old = old
+text_none node (events.Promote report) given text is none old = old
+text_none node (events.Note report) given text is none old = old
+text_none node (events.AskReboot report) given text is none old = old
+text_none node events.Boot given text is none old = old
+text_none node (events.Sent job) given text is none old = old
+text_none node (events.Remove Pending) given text is none old = old
+text_none node (events.Remove Current) given text is none old = old
+text_none node (events.Remove Previous) given text is none old = old
+text_none node events.Restore given text is none old = old

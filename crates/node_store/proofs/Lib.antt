@@ -12,3 +12,4 @@ pub mod RewriteSteps
 pub mod Sizes
 pub mod Wholes
 pub mod Rewritten
+pub mod AtRest

@@ -1,5 +1,5 @@
 -- A store, its disk, and what its calls answer.
-use Rattle.std.specs.Prelude.{◌≡◌, ◌⊎◌, ℕ, Bool, true, false, List, Some, None, IfSome, Result, Ok, Err, ⊤}
+use Rattle.std.specs.Prelude.{◌≡◌, ◌⊎◌, ℕ, Bool, true, false, List, Some, None, IfSome, Option, Result, Ok, Err, ⊤}
 use Rattle.dsc_outside.specs.declared.disk.Disk.{Ghosts}
 use Rattle.dsc_terms.specs.Counts.{Rose}
 use Rattle.gate_log.specs.Log.{LogTerm, IsLogOf}
@@ -9,6 +9,8 @@ use Rattle.node_state.specs.declared.event.Event.TheVariants as events
 use Rattle.node_state.specs.Table.{Step, after, refusal}
 use Rattle.node_store.specs.declared.error.StoreError.{StoreError}
 use Rattle.node_store.specs.declared.error.StoreError.TheVariants.{Spent, NotAllowed, Disk, NotAStore, Memory}
+use Rattle.mof_values.specs.declared.memory.Memory.{Memory as NoMemory}
+use Rattle.meta_config.specs.Writing.{text_of_meta}
 use Rattle.node_store.specs.Stands.{Leads, FailsAt, node_shape}
 
 -- what contracts see of a store
@@ -83,3 +85,13 @@ Wrote d old new node log (Err Spent) = ⊥
 Wrote d old new node log (Err (NotAllowed why)) = ⊥
 Wrote d old new node log (Err (NotAStore at)) = ⊥
 Wrote d old new node log (Err Memory) = ⊥
+
+-- the canonical text of the meta-configuration that the event brings, if it brings one
+abbrev pub IsTextOf : Event → Option (List ℕ) → Type 0
+IsTextOf (events.SetMeta meta) text = text ≡ Some (text_of_meta meta)
+IsTextOf _ text = text ≡ None
+
+-- a report takes the room that was reserved for it; nothing else of the store changes, and where memory was refused nothing does
+abbrev pub Supplied : {T : Type 0} → StoreTerm → Event → Result T NoMemory → StoreTerm → Type 0
+Supplied old event (Ok supply) new = (new.log ≡ old.log) × (new.node ≡ old.node)
+Supplied old event (Err error) new = TakesMemory old.reserved event × (new ≡ old)

@@ -7,8 +7,8 @@
 //! What is written has exactly the bytes of its definition, and takes no memory where the buffer has room; what is read is
 //! exactly the value whose bytes stand there, and it is refused exactly where there is no such value in range.
 //!
-//! So far the steps of a commit stand here: an event is appended, or the whole node after it is written into the other bank, and a
-//! crash at any moment leaves the node before the event or after it. The calls `open_store` and `commit`, which join them, do not yet.
+//! A commit appends an event, or writes the whole node after it into the other bank, and a crash at any moment leaves the node
+//! before the event or after it. The call `open_store`, which gives a store, does not stand here yet.
 #![tactic(auto)]
 
 mod appending;
@@ -23,6 +23,7 @@ mod reading;
 mod reports;
 mod rewriting;
 mod spelling;
+mod store;
 mod writing;
 
 pub use body::Body;
@@ -32,3 +33,4 @@ pub use metas::read_node_meta;
 pub use reading::read_body;
 pub use reports::{NodeForm, put_report, read_report};
 pub use spelling::{put_base, put_event, put_kept, put_parts, put_slot, put_stage_byte};
+pub use store::NodeStore;

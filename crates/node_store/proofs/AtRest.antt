@@ -1,0 +1,28 @@
+-- A disk that no call was made of.
+use Rattle.std.proofs.Common.{◌≡◌, inl, List, ℕ, refl, subst}
+use Rattle.dsc_outside.specs.declared.disk.Disk.{Ghosts}
+use Rattle.dsc_outside.proofs.Moments.{started}
+use Rattle.gate_log.specs.declared.shape.Shape.{Shape}
+use Rattle.gate_log.specs.Text.{Gives, IsLive}
+use Rattle.gate_log.specs.Log.{AtAnyMoment, LogTerm}
+use Rattle.gate_log.specs.Standing.{StandsAtAnyMoment, StandsFor}
+use Rattle.gate_log.proofs.Cells.{text_gives, text_live}
+use Rattle.node_state.specs.declared.node.Node.{Node}
+use Rattle.node_state.specs.declared.event.Event.{Event}
+use Rattle.node_store.specs.Stands.{BeforeOrAfter, Stands}
+use Rattle.node_store.specs.Store.{IsKeptBy}
+
+module _ {D : Type 0} (d : Ghosts D) (only_now : (disk : D) (c : List ℕ) → d.left_since disk (d.moment disk) c → d.images disk c) (disk : D) (log : LogTerm) (node : Node) (kept : IsKeptBy d disk log node) where
+  pub before : (event : Event) → StandsAtAnyMoment d disk disk Stands (BeforeOrAfter node event)
+  before event = started d.moment d.left_since disk (StandsFor Stands (BeforeOrAfter node event)) (λ c left. record {
+    value = node;
+    stands = record {
+      bodies = kept.bodies;
+      gives = subst (λ (s : Shape). Gives s c kept.bodies) kept.shape (text_gives log.shape log.second log.closed c kept.bodies (kept.of.each c (only_now disk c left)));
+      leads = kept.leads;
+    };
+    has = inl refl;
+  })
+
+  pub same_bank : AtAnyMoment d disk disk (IsLive log.second)
+  same_bank = started d.moment d.left_since disk (IsLive log.second) (λ c left. text_live log.shape log.second log.closed c kept.bodies (kept.of.each c (only_now disk c left)))

@@ -1,0 +1,179 @@
+//! The store of a node.
+ghost use Rattle.std.specs.Prelude.{◌≡◌, ◌≤◌, Bool, false, true, IfErr, IfOk, OnErr, OnOk, None, option_map, vec_capacity};
+ghost use Rattle.gate_log.specs.Text.{IsLive, need_of};
+ghost use Rattle.gate_log.specs.Log.{AtAnyMoment, room_in};
+ghost use Rattle.gate_log.specs.Standing.{StandsAtAnyMoment};
+ghost use Rattle.meta_config.specs.Writing.{text_of_meta};
+ghost use Rattle.node_state.specs.Supply.{Supplies};
+ghost use Rattle.node_state.specs.Table.{IsWithin, after, refusal};
+ghost use Rattle.node_store.specs.Bodies.{body_of_event};
+ghost use Rattle.node_store.specs.Stands.{BeforeOrAfter, Stands};
+ghost use Rattle.node_store.specs.Store.{Committed, IsKept, IsReady, IsTextOf, StoreTerm, Supplied, TakesMemory, Wrote};
+
+use crate::error::StoreError;
+use crate::writing::write;
+use dsc_outside::Disk;
+use gate_log::Log;
+use meta_config::write_meta;
+use mof_values::Memory;
+use node_state::{Event, Node, Room, Supply};
+use std::alloc::Global;
+use std::marker::Model;
+use std::mem;
+
+/// The state of a node, kept on a disk.
+#[derive(Drop)]
+pub struct NodeStore {
+    alloc: Global,
+    log: Log,
+    node: Node,
+    // the canonical text of the node's meta-configuration
+    text: Vec<u8>,
+    // room for the longest body
+    body: Vec<u8>,
+    // room for the reports of the next node
+    room: Option<Room>,
+}
+
+impl Model for NodeStore {
+    ghost use Rattle.std.specs.Prelude.{◌≡◌, ◌≤◌, is_some, vec_capacity};
+    ghost use Rattle.meta_config.specs.Writing.{text_of_meta};
+    ghost use Rattle.node_store.specs.Store.{StoreTerm};
+
+    ghost Value = { StoreTerm };
+
+    ghost view = { λ s. record { log = s.log; node = s.node; reserved = is_some s.room } };
+
+    ghost invariant = { λ s. (s.text.items ≡ text_of_meta s.node.meta) × (16842752 ≤ vec_capacity s.body) };
+}
+
+impl NodeStore {
+    /// The state of the node. Takes no memory.
+    pub fn state(&self) -> &Node
+        ensures { result.now ≡ self.now.node }
+    {
+        &self.node
+    }
+
+    /// Whether a commit answered `Disk`; then the store must be opened again.
+    pub fn is_spent(&self) -> bool
+        ensures { result ≡ self.now.log.spent }
+    {
+        self.log.is_spent()
+    }
+
+    /// Reserves the memory for the next report: after it the next commit of `Promote`, `Note` or `AskReboot` takes none. Commits of
+    /// `Init`, `Registered`, `Stage`, `Boot`, `Sent` and `Remove` never take any.
+    pub fn reserve(&mut self) -> Result<(), Memory>
+        ensures reserved { OnOk result (self.new ≡ record self.old { reserved = true }) }
+        ensures refused { OnErr result (self.new ≡ self.old) }
+    {
+        if self.room.is_none() {
+            self.room = Some(Room::new(self.alloc)?);
+        }
+        Ok(())
+    }
+
+    /// Commits an event: one step of the node.
+    ///
+    /// A crash at any moment leaves the node before the event or after it; after `Ok` it leaves the node after it. Where the
+    /// event has no room in the live bank, the whole node after it is written into the other bank, so a store never fills up.
+    ///
+    /// # Errors
+    ///
+    /// The first of `Spent`, exactly where an earlier commit of this store answered `Disk`; `NotAllowed`, exactly where the node
+    /// does not allow the event; `Memory`, which leaves store and disk untouched; `Disk`, which leaves the node as it was in memory.
+    pub fn commit<D: Disk>(&mut self, disk: &mut D, event: Event) -> Result<(), StoreError>
+        requires ready { IsReady D.Disk disk.old self.old }
+        requires within { IsWithin event }
+        ensures answer { Committed D.Disk self.old event disk.old disk.new result self.new }
+        ensures ready { IsReady D.Disk disk.new self.new }
+        ensures any_moment { IsKept D.Disk disk.old self.old → StandsAtAnyMoment D.Disk disk.old disk.new Stands (BeforeOrAfter self.old.node event) }
+        ensures same_bank { IsKept D.Disk disk.old self.old → need_of (body_of_event event) ≤ room_in self.old.log → AtAnyMoment D.Disk disk.old disk.new (IsLive self.old.log.second) }
+        ensures count { D.faults disk.old ≤ D.faults disk.new }
+    {
+        if self.log.is_spent() {
+            return Err(StoreError::Spent);
+        }
+        if let Some(why) = self.node.why(&event) {
+            return Err(StoreError::NotAllowed(why));
+        }
+        let text = match text_of(self.alloc, &event) {
+            Ok(text) => text,
+            Err(_) => return Err(StoreError::Memory),
+        };
+        let supply = match self.supply(&event) {
+            Ok(supply) => supply,
+            Err(_) => return Err(StoreError::Memory),
+        };
+        if let Err(error) = self.write(disk, &event, &text) {
+            return Err(error);
+        }
+        let node = mem::replace(&mut self.node, Node::new(self.alloc));
+        self.node = node.apply(event, supply);
+        if let Some(text) = text {
+            self.text = text;
+        }
+        Ok(())
+    }
+}
+
+impl NodeStore {
+    // The memory that the event needs.
+    fn supply(&mut self, event: &Event) -> Result<Supply, Memory>
+        requires allowed { refusal self.old.node event.now ≡ None }
+        ensures supplied { IfOk result (Supplies self.old.node event.now) }
+        ensures same { Supplied self.old event.now result self.new }
+    {
+        match event {
+            Event::Promote(_) | Event::Note(_) | Event::AskReboot(_) => match self.room.take() {
+                Some(room) => Ok(Supply::Room(room)),
+                None => self.node.supply(self.alloc, event),
+            },
+            Event::Restore => self.node.supply(self.alloc, event),
+            _ => Ok(Supply::Nothing),
+        }
+    }
+
+    // Writes the event, with the text that it brings or that of the store.
+    fn write<D: Disk>(
+        &mut self,
+        disk: &mut D,
+        event: &Event,
+        text: &Option<Vec<u8>>,
+    ) -> Result<(), StoreError>
+        requires allowed { refusal self.old.node event.now ≡ None }
+        requires within { IsWithin event.now }
+        requires kept { IsKept D.Disk disk.old self.old }
+        requires text { IsTextOf event.now (option_map (λ text. text.items) text.now) }
+        ensures answer { Wrote D.Disk disk.old disk.new (after self.old.node event.now) self.new.log result }
+        ensures any_moment { StandsAtAnyMoment D.Disk disk.old disk.new Stands (BeforeOrAfter self.old.node event.now) }
+        ensures same_bank { need_of (body_of_event event.now) ≤ room_in self.old.log → AtAnyMoment D.Disk disk.old disk.new (IsLive self.old.log.second) }
+        ensures count { D.faults disk.old ≤ D.faults disk.new }
+        ensures node { self.new.node ≡ self.old.node }
+        ensures reserved { self.new.reserved ≡ self.old.reserved }
+    {
+        match text {
+            Some(text) => write(&mut self.log, disk, &mut self.body, &self.node, event, text),
+            None => write(
+                &mut self.log,
+                disk,
+                &mut self.body,
+                &self.node,
+                event,
+                &self.text,
+            ),
+        }
+    }
+}
+
+// The canonical text of the event's meta-configuration, where it brings one.
+fn text_of(alloc: Global, event: &Event) -> Result<Option<Vec<u8>>, Memory>
+    ensures text { IfOk result (λ text. IsTextOf event.now (option_map (λ text. text.items) text)) }
+    ensures memory { IfErr result (λ error. (reserved : Bool) → TakesMemory reserved event.now) }
+{
+    match event {
+        Event::SetMeta(meta) => Ok(Some(write_meta(alloc, meta)?)),
+        _ => Ok(None),
+    }
+}
