@@ -59,9 +59,17 @@ TakesMemory reserved (events.Note report) = reserved ≡ false
 TakesMemory reserved (events.AskReboot report) = reserved ≡ false
 TakesMemory reserved _ = ⊥
 
+-- whether there is room for one more report after the event: a report takes it, every other event leaves it
+abbrev pub reserved_after : Event → Bool → Bool
+reserved_after (events.Promote report) reserved = false
+reserved_after (events.Note report) reserved = false
+reserved_after (events.AskReboot report) reserved = false
+reserved_after _ reserved = reserved
+
 -- what an answer of commit says, of the store and of the disk with its count
 abbrev pub Committed : {T D : Type 0} → Ghosts D → StoreTerm → Event → D → D → Result T StoreError → StoreTerm → Type 0
-Committed d old event before now (Ok v) new = WasTried old event × Step old.node event new.node × (is_spent new ≡ false)
+Committed d old event before now (Ok v) new =
+    WasTried old event × Step old.node event new.node × (is_spent new ≡ false) × (new.reserved ≡ reserved_after event old.reserved)
 Committed d old event before now (Err Spent) new = (is_spent old ≡ true) × Untouched old new before now
 Committed d old event before now (Err (NotAllowed why)) new = (is_spent old ≡ false) × (refusal old.node event ≡ Some why) × Untouched old new before now
 Committed d old event before now (Err Disk) new =
@@ -93,5 +101,5 @@ IsTextOf _ text = text ≡ None
 
 -- a report takes the room that was reserved for it; nothing else of the store changes, and where memory was refused nothing does
 abbrev pub Supplied : {T : Type 0} → StoreTerm → Event → Result T NoMemory → StoreTerm → Type 0
-Supplied old event (Ok supply) new = (new.log ≡ old.log) × (new.node ≡ old.node)
+Supplied old event (Ok supply) new = (new.log ≡ old.log) × (new.node ≡ old.node) × (new.reserved ≡ reserved_after event old.reserved)
 Supplied old event (Err error) new = TakesMemory old.reserved event × (new ≡ old)
