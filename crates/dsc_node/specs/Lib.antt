@@ -1,4 +1,11 @@
+pub mod Commands
+pub mod Headline
 pub mod Lines
+pub mod Path
 pub mod Quoted
 pub mod Ran
+pub mod Runs
+pub mod Start
 pub mod Status
+pub mod Turn
+pub mod Work

@@ -5,14 +5,24 @@
 //! that is printed of a run. `Status` is how a command ended.
 #![tactic(auto)]
 
+mod allowing;
+mod answer;
+mod choosing;
+mod command;
 mod lines;
 mod order;
+mod preparing;
 mod run;
+mod start;
 mod status;
+mod turn;
 
+pub use answer::StartEnd;
+pub use command::Command;
 pub use lines::{id, lines_of, push_resources};
 pub use order::order_of_merged;
 pub use run::{run_kinds, run_merged};
+pub use start::{start, start_over};
 pub use status::{InputError, Status};
 
 #[cfg(test)]

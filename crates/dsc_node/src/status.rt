@@ -3,6 +3,7 @@ ghost use Rattle.std.specs.Prelude.{◌≡◌};
 ghost use Rattle.dsc_node.specs.Status.{number_of};
 
 use mof_codec::MofError;
+use node_state::Why;
 use partial_merge::MergeError;
 
 /// Why the input was refused.
@@ -37,6 +38,24 @@ pub enum Status {
     /// Writing the output failed.
     WriteFault,
 
+    /// A call of the disk failed.
+    DiskFault,
+
+    /// The clock's first reading failed.
+    ClockFault,
+
+    /// The disk holds no store of a node; `at` is the first byte at which it is none.
+    NotAStore { at: u64 },
+
+    /// The node does not allow the command, or the event that it came to.
+    NotAllowed(Why),
+
+    /// A reboot was asked for, and the command waits for the boot.
+    RebootWaiting,
+
+    /// The Set of the resource at this place asked for a reboot; `now` tells whether the node is to reboot at once.
+    RebootAsked { index: u32, now: bool },
+
     /// Memory was refused.
     Memory,
 }
@@ -51,8 +70,13 @@ impl Status {
             Status::NotCompliant { .. } => 1,
             Status::Usage { .. } => 2,
             Status::InputRefused(_) => 3,
-            Status::ReadFault | Status::WriteFault => 4,
+            Status::ReadFault | Status::WriteFault | Status::DiskFault | Status::ClockFault => 4,
+            Status::NotAStore { .. } => 5,
+            Status::NotAllowed(_) => 7,
             Status::Memory => 8,
+            Status::RebootWaiting => 9,
+            Status::RebootAsked { now: false, .. } => 10,
+            Status::RebootAsked { now: true, .. } => 11,
         }
     }
 }

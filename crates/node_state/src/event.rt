@@ -48,7 +48,7 @@ pub enum Event {
     Restore,
 }
 
-/// Why an event is not allowed.
+/// Why an event, or a command, is not allowed.
 #[derive(Clone, Copy, Debug, PartialEq, Eq)]
 pub enum Why {
     /// The node has no agent.
@@ -57,8 +57,23 @@ pub enum Why {
     /// The node has an agent already.
     HasAgent,
 
+    /// The refresh mode is Disabled.
+    Disabled,
+
+    /// The refresh mode is not Pull.
+    NotPull,
+
     /// The meta-configuration has no server.
     NoServer,
+
+    /// The server has not accepted the agent.
+    NotRegistered,
+
+    /// No partial configuration is declared, and not exactly one name.
+    NoName,
+
+    /// Partial configurations are declared.
+    PartsDeclared,
 
     /// There is no Previous.
     NoPrevious,

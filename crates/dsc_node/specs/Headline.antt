@@ -1,0 +1,155 @@
+-- What a start promises of the machine and of its store, over the kinds of resources of a host: the headline, fact by fact.
+use Rattle.std.specs.Prelude.{◌≡◌, ◌≢◌, ◌⊎◌, ℕ, ◌<◌, ◌-◌, ◌^◌, Bool, true, List, [], ◌∷◌, ◌++◌, length, Option, Some, None, Contains, ⊤}
+use Rattle.dsc_terms.specs.Counts.{Rose, RoseBy}
+use Rattle.dsc_outside.specs.declared.disk.Disk as disks
+use Rattle.dsc_outside.specs.declared.host.Host as hosts
+use Rattle.dsc_outside.specs.declared.clock.Clock as clocks
+use Rattle.dsc_outside.specs.Host.{HostState}
+use Rattle.gate_log.specs.Standing.{AllStand, Any, StandsAtAnyMoment, StoodFor}
+use Rattle.partial_merge.specs.declared.part.Part.{Part}
+use Rattle.partial_merge.specs.Parts.{unnamed_part}
+use Rattle.resource_kinds.specs.declared.kinds.Kinds.{Kinds}
+use Rattle.resource_kinds.specs.declared.entry.Entry.{Entry}
+use Rattle.resource_kinds.specs.declared.resources.Resources as resources
+use Rattle.resource_kinds.specs.Apart.{Apart}
+use Rattle.resource_kinds.specs.Documents.{AllHold}
+use Rattle.resource_kinds.specs.Kinds.{calls_of, host_of, spare_of}
+use Rattle.resource_kinds.specs.Trace.{Compliant, EndsInReboot, Succeeded, host_failures}
+use Rattle.resource_kinds.specs.True.{TellsEntry, TellsTrue}
+use Rattle.lcm_core.specs.declared.modes.RunEnd.TheVariants as ends
+use Rattle.lcm_core.specs.declared.modes.RunMode.TheVariants.{Repair}
+use Rattle.lcm_core.specs.Legal.{GoesOn, Legal}
+use Rattle.lcm_core.specs.RepairLaws.{BlamesNothing, IsSound}
+use Rattle.lcm_core.specs.Whole.{Whole}
+use Rattle.report_log.specs.declared.report.Frame.{Frame}
+use Rattle.report_log.specs.declared.report.Outcome.TheVariants.{Success}
+use Rattle.report_log.specs.declared.report.Report.{Report}
+use Rattle.report_log.specs.Report.{IsReport}
+use Rattle.node_state.specs.declared.node.Node.{Node}
+use Rattle.node_state.specs.declared.event.Event.{Event}
+use Rattle.node_state.specs.declared.event.Event.TheVariants as events
+use Rattle.node_state.specs.Slots.{IsSlot}
+use Rattle.node_state.specs.Sound.{Sound}
+use Rattle.node_state.specs.Table.{Steps}
+use Rattle.node_store.specs.Stands.{Stands}
+use Rattle.dsc_node.specs.declared.command.Command.{Command}
+use Rattle.dsc_node.specs.declared.command.Command.TheVariants.{Init, Push, Consistency, Boot}
+use Rattle.dsc_node.specs.declared.status.Status.{Status}
+use Rattle.dsc_node.specs.Lines.{IsRunText}
+use Rattle.dsc_node.specs.Path.{IsOnTheWay, IsSettled, Passes}
+use Rattle.dsc_node.specs.Ran.{Ran}
+use Rattle.dsc_node.specs.Runs.{Run}
+use Rattle.dsc_node.specs.Start.{Known, Outside, Opened}
+
+-- the kinds of resources over a host, as a machine
+abbrev pub kinds_of : {H : Type 0} → hosts.Ghosts H → resources.Ghosts (Kinds H)
+kinds_of host = record {
+  kept = calls_of;
+  spare = spare_of;
+  faults = λ kinds. host.faults (host_of kinds);
+  does = λ before document entry after. TellsEntry (host.told (host_of before)) document entry (host.told (host_of after));
+  still = λ before after. host.told (host_of before) ≡ host.told (host_of after);
+}
+
+-- ---- 1: a state after a prefix of the steps
+
+-- Every image at any moment stands for a node for which an image at the begin stood, or for the node after a prefix of the work;
+-- and where all is settled, every image at the end stands for the node after all of it.
+pub record IsAfterPrefix {D : Type 0} (d : disks.Ghosts D) (begin now : D) (from : Node) (work : List Event) (status : Status) : Type 0 where
+  pub moments : Passes d begin now from work
+  pub settled : IsSettled d begin now status → AllStand d now Stands (Steps from work)
+
+-- ---- 2: whole
+
+-- each such node is sound: its documents are whole, and its reports in size
+abbrev pub AreSound : {D : Type 0} → disks.Ghosts D → D → Node → List Event → Type 0
+AreSound d begin from work = (node : Node) → IsOnTheWay d begin from work node → Sound node
+
+-- ---- 3: as pushed
+
+-- the part stood in the node that was found, or in one for which an image at the begin stood
+abbrev pub WasThere : {D : Type 0} → disks.Ghosts D → D → Node → Part → Type 0
+WasThere d begin from part = IsSlot from part ⊎ ((node : Node) × StoodFor d begin Stands node × IsSlot node part)
+
+abbrev pub IsPushed : Command → Part → Type 0
+IsPushed (Push bytes) part = part ≡ unnamed_part bytes
+IsPushed _ part = ⊥
+
+-- each part of such a node was there, or is the pushed one
+abbrev pub AreAsPushed : {D : Type 0} → disks.Ghosts D → D → Command → Node → List Event → Type 0
+AreAsPushed d begin command from work = (node : Node) (part : Part) → IsOnTheWay d begin from work node → IsSlot node part → WasThere d begin from part ⊎ IsPushed command part
+
+-- ---- 4: each Set
+
+-- Nothing was run, and the machine is as it was; or the trace is that of a run: each Set follows a Test of that resource that
+-- answered no, and Tests of its dependencies that answered yes; the trace is true of the host, where that tells.
+abbrev pub IsRun : {H : Type 0} → hosts.Ghosts H → Option Run → Kinds H → Kinds H → Type 0
+IsRun host None before after = after ≡ before
+IsRun host (Some run) before after =
+    Ran run.document run.choice.mode run.order run.end (calls_of after) (host.told (host_of before)) (host.told (host_of after))
+    (host.faults (host_of before)) (host.faults (host_of after))
+
+-- ---- 5: a compliant report
+
+-- the start keeps the report
+abbrev pub Keeps : List Event → Report → Type 0
+Keeps work report = Contains work (events.Promote report) ⊎ Contains work (events.Note report) ⊎ Contains work (events.AskReboot report)
+
+-- A report that is kept is that of the trace; where it says success, each resource's last Test answered yes. What is printed begins
+-- with the text of the trace, unless memory was refused.
+pub record IsTold (run : Run) (trace : List Entry) (work : List Event) (lines : List ℕ) : Type 0 where
+  pub report : (report : Report) → Keeps work report → (frame : Frame) × IsReport run.document trace frame report
+  pub compliant : (report : Report) → Keeps work report → report.outcome ≡ Success → (r : ℕ) → r < length run.document.resources → Succeeded trace r
+  pub printed : (lines ≡ []) ⊎ ((text last : List ℕ) × IsRunText run.document trace text × (lines ≡ text ++ last))
+
+abbrev pub AreTold : {H : Type 0} → Option Run → Kinds H → List Event → List ℕ → Type 0
+AreTold None after work lines = (report : Report) → Keeps work report → ⊥
+AreTold (Some run) after work lines = IsTold run (calls_of after) work lines
+
+-- ---- 6: completes
+
+-- a repair of Pending on a host that tells, without a fault of the host, of the disk or of a resource, that came to its last resource
+pub record IsFaultless {H D : Type 0} (host : hosts.Ghosts H) (d : disks.Ghosts D) (begin now : D) (from : Node) (run : Run) (before after : Kinds H) : Type 0 where
+  pub pending : run.choice.pending ≡ true
+  pub finished : run.end ≡ ends.Finished
+  pub state : HostState
+  pub tells : host.told (host_of before) ≡ Some state
+  pub blames : BlamesNothing (calls_of after)
+  pub sound : (r : ℕ) → r < length run.document.resources → IsSound run.document r
+  pub disk : Rose (d.faults begin) (d.faults now) → ⊥
+  pub job : from.next_job < 2 ^ 64 - 1
+
+-- A run that memory was not refused to leaves nothing out; and a faultless repair of Pending makes it Current.
+pub record Completes {H D : Type 0} (host : hosts.Ghosts H) (d : disks.Ghosts D) (begin now : D) (from : Node) (run : Run) (before after : Kinds H) (work : List Event) : Type 0 where
+  pub whole : run.end ≢ ends.Memory → Whole run.document run.choice.mode run.order (calls_of after)
+  pub promoted : IsFaultless host d begin now from run before after → (report : Report) × Contains work (events.Promote report)
+
+abbrev pub IsComplete : {H D : Type 0} → hosts.Ghosts H → disks.Ghosts D → D → D → Node → Option Run → Kinds H → Kinds H → List Event → Type 0
+IsComplete host d begin now from None before after work = ⊤
+IsComplete host d begin now from (Some run) before after work = Completes host d begin now from run before after work
+
+-- ---- 7: together
+
+-- where the resources are apart and each of them succeeded, all of them hold together in the host at the end
+abbrev pub HoldTogether : {H : Type 0} → hosts.Ghosts H → Option Run → Kinds H → Kinds H → Type 0
+HoldTogether host None before after = ⊤
+HoldTogether host (Some run) before after =
+    (begin end : HostState) → host.told (host_of before) ≡ Some begin → host.told (host_of after) ≡ Some end → Apart run.document → Compliant run.document (calls_of after)
+    → AllHold end run.document
+
+-- ---- the headline
+
+pub record Headline {D H C : Type 0} (d : disks.Ghosts D) (host : hosts.Ghosts H) (command : Command) (before after : Outside D (Kinds H) C)
+    (status : Status) (lines : List ℕ) (from : Node) (run : Option Run) (work : List Event) : Type 0 where
+  pub h1 : IsAfterPrefix d before.disk after.disk from work status
+  pub h2 : AreSound d before.disk from work
+  pub h3 : AreAsPushed d before.disk command from work
+  pub h4 : IsRun host run before.machine after.machine
+  pub h5 : AreTold run after.machine work lines
+  pub h6 : IsComplete host d before.disk after.disk from run before.machine after.machine work
+  pub h7 : HoldTogether host run before.machine after.machine
+
+-- of each start that opened its store
+abbrev pub HasHeadline : {D H C : Type 0} → Known D (Kinds H) C → hosts.Ghosts H → Command → Outside D (Kinds H) C → Outside D (Kinds H) C → Status → List ℕ → Type 0
+HasHeadline o host command before after status lines =
+    (opened : Opened o command before after status lines) → Headline o.disk host command before after status lines opened.from opened.run opened.ended.work

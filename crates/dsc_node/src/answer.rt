@@ -1,0 +1,129 @@
+//! How a start ends, and what it prints.
+ghost use Rattle.std.specs.Prelude.{◌≡◌, ◌<◌, ◌++◌, [], All, IfOk, length, string_bytes};
+ghost use Rattle.resource_kinds.specs.Trace.{place_of};
+ghost use Rattle.lcm_core.specs.RunLaws.{EndsAtYes};
+ghost use Rattle.dsc_node.specs.Lines.{overlap_line, run_lines};
+ghost use Rattle.dsc_node.specs.Runs.{end_line, status_after};
+ghost use Rattle.dsc_node.specs.Work.{Answers, status_of};
+
+use crate::lines::lines_of;
+use crate::status::Status;
+use dsc_document::Document;
+use lcm_core::{RunEnd, count_succeeded};
+use node_store::StoreError;
+use resource_kinds::Entry;
+use std::alloc::{AllocError, Global};
+
+/// How a start ended, and what it prints beside the line of a refusal.
+#[derive(Drop)]
+pub struct StartEnd {
+    pub status: Status,
+
+    /// Lines that end with LF.
+    pub lines: String,
+}
+
+impl StartEnd {
+    /// An end that prints nothing; takes no memory.
+    pub(crate) fn silent(alloc: Global, status: Status) -> StartEnd
+        ensures status { result.status ≡ status }
+        ensures lines { string_bytes result.lines ≡ [] }
+    {
+        StartEnd {
+            status,
+            lines: String::new(alloc),
+        }
+    }
+
+    /// An end that prints this text.
+    pub(crate) fn printing(alloc: Global, status: Status, text: &str) -> StartEnd
+        ensures { Answers status text.now result.status (string_bytes result.lines) }
+    {
+        match String::from_str(alloc, text) {
+            Ok(lines) => StartEnd { status, lines },
+            Err(AllocError) => StartEnd::silent(alloc, Status::Memory),
+        }
+    }
+}
+
+/// The end of a start that ran: the run's lines, and this last one after them.
+pub(crate) fn after_run(
+    alloc: Global,
+    document: &Document,
+    calls: &[Entry],
+    overlap: bool,
+    last: &str,
+    status: Status,
+) -> StartEnd
+    requires known { All (λ e. place_of e < length document.now.resources) calls.now }
+    requires ends { EndsAtYes calls.now }
+    ensures { Answers status ((run_lines document.now calls.now ++ overlap_line overlap) ++ last.now) result.status (string_bytes result.lines) }
+{
+    match run_text(alloc, document, calls, overlap, last) {
+        Ok(lines) => StartEnd { status, lines },
+        Err(AllocError) => StartEnd::silent(alloc, Status::Memory),
+    }
+}
+
+fn run_text(
+    alloc: Global,
+    document: &Document,
+    calls: &[Entry],
+    overlap: bool,
+    last: &str,
+) -> Result<String, AllocError>
+    requires known { All (λ e. place_of e < length document.now.resources) calls.now }
+    requires ends { EndsAtYes calls.now }
+    ensures { IfOk result (λ lines. string_bytes lines ≡ (run_lines document.now calls.now ++ overlap_line overlap) ++ last.now) }
+{
+    let good = count_succeeded(calls);
+    let mut lines = lines_of(alloc, document, calls, good, overlap)?;
+    lines.push_str(last)?;
+    Ok(lines)
+}
+
+/// The status after a run of which so many resources did not succeed.
+pub(crate) fn status_after(now: bool, end: RunEnd, missed: u32) -> Status
+    ensures { result ≡ status_after now end missed }
+{
+    match end {
+        RunEnd::RebootAsked(index) => Status::RebootAsked { index, now },
+        RunEnd::Finished => {
+            if missed == 0 {
+                Status::Done
+            } else {
+                Status::NotCompliant { count: missed }
+            }
+        }
+        RunEnd::Memory => Status::Memory,
+    }
+}
+
+/// The last line of a run whose report is kept.
+pub(crate) fn end_line(end: RunEnd, pending: bool, missed: u32) -> &'static str
+    ensures { result.now ≡ end_line end pending missed }
+{
+    match end {
+        RunEnd::RebootAsked(_) => "end reboot\n",
+        RunEnd::Finished => {
+            if pending && missed == 0 {
+                "end promoted\n"
+            } else {
+                "end noted\n"
+            }
+        }
+        RunEnd::Memory => "",
+    }
+}
+
+/// The status of a start whose store was not opened, or whose event was not committed.
+pub(crate) fn status_of(error: StoreError) -> Status
+    ensures { result ≡ status_of error }
+{
+    match error {
+        StoreError::Spent | StoreError::Disk => Status::DiskFault,
+        StoreError::NotAStore { at } => Status::NotAStore { at },
+        StoreError::NotAllowed(why) => Status::NotAllowed(why),
+        StoreError::Memory => Status::Memory,
+    }
+}

@@ -1,0 +1,188 @@
+//! The run of a start and its report. Neither a store nor a disk is touched here.
+ghost use Rattle.std.specs.Prelude.{◌≡◌, ◌≤◌, Bool, Some, [], map, IfOk};
+ghost use Rattle.dsc_outside.specs.Clock.{last_moment};
+ghost use Rattle.node_state.specs.Lists.{IsStaged};
+ghost use Rattle.node_state.specs.Sound.{Sound};
+ghost use Rattle.dsc_node.specs.Runs.{IsEndTime, chosen_of, frame_of, is_pull, mark_of};
+ghost use Rattle.dsc_node.specs.Turn.{IsReadyFor, IsTurn};
+
+use crate::choosing::{Chosen, chosen_of};
+use crate::run::run_merged;
+use dsc_document::Document;
+use dsc_outside::Clock;
+use lcm_core::{RunEnd, report_laws};
+use meta_config::RefreshMode;
+use mof_values::{Items, Memory, Text};
+use node_state::Node;
+use partial_merge::{MergeError, OrderedDocument, Part, merge_ordered};
+use report_log::{Frame, PartMark, Report, ReportRoom, report_of, room_for};
+use resource_kinds::{Machine, overlaps};
+use std::alloc::{AllocError, Global};
+use std::cmp::max;
+
+/// A run that is over, with its report.
+#[derive(Drop)]
+pub(crate) struct Over {
+    pub(crate) document: Document,
+
+    /// Some of its resources overlap.
+    pub(crate) overlap: bool,
+
+    /// The document is Pending, not Current.
+    pub(crate) pending: bool,
+
+    pub(crate) end: RunEnd,
+    pub(crate) report: Report,
+}
+
+/// What the step that runs comes to.
+#[derive(Drop)]
+pub(crate) enum Turn {
+    /// Nothing is to be run.
+    Nothing,
+
+    /// Memory was refused.
+    Memory,
+
+    Over(Over),
+}
+
+// All that a run takes beside the room of its trace.
+#[derive(Drop)]
+pub(crate) struct Ready {
+    pub(crate) ordered: OrderedDocument,
+    pub(crate) overlap: bool,
+    pub(crate) room: ReportRoom,
+    pub(crate) marks: Items<PartMark>,
+}
+
+/// Makes the run that the node is to make, if it is to make one, and its report. All memory is taken before the first Test.
+pub(crate) fn turn<M: Machine, C: Clock>(
+    alloc: Global,
+    start: u64,
+    stopped: bool,
+    node: &Node,
+    machine: &mut M,
+    clock: &mut C,
+) -> Turn
+    requires fresh { M.kept machine.old ≡ [] }
+    requires sound { Sound node.now }
+    requires moment { start ≤ last_moment }
+    ensures { IsTurn M.Resources node.now stopped (C.coming clock.old) start result machine.old machine.new }
+{
+    let Some(chosen) = chosen_of(node, stopped) else {
+        return Turn::Nothing;
+    };
+    match prepared(alloc, chosen.parts) {
+        Ok(ready) => run_ready(alloc, start, node, chosen, ready, machine, clock),
+        Err(Memory) => Turn::Memory,
+    }
+}
+
+// The document of parts that a node keeps, with all that its run takes.
+fn prepared(alloc: Global, parts: &[Part]) -> Result<Ready, Memory>
+    requires staged { IsStaged parts.now }
+    ensures { IfOk result (IsReadyFor parts.now) }
+{
+    let ordered = match merge_ordered(alloc, parts) {
+        Ok(ordered) => ordered,
+        Err(MergeError::Memory) => return Err(Memory),
+        Err(_) => unreachable!(),
+    };
+    let overlap = overlaps(alloc, &ordered.document)?;
+    let room = room_for(alloc, &ordered.document)?;
+    let marks = Items::of(marks_of(alloc, parts)?);
+    Ok(Ready {
+        ordered,
+        overlap,
+        room,
+        marks,
+    })
+}
+
+fn marks_of(alloc: Global, parts: &[Part]) -> Result<Vec<PartMark>, AllocError>
+    ensures { IfOk result (λ marks. marks.items ≡ map mark_of parts.now) }
+{
+    let mut marks = Vec::new(alloc);
+    for part in parts {
+        marks.push(PartMark {
+            name: copy_of(&part.name)?,
+            digest: part.digest,
+        })?;
+    }
+    Ok(marks)
+}
+
+fn copy_of(name: &Text) -> Result<Text, AllocError>
+    ensures { IfOk result (λ copy. copy ≡ name.now) }
+{
+    name.clone()
+}
+
+// The run of the document, and its report.
+fn run_ready<M: Machine, C: Clock>(
+    alloc: Global,
+    start: u64,
+    node: &Node,
+    chosen: Chosen,
+    ready: Ready,
+    machine: &mut M,
+    clock: &mut C,
+) -> Turn
+    requires fresh { M.kept machine.old ≡ [] }
+    requires staged { IsStaged chosen.parts.now }
+    requires ready { IsReadyFor chosen.parts.now ready }
+    requires moment { start ≤ last_moment }
+    ensures { (stopped : Bool) → chosen_of stopped node.now ≡ Some (record { parts = chosen.parts.now; mode = chosen.mode; pending = chosen.pending })
+        → IsTurn M.Resources node.now stopped (C.coming clock.old) start result machine.old machine.new }
+{
+    let document = ready.ordered.document;
+    let end = run_merged(
+        alloc,
+        &document,
+        ready.ordered.order.as_slice(),
+        chosen.mode,
+        machine,
+    );
+    if let RunEnd::Memory = end {
+        return Turn::Memory;
+    }
+    let frame = Frame {
+        job: node.next_job,
+        initial: chosen.pending,
+        pull: is_pull(node.meta.refresh),
+        start,
+        end: end_of(start, clock),
+        parts: ready.marks,
+    };
+    report_laws();
+    let report = report_of(ready.room, &document, machine.calls(), frame);
+    Turn::Over(Over {
+        document,
+        overlap: ready.overlap,
+        pending: chosen.pending,
+        end,
+        report,
+    })
+}
+
+fn is_pull(refresh: RefreshMode) -> bool
+    ensures { result ≡ is_pull refresh }
+{
+    match refresh {
+        RefreshMode::Pull => true,
+        RefreshMode::Push | RefreshMode::Disabled => false,
+    }
+}
+
+// A second reading, or the first where it failed or lies before it.
+fn end_of<C: Clock>(start: u64, clock: &mut C) -> u64
+    requires moment { start ≤ last_moment }
+    ensures time { IsEndTime (C.coming clock.old) start result }
+    ensures moment { result ≤ last_moment }
+{
+    match clock.now() {
+        Ok(time) => max(start, time),
+        Err(_) => start,
+    }
+}
