@@ -1,5 +1,5 @@
 -- What a start promises of the machine and of its store, over the kinds of resources of a host: the headline, fact by fact.
-use Rattle.std.specs.Prelude.{◌≡◌, ◌≢◌, ◌⊎◌, ℕ, ◌<◌, ◌-◌, ◌^◌, Bool, true, List, [], ◌∷◌, ◌++◌, length, Option, Some, None, Contains, ⊤}
+use Rattle.std.specs.Prelude.{◌≡◌, ◌≢◌, ◌⊎◌, ℕ, ◌<◌, ◌-◌, ◌^◌, Bool, true, List, [], ◌∷◌, ◌++◌, length, Option, Some, None, ⊤}
 use Rattle.dsc_terms.specs.Counts.{Rose, RoseBy}
 use Rattle.dsc_outside.specs.declared.disk.Disk as disks
 use Rattle.dsc_outside.specs.declared.host.Host as hosts
@@ -91,9 +91,16 @@ IsRun host (Some run) before after =
 
 -- ---- 5: a compliant report
 
--- the start keeps the report
+abbrev pub KeepsReport : Event → Report → Type 0
+KeepsReport (events.Promote kept) report = report ≡ kept
+KeepsReport (events.Note kept) report = report ≡ kept
+KeepsReport (events.AskReboot kept) report = report ≡ kept
+KeepsReport _ report = ⊥
+
+-- one of the events keeps the report
 abbrev pub Keeps : List Event → Report → Type 0
-Keeps work report = Contains work (events.Promote report) ⊎ Contains work (events.Note report) ⊎ Contains work (events.AskReboot report)
+Keeps [] report = ⊥
+Keeps (event ∷ events) report = KeepsReport event report ⊎ Keeps events report
 
 -- A report that is kept is that of the trace; where it says success, each resource's last Test answered yes. What is printed begins
 -- with the text of the trace, unless memory was refused.
@@ -107,6 +114,15 @@ AreTold None after work lines = (report : Report) → Keeps work report → ⊥
 AreTold (Some run) after work lines = IsTold run (calls_of after) work lines
 
 -- ---- 6: completes
+
+abbrev pub IsPromotion : Event → Type 0
+IsPromotion (events.Promote report) = ⊤
+IsPromotion _ = ⊥
+
+-- one of the events makes Pending Current
+abbrev pub Promotes : List Event → Type 0
+Promotes [] = ⊥
+Promotes (event ∷ events) = IsPromotion event ⊎ Promotes events
 
 -- a repair of Pending on a host that tells, without a fault of the host, of the disk or of a resource, that came to its last resource
 pub record IsFaultless {H D : Type 0} (host : hosts.Ghosts H) (d : disks.Ghosts D) (begin now : D) (from : Node) (run : Run) (before after : Kinds H) : Type 0 where
@@ -122,7 +138,7 @@ pub record IsFaultless {H D : Type 0} (host : hosts.Ghosts H) (d : disks.Ghosts 
 -- A run that memory was not refused to leaves nothing out; and a faultless repair of Pending makes it Current.
 pub record Completes {H D : Type 0} (host : hosts.Ghosts H) (d : disks.Ghosts D) (begin now : D) (from : Node) (run : Run) (before after : Kinds H) (work : List Event) : Type 0 where
   pub whole : run.end ≢ ends.Memory → Whole run.document run.choice.mode run.order (calls_of after)
-  pub promoted : IsFaultless host d begin now from run before after → (report : Report) × Contains work (events.Promote report)
+  pub promoted : IsFaultless host d begin now from run before after → Promotes work
 
 abbrev pub IsComplete : {H D : Type 0} → hosts.Ghosts H → disks.Ghosts D → D → D → Node → Option Run → Kinds H → Kinds H → List Event → Type 0
 IsComplete host d begin now from None before after work = ⊤

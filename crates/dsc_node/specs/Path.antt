@@ -17,7 +17,7 @@ use Rattle.dsc_node.specs.declared.status.Status.TheVariants as statuses
 use Rattle.dsc_node.specs.declared.turn.Over.{Over}
 use Rattle.dsc_node.specs.Lines.{overlap_line, run_lines}
 use Rattle.dsc_node.specs.Runs.{end_line, event_of, status_after}
-use Rattle.dsc_node.specs.Work.{Answers, RefusedAfter, status_of}
+use Rattle.dsc_node.specs.Work.{Answers, Ends, RefusedAfter, status_of}
 
 -- the node after a prefix of this work
 pub record AfterPrefix (from : Node) (work : List Event) (node : Node) : Type 0 where

@@ -22,13 +22,13 @@ use Rattle.dsc_node.specs.Runs.{IsEndTime, Reported, Run, Unended, chosen_of, en
 
 -- ---- answers
 
--- memory was refused, and nothing is printed
-abbrev pub IsSilent : Status → List ℕ → Type 0
-IsSilent status lines = (status ≡ statuses.Memory) × (lines ≡ [])
+-- a start ends with this status, and prints this text
+abbrev pub Ends : Status → List ℕ → Status → List ℕ → Type 0
+Ends wanted text status lines = (status ≡ wanted) × (lines ≡ text)
 
--- a start ends with this status and this text, unless memory was refused for the text
+-- the same, unless memory is refused for the text
 abbrev pub Answers : Status → List ℕ → Status → List ℕ → Type 0
-Answers wanted text status lines = ((status ≡ wanted) × (lines ≡ text)) ⊎ IsSilent status lines
+Answers wanted text status lines = Ends wanted text status lines ⊎ Ends statuses.Memory [] status lines
 
 -- a pushed document was refused
 abbrev pub status_of_input : MergeError → Status
@@ -87,10 +87,11 @@ pub data Finish {S : Type 0} (machine : Ghosts S) (from : Node) (failed : ℕ ×
   no_run : (status : Status) (lines : List ℕ) → chosen_of stopped node ≡ None → after ≡ before → Answers statuses.Done (codes "end nothing\n") status lines
       → Finish machine from failed work node stopped readings start before after None status lines work
   -- memory was refused before the run
-  unready : after ≡ before → Finish machine from failed work node stopped readings start before after None statuses.Memory [] work
+  unready : (status : Status) (lines : List ℕ) → after ≡ before → Ends statuses.Memory [] status lines
+      → Finish machine from failed work node stopped readings start before after None status lines work
   -- memory was refused in the run
-  unended : (run : Run) → Unended machine node stopped run before after
-      → Finish machine from failed work node stopped readings start before after (Some run) statuses.Memory [] work
+  unended : (run : Run) (status : Status) (lines : List ℕ) → Unended machine node stopped run before after → Ends statuses.Memory [] status lines
+      → Finish machine from failed work node stopped readings start before after (Some run) status lines work
   -- the run's event was refused; memory was not
   unnoted : (run : Run) (report : Report) (error : StoreError) (text lines : List ℕ) (status : Status) (all : List Event)
       → Reported machine node stopped readings start run report before after → RefusedAfter from failed work (event_of run.end run.choice.pending report) error all
@@ -112,15 +113,18 @@ pub record IsIdle {S C : Type 0} (before after : S) (first last : C) : Type 0 wh
 -- A start, after this work (none), which led to this node.
 pub data Work {S C : Type 0} (machine : Ghosts S) (clock : clocks.Ghosts C) (task : Task) (from : Node) (failed : ℕ × ℕ) (work : List Event) (node : Node)
     (before after : S) (first last : C) : Option Run → Status → List ℕ → List Event → Type 0 where
-  not_allowed : (why : Why) → why_not node task ≡ Some why → IsIdle before after first last
-      → Work machine clock task from failed work node before after first last None (statuses.NotAllowed why) [] work
-  waiting : why_not node task ≡ None → waits node task ≡ true → IsIdle before after first last
-      → Work machine clock task from failed work node before after first last None statuses.RebootWaiting [] work
-  no_time : IsAllowed node task → is_init task ≡ false → Rose (clock.faults first) (clock.faults last) → after ≡ before
-      → Work machine clock task from failed work node before after first last None statuses.ClockFault [] work
-  first_refused : (event : Event) (error : StoreError) (all : List Event) → IsAllowed node task → first_of node task ≡ event ∷ [] → after ≡ before
-      → RefusedAfter from failed work event error all
-      → Work machine clock task from failed work node before after first last None (status_of error) [] all
+  not_allowed : (why : Why) (status : Status) (lines : List ℕ) → why_not node task ≡ Some why → IsIdle before after first last
+      → Ends (statuses.NotAllowed why) [] status lines
+      → Work machine clock task from failed work node before after first last None status lines work
+  waiting : (status : Status) (lines : List ℕ) → why_not node task ≡ None → waits node task ≡ true → IsIdle before after first last
+      → Ends statuses.RebootWaiting [] status lines
+      → Work machine clock task from failed work node before after first last None status lines work
+  no_time : (status : Status) (lines : List ℕ) → IsAllowed node task → is_init task ≡ false → Rose (clock.faults first) (clock.faults last) → after ≡ before
+      → Ends statuses.ClockFault [] status lines
+      → Work machine clock task from failed work node before after first last None status lines work
+  first_refused : (event : Event) (error : StoreError) (status : Status) (lines : List ℕ) (all : List Event) → IsAllowed node task → first_of node task ≡ event ∷ []
+      → after ≡ before → RefusedAfter from failed work event error all → Ends (status_of error) [] status lines
+      → Work machine clock task from failed work node before after first last None status lines all
   initialized : (status : Status) (lines : List ℕ) → IsAllowed node task → is_init task ≡ true → IsIdle before after first last
       → Answers statuses.Done (codes "ok\n") status lines
       → Work machine clock task from failed work node before after first last None status lines (work ++ first_of node task)
