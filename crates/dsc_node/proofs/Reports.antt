@@ -1,7 +1,5 @@
--- The reports that a start keeps, and where it makes Pending Current.
-use Rattle.std.proofs.Common.{◌≡◌, ◌≢◌, ◌⊎◌, inl, inr, ⊎_elim, ℕ, ◌+◌, ◌-◌, ◌<◌, ◌≤◌, ◌^◌, ◌==◌, ◌&&◌, cond, Bool, true, false, List, [], ◌∷◌, ◌++◌, length, Option, Some, None, is_some, refl, sym, ap, subst, ◌∙◌, arith}
-use Rattle.dsc_outside.specs.declared.clock.Clock as clocks
-use Rattle.resource_kinds.specs.declared.resources.Resources.{Ghosts}
+-- The reports that a start keeps.
+use Rattle.std.proofs.Common.{◌≡◌, ◌⊎◌, inl, inr, ⊎_elim, ℕ, ◌==◌, ◌&&◌, cond, Bool, true, false, List, [], ◌∷◌, ◌++◌, Option, sym, subst}
 use Rattle.lcm_core.specs.declared.modes.RunEnd.{RunEnd}
 use Rattle.lcm_core.specs.declared.modes.RunEnd.TheVariants as ends
 use Rattle.report_log.specs.declared.report.Report.{Report}
@@ -12,11 +10,10 @@ use Rattle.node_store.specs.declared.error.StoreError.{StoreError}
 use Rattle.node_store.specs.declared.error.StoreError.TheVariants as errors
 use Rattle.dsc_node.specs.declared.command.Task.{Task}
 use Rattle.dsc_node.specs.declared.command.Task.TheVariants.{Init, Push, Consistency, Boot}
-use Rattle.dsc_node.specs.declared.status.Status.{Status}
 use Rattle.dsc_node.specs.Commands.{first_of}
-use Rattle.dsc_node.specs.Headline.{IsPromotion, Keeps, KeepsReport, Promotes}
-use Rattle.dsc_node.specs.Runs.{Reported, Run, event_of}
-use Rattle.dsc_node.specs.Work.{Finish, RefusedAfter, Work, counted, finished, first_refused, initialized, no_run, no_time, not_allowed, noted, unended, unnoted, unready, waiting}
+use Rattle.dsc_node.specs.Headline.{Keeps, KeepsReport}
+use Rattle.dsc_node.specs.Runs.{Run, event_of}
+use Rattle.dsc_node.specs.Work.{RefusedAfter, all_of, broken_by}
 
 module _ (report : Report) where
   keeps-append : (xs ys : List Event) → Keeps (xs ++ ys) report → Keeps xs report ⊎ Keeps ys report
@@ -24,18 +21,20 @@ module _ (report : Report) where
   keeps-append (x ∷ xs) ys (inl is) = inl (inl is)
   keeps-append (x ∷ xs) ys (inr k) = ⊎_elim (λ a. inl (inr a)) (λ b. inr b) (keeps-append xs ys k)
 
-  counted_keeps : (event : Event) (error : StoreError) → Keeps (counted event error) report → KeepsReport event report
-  counted_keeps event errors.Disk (inl is) = is
-  counted_keeps event errors.Disk (inr k) = absurd k
-  counted_keeps event (errors.NotAStore at) k = absurd k
-  counted_keeps event (errors.NotAllowed why) k = absurd k
-  counted_keeps event errors.Memory k = absurd k
-  counted_keeps event errors.Spent k = absurd k
+  broken_keeps : (committed : List Event) (event : Event) (error : StoreError) → Keeps (all_of committed (broken_by event error)) report → Keeps committed report ⊎ KeepsReport event report
+  broken_keeps committed event errors.Disk k = ⊎_elim (λ a. inl a) (λ b. inr (one b)) (keeps-append committed (event ∷ []) k) where
+    one : Keeps (event ∷ []) report → KeepsReport event report
+    one (inl is) = is
+    one (inr none) = absurd none
+  broken_keeps committed event (errors.NotAStore at) k = inl k
+  broken_keeps committed event (errors.NotAllowed why) k = inl k
+  broken_keeps committed event errors.Memory k = inl k
+  broken_keeps committed event errors.Spent k = inl k
 
-  refused_keeps : (from : Node) (failed : ℕ × ℕ) (work all : List Event) (event : Event) (error : StoreError) → RefusedAfter from failed work event error all → Keeps all report
-      → Keeps work report ⊎ KeepsReport event report
-  refused_keeps from failed work all event error refused k =
-      ⊎_elim (λ a. inl a) (λ b. inr (counted_keeps event error b)) (keeps-append work (counted event error) (subst (λ (w : List Event). Keeps w report) refused.is k))
+  refused_keeps : (from : Node) (counts : ℕ × ℕ) (work : List Event) (event : Event) (error : StoreError) (committed : List Event) (broken : Option Event)
+      → RefusedAfter from counts work event error committed broken → Keeps (all_of committed broken) report → Keeps work report ⊎ KeepsReport event report
+  refused_keeps from counts work event error committed broken refused k =
+      broken_keeps work event error (subst (λ (w : List Event). Keeps (all_of w (broken_by event error)) report) refused.committed_is (subst (λ (b : Option Event). Keeps (all_of committed b) report) refused.broken_is k))
 
   one_keeps : (b : Bool) (kept : Report) → KeepsReport (cond b (events.Promote kept) (events.Note kept)) report → report ≡ kept
   one_keeps true kept is = is
@@ -71,24 +70,12 @@ module _ (report : Report) where
         last (inl is) = run_keeps run.end run.choice.pending kept is
         last (inr more) = absurd more
 
-  pub unnoted_keeps : (from : Node) (failed : ℕ × ℕ) (work all : List Event) (run : Run) (kept : Report) (error : StoreError) → (Keeps work report → ⊥)
-      → RefusedAfter from failed work (event_of run.end run.choice.pending kept) error all → Keeps all report → report ≡ kept
-  unnoted_keeps from failed work all run kept error none refused k =
-      ⊎_elim (λ a. absurd (none a)) (λ b. run_keeps run.end run.choice.pending kept b) (refused_keeps from failed work all (event_of run.end run.choice.pending kept) error refused k)
+  pub refused_run_keeps : (from : Node) (counts : ℕ × ℕ) (work : List Event) (run : Run) (kept : Report) (error : StoreError) (committed : List Event) (broken : Option Event) → (Keeps work report → ⊥)
+      → RefusedAfter from counts work (event_of run.end run.choice.pending kept) error committed broken → Keeps (all_of committed broken) report → report ≡ kept
+  refused_run_keeps from counts work run kept error committed broken none refused k =
+      ⊎_elim (λ a. absurd (none a)) (λ b. run_keeps run.end run.choice.pending kept b) (refused_keeps from counts work (event_of run.end run.choice.pending kept) error committed broken refused k)
 
-  pub first_refused_keeps : (from node : Node) (task : Task) (failed : ℕ × ℕ) (all : List Event) (event : Event) (error : StoreError) → first_of node task ≡ event ∷ []
-      → RefusedAfter from failed [] event error all → Keeps all report → ⊥
-  first_refused_keeps from node task failed all event error one refused k =
-      ⊎_elim (λ none. none) (none_before node task event one) (refused_keeps from failed [] all event error refused k)
-
--- ---- promotion
-
-pub promotes-push : (work : List Event) (event : Event) → IsPromotion event → Promotes (work ++ event ∷ [])
-promotes-push [] event is = inl is
-promotes-push (e ∷ work) event is = inr (promotes-push work event is)
-
-pub promotes_run : (end : RunEnd) (pending : Bool) (report : Report) → end ≡ ends.Finished → pending ≡ true → report.missed ≡ 0 → IsPromotion (event_of end pending report)
-promotes_run end pending report finished is none =
-    subst (λ (e : RunEnd). IsPromotion (event_of e pending report)) (sym finished)
-    (subst (λ (b : Bool). IsPromotion (cond (b && (report.missed == 0)) (events.Promote report) (events.Note report))) (sym is)
-    (subst (λ (n : ℕ). IsPromotion (cond (true && (n == 0)) (events.Promote report) (events.Note report))) (sym none) tt))
+  pub first_refused_keeps : (from node : Node) (task : Task) (counts : ℕ × ℕ) (event : Event) (error : StoreError) (committed : List Event) (broken : Option Event) → first_of node task ≡ event ∷ []
+      → RefusedAfter from counts [] event error committed broken → Keeps (all_of committed broken) report → ⊥
+  first_refused_keeps from node task counts event error committed broken one refused k =
+      ⊎_elim (λ none. none) (none_before node task event one) (refused_keeps from counts [] event error committed broken refused k)

@@ -8,6 +8,7 @@ use Rattle.dsc_node.specs.declared.command.Command.{Command}
 use Rattle.dsc_node.specs.declared.status.Status.{Status}
 use Rattle.dsc_node.specs.Path.{IsOnTheWay}
 use Rattle.dsc_node.specs.Start.{Known, Outside, Start, opened, refused, unopened}
+use Rattle.dsc_node.specs.Work.{all_of}
 use Rattle.dsc_node.proofs.Way.{stands_map}
 
 -- what holds at any moment holds at the end
@@ -21,9 +22,9 @@ pub begins_again : {D S C : Type 0} (o : Known D S C) (command : Command) (befor
     → Start o command before after status lines → AllStand o.disk before.disk Stands Any → AllStand o.disk after.disk Stands Any
 begins_again o command before after _ _ counts (refused error status lines unmerged same quiet ends) all =
     λ c there. all c (subst (λ x. o.disk.images x c) same there)
-begins_again o command before after _ _ counts (unopened error status lines cause quiet moments ends) all =
+begins_again o command before after _ _ counts (unopened task error status lines is count cause quiet moments ends) all =
     λ c there. stands_map (StoodFor o.disk before.disk Stands) Any (λ node stood. tt) c
     (at_the_end o.disk before.disk after.disk (StoodFor o.disk before.disk Stands) counts (moments all) c there)
 begins_again o command before after _ _ counts (opened status lines o_) all =
-    λ c there. stands_map (IsOnTheWay o.disk before.disk o_.from o_.ended.work) Any (λ node way. tt) c
-    (at_the_end o.disk before.disk after.disk (IsOnTheWay o.disk before.disk o_.from o_.ended.work) counts (o_.ended.passes all) c there)
+    λ c there. stands_map (IsOnTheWay o.disk before.disk o_.from (all_of o_.ended.committed o_.ended.broken)) Any (λ node way. tt) c
+    (at_the_end o.disk before.disk after.disk (IsOnTheWay o.disk before.disk o_.from (all_of o_.ended.committed o_.ended.broken)) counts (o_.ended.passes all) c there)

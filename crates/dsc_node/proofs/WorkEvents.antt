@@ -17,7 +17,7 @@ use Rattle.dsc_node.specs.declared.command.Task.TheVariants.{Init, Push, Consist
 use Rattle.dsc_node.specs.declared.status.Status.{Status}
 use Rattle.dsc_node.specs.Commands.{first_of}
 use Rattle.dsc_node.specs.Runs.{Run, event_of}
-use Rattle.dsc_node.specs.Work.{Finish, RefusedAfter, Work, counted, finished, first_refused, initialized, no_run, no_time, not_allowed, noted, unended, unnoted, unready, waiting}
+use Rattle.dsc_node.specs.Work.{Finish, RefusedAfter, StartTable, all_of, broken_by, clock_failed, finished, first_refused, initialized, no_run, not_allowed, report_kept, report_refused, unended, unready, waiting}
 
 module _ (part : Part) where
   pub stages-append : (xs ys : List Event) → Stages (xs ++ ys) part → Stages xs part ⊎ Stages ys part
@@ -42,41 +42,43 @@ module _ (part : Part) where
   run_stages ends.Finished pending report s = one_of (pending && (report.missed == 0)) report s
   run_stages ends.Memory pending report s = s
 
-  counted_stages : (event : Event) (error : StoreError) → Stages (counted event error) part → StagesPart event part
-  counted_stages event errors.Disk (inl is) = is
-  counted_stages event errors.Disk (inr s) = absurd s
-  counted_stages event (errors.NotAStore at) s = absurd s
-  counted_stages event (errors.NotAllowed why) s = absurd s
-  counted_stages event errors.Memory s = absurd s
-  counted_stages event errors.Spent s = absurd s
+  broken_stages : (committed : List Event) (event : Event) (error : StoreError) → Stages (all_of committed (broken_by event error)) part → Stages committed part ⊎ StagesPart event part
+  broken_stages committed event errors.Disk s = ⊎_elim (λ a. inl a) (λ b. inr (one b)) (stages-append committed (event ∷ []) s) where
+    one : Stages (event ∷ []) part → StagesPart event part
+    one (inl is) = is
+    one (inr none) = absurd none
+  broken_stages committed event (errors.NotAStore at) s = inl s
+  broken_stages committed event (errors.NotAllowed why) s = inl s
+  broken_stages committed event errors.Memory s = inl s
+  broken_stages committed event errors.Spent s = inl s
 
-  refused_stages : (from : Node) (failed : ℕ × ℕ) (work all : List Event) (event : Event) (error : StoreError) → RefusedAfter from failed work event error all → Stages all part
-      → Stages work part ⊎ StagesPart event part
-  refused_stages from failed work all event error refused s =
-      ⊎_elim (λ a. inl a) (λ b. inr (counted_stages event error b)) (stages-append work (counted event error) (subst (λ (w : List Event). Stages w part) refused.is s))
+  refused_stages : (from : Node) (counts : ℕ × ℕ) (work : List Event) (event : Event) (error : StoreError) (committed : List Event) (broken : Option Event)
+      → RefusedAfter from counts work event error committed broken → Stages (all_of committed broken) part → Stages work part ⊎ StagesPart event part
+  refused_stages from counts work event error committed broken refused s =
+      broken_stages work event error (subst (λ (w : List Event). Stages (all_of w (broken_by event error)) part) refused.committed_is (subst (λ (b : Option Event). Stages (all_of committed b) part) refused.broken_is s))
 
-  finish_stages : {S : Type 0} (machine : Ghosts S) (from : Node) (failed : ℕ × ℕ) (work : List Event) (node : Node) (stopped : Bool) (readings : Option (List (Option ℕ))) (start : ℕ)
-      (before after : S) (run : Option Run) (status : Status) (lines : List ℕ) (all : List Event)
-      → Finish machine from failed work node stopped readings start before after run status lines all → Stages all part → Stages work part
-  finish_stages machine from failed work node stopped readings start before after _ _ _ _ (no_run status lines none idle answers) s = s
-  finish_stages machine from failed work node stopped readings start before after _ _ _ _ (unready status lines idle ends) s = s
-  finish_stages machine from failed work node stopped readings start before after _ _ _ _ (unended run status lines ran ends) s = s
-  finish_stages machine from failed work node stopped readings start before after _ _ _ _ (unnoted run report error text lines status all reported refused memory told answers) s =
-      ⊎_elim (λ a. a) (λ is. absurd (run_stages run.end run.choice.pending report is)) (refused_stages from failed work all (event_of run.end run.choice.pending report) error refused s)
-  finish_stages machine from failed work node stopped readings start before after _ _ _ _ (noted run report text lines status reported told answers) s =
+  finish_stages : {S : Type 0} (machine : Ghosts S) (from : Node) (counts : ℕ × ℕ) (work : List Event) (node : Node) (stopped : Bool) (readings left : Option (List (Option ℕ))) (start : ℕ)
+      (before after : S) (run : Option Run) (status : Status) (lines : List ℕ) (committed : List Event) (broken : Option Event)
+      → Finish machine from counts work node stopped readings left start before after run status lines committed broken → Stages (all_of committed broken) part → Stages work part
+  finish_stages machine from counts work node stopped readings left start before after _ _ _ _ _ (no_run status lines none idle taken answers) s = s
+  finish_stages machine from counts work node stopped readings left start before after _ _ _ _ _ (unready status lines idle taken ends) s = s
+  finish_stages machine from counts work node stopped readings left start before after _ _ _ _ _ (unended run status lines ran taken ends) s = s
+  finish_stages machine from counts work node stopped readings left start before after _ _ _ _ _ (report_refused run report error text lines status committed broken reported took refused memory told answers) s =
+      ⊎_elim (λ a. a) (λ is. absurd (run_stages run.end run.choice.pending report is)) (refused_stages from counts work (event_of run.end run.choice.pending report) error committed broken refused s)
+  finish_stages machine from counts work node stopped readings left start before after _ _ _ _ _ (report_kept run report text lines status reported took told answers) s =
       ⊎_elim (λ a. a) (λ b. absurd (last b)) (stages-append work (event_of run.end run.choice.pending report ∷ []) s) where
         last : Stages (event_of run.end run.choice.pending report ∷ []) part → ⊥
         last (inl is) = run_stages run.end run.choice.pending report is
         last (inr s) = s
 
-  pub work_stages : {S C : Type 0} (machine : Ghosts S) (clock : clocks.Ghosts C) (task : Task) (from : Node) (failed : ℕ × ℕ) (node : Node) (before after : S) (first last : C)
-      (run : Option Run) (status : Status) (lines : List ℕ) (all : List Event)
-      → Work machine clock task from failed [] node before after first last run status lines all → Stages all part → Stages (first_of node task) part
-  work_stages machine clock task from failed node before after first last _ _ _ _ (not_allowed why status lines is idle ends) s = absurd s
-  work_stages machine clock task from failed node before after first last _ _ _ _ (waiting status lines none is idle ends) s = absurd s
-  work_stages machine clock task from failed node before after first last _ _ _ _ (no_time status lines allowed other rose idle ends) s = absurd s
-  work_stages machine clock task from failed node before after first last _ _ _ _ (first_refused event error status lines all allowed one idle refused ends) s =
-      ⊎_elim (λ none. absurd none) (λ is. subst (λ (w : List Event). Stages w part) (sym one) (inl is)) (refused_stages from failed [] all event error refused s)
-  work_stages machine clock task from failed node before after first last _ _ _ _ (initialized status lines allowed init idle answers) s = s
-  work_stages machine clock task from failed node before after first last _ _ _ _ (finished mid start run status lines all allowed other time steps f) s =
-      finish_stages machine from failed (first_of node task) mid _ _ start before after run status lines all f s
+  pub work_stages : {S C : Type 0} (machine : Ghosts S) (clock : clocks.Ghosts C) (task : Task) (from : Node) (counts : ℕ × ℕ) (node : Node) (before after : S) (first last : C)
+      (run : Option Run) (status : Status) (lines : List ℕ) (committed : List Event) (broken : Option Event)
+      → StartTable machine clock task from counts [] node before after first last run status lines committed broken → Stages (all_of committed broken) part → Stages (first_of node task) part
+  work_stages machine clock task from counts node before after first last _ _ _ _ _ (not_allowed why status lines is idle ends) s = absurd s
+  work_stages machine clock task from counts node before after first last _ _ _ _ _ (waiting status lines none is idle ends) s = absurd s
+  work_stages machine clock task from counts node before after first last _ _ _ _ _ (clock_failed status lines allowed other gave took rose idle ends) s = absurd s
+  work_stages machine clock task from counts node before after first last _ _ _ _ _ (first_refused event error status lines committed broken allowed one reads idle refused ends) s =
+      ⊎_elim (λ none. absurd none) (λ is. subst (λ (w : List Event). Stages w part) (sym one) (inl is)) (refused_stages from counts [] event error committed broken refused s)
+  work_stages machine clock task from counts node before after first last _ _ _ _ _ (initialized status lines allowed init idle answers) s = s
+  work_stages machine clock task from counts node before after first last _ _ _ _ _ (finished mid start readings run status lines committed broken allowed other gave took steps f) s =
+      finish_stages machine from counts (first_of node task) mid _ readings _ start before after run status lines committed broken f s

@@ -10,10 +10,11 @@ use Rattle.lcm_core.specs.declared.modes.RunMode.{RunMode}
 use Rattle.report_log.specs.Room.{IsRoomFor}
 use Rattle.report_log.specs.Sizes.{DocumentInSize}
 use Rattle.node_state.specs.declared.node.Node.{Node}
-use Rattle.dsc_node.specs.declared.turn.Over.{Over}
-use Rattle.dsc_node.specs.declared.turn.Ready.{Ready}
-use Rattle.dsc_node.specs.declared.turn.Turn.{Turn}
-use Rattle.dsc_node.specs.declared.turn.Turn.TheVariants as turns
+use Rattle.dsc_node.specs.declared.running.Over.{Over}
+use Rattle.dsc_node.specs.declared.running.Ready.{Ready}
+use Rattle.dsc_node.specs.declared.running.RunStep.{RunStep}
+use Rattle.dsc_node.specs.declared.running.RunStep.TheVariants as steps
+use Rattle.dsc_node.specs.Readings.{Took}
 use Rattle.dsc_node.specs.Runs.{Reported, Run, Unended, chosen_of, mark_of}
 
 -- whether resources of the document overlap was found
@@ -47,7 +48,8 @@ pub record IsOver {S : Type 0} (machine : Ghosts S) (node : Node) (stopped : Boo
   pub reported : Reported machine node stopped readings start (run_of over parts mode order) over.report before after
   pub found : IsFound over.document over.overlap
 
-abbrev pub IsTurn : {S : Type 0} → Ghosts S → Node → Bool → Option (List (Option ℕ)) → ℕ → Turn → S → S → Type 0
-IsTurn machine node stopped readings start turns.Nothing before after = (chosen_of stopped node ≡ None) × (after ≡ before)
-IsTurn machine node stopped readings start turns.Memory before after = (after ≡ before) ⊎ ((run : Run) × Unended machine node stopped run before after)
-IsTurn machine node stopped readings start (turns.Over over) before after = IsOver machine node stopped readings start over before after
+-- what the step that runs did; the readings are those that the clock still gives, before and after
+abbrev pub IsRunStep : {S : Type 0} → Ghosts S → Node → Bool → Option (List (Option ℕ)) → Option (List (Option ℕ)) → ℕ → RunStep → S → S → Type 0
+IsRunStep machine node stopped readings left start steps.Nothing before after = (chosen_of stopped node ≡ None) × (after ≡ before) × (left ≡ readings)
+IsRunStep machine node stopped readings left start steps.Memory before after = ((after ≡ before) ⊎ ((run : Run) × Unended machine node stopped run before after)) × (left ≡ readings)
+IsRunStep machine node stopped readings left start (steps.Over over) before after = IsOver machine node stopped readings start over before after × Took 1 readings left
