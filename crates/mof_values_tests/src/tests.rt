@@ -1,5 +1,5 @@
 //! What no clause says: which names are identifiers and the same, that ample memory is enough, and the printed texts.
-use super::*;
+use mof_values::*;
 use std::fmt::Display;
 use std::test::Fail;
 
