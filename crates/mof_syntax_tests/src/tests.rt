@@ -1,5 +1,5 @@
 //! What no clause says: where tokens stand in worked texts, that ample memory is enough, and the printed texts.
-use super::*;
+use mof_syntax::*;
 use std::fmt::Display;
 use std::test::Fail;
 
