@@ -2,7 +2,7 @@
 //!
 //! What the real program shows of texts stands with the checks of the program: what is read of them, why they are
 //! refused and where, and how instances are written.
-use crate::{Feed, FeedError, push_literal, read, write};
+use mof_codec::{Feed, FeedError, push_literal, read, write};
 use mof_values::Text;
 use std::fmt::Display;
 use std::test::Fail;
