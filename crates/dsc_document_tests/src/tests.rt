@@ -1,5 +1,5 @@
 //! That ample memory gives a document at every size, and that a part may depend on other parts.
-use super::*;
+use dsc_document::*;
 use mof_values::{Ident, Instance, Items, Property, Scalar, Text, Value};
 use std::test::Fail;
 
