@@ -2,7 +2,7 @@
 ghost use Rattle.std.specs.Prelude.{◌<◌, ◌↔◌, All, IsTrue, length};
 ghost use Rattle.depend_order.specs.Numbers.{AreBelow};
 
-use super::*;
+use depend_order::*;
 use std::test::Fail;
 
 // What each place depends on, whether there is an order, and that order or the closed walk.
