@@ -1,6 +1,6 @@
 //! Values that other programs and the standards give.
-use super::*;
 use mof_values::Bytes;
+use shared_key::*;
 use std::alloc::{AllocError, Global};
 use std::test::Fail;
 
