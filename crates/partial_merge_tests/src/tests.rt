@@ -1,8 +1,8 @@
 //! What ample memory answers: parts, and what lists of them are merged to or refused for.
-use super::*;
 use dsc_document::DocError;
 use mof_codec::MofError;
 use mof_values::{Items, Text};
+use partial_merge::*;
 use std::alloc::Global;
 use std::test::Fail;
 
