@@ -1,4 +1,6 @@
-use crate::{Header, Reply, Request, RequestReader, read_answer, write_answer, write_request};
+use http_frames::{
+    Header, Reply, Request, RequestReader, read_answer, write_answer, write_request,
+};
 use mof_values::{Bytes, Items, Text};
 use std::alloc::{AllocError, Global};
 use std::test::Fail;

@@ -1,4 +1,4 @@
-use crate::{FrameError, Reply, read_answer};
+use http_frames::{FrameError, Reply, read_answer};
 
 // An answer, and its body.
 fn whole_answers() -> &'static [(&'static [u8], &'static [u8])] {

@@ -1,4 +1,4 @@
-use crate::{FrameError, Request, RequestReader};
+use http_frames::{FrameError, Request, RequestReader};
 use std::alloc::{AllocError, Global};
 use std::process::Abort;
 use std::test::Fail;
