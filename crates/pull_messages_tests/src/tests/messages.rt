@@ -1,8 +1,8 @@
 //! Messages that are read and written again.
 use super::made::{expect, joined};
 use super::rows::{ANSWERS, QUERIES, REGISTRATIONS, REPORTS};
-use crate::*;
 use mof_values::Memory;
+use pull_messages::*;
 use std::alloc::Global;
 use std::test::Fail;
 

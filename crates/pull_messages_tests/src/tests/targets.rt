@@ -1,7 +1,7 @@
 //! What targets are, as they are written again, and where a text stops being one.
 use super::made::{expect, joined};
-use crate::*;
 use mof_values::Text;
+use pull_messages::*;
 use std::alloc::Global;
 use std::test::Fail;
 

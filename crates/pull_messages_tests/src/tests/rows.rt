@@ -1,7 +1,7 @@
 //! Bodies, and the texts of the messages that they are. The texts were made by another program.
 use super::messages::Row;
-use crate::Field;
-use crate::MessageError::{Json, Missing, Wrong};
+use pull_messages::Field;
+use pull_messages::MessageError::{Json, Missing, Wrong};
 
 pub const REGISTRATIONS: &[Row] = &[
     (

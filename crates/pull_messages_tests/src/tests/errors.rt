@@ -1,6 +1,6 @@
 //! The texts of refusals.
 use super::made::expect;
-use crate::*;
+use pull_messages::*;
 use std::test::Fail;
 
 const TEXTS: &[(MessageError, &str)] = &[

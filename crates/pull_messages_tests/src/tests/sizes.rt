@@ -1,7 +1,7 @@
 //! Messages of every size, which come back as they were: with ample memory none is refused for memory.
 use super::made::{expect, joined};
 use super::messages::{Message, answers};
-use crate::*;
+use pull_messages::*;
 use std::alloc::Global;
 use std::test::Fail;
 
