@@ -3,8 +3,8 @@ mod rows;
 
 ghost use Rattle.meta_config.specs.Parts.{IsMeta};
 
-use super::*;
 use depend_order::OrderError;
+use meta_config::*;
 use mof_values::Text;
 use rows::{
     CANONICAL, DOWNLOAD, PARTIAL, SETTINGS, USUAL, WRITTEN, accepted, limits, orders, refused,
@@ -17,16 +17,16 @@ use std::test::Fail;
 fn told(alloc: Global, read: &Result<Meta, MetaError>) -> Result<String, AllocError> {
     let mut line = String::new(alloc);
     match read {
-        Ok(meta) => push_meta(alloc, &mut line, meta)?,
+        Ok(meta) => push_meta(&mut line, meta)?,
         Err(fault) => push_fault(&mut line, fault)?,
     }
     Ok(line)
 }
 
-fn push_meta(alloc: Global, line: &mut String, meta: &Meta) -> Result<(), AllocError> {
+fn push_meta(line: &mut String, meta: &Meta) -> Result<(), AllocError> {
     push_settings(line, meta)?;
     if let Some(server) = &meta.server {
-        push_server(alloc, line, server)?;
+        push_server(line, server)?;
     }
     line.push_str(if meta.pulls { " pulls" } else { "" })?;
     line.push_str(if meta.reports { " reports" } else { "" })?;
@@ -47,16 +47,18 @@ fn push_settings(line: &mut String, meta: &Meta) -> Result<(), AllocError> {
     )
 }
 
-fn push_server(alloc: Global, line: &mut String, server: &Server) -> Result<(), AllocError> {
+fn push_server(line: &mut String, server: &Server) -> Result<(), AllocError> {
     line.push_str(" server ")?;
-    push_url(alloc, line, server)?;
+    push_url(line, server)?;
     line.push_str(" key ")?;
     push_chars(line, server.key.as_slice())
 }
 
-fn push_url(alloc: Global, line: &mut String, server: &Server) -> Result<(), AllocError> {
-    let url = urls::url_of(alloc, server.https, &server.peer, &server.prefix)?;
-    push_chars(line, url.as_slice())
+fn push_url(line: &mut String, server: &Server) -> Result<(), AllocError> {
+    line.push_str(if server.https { "https://" } else { "http://" })?;
+    push_chars(line, server.peer.host.as_slice())?;
+    write!(line, ":{}", server.peer.port)?;
+    push_chars(line, server.prefix.as_slice())
 }
 
 fn push_partial(line: &mut String, partial: &Partial) -> Result<(), AllocError> {
