@@ -1,11 +1,11 @@
 mod documents;
 mod script;
 
-use super::*;
 use crate::tests::documents::{document, letter};
 use crate::tests::script::{Script, said};
 use depend_order::order;
 use dsc_document::Document;
+use lcm_core::*;
 use resource_kinds::{Entry, Resources};
 use std::test::Fail;
 
