@@ -2,10 +2,10 @@
 ghost use Rattle.std.specs.Prelude.{◌<◌, ◌^◌, IsTrue, length};
 
 use super::text;
-use crate::{FitError, fits};
 use dsc_document::{Document, Resource};
 use meta_config::{Meta, Partial};
 use mof_values::{Ident, Instance, Items, Text};
+use node_state::{FitError, fits};
 use std::test::Fail;
 
 // Partial configurations by their names, each with what it claims, or nothing.

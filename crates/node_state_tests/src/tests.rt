@@ -1,10 +1,10 @@
 //! What events make of a node, which of them are not allowed and why, and which documents fit.
 mod fitting;
 
-use super::*;
 use dsc_outside::Peer;
 use meta_config::{Meta, Server};
 use mof_values::{Items, Text};
+use node_state::*;
 use partial_merge::part_of;
 use report_log::{Outcome, Report};
 use std::process::Abort;
