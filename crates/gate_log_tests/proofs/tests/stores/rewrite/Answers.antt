@@ -1,8 +1,8 @@
 use Rattle.std.proofs.Common.{◌≡◌, ◌≤◌, ◌++◌, ◌∷◌, [], false, sym, subst, rules}
 use Rattle.gate_log.specs.Log.{LogTerm, IsLogOf, HasPutOn}
 use Rattle.gate_log.proofs.Ready.{of_disk, ready_finished}
-use Rattle.gate_log.proofs.Rewrites.{begun_of, begun_put}
-use Rattle.gate_log.proofs.tests.stores.rewrite.Goals as goal
+use Rattle.gate_log_tests.proofs.Begun.{begun_of, begun_put}
+use Rattle.gate_log_tests.proofs.tests.stores.rewrite.Goals as goal
 
 pub finish_rewrite-requires-clause-of : goal.finish_rewrite-requires-clause-of
 finish_rewrite-requires-clause-of g c =

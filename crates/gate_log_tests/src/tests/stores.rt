@@ -3,13 +3,15 @@ ghost use Rattle.std.specs.Prelude.{◌≡◌, IfOk};
 ghost use Rattle.gate_log.specs.declared.shape.Shape.{Shape};
 ghost use Rattle.gate_log.specs.Log.{IsReady};
 
-use crate::{Bodies, Log, LogError, Shape, replay_log};
 use dsc_outside::{Disk, Memory};
+use gate_log::{Bodies, Log, LogError, Shape, replay_log};
 use std::alloc::Global;
 
-impl From<Memory> for LogError {
-    fn from(_: Memory) -> Self {
-        LogError::Memory
+/// What was made, or the store's error where memory was refused.
+pub fn with_memory<T: Drop>(made: Result<T, Memory>) -> Result<T, LogError> {
+    match made {
+        Ok(value) => Ok(value),
+        Err(_) => Err(LogError::Memory),
     }
 }
 
@@ -52,7 +54,7 @@ pub fn add<D: Disk>(log: &mut Log, disk: &mut D, body: &[u8]) -> Result<(), LogE
 }
 
 /// Rewrites a store to one body.
-#[tactic(auto, using(crate::proofs::Rewrites::begun_of, crate::proofs::Rewrites::begun_put))]
+#[tactic(auto, using(crate::proofs::Begun::begun_of, crate::proofs::Begun::begun_put))]
 pub fn rewrite<D: Disk>(log: &mut Log, disk: &mut D, body: &[u8]) -> Result<(), LogError>
     requires shape { log.old.shape ≡ record { bank = 64; largest = 32 } }
     requires of { IsReady D.Disk disk.old log.old }

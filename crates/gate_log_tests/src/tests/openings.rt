@@ -1,7 +1,7 @@
 //! Files that are opened as stores.
-use super::stores::{add_two, bodies_of, holds, rewrite};
-use crate::LogError;
+use super::stores::{add_two, bodies_of, holds, rewrite, with_memory};
 use dsc_outside::MemoryDisk;
+use gate_log::LogError;
 use std::alloc::Global;
 use std::test::Fail;
 
@@ -9,7 +9,7 @@ use std::test::Fail;
 type Row<'a> = (&'a [u8], Result<usize, u64>);
 
 fn answer(alloc: Global, bytes: &[u8]) -> Result<Result<usize, u64>, LogError> {
-    let mut disk = MemoryDisk::new(bytes.to_vec(alloc)?, Vec::new(alloc))?;
+    let mut disk = with_memory(MemoryDisk::new(bytes.to_vec(alloc)?, Vec::new(alloc)))?;
     match bodies_of(alloc, &mut disk) {
         Ok(bodies) => Ok(Ok(bodies.as_slice().len())),
         Err(LogError::NotAStore { at }) => Ok(Err(at)),
@@ -50,9 +50,9 @@ fn a_file_is_a_store_or_fails_at_its_first_wrong_byte(rt: HostRuntime) -> Result
 
 // A store of two bodies of twenty bytes has thirteen bytes left, and one cell too long for them fails at its length.
 fn room_is_what_is_left(alloc: Global) -> Result<bool, LogError> {
-    let mut disk = MemoryDisk::new(Vec::new(alloc), Vec::new(alloc))?;
+    let mut disk = with_memory(MemoryDisk::new(Vec::new(alloc), Vec::new(alloc)))?;
     let log = add_two(alloc, &mut disk)?;
-    let mut bytes = disk.after_stop()?;
+    let mut bytes = with_memory(disk.after_stop())?;
     let is_room = !log.has_room(20) && !log.has_room(9) && log.has_room(8) && log.has_room(0);
     bytes.truncate(58);
     bytes.extend_from_slice(b"\xA5\x00\x00\x00\x09123456789\x00")?;
@@ -61,12 +61,12 @@ fn room_is_what_is_left(alloc: Global) -> Result<bool, LogError> {
 
 // The file has 98 bytes, of which the eighth makes the second bank live.
 fn is_rewritten(alloc: Global) -> Result<bool, LogError> {
-    let mut disk = MemoryDisk::new(Vec::new(alloc), Vec::new(alloc))?;
+    let mut disk = with_memory(MemoryDisk::new(Vec::new(alloc), Vec::new(alloc)))?;
     let mut log = add_two(alloc, &mut disk)?;
     rewrite(&mut log, &mut disk, &[b'c'; 20])?;
-    let bytes = disk.after_stop()?;
+    let bytes = with_memory(disk.after_stop())?;
     let is_second = bytes.len() == 98 && bytes[7] == 0x32;
-    let mut disk = MemoryDisk::new(bytes, Vec::new(alloc))?;
+    let mut disk = with_memory(MemoryDisk::new(bytes, Vec::new(alloc)))?;
     Ok(is_second && holds(bodies_of(alloc, &mut disk)?.as_slice(), b"c"))
 }
 
@@ -78,7 +78,7 @@ fn a_bank_that_is_full_is_rewritten(rt: HostRuntime) -> Result<(), Fail> {
 
 // Whether an opening whose first sync fails answers Disk, and the next one opens a new store.
 fn fails_and_opens(alloc: Global) -> Result<bool, LogError> {
-    let mut disk = MemoryDisk::new(Vec::new(alloc), vec![in alloc; 0]?)?;
+    let mut disk = with_memory(MemoryDisk::new(Vec::new(alloc), vec![in alloc; 0]?))?;
     match bodies_of(alloc, &mut disk) {
         Err(LogError::Disk) => Ok(bodies_of(alloc, &mut disk)?.as_slice().is_empty()),
         _ => Ok(false),

@@ -1,7 +1,7 @@
 //! Stops in each call of an append and of a rewrite.
-use super::stores::{add, add_two, bodies_of, holds, open, rewrite};
-use crate::LogError;
+use super::stores::{add, add_two, bodies_of, holds, open, rewrite, with_memory};
 use dsc_outside::{DiskPart, DiskStop, MemoryDisk};
+use gate_log::LogError;
 use std::alloc::Global;
 use std::test::Fail;
 
@@ -17,9 +17,9 @@ enum Change {
 
 // A disk with a store of two bodies, that stops so.
 fn disk(alloc: Global, stop: Option<DiskStop>) -> Result<MemoryDisk, LogError> {
-    let mut disk = MemoryDisk::new(Vec::new(alloc), Vec::new(alloc))?;
+    let mut disk = with_memory(MemoryDisk::new(Vec::new(alloc), Vec::new(alloc)))?;
     add_two(alloc, &mut disk)?;
-    Ok(MemoryDisk::of(disk.after_stop()?, Vec::new(alloc), stop)?)
+    with_memory(MemoryDisk::of(with_memory(disk.after_stop())?, Vec::new(alloc), stop))
 }
 
 // Opens the store and changes it.
@@ -40,7 +40,7 @@ enum Found {
 }
 
 fn reopened(alloc: Global, left: Vec<u8>, change: Change) -> Result<Found, LogError> {
-    let mut disk = MemoryDisk::new(left, Vec::new(alloc))?;
+    let mut disk = with_memory(MemoryDisk::new(left, Vec::new(alloc)))?;
     let bodies = bodies_of(alloc, &mut disk)?;
     if holds(bodies.as_slice(), b"ab") {
         return Ok(Found::Old);
@@ -56,7 +56,10 @@ fn reopened(alloc: Global, left: Vec<u8>, change: Change) -> Result<Found, LogEr
 fn after_stop(alloc: Global, change: Change, stop: DiskStop) -> Result<(Found, bool), LogError> {
     let mut disk = disk(alloc, Some(stop))?;
     let is_done = run(alloc, &mut disk, change).is_ok();
-    Ok((reopened(alloc, disk.after_stop()?, change)?, is_done))
+    Ok((
+        reopened(alloc, with_memory(disk.after_stop())?, change)?,
+        is_done,
+    ))
 }
 
 const PARTS: &[DiskPart] = &[

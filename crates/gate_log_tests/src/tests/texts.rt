@@ -1,6 +1,7 @@
 //! Bodies of many sizes, and the texts of errors.
-use crate::{Bodies, LogError, Shape, replay_log};
+use super::stores::with_memory;
 use dsc_outside::MemoryDisk;
+use gate_log::{Bodies, LogError, Shape, replay_log};
 use std::alloc::Global;
 use std::fmt::Write;
 use std::test::Fail;
@@ -15,13 +16,13 @@ const LARGE: Shape = Shape {
 // Whether a body of that size is appended to a new store, and found again.
 fn comes_back(alloc: Global, size: usize) -> Result<bool, LogError> {
     let body = vec![in alloc; 7u8; size]?;
-    let mut disk = MemoryDisk::new(Vec::new(alloc), Vec::new(alloc))?;
+    let mut disk = with_memory(MemoryDisk::new(Vec::new(alloc), Vec::new(alloc)))?;
     let mut log = replay_log(alloc, &mut disk, LARGE, &mut Bodies::new(alloc))?;
     if size > 196_608 || !log.has_room(size as u32) {
         return Ok(false);
     }
     log.append(&mut disk, &body)?;
-    let mut disk = MemoryDisk::new(disk.after_stop()?, Vec::new(alloc))?;
+    let mut disk = with_memory(MemoryDisk::new(with_memory(disk.after_stop())?, Vec::new(alloc)))?;
     let mut bodies = Bodies::new(alloc);
     replay_log(alloc, &mut disk, LARGE, &mut bodies)?;
     match bodies.as_slice().first() {

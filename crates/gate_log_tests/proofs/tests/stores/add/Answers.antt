@@ -1,6 +1,6 @@
 use Rattle.std.proofs.Common.{◌≡◌, ◌++◌, ◌∷◌, [], false, rules}
 use Rattle.gate_log.proofs.Ready.{of_disk, ready_appended}
-use Rattle.gate_log.proofs.tests.stores.add.Goals as goal
+use Rattle.gate_log_tests.proofs.tests.stores.add.Goals as goal
 
 pub returns-clause-of : goal.returns-clause-of
 returns-clause-of g c =
