@@ -1,6 +1,6 @@
 //! What the rules say of small texts, the decider's answer and that of the product's reader beside it.
-use crate::decider::is_wide;
 use mof_codec::{MofError, read};
+use mof_examples::is_wide;
 use std::test::Fail;
 
 const DOCUMENTS: &[(&str, bool)] = &[
