@@ -1,4 +1,4 @@
-//! The rows: what is asked for, as in `wants`, and machines, as in `machines`.
+//! The rows: what is asked for, as in `documents`, and machines, as in `machines`.
 
 /// What is asked for, the machine, which of its calls fail, and the answer of a Test.
 pub type TestRow = (&'static str, &'static str, &'static [u64], &'static str);
@@ -18,7 +18,7 @@ pub const TESTS: &[TestRow] = &[
     ("any-file p", "p:x", &[0], "HostFailed"),
     ("file p x", "p:x", &[0], "HostFailed"),
     ("folder p", "p/", &[0], "HostFailed"),
-    ("entry [a]one m", "#[a]one=m", &[0], "HostFailed"),
+    ("entry m", "#[a]one=m", &[0], "HostFailed"),
     ("file p x", "p:x", &[1], "yes"),
     ("any-file p", "p?", &[], "no"),
     ("folder p", "p?", &[], "no"),
@@ -71,22 +71,10 @@ pub const SETS: &[SetRow] = &[
     ("no-entries v /a", "$v=", &[], "done", "$v="),
     ("no-entries v /a", "", &[], "done", ""),
     // the log, and wishes for a reboot
+    ("entry m", "#[b]two=m", &[], "done", "#[b]two=m #[a]one=m"),
+    ("entry m", "![a]one", &[], "reboot", "#[a]one=m ![a]one"),
     (
-        "entry [a]one m",
-        "#[b]two=m",
-        &[],
-        "done",
-        "#[b]two=m #[a]one=m",
-    ),
-    (
-        "entry [a]one m",
-        "![a]one",
-        &[],
-        "reboot",
-        "#[a]one=m ![a]one",
-    ),
-    (
-        "entry [a]one m",
+        "entry m",
         "![A]One ![a]two",
         &[],
         "done",
