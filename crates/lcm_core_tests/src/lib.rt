@@ -1,4 +1,4 @@
-//! The tests of `lcm_core`.
+//! The tests of `lcm_core`, and of what `report_log` reports of its runs.
 #![tactic(auto)]
 
 #[cfg(test)]

@@ -1,4 +1,5 @@
 mod documents;
+mod reports;
 mod script;
 
 use crate::tests::documents::{document, letter};

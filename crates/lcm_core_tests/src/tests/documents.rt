@@ -1,6 +1,7 @@
 //! Documents written as words: a resource is its id and the ids that it depends on, with semicolons between resources.
 ghost use Rattle.std.specs.Prelude.{◌≤◌, length, IfOk};
 ghost use Rattle.dsc_document.specs.Dependencies.{HasDistinctIds, NamesResources};
+ghost use Rattle.dsc_document.specs.Sizes.{DocumentInSize};
 
 use dsc_document::{Document, check};
 use mof_values::{Ident, Instance, Items, Property, Scalar, Text, Value};
@@ -51,6 +52,7 @@ pub fn document(rt: &impl AllocGlobal, declarations: &str) -> Result<Document, F
     ensures few { IfOk result (λ document. length document.resources ≤ 5) }
     ensures known { IfOk result NamesResources }
     ensures distinct { IfOk result HasDistinctIds }
+    ensures size { IfOk result DocumentInSize }
 {
     let mut made = Vec::new(rt.alloc());
     made.push(instance(rt, "")?)?;
