@@ -21,6 +21,3 @@ pub use error::OrderError;
 pub use laws::{order_laws, order_of_laws};
 pub use numbers::order_of;
 pub use ordered::{OrderedDocument, in_order};
-
-#[cfg(test)]
-mod tests;

@@ -31,6 +31,3 @@ pub use places::Places;
 pub use rules::{check, check_part, one_refusal_wins};
 pub use spot::Spot;
 pub use unknown::{UnknownId, unknown_id};
-
-#[cfg(test)]
-mod tests;

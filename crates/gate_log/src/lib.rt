@@ -31,6 +31,3 @@ pub use log::Log;
 pub use opening::replay_log;
 pub use replay::{Replay, TakeError};
 pub use shape::Shape;
-
-#[cfg(test)]
-mod tests;

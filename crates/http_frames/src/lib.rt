@@ -29,6 +29,3 @@ pub use laws::{answers_stay, one_answer};
 pub use message::{Header, Reply, Request};
 pub use reader::RequestReader;
 pub use writing::{write_answer, write_request};
-
-#[cfg(test)]
-mod tests;

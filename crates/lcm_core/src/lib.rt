@@ -14,6 +14,3 @@ pub use last_entries::{count_succeeded, succeeded};
 pub use laws::{repair_laws, report_laws, trace_laws};
 pub use modes::{RunEnd, RunMode};
 pub use runs::run;
-
-#[cfg(test)]
-mod tests;

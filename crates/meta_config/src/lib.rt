@@ -29,6 +29,3 @@ pub use parts::parts_order;
 pub use reading::read_meta;
 pub use server::{Server, Site};
 pub use writing::write_meta;
-
-#[cfg(test)]
-mod tests;

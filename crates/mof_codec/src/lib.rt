@@ -12,6 +12,3 @@ pub use feed::{Feed, FeedError};
 pub use mof_syntax::{Form, MofError, TextError, Token, TokenKind, Tokens, decode_text, tokens};
 pub use reader::read;
 pub use writer::{push_literal, write};
-
-#[cfg(test)]
-mod tests;

@@ -9,9 +9,6 @@ use grammar::are_declarations;
 use pieces::tokens;
 use std::alloc::{AllocError, Global};
 
-#[cfg(test)]
-mod tests;
-
 /// Tells whether the text is in the grammar, with integers of any size, identifiers of any length and any number of parts.
 pub fn is_wide(alloc: Global, text: &[char]) -> Result<bool, AllocError> {
     match tokens(alloc, text)? {

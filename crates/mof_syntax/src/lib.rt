@@ -24,6 +24,3 @@ pub use text_error::TextError;
 pub use token::{Token, TokenKind};
 pub use tokenize::tokens;
 pub use walk::{Tokens, separators_rest};
-
-#[cfg(test)]
-mod tests;

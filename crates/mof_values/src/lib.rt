@@ -24,6 +24,3 @@ pub use limits::MAX_IDENTIFIER;
 pub use memory::Memory;
 pub use text::Text;
 pub use value::{Scalar, Value};
-
-#[cfg(test)]
-mod tests;

@@ -30,6 +30,3 @@ pub use node::{Kept, Node};
 pub use piece::Piece;
 pub use staging::{staged, stored};
 pub use supply::{Room, Supply};
-
-#[cfg(test)]
-mod tests;

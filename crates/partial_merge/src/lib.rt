@@ -20,6 +20,3 @@ pub use error::{MergeError, PartFault};
 pub use laws::{merge_laws, one_part_laws};
 pub use merging::{merge, merge_ordered, merge_text};
 pub use part::{Part, part_of};
-
-#[cfg(test)]
-mod tests;

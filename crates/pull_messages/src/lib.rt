@@ -35,6 +35,3 @@ pub use target_error::TargetError;
 pub use target_kinds::Target;
 pub use target_text::write_target;
 pub use targets::target;
-
-#[cfg(test)]
-mod tests;

@@ -16,6 +16,3 @@ pub use making::report_of;
 pub use report::{FailureKind, Frame, Missed, Outcome, PartMark, Reason, Report};
 pub use room::{ReportRoom, room_for};
 pub use sizes::is_in_size;
-
-#[cfg(test)]
-mod tests;

@@ -35,6 +35,3 @@ pub use machine::Machine;
 pub use overlap::{apart, overlaps};
 pub use paths::path_of;
 pub use resources::Resources;
-
-#[cfg(test)]
-mod tests;

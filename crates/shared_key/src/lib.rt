@@ -12,6 +12,3 @@ mod signature;
 pub use checksum::{checksum_text, digest, read_checksum};
 pub use keyed_hash::hmac;
 pub use signature::{sign, verify};
-
-#[cfg(test)]
-mod tests;

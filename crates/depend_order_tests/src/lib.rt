@@ -1,0 +1,5 @@
+//! The tests of `depend_order`.
+#![tactic(auto)]
+
+#[cfg(test)]
+mod tests;

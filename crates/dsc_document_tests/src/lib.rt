@@ -1,0 +1,5 @@
+//! The tests of `dsc_document`.
+#![tactic(auto)]
+
+#[cfg(test)]
+mod tests;

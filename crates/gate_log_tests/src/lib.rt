@@ -1,0 +1,5 @@
+//! The tests of `gate_log`.
+#![tactic(auto)]
+
+#[cfg(test)]
+mod tests;

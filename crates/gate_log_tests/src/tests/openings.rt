@@ -1,0 +1,92 @@
+//! Files that are opened as stores.
+use super::stores::{add_two, bodies_of, holds, rewrite, with_memory};
+use dsc_outside::MemoryDisk;
+use gate_log::LogError;
+use std::alloc::Global;
+use std::test::Fail;
+
+/// What an opening answers: how many bodies there are, or the byte at which no store stands.
+type Row<'a> = (&'a [u8], Result<usize, u64>);
+
+fn answer(alloc: Global, bytes: &[u8]) -> Result<Result<usize, u64>, LogError> {
+    let mut disk = with_memory(MemoryDisk::new(bytes.to_vec(alloc)?, Vec::new(alloc)))?;
+    match bodies_of(alloc, &mut disk) {
+        Ok(bodies) => Ok(Ok(bodies.as_slice().len())),
+        Err(LogError::NotAStore { at }) => Ok(Err(at)),
+        Err(error) => Err(error),
+    }
+}
+
+const FILES: &[Row<'_>] = &[
+    (b"", Ok(0)),
+    (b"anything!", Ok(0)),
+    (&[0xFF; 10], Err(0)),
+    (b"DSCSTOX1\x00\x00", Err(6)),
+    (b"DSCSTOR1\x00\xFF\xFF", Ok(0)),
+    (b"DSCSTOR9\x57\xA5\xA5", Ok(0)),
+    (b"DSCSTOR1\xA5\x00\x00", Err(11)),
+    (b"DSCSTOR1\xA5\x00\x00\x00\x21", Err(9)),
+    (b"DSCSTOR1\xA5\x00\x00\x00\x03ab", Err(15)),
+    (b"DSCSTOR1\xA5\x00\x00\x00\x01a", Err(14)),
+    (b"DSCSTOR1\xA5\x00\x00\x00\x01a\x00", Ok(1)),
+    (b"DSCSTOR1\xA5\x00\x00\x00\x01a\xA5", Err(15)),
+    (b"DSCSTOR2\x00\x00", Err(10)),
+];
+
+fn first_wrong(alloc: Global, rows: &[Row<'_>]) -> Result<Option<usize>, LogError> {
+    for (index, (bytes, wanted)) in rows.iter().enumerate() {
+        if answer(alloc, bytes)? != *wanted {
+            return Ok(Some(index));
+        }
+    }
+    Ok(None)
+}
+
+#[test]
+fn a_file_is_a_store_or_fails_at_its_first_wrong_byte(rt: HostRuntime) -> Result<(), Fail> {
+    assert!(rt; first_wrong(rt.alloc(), FILES)? == None);
+    Ok(())
+}
+
+// A store of two bodies of twenty bytes has thirteen bytes left, and one cell too long for them fails at its length.
+fn room_is_what_is_left(alloc: Global) -> Result<bool, LogError> {
+    let mut disk = with_memory(MemoryDisk::new(Vec::new(alloc), Vec::new(alloc)))?;
+    let log = add_two(alloc, &mut disk)?;
+    let mut bytes = with_memory(disk.after_stop())?;
+    let is_room = !log.has_room(20) && !log.has_room(9) && log.has_room(8) && log.has_room(0);
+    bytes.truncate(58);
+    bytes.extend_from_slice(b"\xA5\x00\x00\x00\x09123456789\x00")?;
+    Ok(is_room && answer(alloc, &bytes)? == Err(59))
+}
+
+// The file has 98 bytes, of which the eighth makes the second bank live.
+fn is_rewritten(alloc: Global) -> Result<bool, LogError> {
+    let mut disk = with_memory(MemoryDisk::new(Vec::new(alloc), Vec::new(alloc)))?;
+    let mut log = add_two(alloc, &mut disk)?;
+    rewrite(&mut log, &mut disk, &[b'c'; 20])?;
+    let bytes = with_memory(disk.after_stop())?;
+    let is_second = bytes.len() == 98 && bytes[7] == 0x32;
+    let mut disk = with_memory(MemoryDisk::new(bytes, Vec::new(alloc)))?;
+    Ok(is_second && holds(bodies_of(alloc, &mut disk)?.as_slice(), b"c"))
+}
+
+#[test]
+fn a_bank_that_is_full_is_rewritten(rt: HostRuntime) -> Result<(), Fail> {
+    assert!(rt; room_is_what_is_left(rt.alloc())? && is_rewritten(rt.alloc())?);
+    Ok(())
+}
+
+// Whether an opening whose first sync fails answers Disk, and the next one opens a new store.
+fn fails_and_opens(alloc: Global) -> Result<bool, LogError> {
+    let mut disk = with_memory(MemoryDisk::new(Vec::new(alloc), vec![in alloc; 0]?))?;
+    match bodies_of(alloc, &mut disk) {
+        Err(LogError::Disk) => Ok(bodies_of(alloc, &mut disk)?.as_slice().is_empty()),
+        _ => Ok(false),
+    }
+}
+
+#[test]
+fn a_sync_that_fails_fails_the_opening(rt: HostRuntime) -> Result<(), Fail> {
+    assert!(rt; fails_and_opens(rt.alloc())?);
+    Ok(())
+}

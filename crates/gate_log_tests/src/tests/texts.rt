@@ -1,0 +1,59 @@
+//! Bodies of many sizes, and the texts of errors.
+use super::stores::with_memory;
+use dsc_outside::MemoryDisk;
+use gate_log::{Bodies, LogError, Shape, replay_log};
+use std::alloc::Global;
+use std::fmt::Write;
+use std::test::Fail;
+
+const SIZES: &[usize] = &[0, 1, 2, 7, 63, 64, 65, 4_096, 65_535, 196_608];
+
+const LARGE: Shape = Shape {
+    bank: 335_544_320,
+    largest: 196_608,
+};
+
+// Whether a body of that size is appended to a new store, and found again.
+fn comes_back(alloc: Global, size: usize) -> Result<bool, LogError> {
+    let body = vec![in alloc; 7u8; size]?;
+    let mut disk = with_memory(MemoryDisk::new(Vec::new(alloc), Vec::new(alloc)))?;
+    let mut log = replay_log(alloc, &mut disk, LARGE, &mut Bodies::new(alloc))?;
+    if size > 196_608 || !log.has_room(size as u32) {
+        return Ok(false);
+    }
+    log.append(&mut disk, &body)?;
+    let mut disk = with_memory(MemoryDisk::new(with_memory(disk.after_stop())?, Vec::new(alloc)))?;
+    let mut bodies = Bodies::new(alloc);
+    replay_log(alloc, &mut disk, LARGE, &mut bodies)?;
+    match bodies.as_slice().first() {
+        Some(found) => Ok(found.as_slice() == body.as_slice()),
+        None => Ok(false),
+    }
+}
+
+#[test]
+fn a_body_of_each_size_comes_back(rt: HostRuntime) -> Result<(), Fail> {
+    for size in SIZES {
+        assert!(rt; comes_back(rt.alloc(), *size)?, "{size}");
+    }
+    Ok(())
+}
+
+const TEXTS: &[(LogError, &str)] = &[
+    (LogError::Disk, "the disk failed"),
+    (
+        LogError::NotAStore { at: 59 },
+        "no store: byte 59 is wrong or missing",
+    ),
+    (LogError::Memory, "out of memory"),
+];
+
+#[test]
+fn an_error_is_printed(rt: HostRuntime) -> Result<(), Fail> {
+    for (error, text) in TEXTS {
+        let mut line = String::new(rt.alloc());
+        write!(line, "{error}")?;
+        assert!(rt; line.as_str() == *text);
+    }
+    Ok(())
+}

@@ -1,0 +1,5 @@
+//! The tests of `http_frames`.
+#![tactic(auto)]
+
+#[cfg(test)]
+mod tests;

@@ -1,0 +1,5 @@
+//! The tests of `mof_values`.
+#![tactic(auto)]
+
+#[cfg(test)]
+mod tests;

@@ -1,0 +1,5 @@
+//! The tests of `node_state`.
+#![tactic(auto)]
+
+#[cfg(test)]
+mod tests;

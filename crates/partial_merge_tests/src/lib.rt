@@ -1,0 +1,5 @@
+//! The tests of `partial_merge`.
+#![tactic(auto)]
+
+#[cfg(test)]
+mod tests;

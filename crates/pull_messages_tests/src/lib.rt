@@ -1,0 +1,5 @@
+//! The tests of `pull_messages`.
+#![tactic(auto)]
+
+#[cfg(test)]
+mod tests;

@@ -1,0 +1,5 @@
+//! The tests of `resource_kinds`.
+#![tactic(auto)]
+
+#[cfg(test)]
+mod tests;

@@ -1,0 +1,5 @@
+//! The tests of `shared_key`.
+#![tactic(auto)]
+
+#[cfg(test)]
+mod tests;
