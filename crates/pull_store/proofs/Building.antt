@@ -1,20 +1,17 @@
 -- The rows that are written into an empty bank are read back from it.
-use Rattle.std.proofs.Common.{◌≡◌, ◌⊎◌, inl, inr, ◌==◌, ℕ, zero, suc, ◌+◌, ◌-◌, ◌<◌, ◌≤◌, Bool, true, false, ◌&&◌, if◌then◌else◌, List, [], ◌∷◌, ◌++◌, length, drop, Option, Some, None, refl, sym, ◌∙◌, ap, subst, arith, length-append, append_assoc}
-use Rattle.std.specs.Prelude.{nat_le, is_none}
+use Rattle.std.proofs.Common.{◌≡◌, ◌⊎◌, inl, inr, ◌==◌, ℕ, suc, ◌+◌, ◌-◌, ◌<◌, ◌≤◌, Bool, true, false, if◌then◌else◌, List, [], ◌∷◌, ◌++◌, length, drop, Some, None, refl, sym, ◌∙◌, ap, subst, arith, length-append, append_assoc}
+use Rattle.std.specs.Prelude.{nat_le}
 use Rattle.std.specs.List.{AllByRecursion}
 use Rattle.std.proofs.lemmas.List.{append-nil}
-use Rattle.std.proofs.lemmas.Bool.{eq-eqb, eqb-true}
+use Rattle.std.proofs.lemmas.Bool.{eq-eqb}
 use Rattle.pull_messages.specs.declared.registration.Registration.{Registration}
 use Rattle.pull_store.specs.declared.row.Row.{Row}
 use Rattle.pull_store.specs.declared.row.StoredReport.{StoredReport}
-use Rattle.pull_store.specs.declared.change.Change.{Change}
 use Rattle.pull_store.specs.declared.change.Change.TheVariants.{Register, Report}
-use Rattle.pull_store.specs.declared.change.Refusal.{Refusal}
-use Rattle.pull_store.specs.declared.change.Refusal.TheVariants.{TooMany, Unknown}
-use Rattle.pull_store.specs.Rows.{row_of, after_registration, after_report, has_job, replaced, newest, with_report, after, refusal}
-use Rattle.pull_store.specs.Bodies.{body_of, bodies_of_reports, bodies_of_row, bodies_of_rows}
-use Rattle.pull_store.specs.Sound.{IsId, IsReport, IsRow, AreOnce, AreRows, times, rows_of}
-use Rattle.pull_store.specs.Stands.{Changes, Takes, Replays}
+use Rattle.pull_store.specs.Rows.{row_of, after_registration, after_report, has_job, with_report, refusal}
+use Rattle.pull_store.specs.Bodies.{bodies_of_reports, bodies_of_row, bodies_of_rows}
+use Rattle.pull_store.specs.Sound.{IsId, IsReport, IsRow, AreRows, times, rows_of}
+use Rattle.pull_store.specs.Stands.{Takes, Replays}
 use Rattle.pull_store.proofs.Placing.{newest_push}
 
 pub tells : (b : Bool) → (b ≡ true) ⊎ (b ≡ false)

@@ -1,12 +1,10 @@
 -- What a change of the log makes of a store.
-use Rattle.std.proofs.Common.{◌≡◌, ◌⊎◌, inl, inr, ℕ, ◌+◌, ◌<◌, ◌≤◌, Bool, true, false, List, [], ◌∷◌, ◌++◌, length, Option, Some, None, Result, Ok, Err, OnOk, refl, sym, ◌∙◌, ap, subst, arith}
+use Rattle.std.proofs.Common.{◌≡◌, ◌⊎◌, inl, inr, ℕ, ◌+◌, ◌≤◌, false, List, [], ◌∷◌, ◌++◌, length, None, Result, Ok, Err, OnOk, refl, sym, ◌∙◌, ap, subst}
 use Rattle.dsc_outside.specs.declared.disk.Disk.{Ghosts}
-use Rattle.dsc_outside.specs.Disk.{Each, AnyMoment}
 use Rattle.dsc_outside.proofs.Moments.{started, weaker}
-use Rattle.dsc_terms.specs.Counts.{Rose}
 use Rattle.gate_log.specs.declared.shape.Shape.{Shape}
-use Rattle.gate_log.specs.Text.{Gives, IsText, cells, need_of}
-use Rattle.gate_log.specs.Log.{LogTerm, IsLogOf, AtAnyMoment, OldOrNew, room_in}
+use Rattle.gate_log.specs.Text.{Gives, cells}
+use Rattle.gate_log.specs.Log.{LogTerm, IsLogOf, AtAnyMoment, OldOrNew}
 use Rattle.gate_log.specs.Standing.{StandsFor, AllStand, StandsAtAnyMoment}
 use Rattle.gate_log.proofs.Cells.{text_gives}
 use Rattle.pull_store.specs.declared.row.Row.{Row}
@@ -17,9 +15,9 @@ use Rattle.pull_store.specs.Rows.{row_of, after, refusal}
 use Rattle.pull_store.specs.Bodies.{body_of, bodies_of_row, bodies_of_rows}
 use Rattle.pull_store.specs.Puts.{Ends}
 use Rattle.pull_store.specs.Sound.{AreRows, IsInSize}
-use Rattle.pull_store.specs.Stands.{Changes, Takes, Replays, Stands, BeforeOrAfter, pull_shape}
+use Rattle.pull_store.specs.Stands.{Replays, Stands, BeforeOrAfter, pull_shape}
 use Rattle.pull_store.specs.Steps.{agent_of, with_row, Makes}
-use Rattle.pull_store.specs.Store.{StoreTerm, IsKept, IsReady, HasRoom, IsFull, WasTried, Untouched, Changed, Written, whole_need, bank_room, is_spent}
+use Rattle.pull_store.specs.Store.{StoreTerm, IsKept, IsReady, HasRoom, Changed, Written, whole_need, bank_room, is_spent}
 use Rattle.pull_store.proofs.Building.{replays_push, rows_read, bodies_append}
 use Rattle.pull_store.proofs.SoundSteps.{sound_with, placed_after}
 

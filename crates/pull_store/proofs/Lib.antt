@@ -1,8 +1,10 @@
+pub mod BodiesRead
 pub mod Building
 pub mod Committed
 pub mod Others
 pub mod Placing
 pub mod Putting
+pub mod Replaying
 pub mod Rewriting
 pub mod Sizes
 pub mod SoundSteps

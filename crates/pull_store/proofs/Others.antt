@@ -1,5 +1,5 @@
 -- What a change leaves as it was.
-use Rattle.std.proofs.Common.{◌≡◌, ◌≢◌, ◌⊎◌, inl, inr, ◌==◌, ℕ, suc, ◌+◌, ◌-◌, ◌≤◌, Bool, true, false, if◌then◌else◌, List, [], ◌∷◌, ◌++◌, length, drop, Option, Some, None, refl, sym, ◌∙◌, ap, subst, arith}
+use Rattle.std.proofs.Common.{◌≡◌, ◌≢◌, inl, inr, ◌==◌, ℕ, ◌-◌, Bool, true, false, if◌then◌else◌, List, [], ◌∷◌, ◌++◌, length, drop, Some, refl, sym, ◌∙◌, ap, subst, arith}
 use Rattle.std.proofs.lemmas.Bool.{eq-eqb, eqb-true}
 use Rattle.pull_store.specs.declared.row.Row.{Row}
 use Rattle.pull_store.specs.declared.row.StoredReport.{StoredReport}
@@ -7,7 +7,7 @@ use Rattle.pull_store.specs.declared.change.Change.{Change}
 use Rattle.pull_store.specs.Rows.{row_of, has_job, replaced, with_report}
 use Rattle.pull_store.specs.Sound.{times, AreRows}
 use Rattle.pull_store.specs.Stands.{Changes, Stands}
-use Rattle.pull_store.specs.Steps.{agent_of, with_row, Makes}
+use Rattle.pull_store.specs.Steps.{agent_of, with_row}
 use Rattle.pull_store.specs.Laws.{body_under}
 use Rattle.pull_store.proofs.Placing.{newest_push}
 use Rattle.pull_store.proofs.Building.{tells, no_more}

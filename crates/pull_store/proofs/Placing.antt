@@ -1,5 +1,5 @@
 -- Where a row and a report are put.
-use Rattle.std.proofs.Common.{◌≡◌, ◌==◌, ℕ, zero, take, ◌+◌, ◌-◌, ◌<◌, ◌≤◌, suc, if◌then◌else◌, Bool, true, false, List, [], ◌∷◌, ◌++◌, length, get_or, drop, slice_set, refl, sym, ◌∙◌, ap, arith, length-append}
+use Rattle.std.proofs.Common.{◌≡◌, ◌==◌, ℕ, zero, take, ◌+◌, ◌-◌, ◌<◌, ◌≤◌, suc, if◌then◌else◌, Bool, true, false, List, [], ◌∷◌, ◌++◌, length, drop, slice_set, refl, sym, ◌∙◌, ap, arith, length-append}
 use Rattle.std.proofs.lemmas.List.{drop-append-le}
 use Rattle.pull_store.specs.declared.row.Row.{Row}
 use Rattle.pull_store.specs.declared.row.StoredReport.{StoredReport}

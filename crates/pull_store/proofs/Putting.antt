@@ -1,12 +1,11 @@
 -- Bodies that are put one after the other.
-use Rattle.std.proofs.Common.{◌≡◌, ◌⊎◌, inl, inr, ℕ, ◌+◌, ◌≤◌, suc, false, true, List, [], ◌∷◌, ◌++◌, length, Result, Ok, Err, OnOk, refl, sym, ◌∙◌, ap, subst, arith, length-append, append_assoc}
+use Rattle.std.proofs.Common.{◌≡◌, ℕ, ◌+◌, ◌≤◌, false, List, [], ◌∷◌, ◌++◌, length, Result, Ok, Err, refl, sym, ◌∙◌, subst, arith, length-append, append_assoc}
 use Rattle.std.proofs.lemmas.List.{append-nil}
 use Rattle.dsc_outside.specs.declared.disk.Disk.{Ghosts}
-use Rattle.dsc_outside.proofs.Moments.{started, weaker, then_on}
-use Rattle.dsc_terms.specs.Counts.{Rose}
+use Rattle.dsc_outside.proofs.Moments.{started, then_on}
 use Rattle.gate_log.specs.declared.shape.Shape.{Shape}
 use Rattle.gate_log.specs.Text.{Gives, AllFit, cells, behind}
-use Rattle.gate_log.specs.Log.{LogTerm, IsLogOf, HasPutOn, room_to_put}
+use Rattle.gate_log.specs.Log.{LogTerm, IsLogOf, HasPutOn}
 use Rattle.gate_log.proofs.Cells.{text_gives}
 use Rattle.pull_store.specs.declared.error.PullError.{PullError}
 use Rattle.pull_store.specs.declared.error.PullError.TheVariants.{Spent, Agents, NoAgent, Full, Disk, NotAStore, Memory}

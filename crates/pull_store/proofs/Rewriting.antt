@@ -1,5 +1,5 @@
 -- A rewrite of a log: begun, all bodies put, finished.
-use Rattle.std.proofs.Common.{◌≡◌, ◌⊎◌, inl, inr, ℕ, ◌+◌, ◌≤◌, false, true, List, [], ◌∷◌, ◌++◌, length, Result, Ok, Err, OnOk, refl, sym, ◌∙◌, ap, subst, arith}
+use Rattle.std.proofs.Common.{◌≡◌, inl, ℕ, ◌+◌, ◌≤◌, false, List, [], length, Result, Ok, Err, sym, ◌∙◌, ap, subst, arith}
 use Rattle.dsc_outside.specs.declared.disk.Disk.{Ghosts}
 use Rattle.dsc_outside.proofs.Moments.{weaker, then_on}
 use Rattle.gate_log.specs.declared.shape.Shape.{Shape}

@@ -1,20 +1,20 @@
 -- How long bodies are.
-use Rattle.std.proofs.Common.{◌≡◌, ℕ, ◌+◌, ◌-◌, ◌*◌, ◌≤◌, get_or, take, drop, subst, ap₂, List, [], ◌∷◌, ◌++◌, length, refl, sym, ◌∙◌, ap, arith, length-append}
+use Rattle.std.proofs.Common.{◌≡◌, ℕ, ◌+◌, ◌-◌, ◌*◌, ◌≤◌, get_or, take, drop, subst, ap₂, List, [], ◌∷◌, ◌++◌, length, sym, ap, arith, length-append}
 use Rattle.std.specs.Prelude.{encode_utf8_all, sum_by}
 use Rattle.std.specs.Int.{w16, w128}
 use Rattle.std.specs.List.{flat_map, AllByRecursion}
 use Rattle.std.proofs.lemmas.List.Sums.{sum_by-cons}
 use Rattle.std.proofs.lemmas.List.Concat.{flat_map-cons}
-use Rattle.store_fields.specs.Fields.{bytes_of_number, bytes_of_byte, bytes_of_text, bytes_of_list}
+use Rattle.store_fields.specs.Fields.{bytes_of_number, bytes_of_text, bytes_of_list}
 use Rattle.gate_log.specs.Text.{cells, behind, AllFit}
 use Rattle.gate_log.proofs.Cells.{length-behind}
 use Rattle.pull_messages.specs.declared.registration.Registration.{Registration}
-use Rattle.pull_messages.specs.Sizes.{text_size, registration_size, IsName, IsSized}
+use Rattle.pull_messages.specs.Sizes.{text_size, registration_size, IsName}
 use Rattle.std.proofs.lemmas.List.{take_all}
 use Rattle.pull_store.specs.declared.row.Row.{Row}
 use Rattle.pull_store.specs.declared.row.StoredReport.{StoredReport}
 use Rattle.pull_store.specs.declared.change.Change.TheVariants.{Register, Report}
-use Rattle.pull_store.specs.Bodies.{body_of, bytes_of_head, bytes_of_texts, bytes_of_registration, bodies_of_reports, bodies_of_row, bodies_of_rows}
+use Rattle.pull_store.specs.Bodies.{body_of, bytes_of_texts, bytes_of_registration, bodies_of_reports, bodies_of_row, bodies_of_rows}
 use Rattle.pull_store.proofs.Putting.{cells_both}
 use Rattle.pull_store.specs.Sound.{IsKeepable, IsNameText, IsRegistration, IsReport, IsRow}
 
@@ -38,12 +38,10 @@ pub length-report : (agent job : ℕ) (body : List ℕ) → length (body_of (Rep
 length-report agent job body =
     omega (arith, length-append (bytes_of_number w128 agent) (bytes_of_number w128 job ++ body), length-append (bytes_of_number w128 job) body, length-128 agent, length-128 job)
 
-pub length-register : (agent : ℕ) (x : Registration) → length (body_of (Register agent x)) ≡ 24 + registration_size x + 2 * length x.names
-length-register agent x =
+pub length-registration : (x : Registration) → length (bytes_of_registration x) ≡ 7 + registration_size x + 2 * length x.names
+length-registration x =
     omega (
       arith,
-      length-append (bytes_of_number w128 agent) (bytes_of_registration x),
-      length-128 agent,
       length-append (bytes_of_texts x) (bytes_of_list bytes_of_text x.names),
       length-append (bytes_of_text x.lcm_version) (bytes_of_text x.node_name ++ bytes_of_text x.ip_address),
       length-append (bytes_of_text x.node_name) (bytes_of_text x.ip_address),
@@ -52,6 +50,10 @@ length-register agent x =
       length-text x.ip_address,
       length-names x.names,
     )
+
+pub length-register : (agent : ℕ) (x : Registration) → length (body_of (Register agent x)) ≡ 24 + registration_size x + 2 * length x.names
+length-register agent x =
+    omega (arith, length-append (bytes_of_number w128 agent) (bytes_of_registration x), length-128 agent, length-registration x)
 
 pub report_short : (agent job : ℕ) (body : List ℕ) → length body ≤ 131072 → length (body_of (Report agent job body)) ≤ 131105
 report_short agent job body le = omega (arith, le, length-report agent job body)

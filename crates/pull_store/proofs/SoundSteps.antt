@@ -1,5 +1,5 @@
 -- A change that is accepted keeps the rows sound.
-use Rattle.std.proofs.Common.{◌≡◌, ◌⊎◌, inl, inr, ◌==◌, ℕ, zero, suc, ◌+◌, ◌-◌, ◌<◌, ◌≤◌, Bool, true, false, if◌then◌else◌, List, [], ◌∷◌, ◌++◌, length, drop, Option, Some, None, refl, sym, ◌∙◌, ap, subst, arith, length-append, length-drop}
+use Rattle.std.proofs.Common.{◌≡◌, ◌⊎◌, inl, inr, ◌==◌, ℕ, zero, suc, ◌-◌, ◌≤◌, Bool, true, false, if◌then◌else◌, List, [], ◌∷◌, ◌++◌, length, drop, Option, Some, None, refl, sym, ◌∙◌, ap, subst, arith, length-append, length-drop}
 use Rattle.std.specs.Prelude.{nat_le, is_none, ◌&&◌}
 use Rattle.std.specs.List.{AllByRecursion}
 use Rattle.std.proofs.lemmas.Bool.{eq-eqb, eqb-true}
@@ -9,14 +9,13 @@ use Rattle.pull_store.specs.declared.row.Row.{Row}
 use Rattle.pull_store.specs.declared.row.StoredReport.{StoredReport}
 use Rattle.pull_store.specs.declared.change.Change.{Change}
 use Rattle.pull_store.specs.declared.change.Change.TheVariants.{Register, Report}
-use Rattle.pull_store.specs.declared.change.Refusal.{Refusal}
 use Rattle.pull_store.specs.declared.change.Refusal.TheVariants.{TooMany, Unknown}
 use Rattle.pull_store.specs.Rows.{row_of, after_registration, after_report, has_job, replaced, newest, with_report, after, refusal}
-use Rattle.pull_store.specs.Sound.{IsId, IsReport, IsRow, IsRegistration, AreOnce, AreRows, IsInSize, times, rows_of}
-use Rattle.pull_store.specs.Stands.{Changes, Takes, Replays, Stands}
-use Rattle.pull_store.specs.Steps.{agent_of, place_of, with_row, reports_in, Makes}
+use Rattle.pull_store.specs.Sound.{IsReport, IsRow, AreOnce, AreRows, IsInSize, times, rows_of}
+use Rattle.pull_store.specs.Stands.{Changes, Replays}
+use Rattle.pull_store.specs.Steps.{agent_of, with_row, reports_in, Makes}
 use Rattle.pull_store.proofs.Placing.{newest_push}
-use Rattle.pull_store.proofs.Building.{tells, times_append, none_row}
+use Rattle.pull_store.proofs.Building.{tells, times_append}
 
 -- ---- reports
 

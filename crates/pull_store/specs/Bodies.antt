@@ -20,6 +20,10 @@ bytes_of_texts x = bytes_of_text x.lcm_version ++ (bytes_of_text x.node_name ++ 
 abbrev pub bytes_of_registration : Registration → List ℕ
 bytes_of_registration x = bytes_of_texts x ++ bytes_of_list bytes_of_text x.names
 
+-- an agent and a job
+abbrev pub bytes_of_ids : ℕ × ℕ → List ℕ
+bytes_of_ids ids = bytes_of_number w128 ids.0 ++ bytes_of_number w128 ids.1
+
 -- the byte 1, the agent and its registration, or the byte 2, the agent, the job and the report as it was sent
 abbrev pub body_of : Change → List ℕ
 body_of (Register agent registration) = bytes_of_head 1 agent ++ bytes_of_registration registration

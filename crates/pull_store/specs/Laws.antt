@@ -5,7 +5,7 @@ use Rattle.pull_store.specs.declared.row.StoredReport.{StoredReport}
 use Rattle.pull_store.specs.declared.change.Change.{Change}
 use Rattle.pull_store.specs.Rows.{row_of, with_report}
 use Rattle.pull_store.specs.Sound.{AreRows, AreOnce}
-use Rattle.pull_store.specs.Stands.{Changes, Stands}
+use Rattle.pull_store.specs.Stands.{Changes, IsBody, Stands}
 use Rattle.pull_store.specs.Steps.{agent_of}
 
 -- the rows that an image stands for: at most 512 of different agents, each with at most four reports of different jobs
@@ -30,3 +30,11 @@ JobsStandOnce = (job : ℕ) (body : List ℕ) (reports : List StoredReport) → 
 
 abbrev pub LastIsKept : Type 0
 LastIsKept = (job : ℕ) (body : List ℕ) (reports : List StoredReport) → body_under job (with_report job body reports) ≡ Some body
+
+-- a body is of one change at most
+abbrev pub BodiesAreOfOne : Type 0
+BodiesAreOfOne = (bytes : List ℕ) (one other : Change) → IsBody bytes one → IsBody bytes other → one ≡ other
+
+-- an image stands for one list of rows at most
+abbrev pub RowsAreOne : Type 0
+RowsAreOne = (image : List ℕ) (one other : List Row) → Stands image one → Stands image other → one ≡ other

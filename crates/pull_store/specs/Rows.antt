@@ -1,5 +1,5 @@
 -- The rows of a pull server, and what a registration and a report make of them.
-use Rattle.std.specs.Prelude.{◌≡◌, ◌==◌, ℕ, ◌-◌, Bool, ◌&&◌, if◌then◌else◌, nat_le, true, false, List, [], ◌∷◌, ◌++◌, length, drop, Option, Some, None, is_none}
+use Rattle.std.specs.Prelude.{◌==◌, ℕ, ◌-◌, Bool, ◌&&◌, if◌then◌else◌, nat_le, true, false, List, [], ◌∷◌, ◌++◌, length, drop, Option, Some, None, is_none}
 use Rattle.pull_messages.specs.declared.registration.Registration.{Registration}
 use Rattle.pull_store.specs.declared.row.Row.{Row}
 use Rattle.pull_store.specs.declared.row.StoredReport.{StoredReport}

@@ -1,8 +1,8 @@
 -- Rows as a store may hold them.
-use Rattle.std.specs.Prelude.{◌≡◌, ◌==◌, ℕ, ◌≤◌, suc, if◌then◌else◌, List, [], ◌∷◌, length, encode_utf8_all}
+use Rattle.std.specs.Prelude.{◌==◌, ℕ, ◌≤◌, suc, if◌then◌else◌, List, [], ◌∷◌, length, encode_utf8_all}
 use Rattle.std.specs.List.{AllByRecursion}
 use Rattle.std.specs.Int.{w128}
-use Rattle.store_fields.specs.Fields.{IsNumber, IsText}
+use Rattle.store_fields.specs.Fields.{IsList, IsNumber, IsText}
 use Rattle.pull_messages.specs.Limits.{list_items, text_bytes}
 use Rattle.pull_messages.specs.declared.registration.Registration.{Registration}
 use Rattle.pull_messages.specs.Sizes.{IsSized, registration_size}
@@ -39,6 +39,16 @@ pub record IsRegistration (registration : Registration) : Type 0 where
   pub few : length registration.names ≤ list_items
   pub names : AllByRecursion IsNameText registration.names
   pub whole : registration_size registration ≤ most_bytes
+
+-- the fields of a registration, each in its range
+pub record AreFields (registration : Registration) : Type 0 where
+  pub version : IsText text_bytes registration.lcm_version
+  pub node : IsText text_bytes registration.node_name
+  pub address : IsText text_bytes registration.ip_address
+  pub names : IsList IsNameText registration.names
+
+abbrev pub AreIds : ℕ × ℕ → Type 0
+AreIds ids = IsId ids.0 × IsId ids.1
 
 -- what the caller sees to, of a change
 abbrev pub IsKeepableChange : Change → Type 0

@@ -1,18 +1,24 @@
 -- The rows that an image stands for.
-use Rattle.std.specs.Prelude.{◌≡◌, ◌⊎◌, ℕ, ◌+◌, Bool, List, [], ◌∷◌, ◌++◌, None}
+use Rattle.std.specs.Prelude.{◌≡◌, ◌⊎◌, ℕ, List, [], ◌∷◌, ◌++◌, None}
 use Rattle.gate_log.specs.declared.shape.Shape.{Shape}
 use Rattle.gate_log.specs.Text.{Gives}
+use Rattle.gate_log.specs.Replay.{IsRefused}
 use Rattle.pull_store.specs.declared.row.Row.{Row}
 use Rattle.pull_store.specs.declared.change.Change.{Change}
 use Rattle.pull_store.specs.declared.change.Change.TheVariants.{Register, Report}
 use Rattle.pull_messages.specs.declared.registration.Registration.{Registration}
-use Rattle.pull_store.specs.Rows.{after, after_registration, after_report, refusal}
+use Rattle.pull_store.specs.Rows.{after, refusal}
 use Rattle.pull_store.specs.Bodies.{body_of}
 use Rattle.pull_store.specs.Sound.{IsInSize}
 
 -- two banks, and the longest body
 abbrev pub pull_shape : Shape
 pull_shape = record { bank = 335_544_320; largest = 196_608 }
+
+-- the bytes are the body of this change, which is in size
+pub record IsBody (bytes : List ℕ) (change : Change) : Type 0 where
+  pub is : bytes ≡ body_of change
+  pub size : IsInSize change
 
 -- one change that is accepted
 pub record Changes (old : List Row) (change : Change) (new : List Row) : Type 0 where
@@ -48,3 +54,21 @@ pub record Stands (image : List ℕ) (rows : List Row) : Type 0 where
 -- the rows before a change or after it
 abbrev pub BeforeOrAfter : List Row → Change → List Row → Type 0
 BeforeOrAfter old change rows = (rows ≡ old) ⊎ (rows ≡ after change old)
+
+-- what an image stood for another one still stands for
+abbrev pub KeepsRows : List ℕ → List ℕ → Type 0
+KeepsRows old new = (rows : List Row) → Stands old rows → Stands new rows
+
+-- these bodies lead to some rows
+abbrev pub LeadSomewhere : List (List ℕ) → Type 0
+LeadSomewhere bodies = (rows : List Row) × Replays [] bodies rows
+
+-- these bodies lead to rows, and with this one after them to none
+pub record EndsAt (bodies : List (List ℕ)) (body : List ℕ) : Type 0 where
+  pub lead : LeadSomewhere bodies
+  pub ends : (rows : List Row) → Replays [] (bodies ++ body ∷ []) rows → ⊥
+
+-- An image of more than nine bytes stands for no rows. The place is the byte at which the text of a store fails, or the first
+-- byte of the first body with which the bodies lead to no rows, whichever comes first.
+abbrev pub FailsAt : List ℕ → ℕ → Type 0
+FailsAt image at = IsRefused pull_shape LeadSomewhere EndsAt image at

@@ -4,7 +4,7 @@ use Rattle.pull_store.specs.declared.row.Row.{Row}
 use Rattle.pull_store.specs.declared.row.StoredReport.{StoredReport}
 use Rattle.pull_store.specs.declared.change.Change.{Change}
 use Rattle.pull_store.specs.declared.change.Change.TheVariants.{Register, Report}
-use Rattle.pull_store.specs.Rows.{row_of, with_report}
+use Rattle.pull_store.specs.Rows.{with_report}
 
 abbrev pub agent_of : Change → ℕ
 agent_of (Register agent registration) = agent

@@ -1,9 +1,11 @@
 -- A store, the disk that it is of, and what its calls answer.
-use Rattle.std.specs.Prelude.{◌≡◌, ◌⊎◌, ℕ, ◌+◌, ◌<◌, ◌≤◌, Bool, true, false, List, [], ◌∷◌, ◌++◌, length, Some, None, Result, Ok, Err, IfSome}
+use Rattle.std.specs.Prelude.{◌≡◌, ◌⊎◌, ℕ, ◌+◌, ◌<◌, ◌≤◌, Bool, true, false, List, [], length, Some, None, Result, Ok, Err, IfSome, ⊤}
 use Rattle.dsc_outside.specs.declared.disk.Disk.{Ghosts}
+use Rattle.dsc_outside.specs.Disk.{Still}
 use Rattle.dsc_terms.specs.Counts.{Rose}
 use Rattle.gate_log.specs.Text.{cells, need_of}
 use Rattle.gate_log.specs.Log.{LogTerm, IsLogOf, room_in}
+use Rattle.gate_log.specs.Standing.{ReadsAs}
 use Rattle.pull_store.specs.declared.row.Row.{Row}
 use Rattle.pull_store.specs.declared.change.Change.{Change}
 use Rattle.pull_store.specs.declared.change.Refusal.TheVariants as refusals
@@ -11,7 +13,7 @@ use Rattle.pull_store.specs.declared.error.PullError.{PullError}
 use Rattle.pull_store.specs.declared.error.PullError.TheVariants.{Spent, Agents, NoAgent, Full, Disk, NotAStore, Memory}
 use Rattle.pull_store.specs.Rows.{after, refusal}
 use Rattle.pull_store.specs.Bodies.{body_of, bodies_of_rows}
-use Rattle.pull_store.specs.Stands.{Replays, pull_shape}
+use Rattle.pull_store.specs.Stands.{Replays, Stands, FailsAt, pull_shape}
 
 -- what contracts see of a store
 pub record StoreTerm : Type 0 where
@@ -75,7 +77,7 @@ Changed d old change before now (Err NoAgent) new = (is_spent old ≡ false) × 
 Changed d old change before now (Err (Full need room)) new =
     (is_spent old ≡ false) × (refusal change old.rows ≡ None) × IsFull old change need room × Untouched old new before now
 Changed d old change before now (Err Disk) new = WasTried old change × Rose (d.faults before) (d.faults now) × (new.rows ≡ old.rows) × (is_spent new ≡ true)
-Changed d old change before now (Err Memory) new = (is_spent old ≡ false) × Untouched old new before now
+Changed d old change before now (Err Memory) new = (is_spent old ≡ false) × (refusal change old.rows ≡ None) × Untouched old new before now
 Changed d old change before now (Err (NotAStore at)) new = ⊥
 
 -- what the steps that write say
@@ -89,3 +91,25 @@ Written d log rows change before now (Err Agents) new = ⊥
 Written d log rows change before now (Err NoAgent) new = ⊥
 Written d log rows change before now (Err (NotAStore at)) new = ⊥
 Written d log rows change before now (Err Memory) new = ⊥
+
+-- ---- an opening
+
+-- the store is of the disk, with the rows that the disk read as
+pub record IsOpened {D : Type 0} (d : Ghosts D) (old new : D) (store : StoreTerm) : Type 0 where
+  pub kept : IsKept d new store
+  pub found : ReadsAs d old Stands store.rows
+
+-- the disk read as an image that stands for no rows, failing first at this place, and was left as it was
+pub record NotOpened {D : Type 0} (d : Ghosts D) (old new : D) (at : ℕ) : Type 0 where
+  pub fails : IfSome (d.seen old) (λ held. FailsAt held at)
+  pub still : Still d.seen d.images d.moment d.left_since old new
+
+-- the cause of an opening's error
+abbrev pub Unopened : {D : Type 0} → Ghosts D → D → D → PullError → Type 0
+Unopened d old new Disk = Rose (d.faults old) (d.faults new)
+Unopened d old new (NotAStore at) = NotOpened d old new at
+Unopened d old new Memory = ⊤
+Unopened d old new Spent = ⊥
+Unopened d old new Agents = ⊥
+Unopened d old new NoAgent = ⊥
+Unopened d old new (Full need room) = ⊥

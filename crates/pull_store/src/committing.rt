@@ -1,25 +1,37 @@
 //! One change of a store.
-ghost use Rattle.std.specs.Prelude.{◌≡◌, ◌⊎◌, ◌≤◌, ◌<◌, ◌+◌, ◌++◌, ◌∷◌, ℕ, List, length, false, None, Some, OnOk, vec_capacity};
-ghost use Rattle.gate_log.specs.Log.{IsLogOf};
-ghost use Rattle.gate_log.specs.Standing.{AllStand, StandsAtAnyMoment};
+ghost use Rattle.std.specs.Prelude.{◌≡◌, ◌≤◌, ◌<◌, length, None, IfOk, OnOk, vec_capacity, vec_len};
+ghost use Rattle.gate_log.specs.Standing.{StandsAtAnyMoment};
 ghost use Rattle.pull_store.specs.Rows.{row_of, refusal, after};
 ghost use Rattle.pull_store.specs.Bodies.{body_of};
-ghost use Rattle.pull_store.specs.Sound.{AreRows, IsInSize, IsKeepableChange};
-ghost use Rattle.pull_store.specs.Stands.{Stands, BeforeOrAfter, pull_shape};
-ghost use Rattle.pull_store.specs.Steps.{agent_of, with_row, Makes};
-ghost use Rattle.pull_store.specs.Store.{IsKept, IsReady, Changed, Written};
+ghost use Rattle.pull_store.specs.Sound.{AreRows, IsInSize};
+ghost use Rattle.pull_store.specs.Stands.{Stands, BeforeOrAfter};
+ghost use Rattle.pull_store.specs.Steps.{agent_of, Makes};
+ghost use Rattle.pull_store.specs.Store.{IsKept, Written};
 
 use crate::change::Change;
 use crate::error::PullError;
 use crate::need::{need_of_row, need_of_rows};
 use crate::row::Row;
-use crate::rows::around;
+use crate::rows::{around, row_after};
 use crate::writing::{append_body, rewrite};
 use dsc_outside::Disk;
 use gate_log::Log;
+use std::alloc::{AllocError, Global};
 
 /// The bytes of a bank.
 pub const BANK: u64 = 335_544_320;
+
+/// What an accepted change makes of its agent's row, and room for one more row.
+pub fn prepare(alloc: Global, rows: &mut Vec<Row>, change: &Change) -> Result<Row, AllocError>
+    requires { refusal change.now rows.old.items ≡ None }
+    ensures rows { rows.new.items ≡ rows.old.items }
+    ensures row { IfOk result (Makes change.now (row_of (agent_of change.now) rows.old.items)) }
+    ensures room { OnOk result (vec_len rows.new < vec_capacity rows.new) }
+{
+    let row = row_after(alloc, rows, change)?;
+    rows.reserve(1)?;
+    Ok(row)
+}
 
 /// Adds the body of a change to the live bank, or writes the rows after it into the other one.
 pub fn write<D: Disk>(
@@ -42,6 +54,7 @@ pub fn write<D: Disk>(
     ensures kept { OnOk result (IsKept D.Disk disk.new (record { log = log.new; rows = after change.now rows.now })) }
     ensures any_moment { StandsAtAnyMoment D.Disk disk.old disk.new Stands (BeforeOrAfter rows.now change.now) }
     ensures count { D.faults disk.old ≤ D.faults disk.new }
+    ensures capacity { vec_capacity buffer.old ≤ vec_capacity buffer.new }
 {
     if log.has_room(buffer.len() as u32) {
         return append_body(log, disk, buffer);

@@ -49,6 +49,17 @@ impl<T: Drop> From<AllocFailed<T>> for PullError {
     }
 }
 
+impl From<mof_values::Memory> for PullError {
+    ghost use Rattle.pull_store.specs.declared.error.PullError.TheVariants.{Memory};
+    ghost use Rattle.std.specs.Prelude.{◌≡◌};
+
+    ghost from_gives = { λ _ e. e ≡ Memory };
+
+    fn from(_: mof_values::Memory) -> Self {
+        PullError::Memory
+    }
+}
+
 impl fmt::Display for PullError {
     fn fmt<W: fmt::Write>(&self, f: &mut fmt::Formatter<W>) -> fmt::Result {
         match self {

@@ -1,5 +1,5 @@
 //! What holds of the rows of a store.
-ghost use Rattle.pull_store.specs.Laws.{RowsAreSound, ChangesKeep, OthersStay, JobsStandOnce, LastIsKept};
+ghost use Rattle.pull_store.specs.Laws.{RowsAreSound, ChangesKeep, OthersStay, JobsStandOnce, LastIsKept, BodiesAreOfOne, RowsAreOne};
 
 /// Rows are at most 512, of different agents, and a change leaves every other agent's row.
 pub fn rows_are_apart()
@@ -12,4 +12,10 @@ pub fn rows_are_apart()
 pub fn jobs_stand_once()
     ensures once { JobsStandOnce }
     ensures last { LastIsKept }
+{}
+
+/// A body is of one change at most, and an image stands for one list of rows at most.
+pub fn images_have_one_meaning()
+    ensures bodies { BodiesAreOfOne }
+    ensures rows { RowsAreOne }
 {}

@@ -4,11 +4,10 @@
 //! report make of the rows, as a list in the order of the first registrations. Each of them is one body of a log; where the
 //! live bank of the log has no room for it, the rows after it are written into the other bank.
 //!
-//! A layer above may rely on this: a crash at any moment of a call leaves the rows before or after it, and after `Ok` the
-//! rows after it. `specs/Stands.antt` says which rows an image stands for, and `specs/Store.antt` what each answer means.
+//! A layer above may rely on this: `open_pull` gives the rows that the disk read as, or the first byte that fails; a crash at
+//! any moment of `register` and `put_report` leaves the rows before or after it, and after `Ok` the rows after it; every
+//! answer has its cause. `specs/Stands.antt` says which rows an image stands for, and `specs/Store.antt` what each answer means.
 //! Agents are looked up by going over the rows, of which there are at most 512; look-ups take no memory.
-//!
-//! So far the steps of a change stand here, each with its clauses; the calls of a store that join them do not yet.
 #![tactic(auto)]
 
 mod change;
@@ -17,11 +16,16 @@ mod error;
 mod laws;
 mod names;
 mod need;
+mod opening;
+mod reading;
 mod row;
 mod rows;
 mod spelling;
+mod store;
 mod writing;
 
 pub use error::PullError;
-pub use laws::{jobs_stand_once, rows_are_apart};
+pub use laws::{images_have_one_meaning, jobs_stand_once, rows_are_apart};
+pub use opening::open_pull;
 pub use row::{Row, StoredReport};
+pub use store::PullStore;

@@ -1,12 +1,11 @@
-use Rattle.std.proofs.Common.{◌≡◌, ◌⊎◌, inl, inr, ◌+◌, ◌<◌, ◌≤◌, ◌∙◌, ◌++◌, ◌∷◌, [], ℕ, Bool, true, false, List, length, Err, refl, sym, ap, subst, arith}
+use Rattle.std.proofs.Common.{◌≡◌, inl, inr, ◌+◌, ◌<◌, ◌≤◌, ◌∙◌, ◌++◌, ◌∷◌, [], ℕ, Bool, true, false, length, refl, sym, ap, subst, arith}
 use Rattle.std.specs.Prelude.{leb}
 use Rattle.std.proofs.lemmas.Bool.Decides.{leb_tells}
 use Rattle.gate_log.specs.declared.shape.Shape.{Shape}
-use Rattle.gate_log.specs.Text.{need_of, cells}
 use Rattle.gate_log.specs.Log.{room_in}
 use Rattle.pull_store.specs.Rows.{after}
-use Rattle.pull_store.specs.Bodies.{body_of, bodies_of_row, bodies_of_rows}
-use Rattle.pull_store.specs.Store.{StoreTerm, whole_need}
+use Rattle.pull_store.specs.Bodies.{bodies_of_row, bodies_of_rows}
+use Rattle.pull_store.specs.Store.{whole_need}
 use Rattle.pull_store.proofs.Putting.{cells_both}
 use Rattle.pull_store.proofs.SoundSteps.{is_row}
 use Rattle.pull_store.proofs.Committed.{written_of, kept_of, moment_of, appended, rewritten, needs, still_moment}

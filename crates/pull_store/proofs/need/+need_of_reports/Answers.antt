@@ -1,4 +1,4 @@
-use Rattle.std.proofs.Common.{◌+◌, length, ap, arith}
+use Rattle.std.proofs.Common.{length, ap, arith}
 use Rattle.pull_store.proofs.Sizes.{reports_need}
 use Rattle.pull_store.proofs.need.+need_of_reports.Goals as goal
 

@@ -1,4 +1,4 @@
-use Rattle.std.proofs.Common.{◌+◌, arith}
+use Rattle.std.proofs.Common.{arith}
 use Rattle.pull_store.proofs.Sizes.{rows_need}
 use Rattle.pull_store.proofs.need.+need_of_rows.Goals as goal
 

@@ -1,6 +1,5 @@
-use Rattle.std.proofs.Common.{◌≡◌, ◌<◌, ◌≤◌, ◌∙◌, ℕ, List, length, slice_set, sym, ap, subst, arith}
-use Rattle.pull_store.specs.declared.row.Row.{Row}
-use Rattle.pull_store.specs.Steps.{with_row, place_of}
+use Rattle.std.proofs.Common.{◌≡◌, ◌∙◌, length, sym, ap, arith}
+use Rattle.pull_store.specs.Steps.{place_of}
 use Rattle.pull_store.proofs.Placing.{placed, at_end}
 use Rattle.pull_store.proofs.rows.place.Goals as goal
 

@@ -1,4 +1,4 @@
-use Rattle.std.proofs.Common.{◌≡◌, ◌+◌, ◌≤◌, ◌++◌, ◌∙◌, ℕ, List, length, sym, subst, ap, arith}
+use Rattle.std.proofs.Common.{◌≡◌, ◌≤◌, ◌++◌, ◌∙◌, ℕ, List, length, sym, subst, ap, arith}
 use Rattle.pull_store.specs.declared.change.Change.TheVariants.{Report}
 use Rattle.pull_store.specs.Bodies.{body_of}
 use Rattle.pull_store.proofs.Sizes.{report_short}

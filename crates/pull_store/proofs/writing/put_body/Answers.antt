@@ -1,5 +1,4 @@
-use Rattle.std.proofs.Common.{◌+◌, ◌≤◌, [], length, sym, subst, arith}
-use Rattle.gate_log.specs.declared.shape.Shape.{Shape}
+use Rattle.std.proofs.Common.{[], arith}
 use Rattle.pull_store.proofs.Sizes.{length-cell}
 use Rattle.pull_store.proofs.writing.put_body.Goals as goal
 

@@ -1,4 +1,4 @@
-use Rattle.std.proofs.Common.{◌++◌, ℕ, List, Ok, Err}
+use Rattle.std.proofs.Common.{◌++◌, Err}
 use Rattle.pull_store.specs.Bodies.{bodies_of_row, bodies_of_rows}
 use Rattle.pull_store.proofs.Putting.{can_first, can_second, puts_both, puts_cut}
 use Rattle.pull_store.proofs.writing.put_parts.Goals as goal

@@ -1,4 +1,4 @@
-use Rattle.std.proofs.Common.{◌≡◌, ◌∙◌, ◌++◌, ◌∷◌, [], ℕ, List, Ok, Err, sym, ap, subst}
+use Rattle.std.proofs.Common.{◌∙◌, ◌∷◌, [], ℕ, List, Ok, Err, sym, subst}
 use Rattle.pull_store.specs.declared.change.Change.TheVariants.{Register}
 use Rattle.pull_store.specs.Bodies.{body_of, bodies_of_reports}
 use Rattle.pull_store.specs.Puts.{CanPut, Puts}

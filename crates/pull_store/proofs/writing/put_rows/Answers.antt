@@ -1,8 +1,7 @@
-use Rattle.std.proofs.Common.{◌≡◌, ◌+◌, ◌-◌, ◌<◌, ◌≤◌, ◌∙◌, ◌++◌, ◌∷◌, [], ℕ, List, length, take, drop, Ok, Err, sym, ap, subst, arith}
+use Rattle.std.proofs.Common.{◌-◌, ℕ, List, length, take, drop, ap, subst, arith}
 use Rattle.std.proofs.lemmas.List.{nil_from_length}
-use Rattle.pull_store.specs.declared.row.Row.{Row}
 use Rattle.pull_store.specs.Bodies.{bodies_of_row, bodies_of_rows}
-use Rattle.pull_store.specs.Puts.{CanPut, Puts}
+use Rattle.pull_store.specs.Puts.{CanPut}
 use Rattle.pull_store.specs.Sound.{IsRow}
 use Rattle.pull_store.proofs.Putting.{PutSoFar, can_first, so_far_none, so_far_can, so_far_more, so_far_fails, so_far_ends}
 use Rattle.pull_store.proofs.Sizes.{rows_split, all_split}

@@ -1,4 +1,4 @@
-use Rattle.std.proofs.Common.{◌≡◌, ◌++◌, ◌∙◌, [], ℕ, List, Ok, Err, ap, subst}
+use Rattle.std.proofs.Common.{◌++◌, ◌∙◌, [], Err, ap}
 use Rattle.pull_store.specs.Bodies.{bodies_of_row, bodies_of_rows}
 use Rattle.pull_store.proofs.Rewriting.{ends_of, of_begun, put_begun, can_begin, moment_put, moment_switch}
 use Rattle.gate_log.specs.Log.{LogTerm}
