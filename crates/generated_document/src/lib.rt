@@ -11,6 +11,3 @@ mod laws;
 
 pub use document::generated_document;
 pub use laws::generated_laws;
-
-#[cfg(test)]
-mod tests;

@@ -1,5 +1,5 @@
 -- Marks of a trace in which no last entry leaves its resource unsettled.
-use Rattle.std.proofs.Common.{◌≡◌, ◌==◌, ◌<◌, ◌-◌, ℕ, Bool, true, false, List, [], ◌∷◌, Option, Some, None, All, cond, length, refl, sym, ◌∙◌, ap, subst, arith}
+use Rattle.std.proofs.Common.{◌≡◌, ◌==◌, ◌<◌, ◌-◌, ℕ, Bool, true, false, List, [], ◌∷◌, Option, Some, None, All, cond, length, refl, sym, ◌∙◌, subst, arith}
 use Rattle.std.specs.Prelude.{count_by, find, reverse}
 use Rattle.std.specs.List.{AllByRecursion}
 use Rattle.std.proofs.lemmas.List.{get_or-reverse, length-reverse}
@@ -57,12 +57,6 @@ module _ (document : Document) (t : List Entry) (memory : All (λ e. WantsMemory
   all_settled k d lt is =
       let below : k < length document.resources = omega (arith, lt, length-marks mark_of t (length document.resources)) in
       settled k below (sym (get_or-marks mark_of t (length document.resources) k d below) ∙ is)
-
--- a trace of which no mark is unsettled ends with no Set that was done
-pub none_done : (document : Document) (t : List Entry) → All (λ mark. mark ≡ marks.Unsettled → ⊥) (marks_of t (length document.resources)) → HasNoUntestedSet document t
-none_done document t all r place below is =
-    let n = length document.resources in
-    all r marks.NotCalled (omega (arith, below, length-marks mark_of t n)) (get_or-marks mark_of t n r marks.NotCalled below ∙ ap mark_of is)
 
 -- ---- counting
 

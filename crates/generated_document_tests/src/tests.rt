@@ -1,7 +1,9 @@
 //! What is generated of a count, by hand from the rule that makes it.
-use super::*;
-use crate::instances::instances;
-use mof_codec::write;
+use dsc_document::Document;
+use generated_document::generated_document;
+use mof_codec::read;
+use mof_values::Instance;
+use std::alloc::Global;
 use std::test::Fail;
 
 const ONE: &str = "\
@@ -14,11 +16,33 @@ instance of MSFT_EnvironmentResource\n{\n ResourceID = \"[Environment]R1\";\n Na
 instance of MSFT_EnvironmentResource\n{\n ResourceID = \"[Environment]R0\";\n Name = \"V0\";\n Value = \"0\";\n};\n\
 instance of OMI_ConfigurationDocument\n{\n Version = \"2.0.0\";\n};\n";
 
+// Tells whether the text declares the document's resources in their order, and then the header.
+fn declares(alloc: Global, text: &str, document: &Document) -> bool {
+    match read(alloc, text.as_bytes()) {
+        Ok(instances) => are_of(&instances, document),
+        Err(_) => false,
+    }
+}
+
+fn are_of(instances: &[Instance], document: &Document) -> bool {
+    let resources = document.resources.as_slice();
+    match instances {
+        [declared @ .., _] => {
+            declared.len() == resources.len()
+                && declared
+                    .iter()
+                    .zip(resources)
+                    .all(|(instance, resource)| *instance == resource.instance)
+        }
+        [] => false,
+    }
+}
+
 #[test]
 fn the_text_is_that_of_the_count(rt: HostRuntime) -> Result<(), Fail> {
     for (count, text) in [(1, ONE), (3, THREE)] {
-        let bytes = write(rt.alloc(), &instances(rt.alloc(), count)?)?;
-        assert!(rt; bytes.as_slice() == text.as_bytes());
+        let document = generated_document(rt.alloc(), count)?;
+        assert!(rt; declares(rt.alloc(), text, &document), "{count}");
     }
     Ok(())
 }

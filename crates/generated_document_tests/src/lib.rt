@@ -1,0 +1,5 @@
+//! The tests of `generated_document`.
+#![tactic(auto)]
+
+#[cfg(test)]
+mod tests;
