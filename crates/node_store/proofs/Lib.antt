@@ -13,5 +13,5 @@ pub mod Sizes
 pub mod Wholes
 pub mod Rewritten
 pub mod AtRest
-pub mod Taking
+pub mod Runs
 pub mod Opened

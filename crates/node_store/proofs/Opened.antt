@@ -1,12 +1,14 @@
 -- What an opening of a store gives.
-use Rattle.std.proofs.Common.{◌≡◌, List, ℕ, Bool, Option, Some, None}
+use Rattle.std.proofs.Common.{◌≡◌, List, ℕ, Bool, Option, Some, None, subst}
 use Rattle.std.specs.Prelude.{IfSome}
 use Rattle.dsc_outside.specs.declared.disk.Disk.{Ghosts}
 use Rattle.dsc_outside.specs.Disk.{From}
 use Rattle.dsc_outside.proofs.Moments.{weaker}
 use Rattle.gate_log.specs.Text.{Gives}
 use Rattle.gate_log.specs.Log.{AtAnyMoment, Keeps, LogTerm}
-use Rattle.gate_log.specs.Replay.{FailsFirst, IsRefused, Opened, no_meaning, no_text}
+use Rattle.gate_log.specs.declared.error.LogError.{LogError}
+use Rattle.gate_log.specs.declared.error.LogError.TheVariants.{NotAStore}
+use Rattle.gate_log.specs.Replay.{FailsFirst, IsRefused, Opened, Unopened, no_meaning, no_text}
 use Rattle.gate_log.specs.Standing.{AllStand, Any, ReadsAs, StandsAtAnyMoment, StandsFor, StoodFor}
 use Rattle.node_state.specs.declared.node.Node.{Node}
 use Rattle.node_store.specs.Stands.{EndsAt, FailsAt, LeadSomewhere, Leads, Stands, node_shape}
@@ -43,3 +45,10 @@ module _ {D : Type 0} (d : Ghosts D) (old new : D) where
     stands = record { bodies = before.stands.bodies; gives = from.2 before.stands.bodies gives; leads = before.stands.leads };
     has = record { image = from.0; there = from.1; stands = before.stands };
   })
+
+  -- where the log named a byte, the store fails there
+  pub not_a_store : (node : Node) (begun : Bool) (error : LogError) (at : ℕ) → error ≡ NotAStore at → Unopened d old new node_shape (λ l. Reached node begun l) (λ l b. EndsAt l b) error
+      → IfSome (d.seen old) (λ held. FailsAt held at)
+  not_a_store node begun error at is unopened =
+      let refused = subst (λ (e : LogError). Unopened d old new node_shape (λ l. Reached node begun l) (λ l b. EndsAt l b) e) is unopened in
+      fails_at (d.seen old) node begun at refused.refused

@@ -18,7 +18,7 @@ has_events (event ∷ events) = true
 -- the bodies lead to the node, and there are events among them exactly where it is begun
 pub record Reached (node : Node) (begun : Bool) (bodies : List (List ℕ)) : Type 0 where
   pub leads : Leads bodies node
-  pub begun : begun ≡ has_events leads.events
+  pub is_begun : begun ≡ has_events leads.events
 
 -- what an event or piece makes of the node: an event is a step, and a piece is placed where no event came before
 abbrev pub Goes : Node → Bool → Body → Node → Bool → Type 0

@@ -1,5 +1,5 @@
 -- The nodes that bodies lead to, one body after the other.
-use Rattle.std.proofs.Common.{◌≡◌, List, ℕ, Bool, true, false, [], ◌∷◌, ◌++◌, map, refl, sym, ap, ◌∙◌, subst, Result, Ok, Err, append_assoc}
+use Rattle.std.proofs.Common.{◌≡◌, List, ℕ, Bool, true, false, [], ◌∷◌, ◌++◌, map, refl, sym, ap, ◌∙◌, subst, Result, Ok, Err}
 use Rattle.std.specs.List.{AllByRecursion}
 use Rattle.std.proofs.lemmas.List.{append-nil, map-append}
 use Rattle.gate_log.specs.declared.replay.TakeError.{TakeError}
@@ -95,7 +95,7 @@ pieces-push [] piece all range = (range, tt)
 pieces-push (p ∷ front) piece all range = (all.0, pieces-push front piece all.1 range)
 
 -- pieces alone, and one piece more
-piece-push : (mid : Node) (bodies : List (List ℕ)) (body : List ℕ) (piece : Piece) (leads : Leads bodies mid) → leads.events ≡ [] → IsBody body (kinds.Piece piece) → fits mid piece ≡ true
+abbrev piece-push : (mid : Node) (bodies : List (List ℕ)) (body : List ℕ) (piece : Piece) (leads : Leads bodies mid) → leads.events ≡ [] → IsBody body (kinds.Piece piece) → fits mid piece ≡ true
     → Leads (bodies ++ body ∷ []) (placed mid piece)
 piece-push mid bodies body piece leads none is fit =
     let whole : bodies ≡ map body_of_piece leads.front =
@@ -116,11 +116,11 @@ piece-push mid bodies body piece leads none is fit =
 reached_by : (old new : Node) (begun after : Bool) (bodies : List (List ℕ)) (body : List ℕ) (of : Body) → Reached old begun bodies → IsBody body of → Goes old begun of new after → Reached new after (bodies ++ body ∷ [])
 reached_by old new begun after bodies body (kinds.Event event) reached is goes = record {
   leads = leads-push old new bodies body event reached.leads is.0 is.1 goes.0;
-  begun = goes.1 ∙ sym (more_events reached.leads.events event);
+  is_begun = goes.1 ∙ sym (more_events reached.leads.events event);
 }
 reached_by old new begun after bodies body (kinds.Piece piece) reached is goes =
-    let leads = piece-push old bodies body piece reached.leads (no_events reached.leads.events (sym goes.0 ∙ reached.begun)) is goes.1 in
-    subst (λ (n : Node). Reached n after (bodies ++ body ∷ [])) (sym goes.2) (record { leads = leads; begun = goes.3 })
+    let leads = piece-push old bodies body piece reached.leads (no_events reached.leads.events (sym goes.0 ∙ reached.is_begun)) is goes.1 in
+    subst (λ (n : Node). Reached n after (bodies ++ body ∷ [])) (sym goes.2) (record { leads = leads; is_begun = goes.3 })
 
 -- where a body makes no node of that one, the bodies with it lead to none
 ends : (old : Node) (begun : Bool) (bodies : List (List ℕ)) (body : List ℕ) → Reached old begun bodies → Stays old begun body → EndsAt bodies body
@@ -130,7 +130,7 @@ ends old begun bodies body reached stays = record {
       let last = runs_last new_node false bodies body new (has_events leads.events) (leads_run (bodies ++ body ∷ []) new leads) in
       let s = runs_one new_node false bodies last.0 old last.1 (has_events reached.leads.events) last.2 (leads_run bodies old reached.leads) in
       let there = subst (λ (n : Node). Moves n last.1 body new (has_events leads.events)) s.0 last.3 in
-      stays new (has_events leads.events) (subst (λ (k : Bool). Moves old k body new (has_events leads.events)) (s.1 ∙ sym reached.begun) there);
+      stays new (has_events leads.events) (subst (λ (k : Bool). Moves old k body new (has_events leads.events)) (s.1 ∙ sym reached.is_begun) there);
 }
 
 -- ---- what taking answers
@@ -138,14 +138,14 @@ ends old begun bodies body reached stays = record {
 pub nothing_reached : Reached new_node false []
 nothing_reached = record {
   leads = record { front = []; events = []; first = new_node; is = refl; builds = refl; steps = refl; pieces = tt; ranges = tt };
-  begun = refl;
+  is_begun = refl;
 }
 
-pub took_body : (old new : Node) (begun after : Bool) (body : List ℕ) (of : Body) (result : Result (Unit {0}) TakeError) → IsBody body of → Took old begun of new after result → TookBody old begun body new after result
-took_body old new begun after body of (Ok v) is took = record { of = of; is = is; goes = took }
-took_body old new begun after body of (Err Refused) is took = λ next flag moves.
+pub took_body : (old new : Node) (begun after : Bool) (body : List ℕ) (of : Body) (result : Result (Unit {0}) TakeError) → Took old begun of new after result → IsBody body of → TookBody old begun body new after result
+took_body old new begun after body of (Ok v) took is = record { of = of; is = is; goes = took }
+took_body old new begun after body of (Err Refused) took is = λ next flag moves.
     took next flag (subst (λ (b : Body). Goes old begun b next flag) (one_body body moves.of of moves.is is) moves.goes)
-took_body old new begun after body of (Err Memory) is took = tt
+took_body old new begun after body of (Err Memory) took is = tt
 
 pub taken : (old new : Node) (begun after : Bool) (bodies : List (List ℕ)) (body : List ℕ) (result : Result (Unit {0}) TakeError) → Reached old begun bodies → TookBody old begun body new after result
     → Taken (λ l. Reached new after l) (λ l b. EndsAt l b) bodies body result
