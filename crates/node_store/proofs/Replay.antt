@@ -22,7 +22,7 @@ ranges-push : (events : List Event) (event : Event) → AllByRecursion IsEventIn
 ranges-push [] event all range = (range, tt)
 ranges-push (e ∷ events) event all range = (all.0, ranges-push events event all.1 range)
 
-pub leads-push : (mid new : Node) (bodies : List (List ℕ)) (body : List ℕ) (event : Event) → Leads bodies mid → body ≡ body_of_event event → IsEventInRange event → Step mid event new
+abbrev pub leads-push : (mid new : Node) (bodies : List (List ℕ)) (body : List ℕ) (event : Event) → Leads bodies mid → body ≡ body_of_event event → IsEventInRange event → Step mid event new
     → Leads (bodies ++ body ∷ []) new
 leads-push mid new bodies body event leads spells range step = record {
   front = leads.front;

@@ -1,0 +1,9 @@
+use Rattle.std.proofs.Common.{rules}
+use Rattle.node_store.proofs.Runs.{took_body}
+use Rattle.node_store.proofs.taking.Taking.take_body.Goals as goal
+
+pub returns-in-Ok-Event : goal.returns-in-Ok-Event
+returns-in-Ok-Event c = took_body _ _ _ _ _ _ _ c.take_event.ensures (search rules)
+
+pub returns-in-Ok-Piece : goal.returns-in-Ok-Piece
+returns-in-Ok-Piece c = took_body _ _ _ _ _ _ _ c.take_piece.ensures (search rules)
