@@ -37,14 +37,15 @@ module _ {D : Type 0} (d : Ghosts D) (old new : D) where
 
   -- what an image stood for it still stands for
   pub keeps_standing : AtAnyMoment d old new (From (Keeps node_shape) (d.images old)) → AllStand d old Stands Any → StandsAtAnyMoment d old new Stands (StoodFor d old Stands)
-  keeps_standing moments all = weaker d.moment d.left_since old new _ (StandsFor Stands (StoodFor d old Stands)) moments (λ c from.
-  let before = all from.0 from.1 in
-  let gives = before.stands.gives in
-  record {
-    value = before.value;
-    stands = record { bodies = before.stands.bodies; gives = from.2 before.stands.bodies gives; leads = before.stands.leads };
-    has = record { image = from.0; there = from.1; stands = before.stands };
-  })
+  keeps_standing moments all = weaker d.moment d.left_since old new (From (Keeps node_shape) (d.images old)) (StandsFor Stands (StoodFor d old Stands)) moments stood where
+    stood : (c : List ℕ) → From (Keeps node_shape) (d.images old) c → StandsFor Stands (StoodFor d old Stands) c
+    stood c from =
+        let before = all from.0 from.1 in
+        record {
+          value = before.value;
+          stands = record { bodies = before.stands.bodies; gives = from.2 before.stands.bodies before.stands.gives; leads = before.stands.leads };
+          has = record { image = from.0; there = from.1; stands = before.stands };
+        }
 
   -- where the log named a byte, the store fails there
   pub not_a_store : (node : Node) (begun : Bool) (error : LogError) (at : ℕ) → error ≡ NotAStore at → Unopened d old new node_shape (λ l. Reached node begun l) (λ l b. EndsAt l b) error

@@ -1,5 +1,6 @@
 -- The nodes that bodies lead to, one body after the other.
 use Rattle.std.proofs.Common.{◌≡◌, List, ℕ, Bool, true, false, [], ◌∷◌, ◌++◌, map, refl, sym, ap, ◌∙◌, subst, Result, Ok, Err}
+use Rattle.std.specs.Prelude.{IfOk}
 use Rattle.std.specs.List.{AllByRecursion}
 use Rattle.std.proofs.lemmas.List.{append-nil, map-append}
 use Rattle.gate_log.specs.declared.replay.TakeError.{TakeError}
@@ -140,6 +141,10 @@ nothing_reached = record {
   leads = record { front = []; events = []; first = new_node; is = refl; builds = refl; steps = refl; pieces = tt; ranges = tt };
   is_begun = refl;
 }
+
+pub body_is : {E : Type 0} (bytes : List ℕ) (result : Result Body E) (read of : Body) → result ≡ Ok read → read ≡ of → IfOk result (λ b. IsBody bytes b) → IsBody bytes of
+body_is {E} bytes result read of is same found =
+    subst (λ (b : Body). IsBody bytes b) same (subst (λ (r : Result Body E). IfOk r (λ b. IsBody bytes b)) is found)
 
 pub took_body : (old new : Node) (begun after : Bool) (body : List ℕ) (of : Body) (result : Result (Unit {0}) TakeError) → Took old begun of new after result → IsBody body of → TookBody old begun body new after result
 took_body old new begun after body of (Ok v) took is = record { of = of; is = is; goes = took }
