@@ -1,0 +1,45 @@
+//! Files of bodies.
+use crate::words::body_of;
+use node_store::StoreError;
+use std::alloc::{AllocError, Global};
+
+/// The first eight bytes of a store whose first bank is live.
+pub const HEAD: &[u8] = b"DSCSTOR1";
+
+/// Appends the cell of a body.
+pub fn push_cell(file: &mut Vec<u8>, body: &[u8]) -> Result<(), AllocError> {
+    file.push(0xA5)?;
+    file.extend_from_slice(&(body.len() as u32).to_be_bytes())?;
+    file.extend_from_slice(body)
+}
+
+/// The file of a store with the bodies of these words, but for its closed gate. Each report of an event is of
+/// this job.
+pub fn open_file(alloc: Global, words: &str, job: u64) -> Result<Vec<u8>, AllocError> {
+    let mut file = HEAD.to_vec(alloc)?;
+    if words.is_empty() {
+        return Ok(file);
+    }
+    for word in words.split(' ') {
+        push_cell(&mut file, &body_of(alloc, word, job)?)?;
+    }
+    Ok(file)
+}
+
+/// The file of a store with these bodies.
+pub fn file_of(alloc: Global, bodies: &[&[u8]]) -> Result<Vec<u8>, AllocError> {
+    let mut file = HEAD.to_vec(alloc)?;
+    for body in bodies {
+        push_cell(&mut file, body)?;
+    }
+    file.push(0)?;
+    Ok(file)
+}
+
+/// Where a file is no store, for an answer.
+pub fn place_of<T: Drop>(answer: Result<T, StoreError>) -> Option<u64> {
+    match answer {
+        Err(StoreError::NotAStore { at }) => Some(at),
+        _ => None,
+    }
+}

@@ -1,0 +1,7 @@
+//! What no clause of a store says.
+mod damaged;
+mod openings;
+mod sizes;
+mod stops;
+mod table;
+mod written;

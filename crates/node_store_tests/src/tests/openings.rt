@@ -1,0 +1,166 @@
+//! Files that are opened as stores of a node.
+use crate::{kept_in, open_file, place_of};
+use node_store::StoreError;
+use std::alloc::{AllocError, Global};
+use std::test::Fail;
+
+/// Bytes of a file, and the byte at which no store of a node stands, or what the store keeps.
+type Row<'a> = (&'a [u8], Result<&'a str, u64>);
+
+const FILES: &[Row<'_>] = &[
+    (b"", Ok("job 1")),
+    (b"123456789", Ok("job 1")),
+    (b"\xFF\xFF\xFF\xFF\xFF\xFF\xFF\xFF\xFF\xFF", Err(0)),
+    (b"DSCSTOR9\0abc", Ok("job 1")),
+    (b"DSCSTOR1\xA5\0", Err(10)),
+    (b"DSCSTOR1\xA5\0\0\0\x11\x01\0\0", Err(16)),
+    (b"DSCSTOR1\xA5\0\0\0\x11\x01\0\0\0\0\0\0\0\0\0\0\0", Err(25)),
+    (
+        b"DSCSTOR1\xA5\0\0\0\x11\x01\0\0\0\0\0\0\0\0\0\0\0\0\0\0\0\x10\xA5\0\0\0\0\0",
+        Err(35),
+    ),
+    (
+        b"DSCSTOR1\xA5\0\0\0\x11\x01\0\0\0\0\0\0\0\0\0\0\0\0\0\0\0\x10\xA5\0\0\0\x02\x02x\0",
+        Err(35),
+    ),
+    (
+        b"DSCSTOR1\xA5\0\0\0\x11\x01\0\0\0\0\0\0\0\0\0\0\0\0\0\0\0\x10\xA5\0\0\0\x90\x04\x01\0\0\xE4s\xD4z\x04|\xC0\x04$\x90y\xBF\x82\x8B\xF9\xA0;$\\\x14\xD2\xCD\xFA\x83\xAA\xA2\xB4$\xF3\x8D\xC7\xC8\0\0\0hinstance of OMI_ConfigurationDocumeny\n{\n};\ninstance of MSFT_ServiceResource\n{\n ResourceID = \"[N]\xC3\xA9\";\n};\n\0",
+        Err(35),
+    ),
+    (
+        b"DSCSTOR1\xA5\0\0\0\x11\x01\0\0\0\0\0\0\0\0\0\0\0\0\0\0\0\x10\xA5\0\0\0\xD0\x04\x01\0\0\xDA\x18\x16\x98\xAA Tw\xF0\xF6\x15\x1D\x91\x0D\x83\xAFv\"c\0Y\xC0NE\xC1\xD0+\x85k\xF3'B\0\0\0\xA8instance of OMI_ConfigurationDocument\n{\n Version = \"2.0.0\";\n};\ninstance of MSFT_Envir\xC1nmentResource\n{\n Value = \"1\";\n ResourceID = \"[H]I\";\n Path = TRUE;\n Name = \"V\";\n};\n\0",
+        Err(35),
+    ),
+    (
+        b"DSCSTOR1\xA5\0\0\0\x11\x01\0\0\0\0\0\0\0\0\0\0\0\0\0\0\0\x10\xA5\0\0\0\x9E\x04\x01\0\0\x99\x09\x12c\xBA\xBE\xD2\xC1\xF1;\x14g\x91k^16\x9B\x97\xEF\x0D1H\xE6{\xD4\xDB\x92\x12!\x090\0\0\0vinstance of OMI_ConfigurationDocument\n{\n};\ninstance of MS",
+        Err(132),
+    ),
+    (
+        b"DSCSTOR1\xA5\0\0\0\x11\x01\0\0\0\0\0\0\0\0\0\0\0\0\0\0\0\x10\xA5\0\0\0S\x04\x01\0\0\xB2\x0D\xF9\xFA\xC6\x9D\xBFq\xB4\x07I\x80\xD7\xD7o\xF4Ub\xF6He\xAD\xA6\xAF5\xB9X\x9Cc\xA9\xAB\x04\0\0\0+instance of OMI_ConfigurationDocument\n{\n};\n\xA5\0\0\0\x01\x03\0",
+        Err(123),
+    ),
+    (
+        b"DSCSTOR1\xA5\0\0\0\x11\x01\0\0\0\0\0\0\0\0\0\0\0\0\0\0\0\x10\0\xE8\xB0>\xBC\x08\xA0\xB8\x85s",
+        Ok("agent job 1"),
+    ),
+];
+
+fn is_opened_so(alloc: Global, row: &Row<'_>) -> Result<bool, AllocError> {
+    let (bytes, wanted) = row;
+    let answer = kept_in(alloc, bytes.to_vec(alloc)?);
+    Ok(match wanted {
+        Ok(line) => answer.is_ok_and(|found| found.as_str() == *line),
+        Err(at) => place_of(answer) == Some(*at),
+    })
+}
+
+fn first_opened_otherwise(alloc: Global) -> Result<Option<usize>, AllocError> {
+    for (index, row) in FILES.iter().enumerate() {
+        if !is_opened_so(alloc, row)? {
+            return Ok(Some(index));
+        }
+    }
+    Ok(None)
+}
+
+#[test]
+fn a_file_is_a_store_or_fails_at_its_first_wrong_byte(rt: HostRuntime) -> Result<(), Fail> {
+    assert_eq!(rt; first_opened_otherwise(rt.alloc())?, None);
+    Ok(())
+}
+
+// The words of bodies, and what the store keeps.
+const KEPT: &[(&str, &str)] = &[
+    ("base", "agent server registered job 5"),
+    ("marked-base", "agent server registered reboot job 5"),
+    (
+        "base slot-pending slot-current slot-previous kept-3 kept-4",
+        "agent server registered pending P current P previous P r3 s4 job 5",
+    ),
+    (
+        "base slot-previous kept-4",
+        "agent server registered previous P s4 job 5",
+    ),
+    (
+        "marked-base kept-3 boot",
+        "agent server registered r3 job 5",
+    ),
+    (
+        "base slot-current kept-4 note",
+        "agent server registered current P s4 r5 job 6",
+    ),
+    ("init usual A", "agent pending A job 1"),
+];
+
+// The words of bodies, of which the last is the first that is refused.
+const REFUSED: &[&str] = &[
+    "slot-pending",
+    "kept-3",
+    "base-alone",
+    "base base",
+    "init base",
+    "init slot-pending",
+    "init kept-3",
+    "base slot-fourth",
+    "base slot-pending slot-pending",
+    "base slot-current slot-pending",
+    "base slot-previous slot-current",
+    "base kept-3 slot-current",
+    "base kept-4 kept-3",
+    "base kept-4 kept-4",
+    "base kept-5",
+    "base kept-twice",
+    "base A slot-current",
+    "base slot-pending late-note",
+    "base boot",
+    "base init",
+    "init nothing",
+    "init no-kind",
+    "init long-boot",
+    "init fourth-stage",
+    "init wrong-digest",
+    "init no-canonical",
+    "init registered",
+    "init sent",
+];
+
+// What the store of the bodies of these words keeps.
+fn kept_of(alloc: Global, words: &str) -> Result<String, StoreError> {
+    let mut file = open_file(alloc, words, 5)?;
+    file.push(0)?;
+    kept_in(alloc, file)
+}
+
+fn first_kept_otherwise(alloc: Global) -> Result<Option<usize>, StoreError> {
+    for (index, (words, wanted)) in KEPT.iter().enumerate() {
+        if kept_of(alloc, words)?.as_str() != *wanted {
+            return Ok(Some(index));
+        }
+    }
+    Ok(None)
+}
+
+// The place of the last body of these words.
+fn last_place(alloc: Global, words: &str) -> Result<u64, AllocError> {
+    let front = match words.rsplit_once(' ') {
+        Some((front, _)) => front,
+        None => "",
+    };
+    Ok(open_file(alloc, front, 5)?.len() as u64 + 5)
+}
+
+fn first_not_refused(alloc: Global) -> Result<Option<usize>, AllocError> {
+    for (index, words) in REFUSED.iter().enumerate() {
+        if place_of(kept_of(alloc, words)) != Some(last_place(alloc, words)?) {
+            return Ok(Some(index));
+        }
+    }
+    Ok(None)
+}
+
+#[test]
+fn pieces_stand_in_front_and_in_order(rt: HostRuntime) -> Result<(), Fail> {
+    assert_eq!(rt; first_kept_otherwise(rt.alloc())?, None);
+    assert_eq!(rt; first_not_refused(rt.alloc())?, None);
+    Ok(())
+}

@@ -1,0 +1,116 @@
+//! Bodies of events, from a word each.
+use std::alloc::{AllocError, Global};
+
+/// The body of Init, of the agent 16.
+pub const INIT: &[u8] = b"\x01\0\0\0\0\0\0\0\0\0\0\0\0\0\0\0\x10";
+
+/// A meta-configuration with a server.
+pub const SERVED: &[u8] =
+    b"\x02instance of MSFT_DSCMetaConfiguration\n{\n ConfigurationMode = \"ApplyOnly\";\n RefreshMode = \"Disabled\";\n RebootNodeIfNeeded = FALSE;\n ActionAfterReboot = \"StopConfiguration\";\n ConfigurationModeFrequencyMins = 15;\n RefreshFrequencyMins = 0;\n AllowModuleOverwrite = FALSE;\n};\ninstance of MSFT_WebResourceManager\n{\n ServerURL = \"http://a.b-c:1/x\";\n};\n";
+
+/// One without.
+pub const ALONE: &[u8] =
+    b"\x02instance of MSFT_DSCMetaConfiguration\n{\n ConfigurationMode = \"ApplyOnly\";\n RefreshMode = \"Push\";\n RebootNodeIfNeeded = TRUE;\n ActionAfterReboot = \"StopConfiguration\";\n ConfigurationModeFrequencyMins = 15;\n RefreshFrequencyMins = 30;\n AllowModuleOverwrite = FALSE;\n};\n";
+
+const DOCUMENT: &[u8] = b"instance of OMI_ConfigurationDocument{};";
+
+const DIGEST: &[u8] =
+    b"\xBB\x101\xD4=\xEC? ,k\xC7\xB3\xABq\xE3\xA9y\x06|\x92e\xFEL\xBE\xA5e7dA\xFA\x12=";
+
+/// The body of the event or piece of this word, or bytes that are the body of none. A report is of this job, and of the job 0 where it is late; a word that names no
+/// event names the one part of a list that is staged.
+pub fn body_of(alloc: Global, word: &str, job: u64) -> Result<Vec<u8>, AllocError> {
+    match word {
+        "init" => INIT.to_vec(alloc),
+        "meta" => SERVED.to_vec(alloc),
+        "usual" => ALONE.to_vec(alloc),
+        "registered" => b"\x03".to_vec(alloc),
+        "promote" => run(alloc, 5, job),
+        "note" => run(alloc, 6, job),
+        "ask" => run(alloc, 7, job),
+        "late-promote" => run(alloc, 5, 0),
+        "late-note" => run(alloc, 6, 0),
+        "late-ask" => run(alloc, 7, 0),
+        "boot" => b"\x08".to_vec(alloc),
+        "sent" => b"\x09\0\0\0\0\0\0\0\x01".to_vec(alloc),
+        "drop-pending" => b"\x0A\0".to_vec(alloc),
+        "drop-current" => b"\x0A\x01".to_vec(alloc),
+        "drop-previous" => b"\x0A\x02".to_vec(alloc),
+        "restore" => b"\x0B".to_vec(alloc),
+        "base" => base(alloc, 0, SERVED),
+        "marked-base" => base(alloc, 1, SERVED),
+        "base-alone" => base(alloc, 0, ALONE),
+        "slot-pending" => slot(alloc, 0),
+        "slot-current" => slot(alloc, 1),
+        "slot-previous" => slot(alloc, 2),
+        "slot-fourth" => slot(alloc, 3),
+        "kept-3" => kept(alloc, 0, 3),
+        "kept-4" => kept(alloc, 1, 4),
+        "kept-5" => kept(alloc, 0, 5),
+        "kept-twice" => kept(alloc, 2, 4),
+        "nothing" => Ok(Vec::new(alloc)),
+        "no-kind" => b"\x0F".to_vec(alloc),
+        "long-boot" => b"\x08\0".to_vec(alloc),
+        "fourth-stage" => b"\x0A\x03".to_vec(alloc),
+        "wrong-digest" => wrong_digest(alloc),
+        "no-canonical" => no_canonical(alloc),
+        name => staged(alloc, name.as_bytes()),
+    }
+}
+
+// A report without a version, resources and parts.
+fn run(alloc: Global, kind: u8, job: u64) -> Result<Vec<u8>, AllocError> {
+    let mut body = vec![in alloc; kind]?;
+    body.extend_from_slice(&job.to_be_bytes())?;
+    body.resize(40, 0)?;
+    Ok(body)
+}
+
+// One part of this name, of one letter.
+fn staged(alloc: Global, name: &[u8]) -> Result<Vec<u8>, AllocError> {
+    let mut body = b"\x04\x01\0\x01".to_vec(alloc)?;
+    body.extend_from_slice(name)?;
+    body.extend_from_slice(DIGEST)?;
+    body.extend_from_slice(b"\0\0\0\x28")?;
+    body.extend_from_slice(DOCUMENT)?;
+    Ok(body)
+}
+
+// All of a registered node of the agent 16 but its parts and reports; the next job is 5.
+fn base(alloc: Global, mark: u8, meta: &[u8]) -> Result<Vec<u8>, AllocError> {
+    let mut body = b"\x0C".to_vec(alloc)?;
+    body.extend_from_slice(&INIT[1..])?;
+    body.extend_from_slice(&[1, mark])?;
+    body.extend_from_slice(b"\0\0\0\0\0\0\0\x05")?;
+    body.extend_from_slice(&meta[1..])?;
+    Ok(body)
+}
+
+// A list of one part in a stage.
+fn slot(alloc: Global, stage: u8) -> Result<Vec<u8>, AllocError> {
+    let mut body = vec![in alloc; 13u8]?;
+    body.push(stage)?;
+    body.extend_from_slice(&staged(alloc, b"P")?[1..])?;
+    Ok(body)
+}
+
+fn kept(alloc: Global, sent: u8, job: u64) -> Result<Vec<u8>, AllocError> {
+    let mut body = vec![in alloc; 14u8]?;
+    body.push(sent)?;
+    body.extend_from_slice(&run(alloc, 5, job)?[1..])?;
+    Ok(body)
+}
+
+// A part whose digest has another last byte.
+fn wrong_digest(alloc: Global) -> Result<Vec<u8>, AllocError> {
+    let mut body = staged(alloc, b"A")?;
+    body[35] = 0x3C;
+    Ok(body)
+}
+
+// A meta-configuration that is read, in another text than its canonical one.
+fn no_canonical(alloc: Global) -> Result<Vec<u8>, AllocError> {
+    let mut body = ALONE.to_vec(alloc)?;
+    body.push(b' ')?;
+    Ok(body)
+}
