@@ -1,11 +1,10 @@
 -- What a start promises of the machine and of its store, over the kinds of resources of a host: the headline, fact by fact.
-use Rattle.std.specs.Prelude.{◌≡◌, ◌≢◌, ◌⊎◌, ℕ, ◌<◌, ◌-◌, ◌^◌, Bool, true, List, [], ◌∷◌, ◌++◌, length, Option, Some, None, Contains, ⊤}
-use Rattle.dsc_terms.specs.Counts.{Rose, RoseBy}
+use Rattle.std.specs.Prelude.{◌≡◌, ◌⊎◌, ℕ, ◌<◌, ◌-◌, ◌^◌, true, List, [], ◌∷◌, ◌++◌, length, Option, Some, None, ⊤}
+use Rattle.dsc_terms.specs.Counts.{Rose}
 use Rattle.dsc_outside.specs.declared.disk.Disk as disks
 use Rattle.dsc_outside.specs.declared.host.Host as hosts
-use Rattle.dsc_outside.specs.declared.clock.Clock as clocks
 use Rattle.dsc_outside.specs.Host.{HostState}
-use Rattle.gate_log.specs.Standing.{AllStand, Any, StandsAtAnyMoment, StoodFor}
+use Rattle.gate_log.specs.Standing.{AllStand, StoodFor}
 use Rattle.partial_merge.specs.declared.part.Part.{Part}
 use Rattle.partial_merge.specs.Parts.{unnamed_part}
 use Rattle.resource_kinds.specs.declared.kinds.Kinds.{Kinds}
@@ -14,14 +13,11 @@ use Rattle.resource_kinds.specs.declared.resources.Resources as resources
 use Rattle.resource_kinds.specs.Apart.{Apart}
 use Rattle.resource_kinds.specs.Documents.{AllHold}
 use Rattle.resource_kinds.specs.Kinds.{calls_of, host_of, spare_of}
-use Rattle.resource_kinds.specs.Trace.{Compliant, EndsInReboot, Succeeded, host_failures}
+use Rattle.resource_kinds.specs.Trace.{Compliant, EndsInReboot, Succeeded, missed_count}
 use Rattle.resource_kinds.specs.True.{TellsEntry, TellsTrue}
 use Rattle.lcm_core.specs.declared.modes.RunEnd.TheVariants as ends
 use Rattle.lcm_core.specs.declared.modes.RunMode.TheVariants.{Repair}
-use Rattle.lcm_core.specs.Legal.{GoesOn, Legal}
-use Rattle.lcm_core.specs.RepairLaws.{BlamesNothing, IsSound}
-use Rattle.lcm_core.specs.Whole.{Whole}
-use Rattle.report_log.specs.declared.report.Frame.{Frame}
+use Rattle.lcm_core.specs.RepairLaws.{BlamesNothing, ComesTo, IsSound, IsSpared}
 use Rattle.report_log.specs.declared.report.Outcome.TheVariants.{Success}
 use Rattle.report_log.specs.declared.report.Report.{Report}
 use Rattle.report_log.specs.Report.{IsReport}
@@ -35,11 +31,12 @@ use Rattle.node_store.specs.Stands.{Stands}
 use Rattle.dsc_node.specs.declared.command.Command.{Command}
 use Rattle.dsc_node.specs.declared.command.Command.TheVariants.{Init, Push, Consistency, Boot}
 use Rattle.dsc_node.specs.declared.status.Status.{Status}
+use Rattle.dsc_node.specs.declared.status.Status.TheVariants as statuses
 use Rattle.dsc_node.specs.Lines.{IsRunText}
-use Rattle.dsc_node.specs.Path.{IsOnTheWay, IsSettled, Passes}
-use Rattle.dsc_node.specs.Ran.{Ran}
-use Rattle.dsc_node.specs.Runs.{Run}
+use Rattle.dsc_node.specs.Path.{IsOnTheWay, Passes}
+use Rattle.dsc_node.specs.Runs.{Ran, Run, end_line, frame_of}
 use Rattle.dsc_node.specs.Start.{Known, Outside, Opened}
+use Rattle.dsc_node.specs.Work.{all_of}
 
 -- the kinds of resources over a host, as a machine
 abbrev pub kinds_of : {H : Type 0} → hosts.Ghosts H → resources.Ghosts (Kinds H)
@@ -53,11 +50,11 @@ kinds_of host = record {
 
 -- ---- 1: a state after a prefix of the steps
 
--- Every image at any moment stands for a node for which an image at the begin stood, or for the node after a prefix of the work;
--- and where all is settled, every image at the end stands for the node after all of it.
-pub record IsAfterPrefix {D : Type 0} (d : disks.Ghosts D) (begin now : D) (from : Node) (work : List Event) (status : Status) : Type 0 where
-  pub moments : Passes d begin now from work
-  pub settled : IsSettled d begin now status → AllStand d now Stands (Steps from work)
+-- Every image at any moment stands for a node for which an image at the begin stood, or for the node after a prefix of the work; and
+-- every image at the end for the node after what was committed, or, where a commit answered Disk, after that event too.
+pub record IsAfterPrefix {D : Type 0} (d : disks.Ghosts D) (begin now : D) (from : Node) (committed : List Event) (broken : Option Event) : Type 0 where
+  pub moments : Passes d begin now from (all_of committed broken)
+  pub left : AllStand d now Stands (λ end. Steps from committed end ⊎ Steps from (all_of committed broken) end)
 
 -- ---- 2: whole
 
@@ -81,52 +78,83 @@ AreAsPushed d begin command from work = (node : Node) (part : Part) → IsOnTheW
 
 -- ---- 4: each Set
 
--- Nothing was run, and the machine is as it was; or the trace is that of a run: each Set follows a Test of that resource that
--- answered no, and Tests of its dependencies that answered yes; the trace is true of the host, where that tells.
+-- The trace is that of a run over the merged parts: each Set follows a Test of that resource that answered no, and Tests of its
+-- dependencies that answered yes; nothing is left out; and the trace is true of the host, where that tells.
+pub record HasTrace {H : Type 0} (host : hosts.Ghosts H) (run : Run) (before after : Kinds H) : Type 0 where
+  pub ran : Ran (kinds_of host) run before after
+  pub is_true : TellsTrue run.document (host.told (host_of before)) (calls_of after) (host.told (host_of after))
+
+-- where nothing was run, the machine is as it was
 abbrev pub IsRun : {H : Type 0} → hosts.Ghosts H → Option Run → Kinds H → Kinds H → Type 0
 IsRun host None before after = after ≡ before
-IsRun host (Some run) before after =
-    Ran run.document run.choice.mode run.order run.end (calls_of after) (host.told (host_of before)) (host.told (host_of after))
-    (host.faults (host_of before)) (host.faults (host_of after))
+IsRun host (Some run) before after = HasTrace host run before after
 
 -- ---- 5: a compliant report
 
--- the start keeps the report
+abbrev pub KeepsReport : Event → Report → Type 0
+KeepsReport (events.Promote kept) report = report ≡ kept
+KeepsReport (events.Note kept) report = report ≡ kept
+KeepsReport (events.AskReboot kept) report = report ≡ kept
+KeepsReport _ report = ⊥
+
+-- one of the events keeps the report
 abbrev pub Keeps : List Event → Report → Type 0
-Keeps work report = Contains work (events.Promote report) ⊎ Contains work (events.Note report) ⊎ Contains work (events.AskReboot report)
+Keeps [] report = ⊥
+Keeps (event ∷ events) report = KeepsReport event report ⊎ Keeps events report
 
--- A report that is kept is that of the trace; where it says success, each resource's last Test answered yes. What is printed begins
--- with the text of the trace, unless memory was refused.
-pub record IsTold (run : Run) (trace : List Entry) (work : List Event) (lines : List ℕ) : Type 0 where
-  pub report : (report : Report) → Keeps work report → (frame : Frame) × IsReport run.document trace frame report
-  pub compliant : (report : Report) → Keeps work report → report.outcome ≡ Success → (r : ℕ) → r < length run.document.resources → Succeeded trace r
-  pub printed : (lines ≡ []) ⊎ ((text last : List ℕ) × IsRunText run.document trace text × (lines ≡ text ++ last))
+-- the text of the trace, alone or with the line of the event that keeps its report; nothing where memory was refused
+abbrev pub IsPrinted : Run → List Entry → Status → List ℕ → Type 0
+IsPrinted run trace status lines =
+    ((status ≡ statuses.Memory) × (lines ≡ []))
+    ⊎ ((text : List ℕ) × IsRunText run.document trace text
+    × ((lines ≡ text) ⊎ (lines ≡ text ++ end_line run.end run.choice.pending (missed_count run.document trace))))
 
-abbrev pub AreTold : {H : Type 0} → Option Run → Kinds H → List Event → List ℕ → Type 0
-AreTold None after work lines = (report : Report) → Keeps work report → ⊥
-AreTold (Some run) after work lines = IsTold run (calls_of after) work lines
+-- A report that is kept is that of the trace. It says success exactly where the trace does not end with a reboot and each resource's last
+-- Test answered yes.
+pub record IsTold (from : Node) (run : Run) (trace : List Entry) (work : List Event) (status : Status) (lines : List ℕ) : Type 0 where
+  pub report : (report : Report) → Keeps work report → (start end : ℕ) × IsReport run.document trace (frame_of from run.choice start end) report
+  pub success : (report : Report) → Keeps work report → report.outcome ≡ Success → (r : ℕ) → r < length run.document.resources → Succeeded trace r
+  pub compliant : (report : Report) → Keeps work report → (EndsInReboot trace → ⊥) → Compliant run.document trace → report.outcome ≡ Success
+  pub printed : IsPrinted run trace status lines
+
+abbrev pub AreTold : {H : Type 0} → Node → Option Run → Kinds H → List Event → Status → List ℕ → Type 0
+AreTold from None after work status lines = (report : Report) → Keeps work report → ⊥
+AreTold from (Some run) after work status lines = IsTold from run (calls_of after) work status lines
 
 -- ---- 6: completes
 
--- a repair of Pending on a host that tells, without a fault of the host, of the disk or of a resource, that came to its last resource
-pub record IsFaultless {H D : Type 0} (host : hosts.Ghosts H) (d : disks.Ghosts D) (begin now : D) (from : Node) (run : Run) (before after : Kinds H) : Type 0 where
-  pub pending : run.choice.pending ≡ true
+-- a repair that came to its last resource, on a host that tells
+pub record IsFinished {H : Type 0} (host : hosts.Ghosts H) (run : Run) (before : Kinds H) : Type 0 where
+  pub repairs : run.choice.mode ≡ Repair
   pub finished : run.end ≡ ends.Finished
   pub state : HostState
   pub tells : host.told (host_of before) ≡ Some state
+
+-- such a repair of Pending, without a fault of the host, of a resource or of the disk
+pub record IsFaultless {H D : Type 0} (host : hosts.Ghosts H) (d : disks.Ghosts D) (begin now : D) (from : Node) (run : Run) (before after : Kinds H) : Type 0 where
+  pub is_finished : IsFinished host run before
+  pub pending : run.choice.pending ≡ true
   pub blames : BlamesNothing (calls_of after)
   pub sound : (r : ℕ) → r < length run.document.resources → IsSound run.document r
   pub disk : Rose (d.faults begin) (d.faults now) → ⊥
   pub job : from.next_job < 2 ^ 64 - 1
 
--- A run that memory was not refused to leaves nothing out; and a faultless repair of Pending makes it Current.
-pub record Completes {H D : Type 0} (host : hosts.Ghosts H) (d : disks.Ghosts D) (begin now : D) (from : Node) (run : Run) (before after : Kinds H) (work : List Event) : Type 0 where
-  pub whole : run.end ≢ ends.Memory → Whole run.document run.choice.mode run.order (calls_of after)
-  pub promoted : IsFaultless host d begin now from run before after → (report : Report) × Contains work (events.Promote report)
+-- the parts of the run are Current, and nothing is Pending
+pub record IsCurrent (run : Run) (node : Node) : Type 0 where
+  pub current : node.current ≡ Some run.choice.parts
+  pub pending : node.pending ≡ None
+
+-- In a repair that came to its last resource each resource ends with a Test that answered yes, unless it or one of its dependencies,
+-- followed down, has a fault of its own, or the trace blames the host for one of these; and a faultless repair of Pending makes it
+-- Current.
+pub record Completes {H D : Type 0} (host : hosts.Ghosts H) (d : disks.Ghosts D) (begin now : D) (from : Node) (run : Run) (before after : Kinds H) (committed : List Event) : Type 0 where
+  pub repaired : IsFinished host run before → (r : ℕ) → r < length run.document.resources → IsSound run.document r
+      → ((q : ℕ) → ComesTo run.document r q → IsSpared (calls_of after) q) → Succeeded (calls_of after) r
+  pub promoted : IsFaultless host d begin now from run before after → (node : Node) → Steps from committed node → IsCurrent run node
 
 abbrev pub IsComplete : {H D : Type 0} → hosts.Ghosts H → disks.Ghosts D → D → D → Node → Option Run → Kinds H → Kinds H → List Event → Type 0
-IsComplete host d begin now from None before after work = ⊤
-IsComplete host d begin now from (Some run) before after work = Completes host d begin now from run before after work
+IsComplete host d begin now from None before after committed = ⊤
+IsComplete host d begin now from (Some run) before after committed = Completes host d begin now from run before after committed
 
 -- ---- 7: together
 
@@ -140,16 +168,17 @@ HoldTogether host (Some run) before after =
 -- ---- the headline
 
 pub record Headline {D H C : Type 0} (d : disks.Ghosts D) (host : hosts.Ghosts H) (command : Command) (before after : Outside D (Kinds H) C)
-    (status : Status) (lines : List ℕ) (from : Node) (run : Option Run) (work : List Event) : Type 0 where
-  pub h1 : IsAfterPrefix d before.disk after.disk from work status
-  pub h2 : AreSound d before.disk from work
-  pub h3 : AreAsPushed d before.disk command from work
+    (status : Status) (lines : List ℕ) (from : Node) (run : Option Run) (committed : List Event) (broken : Option Event) : Type 0 where
+  pub h1 : IsAfterPrefix d before.disk after.disk from committed broken
+  pub h2 : AreSound d before.disk from (all_of committed broken)
+  pub h3 : AreAsPushed d before.disk command from (all_of committed broken)
   pub h4 : IsRun host run before.machine after.machine
-  pub h5 : AreTold run after.machine work lines
-  pub h6 : IsComplete host d before.disk after.disk from run before.machine after.machine work
+  pub h5 : AreTold from run after.machine (all_of committed broken) status lines
+  pub h6 : IsComplete host d before.disk after.disk from run before.machine after.machine committed
   pub h7 : HoldTogether host run before.machine after.machine
 
 -- of each start that opened its store
 abbrev pub HasHeadline : {D H C : Type 0} → Known D (Kinds H) C → hosts.Ghosts H → Command → Outside D (Kinds H) C → Outside D (Kinds H) C → Status → List ℕ → Type 0
 HasHeadline o host command before after status lines =
-    (opened : Opened o command before after status lines) → Headline o.disk host command before after status lines opened.from opened.run opened.ended.work
+    (opened : Opened o command before after status lines)
+    → Headline o.disk host command before after status lines opened.from opened.run opened.ended.committed opened.ended.broken

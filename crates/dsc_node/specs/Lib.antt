@@ -4,8 +4,9 @@ pub mod Lines
 pub mod Path
 pub mod Quoted
 pub mod Ran
+pub mod Readings
+pub mod Running
 pub mod Runs
 pub mod Start
 pub mod Status
-pub mod Turn
 pub mod Work

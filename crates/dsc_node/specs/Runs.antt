@@ -1,5 +1,5 @@
 -- The run of a start: what is run and how, what it leaves, and its report.
-use Rattle.std.specs.Prelude.{◌≡◌, ◌≢◌, ◌⊎◌, ◌==◌, ℕ, ◌≤◌, max, Bool, true, false, ◌&&◌, cond, List, [], ◌∷◌, ◌++◌, map, Option, Some, None, codes}
+use Rattle.std.specs.Prelude.{◌≡◌, ◌≢◌, ◌==◌, ℕ, Bool, true, false, ◌&&◌, cond, List, [], map, Option, Some, None, codes}
 use Rattle.dsc_terms.specs.Counts.{RoseBy}
 use Rattle.dsc_document.specs.declared.document.Document.{Document}
 use Rattle.depend_order.specs.Documents.{IsOrderOfDocument}
@@ -28,6 +28,7 @@ use Rattle.node_state.specs.declared.event.Event.TheVariants as events
 use Rattle.dsc_node.specs.declared.status.Status.{Status}
 use Rattle.dsc_node.specs.declared.status.Status.TheVariants as statuses
 use Rattle.dsc_node.specs.Ran.{EndsAs, IsWholeOrNone}
+use Rattle.dsc_node.specs.Readings.{Gave, end_of}
 
 -- ---- which run
 
@@ -93,23 +94,15 @@ frame_of node choice start end = record {
   parts = map mark_of choice.parts;
 }
 
--- the end of a run that started then, by the readings that the clock still gave: the next one, or the start where that failed or
--- lies before it
-abbrev pub IsEndTime : Option (List (Option ℕ)) → ℕ → ℕ → Type 0
-IsEndTime None start end = start ≤ end
-IsEndTime (Some []) start end = end ≡ start
-IsEndTime (Some (None ∷ rest)) start end = end ≡ start
-IsEndTime (Some (Some time ∷ rest)) start end = end ≡ max start time
-
 -- a run in this node that came to its end, with its report
 pub record Reported {S : Type 0} (machine : Ghosts S) (node : Node) (stopped : Bool) (readings : Option (List (Option ℕ))) (start : ℕ)
     (run : Run) (report : Report) (before after : S) : Type 0 where
   pub chosen : chosen_of stopped node ≡ Some run.choice
   pub ran : Ran machine run before after
   pub goes_on : run.end ≢ ends.Memory
-  pub end : ℕ
-  pub time : IsEndTime readings start end
-  pub is : IsReport run.document (machine.kept after) (frame_of node run.choice start end) report
+  pub given : Option ℕ
+  pub time : Gave readings given
+  pub is : IsReport run.document (machine.kept after) (frame_of node run.choice start (end_of start given)) report
   pub in_size : ReportInSize report
 
 -- a run in this node for which memory was refused: before its first Test, or in its last Test or Set

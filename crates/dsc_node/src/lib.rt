@@ -13,9 +13,9 @@ mod lines;
 mod order;
 mod preparing;
 mod run;
+mod running;
 mod start;
 mod status;
-mod turn;
 
 pub use answer::StartEnd;
 pub use command::Command;

@@ -11,17 +11,17 @@ ghost use Rattle.node_store.specs.Stands.{Stands};
 ghost use Rattle.node_store.specs.Store.{IsKept, TakesMemory};
 ghost use Rattle.dsc_node.specs.Commands.{first_of, is_init};
 ghost use Rattle.dsc_node.specs.Headline.{HasHeadline, kinds_of};
-ghost use Rattle.dsc_node.specs.Path.{CommitGoes, FirstGoes, InitGoes, NoteGoes, Stops};
+ghost use Rattle.dsc_node.specs.Path.{CommitGoes, EndsStart, FirstGoes, InitGoes, KeepGoes};
 ghost use Rattle.dsc_node.specs.Runs.{Run, event_of};
 ghost use Rattle.dsc_node.specs.Start.{Start, known, outside};
-ghost use Rattle.dsc_node.specs.Work.{Finish, Work};
+ghost use Rattle.dsc_node.specs.Work.{Finish, StartTable};
 
 use crate::allowing::{stops, waits, why_not};
 use crate::answer::{StartEnd, after_run, end_line, status_after, status_of};
 use crate::command::{Command, Task};
 use crate::preparing::task_of;
+use crate::running::{Over, RunStep, run_step};
 use crate::status::{InputError, Status};
-use crate::turn::{Over, Turn, turn};
 use dsc_outside::{Clock, Disk, Host};
 use lcm_core::RunEnd;
 use mof_values::Memory;
@@ -46,6 +46,7 @@ pub fn start_over<D: Disk, M: Machine, C: Clock>(
     requires fresh { M.kept machine.old ≡ [] }
     ensures start { Start (known D.Disk M.Resources C.Clock) command (outside disk.old machine.old clock.old) (outside disk.new machine.new clock.new) result.status (string_bytes result.lines) }
     ensures again { AllStand D.Disk disk.old Stands Any → AllStand D.Disk disk.new Stands Any }
+    ensures later { C.faults clock.old ≤ C.faults clock.new }
 {
     let task = match task_of(alloc, command) {
         Ok(task) => task,
@@ -77,6 +78,7 @@ pub fn start<D: Disk, H: Host, C: Clock>(
     ensures start { Start (known D.Disk (kinds_of H.Host) C.Clock) command (outside disk.old kinds.old clock.old) (outside disk.new kinds.new clock.new) result.status (string_bytes result.lines) }
     ensures headline { HasHeadline (known D.Disk (kinds_of H.Host) C.Clock) H.Host command (outside disk.old kinds.old clock.old) (outside disk.new kinds.new clock.new) result.status (string_bytes result.lines) }
     ensures again { AllStand D.Disk disk.old Stands Any → AllStand D.Disk disk.new Stands Any }
+    ensures later { C.faults clock.old ≤ C.faults clock.new }
 {
     start_over(alloc, command, disk, kinds, clock)
 }
@@ -92,8 +94,9 @@ fn opened<D: Disk, M: Machine, C: Clock>(
 ) -> StartEnd
     requires kept { IsKept D.Disk disk.old store.old }
     requires fresh { M.kept machine.old ≡ [] }
-    ensures goes { (run : Option Run) × Stops D.Disk disk.old disk.new store.old result.status (λ from failed work all.
-        Work M.Resources C.Clock task from failed work store.old.node machine.old machine.new clock.old clock.new run result.status (string_bytes result.lines) all) }
+    ensures goes { (run : Option Run) × EndsStart D.Disk disk.old disk.new store.old (λ from counts work committed broken.
+        StartTable M.Resources C.Clock task from counts work store.old.node machine.old machine.new clock.old clock.new run result.status (string_bytes result.lines) committed broken) }
+    ensures later { C.faults clock.old ≤ C.faults clock.new }
 {
     if let Some(why) = why_not(store.state(), &task) {
         return StartEnd::silent(alloc, Status::NotAllowed(why));
@@ -159,21 +162,22 @@ fn finish<D: Disk, M: Machine, C: Clock>(
     requires kept { IsKept D.Disk disk.old store.old }
     requires fresh { M.kept machine.old ≡ [] }
     requires moment { start ≤ last_moment }
-    ensures goes { (run : Option Run) × Stops D.Disk disk.old disk.new store.old result.status (λ from failed work all.
-        Finish M.Resources from failed work store.old.node stopped (C.coming clock.old) start machine.old machine.new run result.status (string_bytes result.lines) all) }
+    ensures goes { (run : Option Run) × EndsStart D.Disk disk.old disk.new store.old (λ from counts work committed broken.
+        Finish M.Resources from counts work store.old.node stopped (C.coming clock.old) (C.coming clock.new) start machine.old machine.new run result.status (string_bytes result.lines) committed broken) }
+    ensures later { C.faults clock.old ≤ C.faults clock.new }
 {
     if let Err(Memory) = store.reserve() {
         return StartEnd::silent(alloc, Status::Memory);
     }
-    match turn(alloc, start, stopped, store.state(), machine, clock) {
-        Turn::Nothing => StartEnd::printing(alloc, Status::Done, "end nothing\n"),
-        Turn::Memory => StartEnd::silent(alloc, Status::Memory),
-        Turn::Over(over) => note(alloc, over, store, disk, machine.calls()),
+    match run_step(alloc, start, stopped, store.state(), machine, clock) {
+        RunStep::Nothing => StartEnd::printing(alloc, Status::Done, "end nothing\n"),
+        RunStep::Memory => StartEnd::silent(alloc, Status::Memory),
+        RunStep::Over(over) => keep(alloc, over, store, disk, machine.calls()),
     }
 }
 
 // The event that keeps the report of a run that is over. No memory is refused before it is committed.
-fn note<D: Disk>(
+fn keep<D: Disk>(
     alloc: Global,
     over: Over,
     store: &mut NodeStore,
@@ -185,7 +189,7 @@ fn note<D: Disk>(
     requires in_size { ReportInSize over.report }
     requires known { All (λ e. place_of e < length over.document.resources) calls.now }
     requires ends { EndsAtYes calls.now }
-    ensures goes { NoteGoes D.Disk disk.old disk.new store.old store.new over calls.now result.status (string_bytes result.lines) }
+    ensures goes { KeepGoes D.Disk disk.old disk.new store.old store.new over calls.now result.status (string_bytes result.lines) }
 {
     let document = over.document;
     let missed = over.report.missed;

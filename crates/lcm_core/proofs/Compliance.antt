@@ -5,7 +5,7 @@ use Rattle.std.specs.Option.{IsSomeAnd}
 use Rattle.std.specs.Result.{result_ok}
 use Rattle.std.proofs.lemmas.Bool.{cases_Bool, false≢true}
 use Rattle.std.proofs.lemmas.List.{append_assoc}
-use Rattle.std.proofs.lemmas.List.Sums.{count_by-le-length, sum_by-cons}
+use Rattle.std.proofs.lemmas.List.Sums.{count_by-le-length, sum_by-append, sum_by-cons}
 use Rattle.dsc_terms.specs.Lists.{places_below}
 use Rattle.dsc_terms.proofs.Places.{length-places_below}
 use Rattle.dsc_terms.proofs.Splits.{split_at, split_push}
@@ -22,7 +22,7 @@ use Rattle.resource_kinds.specs.declared.wanted.Wanted.{Wanted}
 use Rattle.resource_kinds.specs.Apart.{wanted_at}
 use Rattle.resource_kinds.specs.Holds.{Holds}
 use Rattle.resource_kinds.specs.Laws.{IsWhole, KeepsWhole, MayBreakOff, SucceededHold}
-use Rattle.resource_kinds.specs.Trace.{Compliant, HasEntry, has_succeeded, is_yes, place_of}
+use Rattle.resource_kinds.specs.Trace.{Compliant, HasEntry, Succeeded, has_succeeded, is_yes, place_of}
 use Rattle.resource_kinds.specs.True.{AnswersTrue, IsTrueEntry, True}
 use Rattle.resource_kinds.specs.Wanted.{wanted_of}
 use Rattle.resource_kinds.proofs.Marks.{get_or-places}
@@ -51,12 +51,27 @@ count_all p (x ∷ xs) all (suc k) d lt =
     ] in
     count_all p xs rest k d (omega (arith, lt))
 
-each_succeeded : (document : Document) (trace : List Entry) → Compliant document trace → (r : ℕ) → r < length document.resources → has_succeeded trace r ≡ true
+pub each_succeeded : (document : Document) (trace : List Entry) → Compliant document trace → (r : ℕ) → r < length document.resources → has_succeeded trace r ≡ true
 each_succeeded document trace compliant r lt =
     let n = length document.resources in
     let none : n - count_by (has_succeeded trace) (places_below n) ≡ 0 = compliant in
     ap (has_succeeded trace) (sym (get_or-places n r 0 lt))
     ∙ count_all (has_succeeded trace) (places_below n) (omega (arith, none, length-places_below n)) r 0 (omega (arith, lt, length-places_below n))
+
+one_if : Bool → ℕ
+one_if yes = cond yes 1 0
+
+counted : (trace : List Entry) (n : ℕ) → ((r : ℕ) → r < n → Succeeded trace r) → count_by (has_succeeded trace) (places_below n) ≡ n
+counted trace zero all = refl
+counted trace (suc n) all =
+    let one : ℕ → ℕ = λ r. one_if (has_succeeded trace r) in
+    let here : has_succeeded trace n ≡ true = all n (omega arith) in
+    let before = counted trace n (λ r lt. all r (omega (arith, lt))) in
+    omega (arith, sum_by-append one (places_below n) (n ∷ []), sum_by-cons one n [], before, ap one_if here)
+
+-- where each succeeded, none is missed
+pub none_missed : (document : Document) (trace : List Entry) → ((r : ℕ) → r < length document.resources → Succeeded trace r) → Compliant document trace
+none_missed document trace all = omega (arith, counted trace (length document.resources) all)
 
 -- ---- no Set broke off
 

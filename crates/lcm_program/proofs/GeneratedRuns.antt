@@ -1,13 +1,10 @@
 -- A repair in which each resource asks for a variable, on a machine that wants no reboot and does not fail: each succeeds.
-use Rattle.std.proofs.Common.{◌≡◌, ◌⊎◌, inl, inr, ℕ, zero, suc, ◌+◌, ◌<◌, Bool, true, cond, List, [], ◌∷◌, ◌++◌, length, slice_get, Option, Some, None, Result, refl, sym, ◌∙◌, ap, subst, arith}
-use Rattle.std.specs.Prelude.{count_by}
+use Rattle.std.proofs.Common.{◌≡◌, ◌⊎◌, inl, inr, ℕ, ◌+◌, ◌<◌, Bool, true, List, [], ◌∷◌, ◌++◌, length, slice_get, Option, Some, None, Result, refl, sym, ◌∙◌, ap, subst, arith}
 use Rattle.std.specs.List.{AllByRecursion}
 use Rattle.std.specs.Option.{IsSomeAnd}
 use Rattle.std.proofs.lemmas.Bool.{false≢true}
 use Rattle.std.proofs.lemmas.List.Elements.{All-from_recursion}
-use Rattle.std.proofs.lemmas.List.Sums.{sum_by-append, sum_by-cons}
 use Rattle.std.proofs.lemmas.Option.{same_Some}
-use Rattle.dsc_terms.specs.Lists.{places_below}
 use Rattle.dsc_outside.specs.Host.{HostState, wants_reboot}
 use Rattle.dsc_document.specs.declared.document.Document.{Document}
 use Rattle.dsc_document.specs.declared.document.Resource.{Resource}
@@ -21,13 +18,14 @@ use Rattle.resource_kinds.specs.declared.entry.Entry.{Entry}
 use Rattle.resource_kinds.specs.declared.entry.Entry.TheVariants.{Tested, Set}
 use Rattle.resource_kinds.specs.declared.wanted.Wanted.{Wanted}
 use Rattle.resource_kinds.specs.declared.wanted.Wanted.TheVariants.{Variable}
-use Rattle.resource_kinds.specs.Trace.{EndsWith, Succeeded, entry_failures, has_succeeded, host_failure, host_failures, missed_count, set_failures, test_failures}
+use Rattle.resource_kinds.specs.Trace.{EndsWith, Succeeded, entry_failures, host_failure, host_failures, missed_count, set_failures, test_failures}
 use Rattle.resource_kinds.specs.True.{AnswersKnown, AnswersTrue, IsTrueEntry, SetsKnown, SetsTrue, True}
 use Rattle.resource_kinds.specs.Wanted.{folded_utf8, wanted_of}
 use Rattle.lcm_core.specs.declared.modes.RunEnd.{RunEnd}
 use Rattle.lcm_core.specs.declared.modes.RunEnd.TheVariants as ends
 use Rattle.lcm_core.specs.declared.modes.RunMode.TheVariants.{Repair}
 use Rattle.lcm_core.specs.RepairLaws.{EntryBlames, RepairSucceeds, SetBlames, TestBlames}
+use Rattle.lcm_core.proofs.Compliance.{none_missed as all_counted}
 use Rattle.dsc_node.specs.Ran.{Ran}
 use Rattle.lcm_program.proofs.GeneratedVariables.{AskVariables, AsksVariable, each_sound, some_within}
 
@@ -132,19 +130,6 @@ module _ (document : Document) (ask : AskVariables document) where
 
 -- ---- the run
 
-abbrev one_if : Bool → ℕ
-one_if b = cond b 1 0
-
-abbrev one_if_succeeded : List Entry → ℕ → ℕ
-one_if_succeeded trace r = one_if (has_succeeded trace r)
-
-count_all : (trace : List Entry) (n : ℕ) → ((r : ℕ) → r < n → Succeeded trace r) → count_by (has_succeeded trace) (places_below n) ≡ n
-count_all trace zero all = refl
-count_all trace (suc n) all =
-    let here : has_succeeded trace n ≡ true = all n (omega arith) in
-    let behind = count_all trace n (λ r lt. all r (omega (arith, lt))) in
-    omega (arith, sum_by-append (one_if_succeeded trace) (places_below n) (n ∷ []), sum_by-cons (one_if_succeeded trace) n [], behind, ap one_if here)
-
 module _ (succeeds : RepairSucceeds) (document : Document) (order : List ℕ) (trace : List Entry) (before after : HostState)
     (ask : AskVariables document) (nobody : before.wanting ≡ []) (none : host_failures trace ≡ 0) where
   told_true : (end : RunEnd) → Ran document Repair order end trace (Some before) (Some after) 0 0 → True document before trace after
@@ -168,4 +153,4 @@ module _ (succeeds : RepairSucceeds) (document : Document) (order : List ℕ) (t
         (All-from_recursion (λ e. EntryBlames e → ⊥) trace (blames_nothing document ask trace plain)) lt (each_sound document r ask lt)
 
     pub none_missed : missed_count document trace ≡ 0
-    none_missed = omega (arith, count_all trace (length document.resources) each_succeeds)
+    none_missed = all_counted document trace each_succeeds

@@ -2,5 +2,5 @@ mod Claims
 mod Merging
 mod Newest
 pub mod SoundSteps
-mod SlotSteps
+pub mod SlotSteps
 pub mod Building

@@ -1,10 +1,11 @@
 //! The run of a start and its report. Neither a store nor a disk is touched here.
-ghost use Rattle.std.specs.Prelude.{◌≡◌, ◌≤◌, Bool, Some, [], map, IfOk};
+ghost use Rattle.std.specs.Prelude.{◌≡◌, ◌≤◌, ℕ, Bool, Option, Some, [], map, IfOk};
 ghost use Rattle.dsc_outside.specs.Clock.{last_moment};
 ghost use Rattle.node_state.specs.Lists.{IsStaged};
 ghost use Rattle.node_state.specs.Sound.{Sound};
-ghost use Rattle.dsc_node.specs.Runs.{IsEndTime, chosen_of, frame_of, is_pull, mark_of};
-ghost use Rattle.dsc_node.specs.Turn.{IsReadyFor, IsTurn};
+ghost use Rattle.dsc_node.specs.Readings.{Gave, Took, end_of};
+ghost use Rattle.dsc_node.specs.Runs.{chosen_of, is_pull, mark_of};
+ghost use Rattle.dsc_node.specs.Running.{IsReadyFor, IsRunStep};
 
 use crate::choosing::{Chosen, chosen_of};
 use crate::run::run_merged;
@@ -37,7 +38,7 @@ pub(crate) struct Over {
 
 /// What the step that runs comes to.
 #[derive(Drop)]
-pub(crate) enum Turn {
+pub(crate) enum RunStep {
     /// Nothing is to be run.
     Nothing,
 
@@ -57,25 +58,26 @@ pub(crate) struct Ready {
 }
 
 /// Makes the run that the node is to make, if it is to make one, and its report. All memory is taken before the first Test.
-pub(crate) fn turn<M: Machine, C: Clock>(
+pub(crate) fn run_step<M: Machine, C: Clock>(
     alloc: Global,
     start: u64,
     stopped: bool,
     node: &Node,
     machine: &mut M,
     clock: &mut C,
-) -> Turn
+) -> RunStep
     requires fresh { M.kept machine.old ≡ [] }
     requires sound { Sound node.now }
     requires moment { start ≤ last_moment }
-    ensures { IsTurn M.Resources node.now stopped (C.coming clock.old) start result machine.old machine.new }
+    ensures step { IsRunStep M.Resources node.now stopped (C.coming clock.old) (C.coming clock.new) start result machine.old machine.new }
+    ensures later { C.faults clock.old ≤ C.faults clock.new }
 {
     let Some(chosen) = chosen_of(node, stopped) else {
-        return Turn::Nothing;
+        return RunStep::Nothing;
     };
     match prepared(alloc, chosen.parts) {
         Ok(ready) => run_ready(alloc, start, node, chosen, ready, machine, clock),
-        Err(Memory) => Turn::Memory,
+        Err(Memory) => RunStep::Memory,
     }
 }
 
@@ -128,13 +130,14 @@ fn run_ready<M: Machine, C: Clock>(
     ready: Ready,
     machine: &mut M,
     clock: &mut C,
-) -> Turn
+) -> RunStep
     requires fresh { M.kept machine.old ≡ [] }
     requires staged { IsStaged chosen.parts.now }
     requires ready { IsReadyFor chosen.parts.now ready }
     requires moment { start ≤ last_moment }
-    ensures { (stopped : Bool) → chosen_of stopped node.now ≡ Some (record { parts = chosen.parts.now; mode = chosen.mode; pending = chosen.pending })
-        → IsTurn M.Resources node.now stopped (C.coming clock.old) start result machine.old machine.new }
+    ensures step { (stopped : Bool) → chosen_of stopped node.now ≡ Some (record { parts = chosen.parts.now; mode = chosen.mode; pending = chosen.pending })
+        → IsRunStep M.Resources node.now stopped (C.coming clock.old) (C.coming clock.new) start result machine.old machine.new }
+    ensures later { C.faults clock.old ≤ C.faults clock.new }
 {
     let document = ready.ordered.document;
     let end = run_merged(
@@ -145,7 +148,7 @@ fn run_ready<M: Machine, C: Clock>(
         machine,
     );
     if let RunEnd::Memory = end {
-        return Turn::Memory;
+        return RunStep::Memory;
     }
     let frame = Frame {
         job: node.next_job,
@@ -157,7 +160,7 @@ fn run_ready<M: Machine, C: Clock>(
     };
     report_laws();
     let report = report_of(ready.room, &document, machine.calls(), frame);
-    Turn::Over(Over {
+    RunStep::Over(Over {
         document,
         overlap: ready.overlap,
         pending: chosen.pending,
@@ -178,8 +181,10 @@ fn is_pull(refresh: RefreshMode) -> bool
 // A second reading, or the first where it failed or lies before it.
 fn end_of<C: Clock>(start: u64, clock: &mut C) -> u64
     requires moment { start ≤ last_moment }
-    ensures time { IsEndTime (C.coming clock.old) start result }
+    ensures time { (given : Option ℕ) × Gave (C.coming clock.old) given × (result ≡ end_of start given) }
+    ensures took { Took 1 (C.coming clock.old) (C.coming clock.new) }
     ensures moment { result ≤ last_moment }
+    ensures later { C.faults clock.old ≤ C.faults clock.new }
 {
     match clock.now() {
         Ok(time) => max(start, time),
