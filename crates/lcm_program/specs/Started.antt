@@ -1,5 +1,5 @@
 -- The commands `init`, `push`, `consistency` and `boot`: starts of the node.
-use Rattle.std.specs.Prelude.{◌≡◌, ℕ, List, Ok}
+use Rattle.std.specs.Prelude.{◌≡◌, ◌≤◌, ℕ, List, Ok}
 use Rattle.dsc_outside.specs.declared.ends.Ends as ends
 use Rattle.dsc_outside.specs.declared.disk.Disk as disks
 use Rattle.dsc_outside.specs.declared.host.Host as hosts
@@ -19,7 +19,7 @@ use Rattle.lcm_program.specs.Input.{IsInput, IsUnread, ReadsBytes, input_limit}
 use Rattle.lcm_program.specs.Objects.{Known, Objects}
 
 -- A start of the node by the command: it ended so, with these lines, by the table of starts, and has its headline; where every image
--- of the store stands for a node before it, so it does after it; and its end is printed.
+-- of the store stands for a node before it, so it does after it; the clock's count of faults does not fall; and its end is printed.
 pub record IsStart {K D H C : Type 0} (sink : ends.Ghosts K) (disk : disks.Ghosts D) (host : hosts.Ghosts H) (clock : clocks.Ghosts C)
     (command : Command) (status : Status) (old new : K) (before after : Outside D (Kinds H) C) : Type 0 where
   pub ended : Status
@@ -27,6 +27,7 @@ pub record IsStart {K D H C : Type 0} (sink : ends.Ghosts K) (disk : disks.Ghost
   pub start : Start (starts.known disk (kinds_of host) clock) command before after ended lines
   pub headline : HasHeadline (starts.known disk (kinds_of host) clock) host command before after ended lines
   pub again : AllStand disk before.disk Stands Any → AllStand disk after.disk Stands Any
+  pub later : clock.faults before.clock ≤ clock.faults after.clock
   pub prints : StartEnds sink ended lines status old new
 
 -- the document that is pushed is the whole input; an input that was not read is refused, and nothing else was touched

@@ -68,7 +68,7 @@ pub fn print_start<K: Sink>(alloc: Global, output: &mut K, end: StartEnd) -> Sta
     }
 }
 
-// Prints the lines of a start that was refused, and that of the refusal; its status stays where that fails.
+// Prints these lines, and after them that of a refusal; its status stays where that fails.
 fn print_refused<K: Sink>(alloc: Global, output: &mut K, lines: String, refusal: Refusal) -> Status
     ensures { RefusedStartEnds K.Ends (string_bytes lines) refusal result output.old output.new }
 {
@@ -110,9 +110,5 @@ pub fn print_unread<K: Sink>(alloc: Global, output: &mut K, unread: Unread) -> S
 pub fn refuse<K: Sink>(alloc: Global, output: &mut K, refusal: Refusal) -> Status
     ensures { RefusalEnds K.Ends refusal result output.old output.new }
 {
-    let Ok(line) = refusal.line(alloc) else {
-        return Status::Memory;
-    };
-    let _ = write_all(output, line.as_bytes());
-    refusal.status()
+    print_refused(alloc, output, String::new(alloc), refusal)
 }
