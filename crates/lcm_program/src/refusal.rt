@@ -1,5 +1,5 @@
 //! Refusals and their lines.
-ghost use Rattle.std.specs.Prelude.{◌≡◌, ◌×◌, ◌++◌, Some, None, codes, IfErr, IfOk, OnOk, string_bytes};
+ghost use Rattle.std.specs.Prelude.{◌≡◌, ◌++◌, Some, None, codes, IfErr, IfOk, OnOk, string_bytes};
 ghost use Rattle.lcm_program.specs.Refusal.{status_of, reason_words, refusal_line, refusal_of, error_words, why_word};
 
 use crate::merge_words::push_merge_error;
