@@ -146,13 +146,13 @@ module _ {D H C : Type 0} (d : disks.Ghosts D) (host : hosts.Ghosts H) (clock : 
         → Finish (kinds_of host) from (disk_counts d begin now) work node stopped readings left start before after run status lines committed broken → Facts run status lines committed broken
     finish_facts _ _ _ _ _ (no_run status lines is same taken answers) = idle status lines work None same none
     finish_facts _ _ _ _ _ (unready status lines same taken ends) = idle status lines work None same none
-    finish_facts _ _ _ _ _ (unended run status lines u taken ends) = record {
+    finish_facts _ _ _ _ _ (unended run status lines u taken silent) = record {
       h4 = host_ran host before after run u.ran;
       h5 = record {
         report = λ report k. absurd (none report k);
         success = λ report k. absurd (none report k);
         compliant = λ report k. absurd (none report k);
-        printed = inl ends;
+        printed = inl silent;
       };
       h6 = complete run work u.ran (λ f. absurd (finished_in_memory run.end f.is_finished.finished u.ended));
       h7 = together host before after law run u.ran;

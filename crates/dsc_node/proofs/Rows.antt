@@ -32,7 +32,7 @@ module _ {D : Type 0} (d : Ghosts D) where
 
   module _ {S : Type 0} (machine : resources.Ghosts S) (old now : D) (store : StoreTerm) (stopped : Bool) (readings left : Option (List (Option ℕ))) (start : ℕ) (before after : S)
       (status : Status) (lines : List ℕ) where
-    FinishGoes : Type 0
+    abbrev pub FinishGoes : Type 0
     FinishGoes = (run : Option Run) × EndsStart d old now store (λ from counts work committed broken. Finish machine from counts work store.node stopped readings left start before after run status lines committed broken)
 
     pub finish_unended : now ≡ old → IsKept d old store → Ends statuses.Memory [] status lines → ((after ≡ before) ⊎ ((run : Run) × Unended machine store.node stopped run before after)) × (left ≡ readings) → FinishGoes

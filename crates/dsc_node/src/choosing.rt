@@ -1,6 +1,6 @@
 //! Which run a node is to make.
 ghost use Rattle.std.specs.Prelude.{◌≡◌, option_map};
-ghost use Rattle.dsc_node.specs.Runs.{chosen_of, Choice};
+ghost use Rattle.dsc_node.specs.Runs.{chosen_current, chosen_of};
 
 use lcm_core::RunMode;
 use meta_config::ConfigMode;

@@ -14,7 +14,7 @@ mod order;
 mod preparing;
 mod run;
 mod running;
-mod start;
+mod starting;
 mod status;
 
 pub use answer::StartEnd;
@@ -22,7 +22,7 @@ pub use command::Command;
 pub use lines::{id, lines_of, push_resources};
 pub use order::order_of_merged;
 pub use run::{run_kinds, run_merged};
-pub use start::{start, start_over};
+pub use starting::{start, start_over};
 pub use status::{InputError, Status};
 
 #[cfg(test)]

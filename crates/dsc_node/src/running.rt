@@ -19,7 +19,6 @@ use partial_merge::{MergeError, OrderedDocument, Part, merge_ordered};
 use report_log::{Frame, PartMark, Report, ReportRoom, report_of, room_for};
 use resource_kinds::{Machine, overlaps};
 use std::alloc::{AllocError, Global};
-use std::cmp::max;
 
 /// A run that is over, with its report.
 #[derive(Drop)]
@@ -88,8 +87,7 @@ fn prepared(alloc: Global, parts: &[Part]) -> Result<Ready, Memory>
 {
     let ordered = match merge_ordered(alloc, parts) {
         Ok(ordered) => ordered,
-        Err(MergeError::Memory) => return Err(Memory),
-        Err(_) => unreachable!(),
+        Err(error) => return Err(only_memory(error)),
     };
     let overlap = overlaps(alloc, &ordered.document)?;
     let room = room_for(alloc, &ordered.document)?;
@@ -100,6 +98,16 @@ fn prepared(alloc: Global, parts: &[Part]) -> Result<Ready, Memory>
         room,
         marks,
     })
+}
+
+// Parts that are merged are refused for nothing else.
+fn only_memory(error: MergeError) -> Memory
+    requires { error ≡ MergeError.Memory }
+{
+    match error {
+        MergeError::Memory => Memory,
+        _ => unreachable!(),
+    }
 }
 
 fn marks_of(alloc: Global, parts: &[Part]) -> Result<Vec<PartMark>, AllocError>
@@ -135,7 +143,7 @@ fn run_ready<M: Machine, C: Clock>(
     requires staged { IsStaged chosen.parts.now }
     requires ready { IsReadyFor chosen.parts.now ready }
     requires moment { start ≤ last_moment }
-    ensures step { (stopped : Bool) → chosen_of stopped node.now ≡ Some (record { parts = chosen.parts.now; mode = chosen.mode; pending = chosen.pending })
+    ensures step { (stopped : Bool) → chosen_of stopped node.now ≡ Some (record { parts = chosen.entry.parts.now; mode = chosen.entry.mode; pending = chosen.entry.pending })
         → IsRunStep M.Resources node.now stopped (C.coming clock.old) (C.coming clock.new) start result machine.old machine.new }
     ensures later { C.faults clock.old ≤ C.faults clock.new }
 {
@@ -187,7 +195,13 @@ fn end_of<C: Clock>(start: u64, clock: &mut C) -> u64
     ensures later { C.faults clock.old ≤ C.faults clock.new }
 {
     match clock.now() {
-        Ok(time) => max(start, time),
+        Ok(time) => {
+            if time > start {
+                time
+            } else {
+                start
+            }
+        }
         Err(_) => start,
     }
 }

@@ -58,16 +58,18 @@ each_succeeded document trace compliant r lt =
     ap (has_succeeded trace) (sym (get_or-places n r 0 lt))
     ∙ count_all (has_succeeded trace) (places_below n) (omega (arith, none, length-places_below n)) r 0 (omega (arith, lt, length-places_below n))
 
-one_if : Bool → ℕ
-one_if yes = cond yes 1 0
+abbrev one_if : Bool → ℕ
+one_if b = cond b 1 0
+
+abbrev one_if_succeeded : List Entry → ℕ → ℕ
+one_if_succeeded trace r = one_if (has_succeeded trace r)
 
 counted : (trace : List Entry) (n : ℕ) → ((r : ℕ) → r < n → Succeeded trace r) → count_by (has_succeeded trace) (places_below n) ≡ n
 counted trace zero all = refl
 counted trace (suc n) all =
-    let one : ℕ → ℕ = λ r. one_if (has_succeeded trace r) in
     let here : has_succeeded trace n ≡ true = all n (omega arith) in
     let before = counted trace n (λ r lt. all r (omega (arith, lt))) in
-    omega (arith, sum_by-append one (places_below n) (n ∷ []), sum_by-cons one n [], before, ap one_if here)
+    omega (arith, sum_by-append (one_if_succeeded trace) (places_below n) (n ∷ []), sum_by-cons (one_if_succeeded trace) n [], before, ap one_if here)
 
 -- where each succeeded, none is missed
 pub none_missed : (document : Document) (trace : List Entry) → ((r : ℕ) → r < length document.resources → Succeeded trace r) → Compliant document trace

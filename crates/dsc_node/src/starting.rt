@@ -1,5 +1,5 @@
 //! One start.
-ghost use Rattle.std.specs.Prelude.{◌≡◌, ◌≤◌, ◌<◌, ◌×◌, [], All, List, Option, false, true, length, IsErrOf, OnOk, string_bytes};
+ghost use Rattle.std.specs.Prelude.{◌≡◌, ◌≤◌, ◌<◌, [], All, List, Option, false, true, length, IfErr, OnOk, string_bytes};
 ghost use Rattle.dsc_outside.specs.Clock.{last_moment};
 ghost use Rattle.gate_log.specs.Standing.{AllStand, Any};
 ghost use Rattle.resource_kinds.specs.Kinds.{calls_of};
@@ -227,7 +227,7 @@ fn commit<D: Disk>(store: &mut NodeStore, disk: &mut D, event: Event) -> Result<
     requires within { IsWithin event }
     ensures kept { OnOk result (IsKept D.Disk disk.new store.new) }
     ensures goes { CommitGoes D.Disk disk.old disk.new store.old event result store.new }
-    ensures memory { IsErrOf result StoreError.Memory → TakesMemory store.old.reserved event }
+    ensures memory { IfErr result (λ error. error ≡ StoreError.Memory → TakesMemory store.old.reserved event) }
 {
     store.commit(disk, event)
 }
