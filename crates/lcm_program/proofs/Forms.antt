@@ -9,6 +9,13 @@ use Rattle.lcm_program.specs.declared.words.Command.{Command}
 use Rattle.lcm_program.specs.declared.words.Command.TheVariants.{Test, Check, Order, Canon, Checksum, Generate, Init, Push, Consistency, Boot}
 use Rattle.lcm_program.specs.Words.{IsAgent, IsCount, IsForm, IsInRange, IsUsage, agent_of}
 
+-- the first letter of a word, and that of the first word, which tells the commands that take another word from all others
+abbrev letter : List ℕ → ℕ
+letter word = get_or word 0 0
+
+abbrev first_letter : List (List ℕ) → ℕ
+first_letter words = letter (get_or words 0 [])
+
 -- the command that words in a form ask for
 asked : List (List ℕ) → Command
 asked words =
@@ -74,6 +81,27 @@ form_parts Push first rest form = inl (ap (take 1) form, ap (drop 1) form)
 form_parts Consistency first rest form = inl (ap (take 1) form, ap (drop 1) form)
 form_parts Boot first rest form = inl (ap (take 1) form, ap (drop 1) form)
 
+-- a command whose word stands alone takes no other
+alone_takes_none : (command : Command) (first : List ℕ) → IsForm command (first ∷ []) → TakesWord first → ⊥
+alone_takes_none Test first form (inl is) = omega (arith, ap first_letter form, ap letter is)
+alone_takes_none Test first form (inr is) = omega (arith, ap first_letter form, ap letter is)
+alone_takes_none Check first form (inl is) = omega (arith, ap first_letter form, ap letter is)
+alone_takes_none Check first form (inr is) = omega (arith, ap first_letter form, ap letter is)
+alone_takes_none Order first form (inl is) = omega (arith, ap first_letter form, ap letter is)
+alone_takes_none Order first form (inr is) = omega (arith, ap first_letter form, ap letter is)
+alone_takes_none Canon first form (inl is) = omega (arith, ap first_letter form, ap letter is)
+alone_takes_none Canon first form (inr is) = omega (arith, ap first_letter form, ap letter is)
+alone_takes_none Checksum first form (inl is) = omega (arith, ap first_letter form, ap letter is)
+alone_takes_none Checksum first form (inr is) = omega (arith, ap first_letter form, ap letter is)
+alone_takes_none (Generate count) first (word, is, counted) takes = omega (arith, ap length is)
+alone_takes_none (Init agent) first (word, is, named) takes = omega (arith, ap length is)
+alone_takes_none Push first form (inl is) = omega (arith, ap first_letter form, ap letter is)
+alone_takes_none Push first form (inr is) = omega (arith, ap first_letter form, ap letter is)
+alone_takes_none Consistency first form (inl is) = omega (arith, ap first_letter form, ap letter is)
+alone_takes_none Consistency first form (inr is) = omega (arith, ap first_letter form, ap letter is)
+alone_takes_none Boot first form (inl is) = omega (arith, ap first_letter form, ap letter is)
+alone_takes_none Boot first form (inr is) = omega (arith, ap first_letter form, ap letter is)
+
 some_word : (command : Command) (words : List (List ℕ)) → IsForm command words → 0 < length words
 some_word Test words form = omega (arith, ap length form)
 some_word Check words form = omega (arith, ap length form)
@@ -110,6 +138,23 @@ wrong_first first rest alone other =
     never command more form = elim (form_parts command first more form) [
       | inl is ↦ alone command is.0
       | inr is ↦ other is
+    ]
+
+-- a word follows one that stands alone
+pub second_word : (first : List ℕ) (rest : List (List ℕ)) (command : Command) → 0 < length rest → IsForm command (first ∷ []) → IsUsage (first ∷ rest) 1
+second_word first [] command above form = absurd (omega (arith, above))
+second_word first (second ∷ rest) command above form =
+    record {
+      no_form = λ given given_form. never given rest given_form;
+      within = omega arith;
+      begins = (command, [], form);
+      stops = λ below begins. never begins.0 begins.1 begins.2;
+    }
+  where
+    never : (given : Command) (others : List (List ℕ)) → IsForm given (first ∷ second ∷ others) → ⊥
+    never given others given_form = elim (form_parts given first (second ∷ others) given_form) [
+      | inl is ↦ omega (arith, ap length is.1)
+      | inr takes ↦ alone_takes_none command first form takes
     ]
 
 -- ---- a word that takes another
@@ -158,10 +203,6 @@ module _ (name : List ℕ) (P : List ℕ → Type 0)
       never : (given : Command) (others : List (List ℕ)) → IsForm given (name ∷ word ∷ third ∷ others) → ⊥
       never given others given_form = omega (arith, ap length (other given (word ∷ third ∷ others) given_form).1)
 
--- the first letter of the first word, which tells these two from all others
-abbrev first_letter : List (List ℕ) → ℕ
-first_letter words = get_or (get_or words 0 []) 0 0
-
 abbrev pub IsAnyCount : List ℕ → Type 0
 IsAnyCount word = (count : ℕ) × IsCount word count
 
@@ -172,7 +213,7 @@ generate_form Check rest form = absurd (omega (arith, ap first_letter form))
 generate_form Order rest form = absurd (omega (arith, ap first_letter form))
 generate_form Canon rest form = absurd (omega (arith, ap first_letter form))
 generate_form Checksum rest form = absurd (omega (arith, ap first_letter form))
-generate_form (Generate count) rest (word, is, counted) = (word, ap (drop 1) is, count, counted)
+generate_form (Generate count) rest (word, is, counted) = (word, ap (drop 1) is, (count, counted))
 generate_form (Init agent) rest (word, is, named) = absurd (omega (arith, ap first_letter is))
 generate_form Push rest form = absurd (omega (arith, ap first_letter form))
 generate_form Consistency rest form = absurd (omega (arith, ap first_letter form))
@@ -192,7 +233,7 @@ init_form Order rest form = absurd (omega (arith, ap first_letter form))
 init_form Canon rest form = absurd (omega (arith, ap first_letter form))
 init_form Checksum rest form = absurd (omega (arith, ap first_letter form))
 init_form (Generate count) rest (word, is, counted) = absurd (omega (arith, ap first_letter is))
-init_form (Init agent) rest (word, is, named) = (word, ap (drop 1) is, agent, named)
+init_form (Init agent) rest (word, is, named) = (word, ap (drop 1) is, (agent, named))
 init_form Push rest form = absurd (omega (arith, ap first_letter form))
 init_form Consistency rest form = absurd (omega (arith, ap first_letter form))
 init_form Boot rest form = absurd (omega (arith, ap first_letter form))
