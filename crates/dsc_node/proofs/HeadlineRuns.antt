@@ -45,7 +45,7 @@ told_between document trace before after b e is_b is_e tells =
     let same : t.0 ≡ e = let both = sym t.1 ∙ is_e in cc both in
     subst (λ (h : HostState). True document b trace h) same t.2
 
-whole_of : (document : Document) (mode : RunMode) (order : List ℕ) (end : RunEnd) (trace : List Entry) → IsWholeOrNone document mode order end trace → end ≢ ends.Memory → Whole document mode order trace
+pub whole_of : (document : Document) (mode : RunMode) (order : List ℕ) (end : RunEnd) (trace : List Entry) → IsWholeOrNone document mode order end trace → end ≢ ends.Memory → Whole document mode order trace
 whole_of document mode order ends.Finished trace whole goes_on = whole
 whole_of document mode order (ends.RebootAsked place) trace whole goes_on = whole
 whole_of document mode order ends.Memory trace whole goes_on = absurd (goes_on refl)
@@ -60,10 +60,10 @@ none_success trace missed outcomes.Success is goes_on none = refl
 none_success trace missed outcomes.Failure is goes_on none = absurd (omega (arith, is.1, none))
 none_success trace missed outcomes.Reboot is goes_on none = absurd (goes_on is)
 
-some_choice : (a b : Choice) → Some a ≡ Some b → a ≡ b
+pub some_choice : (a b : Choice) → Some a ≡ Some b → a ≡ b
 some_choice a b is = cc is
 
-no_choice : {A : Type 0} (choice : Choice) → None ≡ Some choice → A
+pub no_choice : {A : Type 0} (choice : Choice) → None ≡ Some choice → A
 no_choice choice is = absurd (cc is)
 
 false-true : {A : Type 0} → false ≡ true → A

@@ -4,13 +4,14 @@ ghost use Rattle.resource_kinds.specs.Trace.{place_of};
 ghost use Rattle.lcm_core.specs.RunLaws.{EndsAtYes};
 ghost use Rattle.dsc_node.specs.Lines.{overlap_line, run_lines};
 ghost use Rattle.dsc_node.specs.Runs.{end_line, status_after};
-ghost use Rattle.dsc_node.specs.Work.{Answers, status_of};
+ghost use Rattle.dsc_node.specs.Work.{Answers, status_of, status_of_input};
 
 use crate::lines::lines_of;
-use crate::status::Status;
+use crate::status::{InputError, Status};
 use dsc_document::Document;
 use lcm_core::{RunEnd, count_succeeded};
 use node_store::StoreError;
+use partial_merge::MergeError;
 use resource_kinds::Entry;
 use std::alloc::{AllocError, Global};
 
@@ -125,5 +126,15 @@ pub(crate) fn status_of(error: StoreError) -> Status
         StoreError::NotAStore { at } => Status::NotAStore { at },
         StoreError::NotAllowed(why) => Status::NotAllowed(why),
         StoreError::Memory => Status::Memory,
+    }
+}
+
+/// The status of a start whose document was refused.
+pub(crate) fn status_of_input(error: MergeError) -> Status
+    ensures { result ≡ status_of_input error }
+{
+    match error {
+        MergeError::Memory => Status::Memory,
+        refusal => Status::InputRefused(InputError::Merge(refusal)),
     }
 }

@@ -147,14 +147,18 @@ fn run_ready<M: Machine, C: Clock>(
         → IsRunStep M.Resources node.now stopped (C.coming clock.old) (C.coming clock.new) start result machine.old machine.new }
     ensures later { C.faults clock.old ≤ C.faults clock.new }
 {
-    let document = ready.ordered.document;
-    let end = run_merged(
-        alloc,
-        &document,
-        ready.ordered.order.as_slice(),
-        chosen.mode,
-        machine,
-    );
+    let Ready {
+        ordered,
+        overlap,
+        room,
+        marks,
+    } = ready;
+    let OrderedDocument {
+        document,
+        order,
+        depends: _,
+    } = ordered;
+    let end = run_merged(alloc, &document, order.as_slice(), chosen.mode, machine);
     if let RunEnd::Memory = end {
         return RunStep::Memory;
     }
@@ -164,13 +168,13 @@ fn run_ready<M: Machine, C: Clock>(
         pull: is_pull(node.meta.refresh),
         start,
         end: end_of(start, clock),
-        parts: ready.marks,
+        parts: marks,
     };
     report_laws();
-    let report = report_of(ready.room, &document, machine.calls(), frame);
+    let report = report_of(room, &document, machine.calls(), frame);
     RunStep::Over(Over {
         document,
-        overlap: ready.overlap,
+        overlap,
         pending: chosen.pending,
         end,
         report,
@@ -195,13 +199,7 @@ fn end_of<C: Clock>(start: u64, clock: &mut C) -> u64
     ensures later { C.faults clock.old ≤ C.faults clock.new }
 {
     match clock.now() {
-        Ok(time) => {
-            if time > start {
-                time
-            } else {
-                start
-            }
-        }
+        Ok(time) => { if time > start { time } else { start } }
         Err(_) => start,
     }
 }

@@ -17,17 +17,16 @@ ghost use Rattle.dsc_node.specs.Start.{Start, known, outside};
 ghost use Rattle.dsc_node.specs.Work.{Finish, StartTable};
 
 use crate::allowing::{stops, waits, why_not};
-use crate::answer::{StartEnd, after_run, end_line, status_after, status_of};
+use crate::answer::{StartEnd, after_run, end_line, status_after, status_of, status_of_input};
 use crate::command::{Command, Task};
 use crate::preparing::task_of;
 use crate::running::{Over, RunStep, run_step};
-use crate::status::{InputError, Status};
+use crate::status::Status;
 use dsc_outside::{Clock, Disk, Host};
-use lcm_core::RunEnd;
+use lcm_core::{RunEnd, repair_laws, trace_laws};
 use mof_values::Memory;
 use node_state::Event;
 use node_store::{NodeStore, StoreError, open_store};
-use partial_merge::MergeError;
 use report_log::Report;
 use resource_kinds::{Entry, Kinds, Machine};
 use std::alloc::Global;
@@ -50,10 +49,7 @@ pub fn start_over<D: Disk, M: Machine, C: Clock>(
 {
     let task = match task_of(alloc, command) {
         Ok(task) => task,
-        Err(MergeError::Memory) => return StartEnd::silent(alloc, Status::Memory),
-        Err(error) => {
-            return StartEnd::silent(alloc, Status::InputRefused(InputError::Merge(error)));
-        }
+        Err(error) => return StartEnd::silent(alloc, status_of_input(error)),
     };
     match open_store(alloc, disk) {
         Ok(store) => {
@@ -80,6 +76,8 @@ pub fn start<D: Disk, H: Host, C: Clock>(
     ensures again { AllStand D.Disk disk.old Stands Any → AllStand D.Disk disk.new Stands Any }
     ensures later { C.faults clock.old ≤ C.faults clock.new }
 {
+    repair_laws();
+    trace_laws();
     start_over(alloc, command, disk, kinds, clock)
 }
 

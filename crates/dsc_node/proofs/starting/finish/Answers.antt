@@ -1,0 +1,83 @@
+use Rattle.std.proofs.Common.{◌≡◌, ℕ, ◌<◌, List, Option, Some, None, inl, inr, refl, true, sym, ap, subst, ◌∙◌}
+use Rattle.std.specs.Prelude.{All, length, string_bytes}
+use Rattle.resource_kinds.specs.declared.entry.Entry.{Entry}
+use Rattle.resource_kinds.specs.Trace.{place_of}
+use Rattle.lcm_core.specs.RunLaws.{EndsAtYes}
+use Rattle.lcm_core.proofs.Successes.{legal_ends}
+use Rattle.lcm_core.proofs.Traces.{legal_places}
+use Rattle.node_state.specs.declared.node.Node.{Node}
+use Rattle.node_state.specs.Sound.{Sound}
+use Rattle.node_store.specs.Store.{StoreTerm}
+use Rattle.dsc_node.specs.Path.{KeepGoes}
+use Rattle.dsc_node.specs.Readings.{Took}
+use Rattle.dsc_node.specs.Running.{IsOver, IsRunStep}
+use Rattle.dsc_node.specs.Runs.{chosen_of}
+use Rattle.dsc_node.specs.Work.{no_run}
+use Rattle.dsc_node.proofs.Commits.{ends_here, ends_reserved}
+use Rattle.dsc_node.proofs.Nodes.{kept_sound}
+use Rattle.dsc_node.proofs.Rows.{finish_kept, finish_unended}
+use Rattle.dsc_node.proofs.starting.finish.Goals as goal
+
+pub returns-in-Err-clause-goes : goal.returns-in-Err-clause-goes
+returns-in-Err-clause-goes g c =
+    let readings = g.C.Clock.coming c.args.clock.now in
+    finish_unended g.D.Disk g.M.Resources c.args.disk.now c.args.disk.now c.args.store.now c.args.stopped readings readings c.args.start c.args.machine.now c.args.machine.now
+    c.silent.result.status (string_bytes c.silent.result.lines) refl c.requires.kept (c.silent.ensures.status, c.silent.ensures.lines) (inl refl, refl)
+
+pub run_step-requires-clause-sound : goal.run_step-requires-clause-sound
+run_step-requires-clause-sound g c =
+    let node = c.state.ensures ∙ ap (λ (s : StoreTerm). s.node) c.in_default.ensures.reserved in
+    subst (λ (n : Node). Sound n) (sym node) (kept_sound g.D.Disk c.args.disk.now c.args.store.now c.requires.kept)
+
+pub keep-requires-clause-known : goal.keep-requires-clause-known
+keep-requires-clause-known g c =
+    let over = c.in-Over.over in
+    let is = c.in-Over.ensures.step.0 in
+    subst (λ (t : List Entry). All (λ e. place_of e < length over.document.resources) t) (sym c.calls.ensures)
+    (legal_places over.document is.mode is.order (g.M.Resources.kept c.run_step.new.machine) is.reported.ran.legal)
+
+pub keep-requires-clause-ends : goal.keep-requires-clause-ends
+keep-requires-clause-ends g c =
+    let over = c.in-Over.over in
+    let is = c.in-Over.ensures.step.0 in
+    subst (λ (t : List Entry). EndsAtYes t) (sym c.calls.ensures)
+    (legal_ends over.document is.mode is.order (g.M.Resources.kept c.run_step.new.machine) is.reported.ran.legal)
+
+pub returns-in-Nothing-clause-goes : goal.returns-in-Nothing-clause-goes
+returns-in-Nothing-clause-goes g c =
+    let node = c.state.ensures ∙ ap (λ (s : StoreTerm). s.node) c.in_default.ensures.reserved in
+    let step = c.in-Nothing.ensures.step in
+    let none = ap (λ (n : Node). chosen_of c.args.stopped n) (sym node) ∙ step.0 in
+    (None, ends_here g.D.Disk c.requires.kept (λ from counts work. no_run c.printing.result.status (string_bytes c.printing.result.lines) none step.1 step.2 c.printing.ensures))
+
+pub returns-in-Memory-clause-goes : goal.returns-in-Memory-clause-goes
+returns-in-Memory-clause-goes g c =
+    let node = c.state.ensures ∙ ap (λ (s : StoreTerm). s.node) c.in_default.ensures.reserved in
+    let readings = g.C.Clock.coming c.args.clock.now in
+    let left = g.C.Clock.coming c.run_step.new.clock in
+    let step = subst (λ (n : Node). IsRunStep g.M.Resources n c.args.stopped readings left c.args.start c.run_step.result c.args.machine.now c.run_step.new.machine) node c.run_step.ensures.step in
+    finish_unended g.D.Disk g.M.Resources c.args.disk.now c.args.disk.now c.args.store.now c.args.stopped readings left c.args.start c.args.machine.now c.run_step.new.machine
+    c.silent-in-Memory.result.status (string_bytes c.silent-in-Memory.result.lines) refl c.requires.kept (c.silent-in-Memory.ensures.status, c.silent-in-Memory.ensures.lines) (rw c.in-Memory.is at step)
+
+pub returns-in-Over-clause-goes : goal.returns-in-Over-clause-goes
+returns-in-Over-clause-goes g c =
+    let d = g.D.Disk in
+    let machine = g.M.Resources in
+    let old = c.args.disk.now in
+    let now = c.keep.new.disk in
+    let store = c.args.store.now in
+    let reserved : StoreTerm = record store { reserved = true } in
+    let is = c.in_default.ensures.reserved in
+    let node = c.state.ensures ∙ ap (λ (s : StoreTerm). s.node) is in
+    let over = c.in-Over.over in
+    let readings = g.C.Clock.coming c.args.clock.now in
+    let left = g.C.Clock.coming c.run_step.new.clock in
+    let before = c.args.machine.now in
+    let after = c.run_step.new.machine in
+    let status = c.keep.result.status in
+    let lines = string_bytes c.keep.result.lines in
+    let step = subst (λ (n : Node). IsOver machine n c.args.stopped readings c.args.start over before after × Took 1 readings left) node c.in-Over.ensures.step in
+    let kept = subst (λ (t : List Entry). KeepGoes d old now c.reserve.new.self c.keep.new.store over t status lines) c.calls.ensures c.keep.ensures.goes in
+    let goes = subst (λ (s : StoreTerm). KeepGoes d old now s c.keep.new.store over (machine.kept after) status lines) is kept in
+    let told = finish_kept d machine old now reserved c.args.stopped readings left c.args.start before after status lines over c.keep.new.store step goes in
+    (told.0, ends_reserved d {before = store} {reserved = reserved} refl told.1)
