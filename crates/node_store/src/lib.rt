@@ -8,7 +8,7 @@
 //! exactly the value whose bytes stand there, and it is refused exactly where there is no such value in range.
 //!
 //! A commit appends an event, or writes the whole node after it into the other bank, and a crash at any moment leaves the node
-//! before the event or after it. The call `open_store`, which gives a store, does not stand here yet.
+//! before the event or after it. An opening gives the node that the disk reads as.
 #![tactic(auto)]
 
 mod appending;
@@ -18,18 +18,21 @@ mod error;
 mod laws;
 mod metas;
 mod next;
+mod opening;
 mod parts;
 mod reading;
 mod reports;
 mod rewriting;
 mod spelling;
 mod store;
+mod taking;
 mod writing;
 
 pub use body::Body;
 pub use error::StoreError;
 pub use laws::{bodies_are_of_one, bodies_fit};
 pub use metas::read_node_meta;
+pub use opening::open_store;
 pub use reading::read_body;
 pub use reports::{NodeForm, put_report, read_report};
 pub use spelling::{put_base, put_event, put_kept, put_parts, put_slot, put_stage_byte};
