@@ -13,3 +13,5 @@ pub mod Sizes
 pub mod Wholes
 pub mod Rewritten
 pub mod AtRest
+pub mod Runs
+pub mod Opened

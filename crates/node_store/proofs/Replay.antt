@@ -14,15 +14,15 @@ use Rattle.node_state.specs.Pieces.{Builds}
 use Rattle.node_store.specs.Bodies.{IsEventInRange, IsPieceInRange, body_of_event, body_of_piece}
 use Rattle.node_store.specs.Stands.{BeforeOrAfter, IsEither, Leads, Stands, node_shape}
 
-steps-push : (old mid new : Node) (events : List Event) (event : Event) → Steps old events mid → Step mid event new → Steps old (events ++ event ∷ []) new
+pub steps-push : (old mid new : Node) (events : List Event) (event : Event) → Steps old events mid → Step mid event new → Steps old (events ++ event ∷ []) new
 steps-push old mid new [] event is step = (new, subst (λ (n : Node). Step n event new) is step, refl)
 steps-push old mid new (e ∷ events) event (m, t, more) step = (m, t, steps-push m mid new events event more step)
 
-ranges-push : (events : List Event) (event : Event) → AllByRecursion IsEventInRange events → IsEventInRange event → AllByRecursion IsEventInRange (events ++ event ∷ [])
+pub ranges-push : (events : List Event) (event : Event) → AllByRecursion IsEventInRange events → IsEventInRange event → AllByRecursion IsEventInRange (events ++ event ∷ [])
 ranges-push [] event all range = (range, tt)
 ranges-push (e ∷ events) event all range = (all.0, ranges-push events event all.1 range)
 
-pub leads-push : (mid new : Node) (bodies : List (List ℕ)) (body : List ℕ) (event : Event) → Leads bodies mid → body ≡ body_of_event event → IsEventInRange event → Step mid event new
+abbrev pub leads-push : (mid new : Node) (bodies : List (List ℕ)) (body : List ℕ) (event : Event) → Leads bodies mid → body ≡ body_of_event event → IsEventInRange event → Step mid event new
     → Leads (bodies ++ body ∷ []) new
 leads-push mid new bodies body event leads spells range step = record {
   front = leads.front;

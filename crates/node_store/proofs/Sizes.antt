@@ -1,16 +1,14 @@
 -- How long the bodies of events and of a node's pieces are.
-use Rattle.std.proofs.Common.{◌≡◌, ℕ, ◌+◌, ◌*◌, ◌≤◌, ◌<◌, ◌^◌, All, Bool, List, [], ◌∷◌, ◌++◌, length, map, Option, Some, None, sym, ap, subst, arith, length-append}
-use Rattle.std.specs.Prelude.{IfSome, encode_utf8_all, sum_by}
+use Rattle.std.proofs.Common.{◌≡◌, ℕ, ◌+◌, ◌*◌, ◌≤◌, ◌<◌, All, Bool, List, [], ◌∷◌, ◌++◌, length, map, Option, Some, None, sym, ap, subst, arith, length-append}
+use Rattle.std.specs.Prelude.{IfSome, encode_utf8_all}
 use Rattle.std.specs.Int.{w16, w32, w64, w128}
 use Rattle.std.specs.List.{flat_map, AllByRecursion}
-use Rattle.std.proofs.lemmas.List.{map-append}
 use Rattle.std.proofs.lemmas.List.Concat.{flat_map-cons}
 use Rattle.std.proofs.lemmas.List.Sums.{sum_by-cons}
 use Rattle.std.proofs.lemmas.List.Elements.{recursion_from_All, All-from_recursion}
 use Rattle.sha2.proofs.Facts256.{length-sha256}
 use Rattle.store_fields.specs.Fields.{bytes_of_number, bytes_of_flag, bytes_of_text, bytes_of_digest, bytes_of_blob, bytes_of_list, IsDigest}
 use Rattle.gate_log.specs.Text.{AllFit, behind, cells}
-use Rattle.meta_config.specs.declared.meta.Meta.{Meta}
 use Rattle.meta_config.specs.Writing.{text_of_meta}
 use Rattle.meta_config.proofs.ReadBack.{text_fits}
 use Rattle.partial_merge.specs.declared.part.Part.{Part}

@@ -8,7 +8,6 @@ use Rattle.node_state.specs.declared.event.Event.{Event}
 use Rattle.node_state.specs.declared.event.Event.TheVariants as events
 use Rattle.node_state.specs.declared.event.Stage.{Stage}
 use Rattle.node_state.specs.declared.event.Stage.TheVariants.{Pending, Current, Previous}
-use Rattle.node_state.specs.declared.node.Kept.{Kept}
 use Rattle.node_state.specs.declared.piece.Piece.{Piece}
 use Rattle.node_state.specs.declared.piece.Piece.TheVariants as pieces
 use Rattle.node_state.specs.Lists.{IsStaged}

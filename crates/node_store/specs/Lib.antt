@@ -6,3 +6,4 @@ pub mod Reports
 pub mod Rewriting
 pub mod Stands
 pub mod Store
+pub mod Taking

@@ -1,5 +1,5 @@
 -- The bytes of parts.
-use Rattle.std.specs.Prelude.{◌≡◌, ◌≤◌, ◌<◌, ◌^◌, ℕ, List, ◌++◌, length}
+use Rattle.std.specs.Prelude.{ℕ, List, ◌++◌}
 use Rattle.store_fields.specs.Fields.{bytes_of_text, bytes_of_digest, bytes_of_blob, bytes_of_list, IsText, IsDigest, IsBlob, IsList}
 use Rattle.partial_merge.specs.declared.part.Part.{Part}
 

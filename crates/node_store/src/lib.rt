@@ -25,6 +25,7 @@ mod reports;
 mod rewriting;
 mod spelling;
 mod store;
+mod taking;
 mod writing;
 
 pub use body::Body;

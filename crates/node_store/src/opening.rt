@@ -6,8 +6,16 @@ ghost use Rattle.node_store.specs.Store.{IsKept, Unopened};
 
 use crate::error::StoreError;
 use crate::store::NodeStore;
+use crate::taking::Taking;
 use dsc_outside::Disk;
+use gate_log::{LogError, Shape, replay_log};
 use std::alloc::Global;
+
+/// The sizes of a node's store.
+const NODE_SHAPE: Shape = Shape {
+    bank: 67_108_864,
+    largest: 16_842_752,
+};
 
 /// Opens the store of a disk; a file of at most nine bytes becomes a new store, of a node that nothing has happened to.
 ///
@@ -25,5 +33,11 @@ pub fn open_store<D: Disk>(alloc: Global, disk: &mut D) -> Result<NodeStore, Sto
     ensures cause { IfErr result (Unopened D.Disk disk.old disk.new) }
     ensures count { D.faults disk.old ≤ D.faults disk.new }
 {
-    Err(StoreError::Memory)
+    let mut taking = Taking::new(alloc);
+    match replay_log(alloc, disk, NODE_SHAPE, &mut taking) {
+        Ok(log) => Ok(NodeStore::of(alloc, log, taking.node)?),
+        Err(LogError::Disk) => Err(StoreError::Disk),
+        Err(LogError::NotAStore { at }) => Err(StoreError::NotAStore { at }),
+        Err(LogError::Memory) => Err(StoreError::Memory),
+    }
 }

@@ -21,6 +21,9 @@ use std::alloc::Global;
 use std::marker::Model;
 use std::mem;
 
+/// The bytes of the longest body of a node's store.
+pub const LONGEST_BODY: usize = 16_842_752;
+
 /// The state of a node, kept on a disk.
 #[derive(Drop)]
 pub struct NodeStore {
@@ -48,6 +51,22 @@ impl Model for NodeStore {
 }
 
 impl NodeStore {
+    /// A store of this log and this node. The memory is the text of its meta-configuration, and room for the longest body.
+    pub(crate) fn of(alloc: Global, log: Log, node: Node) -> Result<NodeStore, Memory>
+        ensures { IfOk result (λ store. store ≡ record { log = log; node = node; reserved = false }) }
+    {
+        let text = write_meta(alloc, &node.meta)?;
+        let body = Vec::with_capacity(alloc, LONGEST_BODY)?;
+        Ok(NodeStore {
+            alloc,
+            log,
+            node,
+            text,
+            body,
+            room: None,
+        })
+    }
+
     /// The state of the node. Takes no memory.
     pub fn state(&self) -> &Node
         ensures { result.now ≡ self.now.node }

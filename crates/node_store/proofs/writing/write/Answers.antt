@@ -1,4 +1,4 @@
-use Rattle.std.proofs.Common.{◌≡◌, ◌≤◌, ◌∙◌, List, ℕ, length, refl, sym, subst}
+use Rattle.std.proofs.Common.{◌∙◌, refl}
 use Rattle.node_state.specs.Table.{after}
 use Rattle.node_store.proofs.Fronts.{brings}
 use Rattle.node_store.proofs.writing.write.Goals as goal

@@ -1,0 +1,94 @@
+//! The bodies of a store, taken one after the other while it is opened.
+ghost use Rattle.std.specs.Prelude.{[]};
+ghost use Rattle.node_state.specs.Table.{IsWithin};
+ghost use Rattle.node_store.specs.declared.body.Body.TheVariants as bodies;
+ghost use Rattle.node_store.specs.Taking.{Reached, Took, TookBody};
+
+use crate::body::Body;
+use crate::reading::read_body;
+use gate_log::{Replay, TakeError};
+use node_state::{Event, Node, Piece};
+use std::alloc::Global;
+use std::mem;
+use store_fields::FieldError;
+
+/// The node that the bodies of a store lead to.
+///
+/// No document is copied: the parts of a body become those of the node. A step back alone copies the parts of Previous.
+#[derive(Drop)]
+pub struct Taking {
+    alloc: Global,
+    pub node: Node,
+    // an event was taken, so that no piece may follow
+    begun: bool,
+}
+
+impl Taking {
+    /// Nothing was taken.
+    pub fn new(alloc: Global) -> Taking
+        ensures { Reached result.node result.begun [] }
+    {
+        Taking {
+            alloc,
+            node: Node::new(alloc),
+            begun: false,
+        }
+    }
+
+    fn take_body(&mut self, body: &[u8]) -> Result<(), TakeError>
+        ensures { TookBody self.old.node self.old.begun body.now self.new.node self.new.begun result }
+    {
+        match read_body(self.alloc, body) {
+            Ok(Body::Event(event)) => self.take_event(event),
+            Ok(Body::Piece(piece)) => self.take_piece(piece),
+            Err(FieldError::Wrong) => Err(TakeError::Refused),
+            Err(FieldError::Memory) => Err(TakeError::Memory),
+        }
+    }
+
+    fn take_event(&mut self, event: Event) -> Result<(), TakeError>
+        requires { IsWithin event }
+        ensures { Took self.old.node self.old.begun (bodies.Event event) self.new.node self.new.begun result }
+    {
+        if self.node.why(&event).is_some() {
+            return Err(TakeError::Refused);
+        }
+        let supply = match self.node.supply(self.alloc, &event) {
+            Ok(supply) => supply,
+            Err(_) => return Err(TakeError::Memory),
+        };
+        let node = mem::replace(&mut self.node, Node::new(self.alloc));
+        self.node = node.apply(event, supply);
+        self.begun = true;
+        Ok(())
+    }
+
+    fn take_piece(&mut self, piece: Piece) -> Result<(), TakeError>
+        ensures { Took self.old.node self.old.begun (bodies.Piece piece) self.new.node self.new.begun result }
+    {
+        if self.begun || !self.node.fits(&piece) {
+            return Err(TakeError::Refused);
+        }
+        let node = mem::replace(&mut self.node, Node::new(self.alloc));
+        match node.placed(piece) {
+            Ok(node) => {
+                self.node = node;
+                Ok(())
+            }
+            Err(_) => Err(TakeError::Memory),
+        }
+    }
+}
+
+impl Replay for Taking {
+    ghost use Rattle.node_store.specs.Stands.{EndsAt};
+    ghost use Rattle.node_store.specs.Taking.{Reached};
+
+    ghost took = { λ taking so_far. Reached taking.node taking.begun so_far };
+
+    ghost refused = { λ taking so_far body. EndsAt so_far body };
+
+    fn take(&mut self, body: &[u8]) -> Result<(), TakeError> {
+        self.take_body(body)
+    }
+}
