@@ -75,7 +75,7 @@ def environment_ids(count):
 
 
 def document_cases(name, depends, headers, words=("check", "order", "test")):
-    """What `check`, `order` and `test` answer of it on a machine without variables."""
+    """What `check`, `order`, `test` and `push` answer of it on a machine without variables."""
     count, ids = len(depends), environment_ids(len(depends))
     order = order_of(depends)
     assert len(order) == count
@@ -84,6 +84,8 @@ def document_cases(name, depends, headers, words=("check", "order", "test")):
         "check": (0, f"ok {count}\n"),
         "order": (0, "".join(f'"{ids[r]}"\n' for r in order)),
         "test": (1 if count else 0, "".join(f'test "{ids[r]}" no\n' for r in order) + f"resources {count} succeeded 0\n{verdict}\n"),
+        "push": (0, "".join(f'test "{ids[r]}" no\nset "{ids[r]}" done\ntest "{ids[r]}" yes\n' for r in order)
+                 + f"resources {count} succeeded {count}\ncompliant\nend promoted\n"),
     }
     for header in headers:
         text = document(ids, depends, header)
@@ -98,12 +100,13 @@ def headers_of(count):
 def documents():
     for count in [*range(41), 300, 4096]:
         document_cases(f"{count} resources", [[] for _ in range(count)], headers_of(count))
+        document_cases(f"{count} resources", [[] for _ in range(count)], [count], ("push",))
     for most in range(1, 13):
         for count in (40, 300):
             behind = [list(range(r + 1, min(r + 1 + most, count))) for r in range(count)]
             document_cases(f"{count} resources, each on {most} after it", behind, [count], ("check", "order"))
             before = [list(range(max(0, r - most), r)) for r in range(count)]
-            document_cases(f"{count} resources, each on {most} before it", before, [0], ("order", "test"))
+            document_cases(f"{count} resources, each on {most} before it", before, [0], ("order", "test", "push"))
     count = 4096
     document_cases("a chain of 4096 from the last", [[r + 1] if r + 1 < count else [] for r in range(count)], [count])
     document_cases("a chain of 4096 from the first", [[r - 1] if r else [] for r in range(count)], [count])

@@ -1,12 +1,20 @@
 -- Words ask for at most one command; where words in no form go wrong.
-use Rattle.std.proofs.Common.{◌≡◌, ℕ, ◌-◌, ◌<◌, ◌≤◌, List, [], ◌∷◌, ◌⊎◌, inl, inr, length, take, drop, get_or, codes, sum, map, bytes_eq, if◌then◌else◌, refl, sym, ap, ap₂, ◌∙◌, subst, take_all, arith}
+use Rattle.std.proofs.Common.{◌≡◌, ℕ, ◌-◌, ◌<◌, ◌≤◌, List, [], ◌∷◌, ◌⊎◌, inl, inr, length, take, drop, get_or, codes, map, unwrap_or, bytes_eq, if◌then◌else◌, refl, sym, ap, ap₂, ◌∙◌, subst, take_all, arith, Some}
 use Rattle.std.specs.Fmt.{decimal}
 use Rattle.std.specs.Str.Parse.{digits_value}
 use Rattle.std.proofs.lemmas.Str.Parse.{numerals_by_value, tells_digits}
 use Rattle.std.proofs.lemmas.Fmt.{digits_value-decimal}
+use Rattle.uuid.proofs.OnLiterals.{uuid_on_literals}
 use Rattle.lcm_program.specs.declared.words.Command.{Command}
-use Rattle.lcm_program.specs.declared.words.Command.TheVariants.{Test, Check, Order, Canon, Checksum, Generate}
-use Rattle.lcm_program.specs.Words.{IsCount, IsForm, IsInRange, IsUsage}
+use Rattle.lcm_program.specs.declared.words.Command.TheVariants.{Test, Check, Order, Canon, Checksum, Generate, Init, Push, Consistency, Boot}
+use Rattle.lcm_program.specs.Words.{IsAgent, IsCount, IsForm, IsInRange, IsUsage, agent_of}
+
+-- the first letter of a word, and that of the first word, which tells the commands that take another word from all others
+abbrev letter : List ℕ → ℕ
+letter word = get_or word 0 0
+
+abbrev first_letter : List (List ℕ) → ℕ
+first_letter words = letter (get_or words 0 [])
 
 -- the command that words in a form ask for
 asked : List (List ℕ) → Command
@@ -17,6 +25,10 @@ asked words =
     if bytes_eq first (codes "order") then Order else
     if bytes_eq first (codes "canon") then Canon else
     if bytes_eq first (codes "checksum") then Checksum else
+    if bytes_eq first (codes "push") then Push else
+    if bytes_eq first (codes "consistency") then Consistency else
+    if bytes_eq first (codes "boot") then Boot else
+    if bytes_eq first (codes "init") then Init (unwrap_or (agent_of (get_or words 1 [])) 0) else
     Generate (digits_value 10 (get_or words 1 []))
 
 form_asks : (command : Command) (words : List (List ℕ)) → IsForm command words → asked words ≡ command
@@ -28,16 +40,14 @@ form_asks Canon words form = ap asked form
 form_asks Checksum words form = ap asked form
 form_asks (Generate count) words (word, is, counted) =
     ap asked is ∙ ap (λ (n : ℕ). Generate n) (ap (digits_value 10) counted.0 ∙ digits_value-decimal (numerals_by_value _ tells_digits) count (omega (arith, counted.2)))
+form_asks (Init agent) words (word, is, named) = ap asked is ∙ ap (λ found. Init (unwrap_or found 0)) named
+form_asks Push words form = ap asked form
+form_asks Consistency words form = ap asked form
+form_asks Boot words form = ap asked form
 
 -- the words ask for one command
 pub one_form : (a b : Command) (words : List (List ℕ)) → IsForm a words → IsForm b words → a ≡ b
 one_form a b words p q = sym (form_asks a words p) ∙ form_asks b words q
-
--- the sum of the first word's bytes, which tells the commands' words apart
-abbrev first_sum : List (List ℕ) → ℕ
-first_sum words = sum (get_or words 0 [])
-
--- the form that begins with `generate`
 
 pub in_range : (command : Command) (words : List (List ℕ)) → IsForm command words → IsInRange command
 in_range Test words form = tt
@@ -46,25 +56,51 @@ in_range Order words form = tt
 in_range Canon words form = tt
 in_range Checksum words form = tt
 in_range (Generate count) words form = (form.2.1, form.2.2)
+in_range (Init agent) words form = tt
+in_range Push words form = tt
+in_range Consistency words form = tt
+in_range Boot words form = tt
 
-generate_form : (command : Command) (rest : List (List ℕ)) → IsForm command (codes "generate" ∷ rest)
-    → (count : ℕ) × (command ≡ Generate count) × (word : List ℕ) × (rest ≡ word ∷ []) × IsCount word count
-generate_form Test rest form = absurd (omega (arith, ap first_sum form))
-generate_form Check rest form = absurd (omega (arith, ap first_sum form))
-generate_form Order rest form = absurd (omega (arith, ap first_sum form))
-generate_form Canon rest form = absurd (omega (arith, ap first_sum form))
-generate_form Checksum rest form = absurd (omega (arith, ap first_sum form))
-generate_form (Generate count) rest (word, is, counted) = (count, refl, word, ap (drop 1) is, counted)
+-- ---- words alone
+
+-- the word of a command that takes another
+abbrev pub TakesWord : List ℕ → Type 0
+TakesWord first = (first ≡ codes "generate") ⊎ (first ≡ codes "init")
 
 -- any other form is a word alone
 form_parts : (command : Command) (first : List ℕ) (rest : List (List ℕ)) → IsForm command (first ∷ rest)
-    → (IsForm command (first ∷ []) × (rest ≡ [])) ⊎ (first ≡ codes "generate")
+    → (IsForm command (first ∷ []) × (rest ≡ [])) ⊎ TakesWord first
 form_parts Test first rest form = inl (ap (take 1) form, ap (drop 1) form)
 form_parts Check first rest form = inl (ap (take 1) form, ap (drop 1) form)
 form_parts Order first rest form = inl (ap (take 1) form, ap (drop 1) form)
 form_parts Canon first rest form = inl (ap (take 1) form, ap (drop 1) form)
 form_parts Checksum first rest form = inl (ap (take 1) form, ap (drop 1) form)
-form_parts (Generate count) first rest (word, is, counted) = inr (ap (λ words. get_or words 0 []) is)
+form_parts (Generate count) first rest (word, is, counted) = inr (inl (ap (λ words. get_or words 0 []) is))
+form_parts (Init agent) first rest (word, is, named) = inr (inr (ap (λ words. get_or words 0 []) is))
+form_parts Push first rest form = inl (ap (take 1) form, ap (drop 1) form)
+form_parts Consistency first rest form = inl (ap (take 1) form, ap (drop 1) form)
+form_parts Boot first rest form = inl (ap (take 1) form, ap (drop 1) form)
+
+-- a command whose word stands alone takes no other
+alone_takes_none : (command : Command) (first : List ℕ) → IsForm command (first ∷ []) → TakesWord first → ⊥
+alone_takes_none Test first form (inl is) = omega (arith, ap first_letter form, ap letter is)
+alone_takes_none Test first form (inr is) = omega (arith, ap first_letter form, ap letter is)
+alone_takes_none Check first form (inl is) = omega (arith, ap first_letter form, ap letter is)
+alone_takes_none Check first form (inr is) = omega (arith, ap first_letter form, ap letter is)
+alone_takes_none Order first form (inl is) = omega (arith, ap first_letter form, ap letter is)
+alone_takes_none Order first form (inr is) = omega (arith, ap first_letter form, ap letter is)
+alone_takes_none Canon first form (inl is) = omega (arith, ap first_letter form, ap letter is)
+alone_takes_none Canon first form (inr is) = omega (arith, ap first_letter form, ap letter is)
+alone_takes_none Checksum first form (inl is) = omega (arith, ap first_letter form, ap letter is)
+alone_takes_none Checksum first form (inr is) = omega (arith, ap first_letter form, ap letter is)
+alone_takes_none (Generate count) first (word, is, counted) takes = omega (arith, ap length is)
+alone_takes_none (Init agent) first (word, is, named) takes = omega (arith, ap length is)
+alone_takes_none Push first form (inl is) = omega (arith, ap first_letter form, ap letter is)
+alone_takes_none Push first form (inr is) = omega (arith, ap first_letter form, ap letter is)
+alone_takes_none Consistency first form (inl is) = omega (arith, ap first_letter form, ap letter is)
+alone_takes_none Consistency first form (inr is) = omega (arith, ap first_letter form, ap letter is)
+alone_takes_none Boot first form (inl is) = omega (arith, ap first_letter form, ap letter is)
+alone_takes_none Boot first form (inr is) = omega (arith, ap first_letter form, ap letter is)
 
 some_word : (command : Command) (words : List (List ℕ)) → IsForm command words → 0 < length words
 some_word Test words form = omega (arith, ap length form)
@@ -73,6 +109,10 @@ some_word Order words form = omega (arith, ap length form)
 some_word Canon words form = omega (arith, ap length form)
 some_word Checksum words form = omega (arith, ap length form)
 some_word (Generate count) words (word, is, counted) = omega (arith, ap length is)
+some_word (Init agent) words (word, is, named) = omega (arith, ap length is)
+some_word Push words form = omega (arith, ap length form)
+some_word Consistency words form = omega (arith, ap length form)
+some_word Boot words form = omega (arith, ap length form)
 
 -- there is no word
 pub no_word : IsUsage [] 0
@@ -84,7 +124,7 @@ no_word = record {
 }
 
 -- the first word is that of no command
-pub wrong_first : (first : List ℕ) (rest : List (List ℕ)) → ((command : Command) → IsForm command (first ∷ []) → ⊥) → (first ≡ codes "generate" → ⊥)
+pub wrong_first : (first : List ℕ) (rest : List (List ℕ)) → ((command : Command) → IsForm command (first ∷ []) → ⊥) → (TakesWord first → ⊥)
     → IsUsage (first ∷ rest) 0
 wrong_first first rest alone other =
     record {
@@ -100,44 +140,113 @@ wrong_first first rest alone other =
       | inr is ↦ other is
     ]
 
--- `generate` stands alone
-pub no_count : IsUsage (codes "generate" ∷ []) 1
-no_count = record {
-  no_form = λ command form. omega (arith, ap length (generate_form command [] form).3);
-  within = omega arith;
-  begins = (Generate 1, decimal 1 ∷ [], (decimal 1, refl, (refl, omega arith, omega arith)));
-  stops = λ below begins. omega (arith, below);
-}
-
--- the word behind `generate` is no count
-pub wrong_count : (word : List ℕ) (rest : List (List ℕ)) → ((count : ℕ) → IsCount word count → ⊥) → IsUsage (codes "generate" ∷ word ∷ rest) 1
-wrong_count word rest not_count =
+-- a word follows one that stands alone
+pub second_word : (first : List ℕ) (rest : List (List ℕ)) (command : Command) → 0 < length rest → IsForm command (first ∷ []) → IsUsage (first ∷ rest) 1
+second_word first [] command above form = absurd (omega (arith, above))
+second_word first (second ∷ rest) command above form =
     record {
-      no_form = λ command form. never command rest form;
+      no_form = λ given given_form. never given rest given_form;
       within = omega arith;
-      begins = (Generate 1, decimal 1 ∷ [], (decimal 1, refl, (refl, omega arith, omega arith)));
+      begins = (command, [], form);
       stops = λ below begins. never begins.0 begins.1 begins.2;
     }
   where
-    never : (command : Command) (more : List (List ℕ)) → IsForm command (codes "generate" ∷ word ∷ more) → ⊥
-    never command more form =
-        let parts = generate_form command (word ∷ more) form in
-        let same : parts.2 ≡ word = ap (λ words. get_or words 0 []) (sym parts.3) in
-        not_count parts.0 (subst (λ w. IsCount w parts.0) same parts.4)
+    never : (given : Command) (others : List (List ℕ)) → IsForm given (first ∷ second ∷ others) → ⊥
+    never given others given_form = elim (form_parts given first (second ∷ others) given_form) [
+      | inl is ↦ omega (arith, ap length is.1)
+      | inr takes ↦ alone_takes_none command first form takes
+    ]
 
--- a word follows the count
-pub word_behind_count : (word : List ℕ) (more : List (List ℕ)) (count : ℕ) → 0 < length more → IsCount word count → IsUsage (codes "generate" ∷ word ∷ more) 2
-word_behind_count word [] count some counted = absurd (omega (arith, some))
-word_behind_count word (third ∷ rest) count some counted =
-    record {
-      no_form = λ command form. never command rest form;
-      within = omega arith;
-      begins = (Generate count, [], (word, refl, counted));
-      stops = λ below begins. never begins.0 begins.1 begins.2;
-    }
-  where
-    never : (command : Command) (others : List (List ℕ)) → IsForm command (codes "generate" ∷ word ∷ third ∷ others) → ⊥
-    never command others form = omega (arith, ap length (generate_form command (word ∷ third ∷ others) form).3)
+-- ---- a word that takes another
+
+-- forms that begin with this word go on with one word of which P holds; there is such a form
+module _ (name : List ℕ) (P : List ℕ → Type 0)
+    (other : (command : Command) (rest : List (List ℕ)) → IsForm command (name ∷ rest) → (word : List ℕ) × (rest ≡ word ∷ []) × P word)
+    (some : (word : List ℕ) × (command : Command) × IsForm command (name ∷ word ∷ [])) where
+  -- it stands alone
+  pub stands_alone : IsUsage (name ∷ []) 1
+  stands_alone = record {
+    no_form = λ command form. omega (arith, ap length (other command [] form).1);
+    within = omega arith;
+    begins = (some.1, some.0 ∷ [], some.2);
+    stops = λ below begins. omega (arith, below);
+  }
+
+  -- the word after it is none of those
+  pub wrong_other : (word : List ℕ) (rest : List (List ℕ)) → (P word → ⊥) → IsUsage (name ∷ word ∷ rest) 1
+  wrong_other word rest not =
+      record {
+        no_form = λ command form. never command rest form;
+        within = omega arith;
+        begins = (some.1, some.0 ∷ [], some.2);
+        stops = λ below begins. never begins.0 begins.1 begins.2;
+      }
+    where
+      never : (command : Command) (more : List (List ℕ)) → IsForm command (name ∷ word ∷ more) → ⊥
+      never command more form =
+          let parts = other command (word ∷ more) form in
+          let same : parts.0 ≡ word = ap (λ words. get_or words 0 []) (sym parts.1) in
+          not (subst P same parts.2)
+
+  -- a third word follows
+  pub third_word : (word : List ℕ) (more : List (List ℕ)) (command : Command) → 0 < length more → IsForm command (name ∷ word ∷ [])
+      → IsUsage (name ∷ word ∷ more) 2
+  third_word word [] command above form = absurd (omega (arith, above))
+  third_word word (third ∷ rest) command above form =
+      record {
+        no_form = λ given given_form. never given rest given_form;
+        within = omega arith;
+        begins = (command, [], form);
+        stops = λ below begins. never begins.0 begins.1 begins.2;
+      }
+    where
+      never : (given : Command) (others : List (List ℕ)) → IsForm given (name ∷ word ∷ third ∷ others) → ⊥
+      never given others given_form = omega (arith, ap length (other given (word ∷ third ∷ others) given_form).1)
+
+abbrev pub IsAnyCount : List ℕ → Type 0
+IsAnyCount word = (count : ℕ) × IsCount word count
+
+pub generate_form : (command : Command) (rest : List (List ℕ)) → IsForm command (codes "generate" ∷ rest)
+    → (word : List ℕ) × (rest ≡ word ∷ []) × IsAnyCount word
+generate_form Test rest form = absurd (omega (arith, ap first_letter form))
+generate_form Check rest form = absurd (omega (arith, ap first_letter form))
+generate_form Order rest form = absurd (omega (arith, ap first_letter form))
+generate_form Canon rest form = absurd (omega (arith, ap first_letter form))
+generate_form Checksum rest form = absurd (omega (arith, ap first_letter form))
+generate_form (Generate count) rest (word, is, counted) = (word, ap (drop 1) is, (count, counted))
+generate_form (Init agent) rest (word, is, named) = absurd (omega (arith, ap first_letter is))
+generate_form Push rest form = absurd (omega (arith, ap first_letter form))
+generate_form Consistency rest form = absurd (omega (arith, ap first_letter form))
+generate_form Boot rest form = absurd (omega (arith, ap first_letter form))
+
+pub some_generate : (word : List ℕ) × (command : Command) × IsForm command (codes "generate" ∷ word ∷ [])
+some_generate = (decimal 1, Generate 1, (decimal 1, refl, (refl, omega arith, omega arith)))
+
+abbrev pub IsAnyAgent : List ℕ → Type 0
+IsAnyAgent word = (agent : ℕ) × IsAgent word agent
+
+pub init_form : (command : Command) (rest : List (List ℕ)) → IsForm command (codes "init" ∷ rest)
+    → (word : List ℕ) × (rest ≡ word ∷ []) × IsAnyAgent word
+init_form Test rest form = absurd (omega (arith, ap first_letter form))
+init_form Check rest form = absurd (omega (arith, ap first_letter form))
+init_form Order rest form = absurd (omega (arith, ap first_letter form))
+init_form Canon rest form = absurd (omega (arith, ap first_letter form))
+init_form Checksum rest form = absurd (omega (arith, ap first_letter form))
+init_form (Generate count) rest (word, is, counted) = absurd (omega (arith, ap first_letter is))
+init_form (Init agent) rest (word, is, named) = (word, ap (drop 1) is, (agent, named))
+init_form Push rest form = absurd (omega (arith, ap first_letter form))
+init_form Consistency rest form = absurd (omega (arith, ap first_letter form))
+init_form Boot rest form = absurd (omega (arith, ap first_letter form))
+
+zeros : List ℕ
+zeros = codes "00000000000000000000000000000000"
+
+agent_of_zeros : agent_of zeros ≡ Some 0
+unfolding agent_of zeros uuid_on_literals
+agent_of_zeros = refl
+
+pub some_init : (word : List ℕ) × (command : Command) × IsForm command (codes "init" ∷ word ∷ [])
+some_init = (zeros, Init 0, (zeros, refl, agent_of_zeros))
 
 -- words as the bytes of the texts that were handed over
 module _ {X : Type 0} (f : X → List ℕ) where

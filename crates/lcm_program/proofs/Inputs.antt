@@ -44,10 +44,9 @@ longer left now taken p above =
 
 weaker : {A B : Type 0} (P : Reading A) (Q : Reading B) → ((all : List ℕ) (error : InputError) → P all (Err error) → Q all (Err error))
     → (refusal : Refusal) (left : Option (List ℕ)) (before now : ℕ) → IsRefused P refusal left before now → IsRefused Q refusal left before now
-weaker P Q f (refusals.Usage word) left before now cause = cause
 weaker P Q f (refusals.Input error) left before now cause =
     record { all = cause.all; input_is = cause.input_is; is_answer = f cause.all error cause.is_answer }
-weaker P Q f refusals.ReadFault left before now cause = cause
+weaker P Q f _ left before now cause = cause
 
 module _ (left : Option (List ℕ)) (before now : ℕ) where
   -- what is too long is no document, and spells no instances

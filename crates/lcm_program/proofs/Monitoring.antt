@@ -11,7 +11,7 @@ use Rattle.lcm_core.specs.declared.modes.RunEnd.TheVariants as ends
 use Rattle.lcm_core.specs.declared.modes.RunMode.TheVariants.{Monitor}
 use Rattle.lcm_core.proofs.Traces.{monitor_keeps, monitor_sets_nothing}
 use Rattle.dsc_node.specs.declared.status.Status.{Status}
-use Rattle.dsc_node.specs.declared.status.Status.TheVariants.{Done, NotCompliant, Usage, InputRefused, ReadFault, WriteFault, Memory}
+use Rattle.dsc_node.specs.declared.status.Status.TheVariants.{Done, NotCompliant, InputRefused, ReadFault, WriteFault, Memory}
 use Rattle.dsc_node.specs.Lines.{IsRunText, overlap_line, run_lines}
 use Rattle.dsc_node.specs.Ran.{Ran}
 use Rattle.lcm_program.specs.declared.input.Unread.{Unread}
@@ -55,16 +55,12 @@ module _ {S K D H L C : Type 0} (o : Known S K D H L C) (before after : Objects 
   run_ends text missed Done run prints = (text, missed, run, prints)
   run_ends text missed (NotCompliant count) run prints = (text, missed, run, prints)
   run_ends text missed WriteFault run prints = (text, missed, run, prints)
-  run_ends text missed (Usage place) run prints = absurd prints
-  run_ends text missed (InputRefused error) run prints = absurd prints
-  run_ends text missed ReadFault run prints = absurd prints
-  run_ends text missed Memory run prints = absurd prints
+  run_ends text missed _ run prints = absurd prints
 
   untested_ends : (e : Unread) (status : Status) → calls_of before.kinds ≡ []
       → IsUntested o.host e (o.source.left before.input) (o.source.faults before.input) (o.source.faults after.input) before.kinds after.kinds
       → UnreadEnds o.sink e status before.output after.output → TestEnds o status before after
   untested_ends unread.Memory status fresh stops silent = subst (λ (s : Status). TestEnds o s before after) (sym silent.0) (stops, silent.1)
-  untested_ends (unread.Refused (refusals.Usage place)) status fresh cause ends = absurd cause.0
   untested_ends (unread.Refused (refusals.Input error)) status fresh cause (inl printed) =
       subst (λ (s : Status). TestEnds o s before after) (sym printed.0) (cause.0, printed.1, cause.1)
   untested_ends (unread.Refused (refusals.Input error)) status fresh cause (inr silent) =
@@ -73,6 +69,7 @@ module _ {S K D H L C : Type 0} (o : Known S K D H L C) (before after : Objects 
       subst (λ (s : Status). TestEnds o s before after) (sym printed.0) (cause.0, printed.1, cause.1)
   untested_ends (unread.Refused refusals.ReadFault) status fresh cause (inr silent) =
       subst (λ (s : Status). TestEnds o s before after) (sym silent.0) (inl (ap calls_of cause.1 ∙ fresh), silent.1)
+  untested_ends (unread.Refused _) status fresh cause ends = absurd cause.0
 
   each_test : (status : Status) → TestEnds o status before after
       → EachAllows ReadsDocument (o.source.left before.input) status (o.source.faults before.input) (o.source.faults after.input)
@@ -82,7 +79,7 @@ module _ {S K D H L C : Type 0} (o : Known S K D H L C) (before after : Objects 
   each_test (InputRefused error) ends = each_refused ReadsDocument document_decides _ _ _ error ends.0
   each_test ReadFault ends = each_failed ReadsDocument _ _ _ ends.0
   each_test Memory ends = each_memory ReadsDocument _ _ _
-  each_test (Usage place) ends = absurd ends
+  each_test _ ends = absurd ends
 
   pub tested : {T : Type 0} (text_of : T → List ℕ) (missed_of : T → ℕ) (run : Result T Unread) (status : Status) → IsOffline before after
       → calls_of before.kinds ≡ [] → o.host.told (host_of after.kinds) ≡ o.host.told (host_of before.kinds)

@@ -2,7 +2,7 @@
 use Rattle.std.proofs.Common.{◌≡◌, ◌⊎◌, inl, inr, ℕ, List, Option, Result, Ok, Err, refl, sym, subst}
 use Rattle.std.specs.Prelude.{IfErr, IfOk}
 use Rattle.dsc_node.specs.declared.status.Status.{Status}
-use Rattle.dsc_node.specs.declared.status.Status.TheVariants.{Done, NotCompliant, Usage, InputRefused, ReadFault, WriteFault, Memory}
+use Rattle.dsc_node.specs.declared.status.Status.TheVariants.{Done, InputRefused, ReadFault, WriteFault, Memory}
 use Rattle.lcm_program.specs.declared.input.Unread.{Unread}
 use Rattle.lcm_program.specs.declared.input.Unread.TheVariants as unread
 use Rattle.lcm_program.specs.declared.refusal.Refusal.{Refusal}
@@ -27,19 +27,15 @@ module _ {S K D H L C : Type 0} (o : Known S K D H L C) (before after : Objects 
         → Prints o.sink text status before.output after.output → ToolEnds answers o status before after
     text_ends text Done input prints = (text, input, prints)
     text_ends text WriteFault input prints = (text, input, prints)
-    text_ends text (NotCompliant count) input prints = absurd prints
-    text_ends text (Usage place) input prints = absurd prints
-    text_ends text (InputRefused error) input prints = absurd prints
-    text_ends text ReadFault input prints = absurd prints
-    text_ends text Memory input prints = absurd prints
+    text_ends text _ input prints = absurd prints
 
     -- the input was refused
     refused_ends : (refusal : Refusal) (status : Status) → IsRefused answers refusal (o.source.left before.input) (o.source.faults before.input) (o.source.faults after.input)
         → RefusalEnds o.sink refusal status before.output after.output → ToolEnds answers o status before after
     refused_ends refusal status cause (inr silent) = subst (λ (s : Status). ToolEnds answers o s before after) (sym silent.0) silent.1
-    refused_ends (refusals.Usage place) status cause (inl printed) = absurd cause
     refused_ends (refusals.Input error) status cause (inl printed) = subst (λ (s : Status). ToolEnds answers o s before after) (sym printed.0) (cause, printed.1)
     refused_ends refusals.ReadFault status cause (inl printed) = subst (λ (s : Status). ToolEnds answers o s before after) (sym printed.0) (cause, printed.1)
+    refused_ends _ status cause (inl printed) = absurd cause
 
     unread_ends : (e : Unread) (status : Status) → IsUnread answers e (o.source.left before.input) (o.source.faults before.input) (o.source.faults after.input)
         → UnreadEnds o.sink e status before.output after.output → ToolEnds answers o status before after
@@ -53,8 +49,7 @@ module _ {S K D H L C : Type 0} (o : Known S K D H L C) (before after : Objects 
     each_tool decides (InputRefused error) ends = each_refused answers decides _ _ _ error ends.0
     each_tool decides ReadFault ends = each_failed answers _ _ _ ends.0
     each_tool decides Memory ends = each_memory answers _ _ _
-    each_tool decides (NotCompliant count) ends = absurd ends
-    each_tool decides (Usage place) ends = absurd ends
+    each_tool decides _ ends = absurd ends
 
     tool : Decides answers → (status : Status) → IsUntouched before after → ToolEnds answers o status before after → RanTool answers o status before after
     tool decides status untouched ends = record { untouched = untouched; ends = ends; each = each_tool decides status ends }
@@ -79,9 +74,9 @@ module _ {S K D H L C : Type 0} (o : Known S K D H L C) (before after : Objects 
   }
 
   refusal_found : (refusal : Refusal) (left : Option (List ℕ)) (b n : ℕ) → IsRefused AnswersChecksum refusal left b n → HasRefusal left b n
-  refusal_found (refusals.Usage place) left b n cause = absurd cause
   refusal_found (refusals.Input error) left b n cause = inl (error, cause)
   refusal_found refusals.ReadFault left b n cause = inr cause
+  refusal_found _ left b n cause = absurd cause
 
   pub not_summed : Decides AnswersChecksum → (refusal : Refusal) (status : Status) → IsUntouched before after
       → IsRefused AnswersChecksum refusal (o.source.left before.input) (o.source.faults before.input) (o.source.faults after.input)
@@ -97,11 +92,7 @@ module _ {S K D H L C : Type 0} (o : Known S K D H L C) (before after : Objects 
       → GenerateEnds count o status before after
   generated_ends count text Done made prints = (text, made, prints)
   generated_ends count text WriteFault made prints = (text, made, prints)
-  generated_ends count text (NotCompliant missed) made prints = absurd prints
-  generated_ends count text (Usage place) made prints = absurd prints
-  generated_ends count text (InputRefused error) made prints = absurd prints
-  generated_ends count text ReadFault made prints = absurd prints
-  generated_ends count text Memory made prints = absurd prints
+  generated_ends count text _ made prints = absurd prints
 
   pub generated : (count : ℕ) (text : List ℕ) (status : Status) → after.input ≡ before.input → IsUntouched before after → IsGeneratedText count text
       → Prints o.sink text status before.output after.output → Generated count o status before after

@@ -11,6 +11,7 @@ pub mod Objects
 pub mod Order
 pub mod Printed
 pub mod Refusal
+pub mod Started
 pub mod Streams
 pub mod Test
 pub mod Tool

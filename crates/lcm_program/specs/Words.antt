@@ -1,8 +1,10 @@
 -- The forms of the command line.
-use Rattle.std.specs.Prelude.{◌≡◌, ℕ, ◌+◌, ◌<◌, ◌≤◌, List, [], ◌∷◌, ◌++◌, length, take, codes, ⊤}
+use Rattle.std.specs.Prelude.{◌≡◌, ℕ, ◌+◌, ◌<◌, ◌≤◌, List, [], ◌∷◌, ◌++◌, length, take, Option, Some, option_map, codes, ⊤}
 use Rattle.std.specs.Fmt.{decimal}
+use Rattle.std.specs.Int.{w128, from_be_bytes}
+use Rattle.uuid.specs.Text.{parsed}
 use Rattle.lcm_program.specs.declared.words.Command.{Command}
-use Rattle.lcm_program.specs.declared.words.Command.TheVariants.{Test, Check, Order, Canon, Checksum, Generate}
+use Rattle.lcm_program.specs.declared.words.Command.TheVariants.{Test, Check, Order, Canon, Checksum, Generate, Init, Push, Consistency, Boot}
 
 -- the most resources of a generated document
 abbrev pub generated_limit : ℕ
@@ -12,6 +14,13 @@ generated_limit = 4096
 abbrev pub IsCount : List ℕ → ℕ → Type 0
 IsCount word count = (word ≡ decimal count) × (0 < count) × (count ≤ generated_limit)
 
+-- the number of an agent's identifier, in any form of RFC 9562 that `uuid` reads
+unfoldable pub agent_of : List ℕ → Option ℕ
+agent_of word = option_map (from_be_bytes w128) (parsed word)
+
+abbrev pub IsAgent : List ℕ → ℕ → Type 0
+IsAgent word agent = agent_of word ≡ Some agent
+
 -- the words, each in UTF-8, ask for the command
 abbrev pub IsForm : Command → List (List ℕ) → Type 0
 IsForm Test words = words ≡ codes "test" ∷ []
@@ -20,6 +29,10 @@ IsForm Order words = words ≡ codes "order" ∷ []
 IsForm Canon words = words ≡ codes "canon" ∷ []
 IsForm Checksum words = words ≡ codes "checksum" ∷ []
 IsForm (Generate count) words = (word : List ℕ) × (words ≡ codes "generate" ∷ word ∷ []) × IsCount word count
+IsForm (Init agent) words = (word : List ℕ) × (words ≡ codes "init" ∷ word ∷ []) × IsAgent word agent
+IsForm Push words = words ≡ codes "push" ∷ []
+IsForm Consistency words = words ≡ codes "consistency" ∷ []
+IsForm Boot words = words ≡ codes "boot" ∷ []
 
 -- the number of a command is one that its words can give
 abbrev pub IsInRange : Command → Type 0

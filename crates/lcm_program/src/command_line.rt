@@ -9,6 +9,9 @@ use std::io::ErrorKind;
 /// What `node` is called with.
 #[derive(Debug, Drop)]
 pub struct CommandLine<'a> {
+    /// The file that keeps the node's state.
+    pub store: &'a str,
+
     /// The folder that stands for the machine.
     pub host: &'a str,
 
@@ -19,16 +22,18 @@ impl<'a> CommandLine<'a> {
     /// Reads the arguments: the program's name, STORE, HOST and the words. Where STORE or HOST is missing or empty there are no
     /// words.
     pub fn of(arguments: &'a [String]) -> CommandLine<'a>
-        ensures { IsCommandLine (map string_bytes arguments.now) result.host.now (map string_bytes result.words.now) }
+        ensures { IsCommandLine (map string_bytes arguments.now) result.store.now result.host.now (map string_bytes result.words.now) }
     {
         match arguments {
             [_program, store, host, words @ ..] if !store.is_empty() && !host.is_empty() => {
                 CommandLine {
+                    store: store.as_str(),
                     host: host.as_str(),
                     words,
                 }
             }
             _ => CommandLine {
+                store: "",
                 host: "",
                 words: &[],
             },

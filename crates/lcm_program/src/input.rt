@@ -81,8 +81,8 @@ pub fn read_instances<S: Source>(alloc: Global, input: &mut S) -> Result<Vec<Ins
     }
 }
 
-// Reads the input to its end.
-fn read_bytes<S: Source>(alloc: Global, input: &mut S) -> Result<Vec<u8>, Unread>
+/// Reads the input to its end.
+pub fn read_bytes<S: Source>(alloc: Global, input: &mut S) -> Result<Vec<u8>, Unread>
     ensures ok { IfOk result (λ bytes. IsInput (ReadsBytes input_limit) (S.left input.old) (Ok bytes.items)) }
     ensures err { IfErr result (λ e. IsUnread (ReadsBytes input_limit) e (S.left input.old) (S.faults input.old) (S.faults input.new)) }
 {

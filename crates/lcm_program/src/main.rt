@@ -16,6 +16,7 @@ mod order;
 mod printing;
 mod program;
 mod refusal;
+mod starts;
 mod streams;
 mod test;
 mod words;
@@ -26,13 +27,14 @@ pub use checksum::read_checksum;
 use command_line::{CommandLine, arguments};
 use dsc_node::Status;
 use dsc_outside::Absent;
-use dsc_outside::real::{FolderHost, InSource, OutSink};
+use dsc_outside::real::{FileDisk, FolderHost, InSource, OutSink, SystemClock};
 pub use generate::repair_generated;
-pub use input::{Unread, read_document, read_instances};
+pub use input::{Unread, read_bytes, read_document, read_instances};
 pub use order::read_order;
 pub use program::node;
 pub use refusal::Refusal;
 pub use resource_kinds::{Entry, Failure, Kinds, Resources, SetAnswer, TestAnswer};
+pub use starts::{push, start_node};
 use std::alloc::AllocError;
 use std::process::ExitCode;
 pub use streams::{ReadError, read_all, write_all};
@@ -46,15 +48,20 @@ fn main(rt: HostRuntime) -> ExitCode {
     ExitCode::from(status.number())
 }
 
-// Makes the real objects and calls `node`. No command uses a disk, a link or a clock yet.
+// Makes the real objects and calls `node`. No command uses a link yet.
 fn run_node(rt: &HostRuntime, line: &CommandLine) -> Status {
+    let Ok(store) = String::from_str(rt.alloc(), line.store) else {
+        return Status::Memory;
+    };
     let Ok(host) = String::from_str(rt.alloc(), line.host) else {
         return Status::Memory;
     };
     let mut input = InSource::new(rt.reader());
     let mut output = OutSink::new(rt);
     let mut kinds = Kinds::new(rt.alloc(), FolderHost::new(rt, host));
-    let (mut disk, mut link, mut clock) = (Absent::new(), Absent::new(), Absent::new());
+    let mut disk = FileDisk::new(rt, store);
+    let mut link = Absent::new();
+    let mut clock = SystemClock::new(rt);
     node(
         rt.alloc(),
         line.words,

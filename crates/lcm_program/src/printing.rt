@@ -1,6 +1,6 @@
 //! Answers, printed.
 ghost use Rattle.std.specs.Prelude.{◌≡◌, IfErr, IfOk, string_bytes};
-ghost use Rattle.lcm_program.specs.Endings.{RefusalEnds, UnreadEnds};
+ghost use Rattle.lcm_program.specs.Endings.{OtherStartEnds, RefusalEnds, RefusedStartEnds, StartEnds, UnreadEnds};
 ghost use Rattle.lcm_program.specs.Printed.{Prints};
 ghost use Rattle.lcm_program.specs.Test.{PrintsRun};
 
@@ -8,9 +8,9 @@ use crate::input::Unread;
 use crate::refusal::Refusal;
 use crate::streams::write_all;
 use crate::test::Outcome;
-use dsc_node::Status;
+use dsc_node::{StartEnd, Status};
 use dsc_outside::{Failed, Sink};
-use std::alloc::Global;
+use std::alloc::{AllocError, Global};
 
 /// Prints the text with which a tool answers, or the line of its refusal.
 pub fn print_answer<K: Sink>(
@@ -57,8 +57,47 @@ pub fn print_text<K: Sink>(output: &mut K, text: &[u8]) -> Status
     }
 }
 
-// Prints why the input was not read.
-fn print_unread<K: Sink>(alloc: Global, output: &mut K, unread: Unread) -> Status
+/// Prints the lines of a start, and after them the line of a refusal where it was refused.
+pub fn print_start<K: Sink>(alloc: Global, output: &mut K, end: StartEnd) -> Status
+    ensures { StartEnds K.Ends end.status (string_bytes end.lines) result output.old output.new }
+{
+    let StartEnd { status, lines } = end;
+    match Refusal::of(status) {
+        Ok(refusal) => print_refused(alloc, output, lines, refusal),
+        Err(other) => print_other(output, &lines, other),
+    }
+}
+
+// Prints these lines, and after them that of a refusal; its status stays where that fails.
+fn print_refused<K: Sink>(alloc: Global, output: &mut K, lines: String, refusal: Refusal) -> Status
+    ensures { RefusedStartEnds K.Ends (string_bytes lines) refusal result output.old output.new }
+{
+    let mut text = lines;
+    let Ok(line) = refusal.line(alloc) else {
+        return Status::Memory;
+    };
+    if let Err(AllocError) = text.push_str(line.as_str()) {
+        return Status::Memory;
+    }
+    let _ = write_all(output, text.as_bytes());
+    refusal.status()
+}
+
+// Prints the lines of a start that was not refused. Where memory was refused nothing is printed.
+fn print_other<K: Sink>(output: &mut K, lines: &str, status: Status) -> Status
+    ensures { OtherStartEnds K.Ends status lines.now result output.old output.new }
+{
+    if let Status::Memory = status {
+        return Status::Memory;
+    }
+    match write_all(output, lines.as_bytes()) {
+        Ok(()) => status,
+        Err(Failed) => Status::WriteFault,
+    }
+}
+
+/// Prints why the input was not read.
+pub fn print_unread<K: Sink>(alloc: Global, output: &mut K, unread: Unread) -> Status
     ensures { UnreadEnds K.Ends unread result output.old output.new }
 {
     match unread {
@@ -71,9 +110,5 @@ fn print_unread<K: Sink>(alloc: Global, output: &mut K, unread: Unread) -> Statu
 pub fn refuse<K: Sink>(alloc: Global, output: &mut K, refusal: Refusal) -> Status
     ensures { RefusalEnds K.Ends refusal result output.old output.new }
 {
-    let Ok(line) = refusal.line(alloc) else {
-        return Status::Memory;
-    };
-    let _ = write_all(output, line.as_bytes());
-    refusal.status()
+    print_refused(alloc, output, String::new(alloc), refusal)
 }

@@ -13,9 +13,10 @@ use crate::generate::repair_generated;
 use crate::order::read_order;
 use crate::printing::{print_answer, print_run, print_text, refuse};
 use crate::refusal::Refusal;
+use crate::starts::{push, start_node};
 use crate::test::read_and_monitor;
 use crate::words::{Command, UsageError, read_words};
-use dsc_node::Status;
+use dsc_node::{Command as StartCommand, Status};
 use dsc_outside::{Clock, Disk, Host, Link, Sink, Source};
 use mof_values::Memory;
 use resource_kinds::Kinds;
@@ -81,5 +82,14 @@ fn do_command<S: Source, K: Sink, D: Disk, H: Host, L: Link, C: Clock>(
             Ok(text) => print_text(output, text.as_bytes()),
             Err(Memory) => Status::Memory,
         },
+        Command::Init { agent } => {
+            let init = StartCommand::Init(agent);
+            start_node(alloc, init, output, disk, kinds, clock)
+        }
+        Command::Push => push(alloc, input, output, disk, kinds, clock),
+        Command::Consistency => {
+            start_node(alloc, StartCommand::Consistency, output, disk, kinds, clock)
+        }
+        Command::Boot => start_node(alloc, StartCommand::Boot, output, disk, kinds, clock),
     }
 }

@@ -1,13 +1,14 @@
 //! Refusals and their lines.
-ghost use Rattle.std.specs.Prelude.{◌≡◌, ◌++◌, codes, IfOk, OnOk, string_bytes};
-ghost use Rattle.lcm_program.specs.Refusal.{status_of, refusal_line, error_words};
+ghost use Rattle.std.specs.Prelude.{◌≡◌, ◌++◌, Some, None, codes, IfErr, IfOk, OnOk, string_bytes};
+ghost use Rattle.lcm_program.specs.Refusal.{status_of, reason_words, refusal_line, refusal_of, error_words, why_word};
 
 use crate::merge_words::push_merge_error;
 use crate::mof_words::push_mof_error;
 use dsc_node::{InputError, Status};
+use node_state::Why;
 use std::alloc::{AllocError, Global};
 
-/// Why the program did nothing.
+/// Why a command was refused.
 #[derive(Debug, Drop, PartialEq)]
 pub enum Refusal {
     /// The words are in no form; the place is that of the first word that no form goes on with, or their count.
@@ -17,9 +18,46 @@ pub enum Refusal {
 
     /// Reading the input failed.
     ReadFault,
+
+    /// A call of the store's disk failed.
+    DiskFault,
+
+    /// The clock's first reading failed.
+    ClockFault,
+
+    /// The disk holds no store of a node; `at` is the first byte at which it is none.
+    NotAStore { at: u64 },
+
+    /// The node does not allow the command, or the event that it came to.
+    NotAllowed(Why),
+
+    /// A reboot was asked for, and the command waits for the boot.
+    RebootWaiting,
 }
 
 impl Refusal {
+    /// The refusal that the status is, or the status where it is none.
+    pub fn of(status: Status) -> Result<Refusal, Status>
+        ensures ok { IfOk result (λ refusal. refusal_of status ≡ Some refusal) }
+        ensures err { IfErr result (λ other. (other ≡ status) × (refusal_of status ≡ None)) }
+    {
+        match status {
+            Status::Usage { word } => Ok(Refusal::Usage { word }),
+            Status::InputRefused(error) => Ok(Refusal::Input(error)),
+            Status::ReadFault => Ok(Refusal::ReadFault),
+            Status::DiskFault => Ok(Refusal::DiskFault),
+            Status::ClockFault => Ok(Refusal::ClockFault),
+            Status::NotAStore { at } => Ok(Refusal::NotAStore { at }),
+            Status::NotAllowed(why) => Ok(Refusal::NotAllowed(why)),
+            Status::RebootWaiting => Ok(Refusal::RebootWaiting),
+            Status::Done
+            | Status::NotCompliant { .. }
+            | Status::WriteFault
+            | Status::RebootAsked { .. }
+            | Status::Memory => Err(status),
+        }
+    }
+
     /// The status that it ends with.
     pub fn status(self) -> Status
         ensures { result ≡ status_of self }
@@ -28,6 +66,11 @@ impl Refusal {
             Refusal::Usage { word } => Status::Usage { word },
             Refusal::Input(error) => Status::InputRefused(error),
             Refusal::ReadFault => Status::ReadFault,
+            Refusal::DiskFault => Status::DiskFault,
+            Refusal::ClockFault => Status::ClockFault,
+            Refusal::NotAStore { at } => Status::NotAStore { at },
+            Refusal::NotAllowed(why) => Status::NotAllowed(why),
+            Refusal::RebootWaiting => Status::RebootWaiting,
         }
     }
 
@@ -37,13 +80,25 @@ impl Refusal {
     {
         let mut out = String::new(alloc);
         out.push_str("refused ")?;
-        match self {
-            Refusal::Usage { word } => write!(out, "Usage {word}")?,
-            Refusal::Input(error) => push_input_error(&mut out, error)?,
-            Refusal::ReadFault => out.push_str("ReadFault")?,
-        }
+        push_reason(&mut out, self)?;
         out.push_str("\n")?;
         Ok(out)
+    }
+}
+
+// Appends the refusal's name, and its values.
+fn push_reason(out: &mut String, refusal: &Refusal) -> Result<(), AllocError>
+    ensures { OnOk result (string_bytes out.new ≡ string_bytes out.old ++ reason_words refusal.now) }
+{
+    match refusal {
+        Refusal::Usage { word } => write!(out, "Usage {word}"),
+        Refusal::Input(error) => push_input_error(out, error),
+        Refusal::ReadFault => out.push_str("ReadFault"),
+        Refusal::DiskFault => out.push_str("DiskFault"),
+        Refusal::ClockFault => out.push_str("ClockFault"),
+        Refusal::NotAStore { at } => write!(out, "NotAStore {at}"),
+        Refusal::NotAllowed(why) => push_why(out, *why),
+        Refusal::RebootWaiting => out.push_str("RebootWaiting"),
     }
 }
 
@@ -54,5 +109,34 @@ fn push_input_error(out: &mut String, error: &InputError) -> Result<(), AllocErr
         InputError::TooLong => out.push_str("TooLong"),
         InputError::Mof(error) => push_mof_error(out, *error),
         InputError::Merge(error) => push_merge_error(out, error),
+    }
+}
+
+// Appends why a node does not allow a command.
+fn push_why(out: &mut String, why: Why) -> Result<(), AllocError>
+    ensures { OnOk result (string_bytes out.new ≡ string_bytes out.old ++ codes "NotAllowed " ++ why_word why) }
+{
+    let name = name_of(why);
+    write!(out, "NotAllowed {name}")
+}
+
+fn name_of(why: Why) -> &'static str
+    ensures { result.now ≡ why_word why }
+{
+    match why {
+        Why::NoAgent => "NoAgent",
+        Why::HasAgent => "HasAgent",
+        Why::Disabled => "Disabled",
+        Why::NotPull => "NotPull",
+        Why::NoServer => "NoServer",
+        Why::NotRegistered => "NotRegistered",
+        Why::NoName => "NoName",
+        Why::PartsDeclared => "PartsDeclared",
+        Why::NoPrevious => "NoPrevious",
+        Why::NoPending => "NoPending",
+        Why::NoDocument => "NoDocument",
+        Why::NoReboot => "NoReboot",
+        Why::WrongJob => "WrongJob",
+        Why::NoReport => "NoReport",
     }
 }

@@ -1,6 +1,8 @@
 //! The words of the command line.
 ghost use Rattle.std.specs.Prelude.{ℕ, [], ◌∷◌, IfOk, IfErr, IfSome, IfNone, codes, map, string_bytes};
-ghost use Rattle.lcm_program.specs.Words.{IsCount, IsForm, IsUsage};
+ghost use Rattle.lcm_program.specs.Words.{IsAgent, IsCount, IsForm, IsUsage};
+
+use uuid::Uuid;
 
 /// The most resources of a generated document.
 const GENERATED_LIMIT: u32 = 4096;
@@ -25,6 +27,18 @@ pub enum Command {
 
     /// Repairs an empty machine in memory by a document of so many resources, 1 to 4,096, and tells of it.
     Generate { count: u32 },
+
+    /// Makes the node that of an agent.
+    Init { agent: u128 },
+
+    /// Keeps the document that the input is, and brings the machine to it.
+    Push,
+
+    /// Goes on with a document that was not reached; without one, looks after the one that was, as the meta-configuration says.
+    Consistency,
+
+    /// Does the same, also where a reboot was asked for: the machine booted.
+    Boot,
 }
 
 /// The words are in no form; `word` is the place of the first word that no form goes on with, or their count.
@@ -43,6 +57,9 @@ pub fn read_words(words: &[String]) -> Result<Command, UsageError>
     };
     if first.as_str() == "generate" {
         return read_generate(rest);
+    }
+    if first.as_str() == "init" {
+        return read_init(rest);
     }
     let Some(command) = command_of(first) else {
         return Err(UsageError { word: 0 });
@@ -64,11 +81,14 @@ fn command_of(word: &str) -> Option<Command>
         "order" => Some(Command::Order),
         "canon" => Some(Command::Canon),
         "checksum" => Some(Command::Checksum),
+        "push" => Some(Command::Push),
+        "consistency" => Some(Command::Consistency),
+        "boot" => Some(Command::Boot),
         _ => None,
     }
 }
 
-// What the words behind `generate` ask for.
+// What the words after `generate` ask for.
 fn read_generate(rest: &[String]) -> Result<Command, UsageError>
     ensures ok { IfOk result (λ command. IsForm command (codes "generate" ∷ map string_bytes rest.now)) }
     ensures usage { IfErr result (λ error. IsUsage (codes "generate" ∷ map string_bytes rest.now) error.word) }
@@ -85,6 +105,23 @@ fn read_generate(rest: &[String]) -> Result<Command, UsageError>
     }
 }
 
+// What the words after `init` ask for.
+fn read_init(rest: &[String]) -> Result<Command, UsageError>
+    ensures ok { IfOk result (λ command. IsForm command (codes "init" ∷ map string_bytes rest.now)) }
+    ensures usage { IfErr result (λ error. IsUsage (codes "init" ∷ map string_bytes rest.now) error.word) }
+{
+    let [word, more @ ..] = rest else {
+        return Err(UsageError { word: 1 });
+    };
+    let Some(agent) = read_agent(word) else {
+        return Err(UsageError { word: 1 });
+    };
+    match more {
+        [] => Ok(Command::Init { agent }),
+        _ => Err(UsageError { word: 2 }),
+    }
+}
+
 // The number of resources that the word is: in decimal, without a sign or a zero in front.
 fn read_count(word: &str) -> Option<u32>
     ensures some { IfSome result (IsCount word.now) }
@@ -97,5 +134,16 @@ fn read_count(word: &str) -> Option<u32>
     match word.parse::<u32>() {
         Ok(count) if count <= GENERATED_LIMIT => Some(count),
         _ => None,
+    }
+}
+
+// The agent that the word is the identifier of, in any form that `uuid` reads.
+fn read_agent(word: &str) -> Option<u128>
+    ensures some { IfSome result (IsAgent word.now) }
+    ensures none { IfNone result ((agent : ℕ) → IsAgent word.now agent → ⊥) }
+{
+    match Uuid::parse_str(word) {
+        Ok(id) => Some(id.as_u128()),
+        Err(_) => None,
     }
 }

@@ -63,3 +63,17 @@ returns-in-Err g c =
           (shown_decides (ReadsBytes checksum_limit) IsChecksumLine (bytes_decide checksum_limit)) c.in-Err.refusal c.refuse.result
           (record { offline = record { disk = refl; link = refl; clock = refl }; kinds = refl }) c.in-Err.ensures.err c.refuse.ensures);
     }
+
+-- starts
+
+pub returns-in-Init : goal.returns-in-Init
+returns-in-Init g c = record { did = rw c.in-Init.is (record { input = refl; link = refl; start = c.start_node.ensures }) }
+
+pub returns-in-Push : goal.returns-in-Push
+returns-in-Push g c = record { did = rw c.in-Push.is (record { link = refl; ends = c.push.ensures }) }
+
+pub returns-in-Consistency : goal.returns-in-Consistency
+returns-in-Consistency g c = record { did = rw c.in-Consistency.is (record { input = refl; link = refl; start = c.start_node-in-Consistency.ensures }) }
+
+pub returns-in-Boot : goal.returns-in-Boot
+returns-in-Boot g c = record { did = rw c.in-Boot.is (record { input = refl; link = refl; start = c.start_node-in-Boot.ensures }) }

@@ -1,7 +1,8 @@
-use Rattle.std.proofs.Common.{◌≡◌, ℕ, List, IfOk, IfErr, codes, string_bytes, sym, ◌∙◌, subst, true≢false}
+use Rattle.std.proofs.Common.{◌≡◌, ◌-◌, ◌⊎◌, inl, inr, ℕ, List, IfOk, IfErr, codes, map, length, take, drop, string_bytes, sym, ◌∙◌, subst, true≢false, arith}
+use Rattle.std.proofs.lemmas.List.{length-map}
 use Rattle.std.proofs.lemmas.Slice.Eq.{bytes_eq-Decides}
 use Rattle.lcm_program.specs.Words.{IsForm, IsUsage}
-use Rattle.lcm_program.proofs.Forms.{first_and_rest, no_texts, no_word, wrong_first}
+use Rattle.lcm_program.proofs.Forms.{TakesWord, first_and_rest, no_texts, no_word, second_word, wrong_first}
 use Rattle.lcm_program.proofs.words.read_words.Goals as goal
 
 pub returns-in_default-clause-usage : goal.returns-in_default-clause-usage
@@ -23,13 +24,43 @@ returns-then-eq-clause-usage c =
     (first_and_rest string_bytes c.args.words.now c.first-item.result (codes "generate") c.in-len1-up.len_at_least c.first-item.is (sym generate ∙ c.as_str.ensures.value))
     c.read_generate.ensures.usage
 
+-- they begin with `init`
+
+pub returns-then-eq-2-clause-ok : goal.returns-then-eq-2-clause-ok
+returns-then-eq-2-clause-ok c =
+    let init = (bytes_eq-Decides c.as_str-2.result.now (codes "init")).0 (sym c.if-eq-2.ensures) in
+    subst (λ (words : List (List ℕ)). IfOk c.read_init.result (λ command. IsForm command words))
+    (first_and_rest string_bytes c.args.words.now c.first-item.result (codes "init") c.in-len1-up.len_at_least c.first-item.is (sym init ∙ c.as_str-2.ensures.value))
+    c.read_init.ensures.ok
+
+pub returns-then-eq-2-clause-usage : goal.returns-then-eq-2-clause-usage
+returns-then-eq-2-clause-usage c =
+    let init = (bytes_eq-Decides c.as_str-2.result.now (codes "init")).0 (sym c.if-eq-2.ensures) in
+    subst (λ (words : List (List ℕ)). IfErr c.read_init.result (λ error. IsUsage words error.word))
+    (first_and_rest string_bytes c.args.words.now c.first-item.result (codes "init") c.in-len1-up.len_at_least c.first-item.is (sym init ∙ c.as_str-2.ensures.value))
+    c.read_init.ensures.usage
+
 -- they begin with the word of no command
 
 pub returns-in_default-command_of-clause-usage : goal.returns-in_default-command_of-clause-usage
 returns-in_default-command_of-clause-usage c =
     let word = c.deref.result.now in
-    let told = bytes_eq-Decides c.as_str.result.now (codes "generate") in
-    let other : word ≡ codes "generate" → ⊥ = λ is. true≢false (sym (told.1 (c.as_str.ensures.value ∙ sym c.deref.ensures ∙ is)) ∙ sym c.if-eq.ensures) in
+    let generate = bytes_eq-Decides c.as_str.result.now (codes "generate") in
+    let init = bytes_eq-Decides c.as_str-2.result.now (codes "init") in
+    let other : TakesWord word → ⊥ = λ takes. elim takes [
+      | inl is ↦ true≢false (sym (generate.1 (c.as_str.ensures.value ∙ sym c.deref.ensures ∙ is)) ∙ sym c.if-eq.ensures)
+      | inr is ↦ true≢false (sym (init.1 (c.as_str-2.ensures.value ∙ sym c.deref.ensures ∙ is)) ∙ sym c.if-eq-2.ensures)
+    ] in
     subst (λ (words : List (List ℕ)). IsUsage words 0)
     (first_and_rest string_bytes c.args.words.now c.first-item.result word c.in-len1-up.len_at_least c.first-item.is c.deref.ensures)
     (wrong_first word _ c.in_default-command_of.ensures.none other)
+
+-- a word follows one that stands alone
+
+pub returns-in_default-rest-clause-usage : goal.returns-in_default-rest-clause-usage
+returns-in_default-rest-clause-usage c =
+    let word = c.deref.result.now in
+    let rest = take (length c.args.words.now - 1) (drop 1 c.args.words.now) in
+    subst (λ (words : List (List ℕ)). IsUsage words 1)
+    (first_and_rest string_bytes c.args.words.now c.first-item.result word c.in-len1-up.len_at_least c.first-item.is c.deref.ensures)
+    (second_word word (map string_bytes rest) c.in-Some.command (omega (arith, length-map rest string_bytes, c.in_default-rest.len_at_least)) c.in-Some.ensures.some)

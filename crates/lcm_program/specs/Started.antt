@@ -1,0 +1,58 @@
+-- The commands `init`, `push`, `consistency` and `boot`: starts of the node.
+use Rattle.std.specs.Prelude.{◌≡◌, ◌≤◌, ℕ, List, Ok}
+use Rattle.dsc_outside.specs.declared.ends.Ends as ends
+use Rattle.dsc_outside.specs.declared.disk.Disk as disks
+use Rattle.dsc_outside.specs.declared.host.Host as hosts
+use Rattle.dsc_outside.specs.declared.clock.Clock as clocks
+use Rattle.gate_log.specs.Standing.{AllStand, Any}
+use Rattle.node_store.specs.Stands.{Stands}
+use Rattle.resource_kinds.specs.declared.kinds.Kinds.{Kinds}
+use Rattle.dsc_node.specs.declared.command.Command.{Command}
+use Rattle.dsc_node.specs.declared.command.Command.TheVariants as commands
+use Rattle.dsc_node.specs.declared.status.Status.{Status}
+use Rattle.dsc_node.specs.Headline.{HasHeadline, kinds_of}
+use Rattle.dsc_node.specs.Start as starts
+use Rattle.dsc_node.specs.Start.{Outside, Start, outside}
+use Rattle.lcm_program.specs.declared.input.Unread.{Unread}
+use Rattle.lcm_program.specs.Endings.{StartEnds, UnreadEnds}
+use Rattle.lcm_program.specs.Input.{IsInput, IsUnread, ReadsBytes, input_limit}
+use Rattle.lcm_program.specs.Objects.{Known, Objects}
+
+-- A start of the node by the command: it ended so, with these lines, by the table of starts, and has its headline; where every image
+-- of the store stands for a node before it, so it does after it; the clock's count of faults does not fall; and its end is printed.
+pub record IsStart {K D H C : Type 0} (sink : ends.Ghosts K) (disk : disks.Ghosts D) (host : hosts.Ghosts H) (clock : clocks.Ghosts C)
+    (command : Command) (status : Status) (old new : K) (before after : Outside D (Kinds H) C) : Type 0 where
+  pub ended : Status
+  pub lines : List ℕ
+  pub start : Start (starts.known disk (kinds_of host) clock) command before after ended lines
+  pub headline : HasHeadline (starts.known disk (kinds_of host) clock) host command before after ended lines
+  pub again : AllStand disk before.disk Stands Any → AllStand disk after.disk Stands Any
+  pub later : clock.faults before.clock ≤ clock.faults after.clock
+  pub prints : StartEnds sink ended lines status old new
+
+-- the document that is pushed is the whole input; an input that was not read is refused, and nothing else was touched
+pub data PushEnds {S K D H C : Type 0} (source : ends.Ghosts S) (sink : ends.Ghosts K) (disk : disks.Ghosts D) (host : hosts.Ghosts H)
+    (clock : clocks.Ghosts C) (status : Status) (input input_after : S) (old new : K) (before after : Outside D (Kinds H) C) : Type 0 where
+  pushed : (bytes : List ℕ) → IsInput (ReadsBytes input_limit) (source.left input) (Ok bytes)
+      → IsStart sink disk host clock (commands.Push bytes) status old new before after
+      → PushEnds source sink disk host clock status input input_after old new before after
+  unread : (cause : Unread) → IsUnread (ReadsBytes input_limit) cause (source.left input) (source.faults input) (source.faults input_after)
+      → UnreadEnds sink cause status old new → after ≡ before
+      → PushEnds source sink disk host clock status input input_after old new before after
+
+-- ---- the rows of the table
+
+-- what a start works with of a command's objects
+abbrev pub outside_of : {S K D H L C : Type 0} → Objects S K D H L C → Outside D (Kinds H) C
+outside_of objects = outside objects.disk objects.kinds objects.clock
+
+-- a command without an input
+pub record Started {S K D H L C : Type 0} (command : Command) (o : Known S K D H L C) (status : Status) (before after : Objects S K D H L C) : Type 0 where
+  pub input : after.input ≡ before.input
+  pub link : after.link ≡ before.link
+  pub start : IsStart o.sink o.disk o.host o.clock command status before.output after.output (outside_of before) (outside_of after)
+
+-- `push`
+pub record Pushed {S K D H L C : Type 0} (o : Known S K D H L C) (status : Status) (before after : Objects S K D H L C) : Type 0 where
+  pub link : after.link ≡ before.link
+  pub ends : PushEnds o.source o.sink o.disk o.host o.clock status before.input after.input before.output after.output (outside_of before) (outside_of after)
