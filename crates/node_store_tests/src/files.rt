@@ -9,7 +9,8 @@ pub const HEAD: &[u8] = b"DSCSTOR1";
 /// Appends the cell of a body.
 pub fn push_cell(file: &mut Vec<u8>, body: &[u8]) -> Result<(), AllocError> {
     file.push(0xA5)?;
-    file.extend_from_slice(&(body.len() as u32).to_be_bytes())?;
+    let length = u32::try_from(body.len()).unwrap_or(u32::MAX);
+    file.extend_from_slice(&length.to_be_bytes())?;
     file.extend_from_slice(body)
 }
 

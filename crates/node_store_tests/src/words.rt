@@ -79,10 +79,10 @@ fn staged(alloc: Global, name: &[u8]) -> Result<Vec<u8>, AllocError> {
 // All of a registered node of the agent 16 but its parts and reports; the next job is 5.
 fn base(alloc: Global, mark: u8, meta: &[u8]) -> Result<Vec<u8>, AllocError> {
     let mut body = b"\x0C".to_vec(alloc)?;
-    body.extend_from_slice(&INIT[1..])?;
+    body.extend_from_slice(fields_of(INIT))?;
     body.extend_from_slice(&[1, mark])?;
     body.extend_from_slice(b"\0\0\0\0\0\0\0\x05")?;
-    body.extend_from_slice(&meta[1..])?;
+    body.extend_from_slice(fields_of(meta))?;
     Ok(body)
 }
 
@@ -90,21 +90,25 @@ fn base(alloc: Global, mark: u8, meta: &[u8]) -> Result<Vec<u8>, AllocError> {
 fn slot(alloc: Global, stage: u8) -> Result<Vec<u8>, AllocError> {
     let mut body = vec![in alloc; 13u8]?;
     body.push(stage)?;
-    body.extend_from_slice(&staged(alloc, b"P")?[1..])?;
+    let parts = staged(alloc, b"P")?;
+    body.extend_from_slice(fields_of(&parts))?;
     Ok(body)
 }
 
 fn kept(alloc: Global, sent: u8, job: u64) -> Result<Vec<u8>, AllocError> {
     let mut body = vec![in alloc; 14u8]?;
     body.push(sent)?;
-    body.extend_from_slice(&run(alloc, 5, job)?[1..])?;
+    let report = run(alloc, 5, job)?;
+    body.extend_from_slice(fields_of(&report))?;
     Ok(body)
 }
 
 // A part whose digest has another last byte.
 fn wrong_digest(alloc: Global) -> Result<Vec<u8>, AllocError> {
     let mut body = staged(alloc, b"A")?;
-    body[35] = 0x3C;
+    if let Some(byte) = body.get_mut(35) {
+        *byte = 0x3C;
+    }
     Ok(body)
 }
 
@@ -113,4 +117,12 @@ fn no_canonical(alloc: Global) -> Result<Vec<u8>, AllocError> {
     let mut body = ALONE.to_vec(alloc)?;
     body.push(b' ')?;
     Ok(body)
+}
+
+// What stands after the kind.
+fn fields_of(body: &[u8]) -> &[u8] {
+    match body {
+        [_, fields @ ..] => fields,
+        [] => &[],
+    }
 }

@@ -81,7 +81,9 @@ fn is_told(
     cell: usize,
 ) -> Result<bool, AllocError> {
     let mut changed = file.to_vec(alloc)?;
-    changed[at] = byte;
+    if let Some(place) = changed.get_mut(at) {
+        *place = byte;
+    }
     Ok(match kept_in(alloc, changed) {
         Ok(_) => true,
         Err(StoreError::NotAStore { at: place }) if at < 7 => place == at as u64,

@@ -49,11 +49,12 @@ fn document(alloc: Global, size: usize) -> Result<Vec<u8>, AllocError> {
 
 // Appends a name of so many bytes, of which the last is that of its place.
 fn push_name(body: &mut Vec<u8>, place: u8, size: usize) -> Result<(), AllocError> {
-    body.extend_from_slice(&(size as u16).to_be_bytes())?;
-    let end = body.len() + size;
+    let length = u16::try_from(size).unwrap_or(u16::MAX);
+    body.extend_from_slice(&length.to_be_bytes())?;
+    let end = body.len().saturating_add(size.saturating_sub(1));
     body.resize(end, b'n')?;
     if size > 0 {
-        body[end - 1] = b'0'.saturating_add(place);
+        body.push(b'0'.saturating_add(place))?;
     }
     Ok(())
 }
@@ -62,12 +63,13 @@ fn push_name(body: &mut Vec<u8>, place: u8, size: usize) -> Result<(), AllocErro
 fn staged(alloc: Global, count: u8, name: usize, size: usize) -> Result<Vec<u8>, AllocError> {
     let bytes = document(alloc, size)?;
     let part = part_of(Text::of(Vec::new(alloc)), bytes);
+    let length = u32::try_from(size).unwrap_or(u32::MAX);
     let mut body = vec![in alloc; 4u8]?;
     body.push(count)?;
     for place in 0..count {
         push_name(&mut body, place, name)?;
         body.extend_from_slice(&part.digest)?;
-        body.extend_from_slice(&(size as u32).to_be_bytes())?;
+        body.extend_from_slice(&length.to_be_bytes())?;
         body.extend_from_slice(part.bytes.as_slice())?;
     }
     Ok(body)
