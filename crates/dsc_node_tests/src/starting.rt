@@ -20,8 +20,11 @@ pub struct Trouble<'a> {
 
     pub stop: Option<DiskStop>,
 
-    /// The readings of the clock.
-    pub clock: &'a [Option<u64>],
+    /// The calls of the clock that fail, counted from 0.
+    pub clock: &'a [u64],
+
+    /// Whether the clock is set back between its first reading and its second.
+    pub is_set_back: bool,
 }
 
 /// How a start ended, and how many calls of the disk it made.
@@ -38,7 +41,8 @@ impl Trouble<'static> {
         Trouble {
             disk: &[],
             stop: None,
-            clock: &[Some(1_000), Some(1_007)],
+            clock: &[],
+            is_set_back: false,
         }
     }
 }
@@ -66,7 +70,12 @@ pub fn started(
     let mut disk = MemoryDisk::of(left.store, failing, trouble.stop)?;
     let host = MemoryHost::of(left.host, Vec::new(alloc), None);
     let mut kinds = Kinds::new(alloc, host);
-    let mut clock = MemoryClock::new(trouble.clock.to_vec(alloc)?, Vec::new(alloc));
+    let failing = trouble.clock.to_vec(alloc)?;
+    let mut clock = if trouble.is_set_back {
+        MemoryClock::new(vec![in alloc; Some(1_007), Some(1_000)]?, failing)
+    } else {
+        MemoryClock::new(vec![in alloc; Some(1_000), Some(1_007)]?, failing)
+    };
     let end = start(alloc, command, &mut disk, &mut kinds, &mut clock);
     let outcome = Outcome {
         status: end.status,

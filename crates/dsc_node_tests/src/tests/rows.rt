@@ -149,8 +149,8 @@ fn starts_end_and_print_as_the_rows_say(rt: HostRuntime) -> Result<(), Fail> {
     Ok(())
 }
 
-// The numbers of the starts that follow `init` with these readings of the clock.
-fn number_of(alloc: Global, clock: &[Option<u64>]) -> Result<u8, Memory> {
+// The number of a push to a new node whose clock fails at these calls, or is set back.
+fn number_of(alloc: Global, clock: &[u64], is_set_back: bool) -> Result<u8, Memory> {
     let left = Left {
         store: Vec::new(alloc),
         host: HostContents::empty(alloc),
@@ -160,6 +160,7 @@ fn number_of(alloc: Global, clock: &[Option<u64>]) -> Result<u8, Memory> {
         disk: &[],
         stop: None,
         clock,
+        is_set_back,
     };
     let (outcome, _) = started(alloc, left, "push", HEADER, &trouble)?;
     Ok(outcome.status.number())
@@ -167,12 +168,8 @@ fn number_of(alloc: Global, clock: &[Option<u64>]) -> Result<u8, Memory> {
 
 #[test]
 fn the_first_reading_counts(rt: HostRuntime) -> Result<(), Fail> {
-    for (clock, number) in [
-        (&[None, Some(5)], 4),
-        (&[Some(5), None], 0),
-        (&[Some(5), Some(4)], 0),
-    ] {
-        assert_eq!(rt; number_of(rt.alloc(), clock)?, number);
-    }
+    assert_eq!(rt; number_of(rt.alloc(), &[0], false)?, 4);
+    assert_eq!(rt; number_of(rt.alloc(), &[1], false)?, 0);
+    assert_eq!(rt; number_of(rt.alloc(), &[], true)?, 0);
     Ok(())
 }

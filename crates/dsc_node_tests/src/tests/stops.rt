@@ -34,7 +34,8 @@ fn troubled(disk: &[u64], stop: Option<DiskStop>) -> Trouble<'_> {
     Trouble {
         disk,
         stop,
-        clock: &[Some(1_000), Some(1_007)],
+        clock: &[],
+        is_set_back: false,
     }
 }
 
