@@ -13,6 +13,7 @@ use Rattle.lcm_core.specs.declared.modes.RunEnd.TheVariants as ends
 use Rattle.report_log.specs.declared.report.Report.{Report}
 use Rattle.node_state.specs.declared.node.Node.{Node}
 use Rattle.node_state.specs.declared.event.Event.{Event}
+use Rattle.node_state.specs.declared.event.Stage.TheVariants as slots
 use Rattle.node_state.specs.declared.event.Event.TheVariants as events
 use Rattle.node_state.specs.Sound.{Sound}
 use Rattle.node_state.specs.Table.{Step, Steps, is_next, refusal}
@@ -21,14 +22,14 @@ use Rattle.node_store.specs.declared.error.StoreError.{StoreError}
 use Rattle.node_store.specs.declared.error.StoreError.TheVariants as errors
 use Rattle.dsc_node.specs.declared.command.Command.{Command}
 use Rattle.dsc_node.specs.declared.command.Task.{Task}
-use Rattle.dsc_node.specs.declared.command.Task.TheVariants.{Init, Push, Consistency, Boot}
+use Rattle.dsc_node.specs.declared.command.Task.TheVariants.{Init, Meta, Push, Consistency, Boot, Get, Restore, Remove, Reports}
 use Rattle.dsc_node.specs.declared.status.Status.{Status}
-use Rattle.dsc_node.specs.Commands.{first_of}
+use Rattle.dsc_node.specs.Commands.{first_of, is_run}
 use Rattle.dsc_node.specs.Headline.{AreTold, Headline, HoldTogether, IsComplete, IsCurrent, IsFaultless, IsPrinted, IsRun, Keeps, kinds_of}
 use Rattle.dsc_node.specs.Path.{disk_counts}
 use Rattle.dsc_node.specs.Runs.{Ran, Reported, Run, end_line, event_of}
 use Rattle.dsc_node.specs.Start.{Opened, Outside, known}
-use Rattle.dsc_node.specs.Work.{Answers, Finish, RefusedAfter, StartTable, all_of, clock_failed, finished, first_refused, initialized, no_run, not_allowed, report_kept, report_refused, unended, unready, waiting}
+use Rattle.dsc_node.specs.Work.{Answers, Finish, RefusedAfter, StartTable, all_of, clock_failed, finished, first_refused, no_run, not_allowed, report_kept, report_refused, settled, unended, unready, waiting}
 use Rattle.dsc_node.proofs.HeadlineRuns.{faultless_compliant, host_ran, pending_chosen, repaired, together, told}
 use Rattle.dsc_node.proofs.Nodes.{are_sound, first_stages, parts_there, steps_sound}
 use Rattle.dsc_node.proofs.Reports.{first_keeps, first_refused_keeps, noted_keeps, refused_run_keeps}
@@ -56,9 +57,16 @@ boot_job node mid false is = ap (λ (n : Node). n.next_job) is
 
 first_job : (node mid : Node) (task : Task) → Steps node (first_of node task) mid → mid.next_job ≡ node.next_job
 first_job node mid (Init agent) (next, step, is) = ap (λ (n : Node). n.next_job) (is ∙ step.is)
+first_job node mid (Meta meta) (next, step, is) = ap (λ (n : Node). n.next_job) (is ∙ step.is)
 first_job node mid (Push staged) (next, step, is) = ap (λ (n : Node). n.next_job) (is ∙ step.is)
 first_job node mid Consistency is = ap (λ (n : Node). n.next_job) is
 first_job node mid Boot steps = boot_job node mid node.reboot steps
+first_job node mid Get is = ap (λ (n : Node). n.next_job) is
+first_job node mid Restore (next, step, is) = ap (λ (n : Node). n.next_job) (is ∙ step.is)
+first_job node mid (Remove slots.Pending) (next, step, is) = ap (λ (n : Node). n.next_job) (is ∙ step.is)
+first_job node mid (Remove slots.Current) (next, step, is) = ap (λ (n : Node). n.next_job) (is ∙ step.is)
+first_job node mid (Remove slots.Previous) (next, step, is) = ap (λ (n : Node). n.next_job) (is ∙ step.is)
+first_job node mid Reports is = ap (λ (n : Node). n.next_job) is
 
 agent_some : (agent : Option ℕ) → (agent ≡ None → ⊥) → is_some agent ≡ true
 agent_some None some = absurd (some refl)
@@ -77,11 +85,17 @@ promotion_allowed node report parts sound pending job below =
     let agent = agent_some node.agent (λ none. some_none parts node.pending pending (sound.bare none).pending) in
     rw (agent, ap (λ (o : Option (List Part)). is_some o) pending, next_is node.next_job report.job job below) refl
 
-first_meta : (node mid : Node) (task : Task) → Steps node (first_of node task) mid → mid.meta ≡ node.meta
-first_meta node mid (Init agent) (next, step, is) = ap (λ (n : Node). n.meta) (is ∙ step.is)
-first_meta node mid (Push staged) (next, step, is) = ap (λ (n : Node). n.meta) (is ∙ step.is)
-first_meta node mid Consistency is = ap (λ (n : Node). n.meta) is
-first_meta node mid Boot steps = boot_meta node.reboot steps where
+-- and before a run they leave the meta-configuration
+first_meta : (node mid : Node) (task : Task) → is_run task ≡ true → Steps node (first_of node task) mid → mid.meta ≡ node.meta
+first_meta node mid (Init agent) runs steps = absurd (cc runs)
+first_meta node mid (Meta meta) runs steps = absurd (cc runs)
+first_meta node mid (Push staged) runs (next, step, is) = ap (λ (n : Node). n.meta) (is ∙ step.is)
+first_meta node mid Consistency runs is = ap (λ (n : Node). n.meta) is
+first_meta node mid Get runs steps = absurd (cc runs)
+first_meta node mid Restore runs (next, step, is) = ap (λ (n : Node). n.meta) (is ∙ step.is)
+first_meta node mid (Remove stage) runs steps = absurd (cc runs)
+first_meta node mid Reports runs steps = absurd (cc runs)
+first_meta node mid Boot runs steps = boot_meta node.reboot steps where
   boot_meta : (b : Bool) → Steps node (cond b (events.Boot ∷ []) []) mid → mid.meta ≡ node.meta
   boot_meta true (next, step, is) = ap (λ (n : Node). n.meta) (is ∙ step.is)
   boot_meta false is = ap (λ (n : Node). n.meta) is
@@ -189,9 +203,9 @@ module _ {D H C : Type 0} (d : disks.Ghosts D) (host : hosts.Ghosts H) (clock : 
   work_facts task first last _ _ _ _ _ (clock_failed status lines allowed other gave took rose same ends) = idle status lines [] None same (λ report k. k)
   work_facts task first last _ _ _ _ _ (first_refused event error status lines committed broken allowed one reads same refused ends) =
       idle status lines committed broken same (λ report k. first_refused_keeps report from from task (disk_counts d begin now) event error committed broken one refused k)
-  work_facts task first last _ _ _ _ _ (initialized status lines allowed init quiet answers) = idle status lines (first_of from task) None quiet.machine (λ report k. first_keeps report from task k)
+  work_facts task first last _ _ _ _ _ (settled status lines allowed ends quiet answers) = idle status lines (first_of from task) None quiet.machine (λ report k. first_keeps report from task k)
   work_facts task first last _ _ _ _ _ (finished mid start readings run status lines committed broken allowed other gave took steps f) =
-      finish_facts (first_of from task) mid _ readings _ start steps (first_job from mid task steps) (first_meta from mid task steps) (λ report k. first_keeps report from task k) run status lines committed broken f
+      finish_facts (first_of from task) mid _ readings _ start steps (first_job from mid task steps) (first_meta from mid task other steps) (λ report k. first_keeps report from task k) run status lines committed broken f
 
 pub headline : {D H C : Type 0} (d : disks.Ghosts D) (host : hosts.Ghosts H) (clock : clocks.Ghosts C) → RepairSucceeds → FaultsAreContained → CompliantHold → (command : Command) (before after : Outside D (Kinds H) C)
     (status : Status) (lines : List ℕ) (o : Opened (known d (kinds_of host) clock) command before after status lines)

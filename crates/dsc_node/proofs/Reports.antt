@@ -9,7 +9,7 @@ use Rattle.node_state.specs.declared.event.Event.TheVariants as events
 use Rattle.node_store.specs.declared.error.StoreError.{StoreError}
 use Rattle.node_store.specs.declared.error.StoreError.TheVariants as errors
 use Rattle.dsc_node.specs.declared.command.Task.{Task}
-use Rattle.dsc_node.specs.declared.command.Task.TheVariants.{Init, Push, Consistency, Boot}
+use Rattle.dsc_node.specs.declared.command.Task.TheVariants.{Init, Meta, Push, Consistency, Boot, Get, Restore, Remove, Reports}
 use Rattle.dsc_node.specs.Commands.{first_of}
 use Rattle.dsc_node.specs.Headline.{Keeps, KeepsReport}
 use Rattle.dsc_node.specs.Runs.{Run, event_of}
@@ -54,10 +54,18 @@ module _ (report : Report) where
   pub first_keeps : (node : Node) (task : Task) → Keeps (first_of node task) report → ⊥
   first_keeps node (Init agent) (inl is) = is
   first_keeps node (Init agent) (inr k) = k
+  first_keeps node (Meta meta) (inl is) = is
+  first_keeps node (Meta meta) (inr k) = k
   first_keeps node (Push staged) (inl is) = is
   first_keeps node (Push staged) (inr k) = k
   first_keeps node Consistency k = k
   first_keeps node Boot k = boot_keeps node.reboot k
+  first_keeps node Get k = k
+  first_keeps node Restore (inl is) = is
+  first_keeps node Restore (inr k) = k
+  first_keeps node (Remove stage) (inl is) = is
+  first_keeps node (Remove stage) (inr k) = k
+  first_keeps node Reports k = k
 
   none_before : (node : Node) (task : Task) (event : Event) → first_of node task ≡ event ∷ [] → KeepsReport event report → ⊥
   none_before node task event one is = first_keeps node task (subst (λ (w : List Event). Keeps w report) (sym one) (inl is))

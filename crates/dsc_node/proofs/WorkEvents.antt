@@ -13,11 +13,10 @@ use Rattle.node_state.specs.Slots.{Stages, StagesPart}
 use Rattle.node_store.specs.declared.error.StoreError.{StoreError}
 use Rattle.node_store.specs.declared.error.StoreError.TheVariants as errors
 use Rattle.dsc_node.specs.declared.command.Task.{Task}
-use Rattle.dsc_node.specs.declared.command.Task.TheVariants.{Init, Push, Consistency, Boot}
 use Rattle.dsc_node.specs.declared.status.Status.{Status}
 use Rattle.dsc_node.specs.Commands.{first_of}
 use Rattle.dsc_node.specs.Runs.{Run, event_of}
-use Rattle.dsc_node.specs.Work.{Finish, RefusedAfter, StartTable, all_of, broken_by, clock_failed, finished, first_refused, initialized, no_run, not_allowed, report_kept, report_refused, unended, unready, waiting}
+use Rattle.dsc_node.specs.Work.{Finish, RefusedAfter, StartTable, all_of, broken_by, clock_failed, finished, first_refused, no_run, not_allowed, report_kept, report_refused, settled, unended, unready, waiting}
 
 module _ (part : Part) where
   pub stages-append : (xs ys : List Event) → Stages (xs ++ ys) part → Stages xs part ⊎ Stages ys part
@@ -79,6 +78,6 @@ module _ (part : Part) where
   work_stages machine clock task from counts node before after first last _ _ _ _ _ (clock_failed status lines allowed other gave took rose idle ends) s = absurd s
   work_stages machine clock task from counts node before after first last _ _ _ _ _ (first_refused event error status lines committed broken allowed one reads idle refused ends) s =
       ⊎_elim (λ none. absurd none) (λ is. subst (λ (w : List Event). Stages w part) (sym one) (inl is)) (refused_stages from counts [] event error committed broken refused s)
-  work_stages machine clock task from counts node before after first last _ _ _ _ _ (initialized status lines allowed init idle answers) s = s
+  work_stages machine clock task from counts node before after first last _ _ _ _ _ (settled status lines allowed ends idle answers) s = s
   work_stages machine clock task from counts node before after first last _ _ _ _ _ (finished mid start readings run status lines committed broken allowed other gave took steps f) s =
       finish_stages machine from counts (first_of node task) mid _ readings _ start before after run status lines committed broken f s

@@ -7,6 +7,7 @@ pub mod Ran
 pub mod Readings
 pub mod Running
 pub mod Runs
+pub mod Shown
 pub mod Start
 pub mod Status
 pub mod Work

@@ -1,10 +1,9 @@
 -- How far a start has come, and what a crash at any moment of it leaves. Nothing here is about bytes.
-use Rattle.std.specs.Prelude.{◌≡◌, ◌≢◌, ◌⊎◌, ℕ, ◌≤◌, List, [], ◌∷◌, ◌++◌, Option, None, IfSome, Result, Ok, Err, codes}
+use Rattle.std.specs.Prelude.{◌≡◌, ◌≢◌, ◌⊎◌, ℕ, ◌≤◌, List, [], ◌∷◌, ◌++◌, Option, None, IfSome, Result, Ok, Err}
 use Rattle.dsc_outside.specs.declared.disk.Disk.{Ghosts}
 use Rattle.gate_log.specs.Standing.{AllStand, Any, StandsAtAnyMoment, StoodFor}
 use Rattle.node_state.specs.declared.node.Node.{Node}
 use Rattle.node_state.specs.declared.event.Event.{Event}
-use Rattle.node_state.specs.declared.event.Event.TheVariants as events
 use Rattle.node_state.specs.Table.{Steps, refusal}
 use Rattle.node_store.specs.declared.error.StoreError.{StoreError}
 use Rattle.node_store.specs.Stands.{Stands}
@@ -13,10 +12,12 @@ use Rattle.node_store.specs.Store.{StoreTerm, IsKept}
 use Rattle.resource_kinds.specs.declared.entry.Entry.{Entry}
 use Rattle.dsc_node.specs.declared.status.Status.{Status}
 use Rattle.dsc_node.specs.declared.status.Status.TheVariants as statuses
+use Rattle.dsc_node.specs.declared.command.Task.{Task}
 use Rattle.dsc_node.specs.declared.running.Over.{Over}
+use Rattle.dsc_node.specs.Commands.{first_of}
 use Rattle.dsc_node.specs.Lines.{overlap_line, run_lines}
 use Rattle.dsc_node.specs.Runs.{end_line, event_of, status_after}
-use Rattle.dsc_node.specs.Work.{Answers, Ends, RefusedAfter, all_of, status_of}
+use Rattle.dsc_node.specs.Work.{Answers, Ends, RefusedAfter, all_of, settled_text, status_of}
 
 -- the node after a prefix of this work
 pub record AfterPrefix (from : Node) (work : List Event) (node : Node) : Type 0 where
@@ -77,12 +78,16 @@ FirstGoes d old now before events (Ok v) after = Carries d old now before after 
 FirstGoes d old now before events (Err error) after =
     EndsStart d old now before (λ from counts work committed broken. (event : Event) × (events ≡ event ∷ []) × RefusedAfter from counts work event error committed broken)
 
--- the node became that of the agent, or the event was refused
-abbrev pub InitGoes : {D : Type 0} → Ghosts D → D → D → StoreTerm → ℕ → Status → List ℕ → Type 0
-InitGoes d old now before agent status lines =
-    (EndsStart d old now before (λ from counts work committed broken. (committed ≡ work ++ events.Init agent ∷ []) × (broken ≡ None)) × Answers statuses.Done (codes "ok\n") status lines)
+-- these events, one or none, were committed and this text is printed, or the event was refused
+abbrev pub SettlesBy : {D : Type 0} → Ghosts D → D → D → StoreTerm → List Event → List ℕ → Status → List ℕ → Type 0
+SettlesBy d old now before events text status lines =
+    (EndsStart d old now before (λ from counts work committed broken. (committed ≡ work ++ events) × (broken ≡ None)) × Answers statuses.Done text status lines)
     ⊎ ((error : StoreError) × Ends (status_of error) [] status lines
-    × EndsStart d old now before (λ from counts work committed broken. RefusedAfter from counts work (events.Init agent) error committed broken))
+    × EndsStart d old now before (λ from counts work committed broken. (event : Event) × (events ≡ event ∷ []) × RefusedAfter from counts work event error committed broken))
+
+-- so did a task that comes to no run
+abbrev pub SettleGoes : {D : Type 0} → Ghosts D → D → D → StoreTerm → Task → Status → List ℕ → Type 0
+SettleGoes d old now before task status lines = SettlesBy d old now before (first_of before.node task) (settled_text task before.node) status lines
 
 -- the event that keeps the report of the run
 abbrev pub event_to_keep : Over → Event

@@ -13,14 +13,15 @@ use Rattle.node_state.specs.Table.{Steps, refusal}
 use Rattle.node_store.specs.declared.error.StoreError.{StoreError}
 use Rattle.node_store.specs.declared.error.StoreError.TheVariants as errors
 use Rattle.dsc_node.specs.declared.command.Task.{Task}
-use Rattle.dsc_node.specs.declared.command.Task.TheVariants.{Init}
+use Rattle.dsc_node.specs.declared.command.Task.TheVariants.{Init, Meta, Push, Consistency, Boot, Get, Restore, Remove, Reports}
 use Rattle.dsc_node.specs.declared.status.InputError.TheVariants as inputs
 use Rattle.dsc_node.specs.declared.status.Status.{Status}
 use Rattle.dsc_node.specs.declared.status.Status.TheVariants as statuses
-use Rattle.dsc_node.specs.Commands.{IsAllowed, first_of, is_init, stops, waits, why_not}
+use Rattle.dsc_node.specs.Commands.{IsAllowed, first_of, is_run, stops, waits, why_not}
 use Rattle.dsc_node.specs.Lines.{IsRunText}
 use Rattle.dsc_node.specs.Readings.{Gave, Took}
 use Rattle.dsc_node.specs.Runs.{Reported, Run, Unended, chosen_of, end_line, event_of, status_after}
+use Rattle.dsc_node.specs.Shown.{node_text, reports_text}
 
 -- ---- answers
 
@@ -107,10 +108,22 @@ pub record IsIdle {S C : Type 0} (before after : S) (first last : C) : Type 0 wh
   pub machine : after ≡ before
   pub clock : last ≡ first
 
--- an agent's first event reads no clock, any other is committed after the first reading
-abbrev pub ReadsBefore : {C : Type 0} → clocks.Ghosts C → Task → C → C → Type 0
-ReadsBefore clock (Init agent) first last = last ≡ first
-ReadsBefore clock _ first last = ((start : ℕ) × Gave (clock.coming first) (Some start)) × Took 1 (clock.coming first) (clock.coming last)
+-- before a run the clock is read, and else it is not
+abbrev pub ReadsBefore : {C : Type 0} → clocks.Ghosts C → Bool → C → C → Type 0
+ReadsBefore clock false first last = last ≡ first
+ReadsBefore clock true first last = ((start : ℕ) × Gave (clock.coming first) (Some start)) × Took 1 (clock.coming first) (clock.coming last)
+
+-- what a task prints that comes to no run: what the node is and holds, its reports, or that all is done
+abbrev pub settled_text : Task → Node → List ℕ
+settled_text (Init agent) node = codes "ok\n"
+settled_text (Meta meta) node = codes "ok\n"
+settled_text (Push staged) node = []
+settled_text Consistency node = []
+settled_text Boot node = []
+settled_text Get node = node_text node
+settled_text Restore node = []
+settled_text (Remove stage) node = codes "ok\n"
+settled_text Reports node = reports_text node
 
 -- A start, after this work (none), which led to this node.
 pub data StartTable {S C : Type 0} (machine : Ghosts S) (clock : clocks.Ghosts C) (task : Task) (from : Node) (counts : ℕ × ℕ) (work : List Event) (node : Node)
@@ -121,19 +134,19 @@ pub data StartTable {S C : Type 0} (machine : Ghosts S) (clock : clocks.Ghosts C
   waiting : (status : Status) (lines : List ℕ) → why_not node task ≡ None → waits node task ≡ true → IsIdle before after first last
       → Ends statuses.RebootWaiting [] status lines
       → StartTable machine clock task from counts work node before after first last None status lines work None
-  clock_failed : (status : Status) (lines : List ℕ) → IsAllowed node task → is_init task ≡ false
+  clock_failed : (status : Status) (lines : List ℕ) → IsAllowed node task → is_run task ≡ true
       → Gave (clock.coming first) None → Took 1 (clock.coming first) (clock.coming last) → Rose (clock.faults first) (clock.faults last)
       → after ≡ before → Ends statuses.ClockFault [] status lines
       → StartTable machine clock task from counts work node before after first last None status lines work None
   first_refused : (event : Event) (error : StoreError) (status : Status) (lines : List ℕ) (committed : List Event) (broken : Option Event)
-      → IsAllowed node task → first_of node task ≡ event ∷ [] → ReadsBefore clock task first last
+      → IsAllowed node task → first_of node task ≡ event ∷ [] → ReadsBefore clock (is_run task) first last
       → after ≡ before → RefusedAfter from counts work event error committed broken → Ends (status_of error) [] status lines
       → StartTable machine clock task from counts work node before after first last None status lines committed broken
-  initialized : (status : Status) (lines : List ℕ) → IsAllowed node task → is_init task ≡ true → IsIdle before after first last
-      → Answers statuses.Done (codes "ok\n") status lines
+  settled : (status : Status) (lines : List ℕ) → IsAllowed node task → is_run task ≡ false → IsIdle before after first last
+      → Answers statuses.Done (settled_text task node) status lines
       → StartTable machine clock task from counts work node before after first last None status lines (work ++ first_of node task) None
   finished : (mid : Node) (start : ℕ) (readings : Option (List (Option ℕ))) (run : Option Run) (status : Status) (lines : List ℕ) (committed : List Event) (broken : Option Event)
-      → IsAllowed node task → is_init task ≡ false
+      → IsAllowed node task → is_run task ≡ true
       → Gave (clock.coming first) (Some start) → Took 1 (clock.coming first) readings → Steps node (first_of node task) mid
       → Finish machine from counts (work ++ first_of node task) mid (stops node task) readings (clock.coming last) start before after run status lines committed broken
       → StartTable machine clock task from counts work node before after first last run status lines committed broken

@@ -1,7 +1,7 @@
 //! Where a task is allowed.
 ghost use Rattle.std.specs.Prelude.{◌≡◌};
 ghost use Rattle.node_state.specs.Table.{check};
-ghost use Rattle.dsc_node.specs.Commands.{declares_partials, is_disabled, stops, waits, why_not, why_no_run};
+ghost use Rattle.dsc_node.specs.Commands.{declares_partials, is_disabled, is_run, stops, waits, why_no_agent, why_no_run, why_not};
 
 use crate::command::Task;
 use meta_config::{AfterReboot, RefreshMode};
@@ -13,23 +13,30 @@ pub(crate) fn why_not(node: &Node, task: &Task) -> Option<Why>
 {
     match task {
         Task::Init(_) => check(node.agent.is_none(), Why::HasAgent, None),
+        Task::Meta(_) | Task::Get | Task::Remove(_) | Task::Reports => why_no_agent(node, None),
         Task::Push(_) => {
             let whole = !declares_partials(node);
             why_no_run(node, check(whole, Why::PartsDeclared, None))
         }
+        Task::Restore => {
+            let kept = node.previous.is_some();
+            why_no_run(node, check(kept, Why::NoPrevious, None))
+        }
         Task::Consistency | Task::Boot => why_no_run(node, None),
     }
+}
+
+fn why_no_agent(node: &Node, rest: Option<Why>) -> Option<Why>
+    ensures { result ≡ why_no_agent node.now rest }
+{
+    check(node.agent.is_some(), Why::NoAgent, rest)
 }
 
 fn why_no_run(node: &Node, rest: Option<Why>) -> Option<Why>
     ensures { result ≡ why_no_run node.now rest }
 {
     let enabled = !is_disabled(node.meta.refresh);
-    check(
-        node.agent.is_some(),
-        Why::NoAgent,
-        check(enabled, Why::Disabled, rest),
-    )
+    why_no_agent(node, check(enabled, Why::Disabled, rest))
 }
 
 fn check(holds: bool, why: Why, rest: Option<Why>) -> Option<Why>
@@ -58,8 +65,23 @@ pub(crate) fn waits(node: &Node, task: &Task) -> bool
     ensures { result ≡ waits node.now task.now }
 {
     match task {
-        Task::Push(_) | Task::Consistency => node.reboot,
-        Task::Init(_) | Task::Boot => false,
+        Task::Push(_) | Task::Consistency | Task::Restore => node.reboot,
+        Task::Init(_)
+        | Task::Meta(_)
+        | Task::Boot
+        | Task::Get
+        | Task::Remove(_)
+        | Task::Reports => false,
+    }
+}
+
+/// Tells whether the task comes to a run, if there is something to run.
+pub(crate) fn is_run(task: &Task) -> bool
+    ensures { result ≡ is_run task.now }
+{
+    match task {
+        Task::Push(_) | Task::Consistency | Task::Boot | Task::Restore => true,
+        Task::Init(_) | Task::Meta(_) | Task::Get | Task::Remove(_) | Task::Reports => false,
     }
 }
 
@@ -72,6 +94,13 @@ pub(crate) fn stops(node: &Node, task: &Task) -> bool
             AfterReboot::ContinueConfiguration => false,
             AfterReboot::StopConfiguration => node.reboot,
         },
-        Task::Init(_) | Task::Push(_) | Task::Consistency => false,
+        Task::Init(_)
+        | Task::Meta(_)
+        | Task::Push(_)
+        | Task::Consistency
+        | Task::Get
+        | Task::Restore
+        | Task::Remove(_)
+        | Task::Reports => false,
     }
 }

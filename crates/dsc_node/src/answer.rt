@@ -1,10 +1,10 @@
 //! How a start ends, and what it prints.
-ghost use Rattle.std.specs.Prelude.{◌≡◌, ◌<◌, ◌++◌, [], All, IfOk, length, string_bytes};
+ghost use Rattle.std.specs.Prelude.{◌≡◌, ◌<◌, ◌++◌, [], All, IfOk, IsErr, length, string_bytes};
 ghost use Rattle.resource_kinds.specs.Trace.{place_of};
 ghost use Rattle.lcm_core.specs.RunLaws.{EndsAtYes};
 ghost use Rattle.dsc_node.specs.Lines.{overlap_line, run_lines};
 ghost use Rattle.dsc_node.specs.Runs.{end_line, status_after};
-ghost use Rattle.dsc_node.specs.Work.{Answers, status_of, status_of_input};
+ghost use Rattle.dsc_node.specs.Work.{Answers, Ends, status_of, status_of_input};
 
 use crate::lines::lines_of;
 use crate::status::{InputError, Status};
@@ -33,6 +33,20 @@ impl StartEnd {
         StartEnd {
             status,
             lines: String::new(alloc),
+        }
+    }
+
+    /// An end that prints the text that was made, and for which memory may have been refused.
+    pub(crate) fn showing(alloc: Global, text: Result<String, AllocError>) -> StartEnd
+        ensures shown { IfOk text (λ lines. Answers Status.Done (string_bytes lines) result.status (string_bytes result.lines)) }
+        ensures memory { IsErr text → Ends Status.Memory [] result.status (string_bytes result.lines) }
+    {
+        match text {
+            Ok(lines) => StartEnd {
+                status: Status::Done,
+                lines,
+            },
+            Err(AllocError) => StartEnd::silent(alloc, Status::Memory),
         }
     }
 

@@ -1,12 +1,16 @@
 //! Commands.
+use meta_config::Meta;
 use mof_values::Bytes;
-use node_state::Staged;
+use node_state::{Stage, Staged};
 
 /// What a node is asked to do.
 #[derive(Debug, Drop)]
 pub enum Command {
     /// Become the node of this agent.
     Init(u128),
+
+    /// Behave as this meta-configuration says; the server has not accepted the agent under it yet.
+    Meta(Meta),
 
     /// Make the document with these bytes Pending, and apply it.
     Push(Bytes),
@@ -16,13 +20,30 @@ pub enum Command {
 
     /// The machine booted: do the same, also where a reboot was asked for.
     Boot,
+
+    /// Print what the node is and holds.
+    Get,
+
+    /// Make a copy of Previous Pending, and apply it.
+    Restore,
+
+    /// Drop the parts that are kept there, if any.
+    Remove(Stage),
+
+    /// Print the reports that are kept, the oldest first.
+    Reports,
 }
 
 /// A command whose document, where it has one, is merged.
 #[derive(Debug, Drop)]
 pub(crate) enum Task {
     Init(u128),
+    Meta(Meta),
     Push(Staged),
     Consistency,
     Boot,
+    Get,
+    Restore,
+    Remove(Stage),
+    Reports,
 }

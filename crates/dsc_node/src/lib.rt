@@ -14,6 +14,7 @@ mod order;
 mod preparing;
 mod run;
 mod running;
+mod showing;
 mod starting;
 mod status;
 

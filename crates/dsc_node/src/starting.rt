@@ -1,5 +1,5 @@
 //! One start.
-ghost use Rattle.std.specs.Prelude.{◌≡◌, ◌≤◌, ◌<◌, [], All, List, Option, false, true, length, IfErr, OnOk, string_bytes};
+ghost use Rattle.std.specs.Prelude.{◌≡◌, ◌≤◌, ◌<◌, [], ◌∷◌, All, List, Option, codes, false, true, length, IfErr, OnOk, string_bytes};
 ghost use Rattle.dsc_outside.specs.Clock.{last_moment};
 ghost use Rattle.gate_log.specs.Standing.{AllStand, Any};
 ghost use Rattle.resource_kinds.specs.Kinds.{calls_of};
@@ -9,18 +9,19 @@ ghost use Rattle.report_log.specs.Sizes.{ReportInSize};
 ghost use Rattle.node_state.specs.Table.{IsWithin};
 ghost use Rattle.node_store.specs.Stands.{Stands};
 ghost use Rattle.node_store.specs.Store.{IsKept, TakesMemory};
-ghost use Rattle.dsc_node.specs.Commands.{first_of, is_init};
+ghost use Rattle.dsc_node.specs.Commands.{IsTaken, IsTakenTask, first_of, is_run};
 ghost use Rattle.dsc_node.specs.Headline.{HasHeadline, kinds_of};
-ghost use Rattle.dsc_node.specs.Path.{CommitGoes, EndsStart, FirstGoes, InitGoes, KeepGoes};
+ghost use Rattle.dsc_node.specs.Path.{CommitGoes, EndsStart, FirstGoes, KeepGoes, SettleGoes, SettlesBy};
 ghost use Rattle.dsc_node.specs.Runs.{Run, event_of};
 ghost use Rattle.dsc_node.specs.Start.{Start, known, outside};
 ghost use Rattle.dsc_node.specs.Work.{Finish, StartTable};
 
-use crate::allowing::{stops, waits, why_not};
+use crate::allowing::{is_run, stops, waits, why_not};
 use crate::answer::{StartEnd, after_run, end_line, status_after, status_of, status_of_input};
 use crate::command::{Command, Task};
 use crate::preparing::task_of;
 use crate::running::{Over, RunStep, run_step};
+use crate::showing::{node_text, reports_text};
 use crate::status::Status;
 use dsc_outside::{Clock, Disk, Host};
 use lcm_core::{RunEnd, repair_laws, trace_laws};
@@ -42,6 +43,7 @@ pub fn start_over<D: Disk, M: Machine, C: Clock>(
     machine: &mut M,
     clock: &mut C,
 ) -> StartEnd
+    requires taken { IsTaken command }
     requires fresh { M.kept machine.old ≡ [] }
     ensures start { Start (known D.Disk M.Resources C.Clock) command (outside disk.old machine.old clock.old) (outside disk.new machine.new clock.new) result.status (string_bytes result.lines) }
     ensures again { AllStand D.Disk disk.old Stands Any → AllStand D.Disk disk.new Stands Any }
@@ -70,6 +72,7 @@ pub fn start<D: Disk, H: Host, C: Clock>(
     kinds: &mut Kinds<H>,
     clock: &mut C,
 ) -> StartEnd
+    requires taken { IsTaken command }
     requires fresh { calls_of kinds.old ≡ [] }
     ensures start { Start (known D.Disk (kinds_of H.Host) C.Clock) command (outside disk.old kinds.old clock.old) (outside disk.new kinds.new clock.new) result.status (string_bytes result.lines) }
     ensures headline { HasHeadline (known D.Disk (kinds_of H.Host) C.Clock) H.Host command (outside disk.old kinds.old clock.old) (outside disk.new kinds.new clock.new) result.status (string_bytes result.lines) }
@@ -91,6 +94,7 @@ fn opened<D: Disk, M: Machine, C: Clock>(
     clock: &mut C,
 ) -> StartEnd
     requires kept { IsKept D.Disk disk.old store.old }
+    requires taken { IsTakenTask task }
     requires fresh { M.kept machine.old ≡ [] }
     ensures goes { (run : Option Run) × EndsStart D.Disk disk.old disk.new store.old (λ from counts work committed broken.
         StartTable M.Resources C.Clock task from counts work store.old.node machine.old machine.new clock.old clock.new run result.status (string_bytes result.lines) committed broken) }
@@ -102,8 +106,8 @@ fn opened<D: Disk, M: Machine, C: Clock>(
     if waits(store.state(), &task) {
         return StartEnd::silent(alloc, Status::RebootWaiting);
     }
-    if let Task::Init(agent) = task {
-        return initialize(alloc, agent, store, disk);
+    if !is_run(&task) {
+        return settle(alloc, task, store, disk);
     }
     let Ok(start) = clock.now() else {
         return StartEnd::silent(alloc, Status::ClockFault);
@@ -115,12 +119,35 @@ fn opened<D: Disk, M: Machine, C: Clock>(
     finish(alloc, start, stopped, store, disk, machine, clock)
 }
 
-// The node becomes that of an agent.
-fn initialize<D: Disk>(alloc: Global, agent: u128, store: &mut NodeStore, disk: &mut D) -> StartEnd
+// A task that comes to no run: it commits one event, or shows what the node is.
+fn settle<D: Disk>(alloc: Global, task: Task, store: &mut NodeStore, disk: &mut D) -> StartEnd
     requires kept { IsKept D.Disk disk.old store.old }
-    ensures goes { InitGoes D.Disk disk.old disk.new store.old agent result.status (string_bytes result.lines) }
+    requires taken { IsTakenTask task }
+    requires other { is_run task ≡ false }
+    ensures goes { SettleGoes D.Disk disk.old disk.new store.old task result.status (string_bytes result.lines) }
 {
-    match commit(store, disk, Event::Init(agent)) {
+    match task {
+        Task::Init(agent) => commit_alone(alloc, Event::Init(agent), store, disk),
+        Task::Meta(meta) => commit_alone(alloc, Event::SetMeta(meta), store, disk),
+        Task::Remove(stage) => commit_alone(alloc, Event::Remove(stage), store, disk),
+        Task::Get => StartEnd::showing(alloc, node_text(alloc, store.state())),
+        Task::Reports => StartEnd::showing(alloc, reports_text(alloc, store.state())),
+        Task::Push(_) | Task::Consistency | Task::Boot | Task::Restore => unreachable!(),
+    }
+}
+
+// One event, and nothing after it.
+fn commit_alone<D: Disk>(
+    alloc: Global,
+    event: Event,
+    store: &mut NodeStore,
+    disk: &mut D,
+) -> StartEnd
+    requires kept { IsKept D.Disk disk.old store.old }
+    requires within { IsWithin event }
+    ensures goes { SettlesBy D.Disk disk.old disk.new store.old (event ∷ []) (codes "ok\n") result.status (string_bytes result.lines) }
+{
+    match commit(store, disk, event) {
         Ok(()) => StartEnd::printing(alloc, Status::Done, "ok\n"),
         Err(error) => StartEnd::silent(alloc, status_of(error)),
     }
@@ -129,13 +156,13 @@ fn initialize<D: Disk>(alloc: Global, agent: u128, store: &mut NodeStore, disk: 
 // The events before the run.
 fn commit_first<D: Disk>(task: Task, store: &mut NodeStore, disk: &mut D) -> Result<(), StoreError>
     requires kept { IsKept D.Disk disk.old store.old }
-    requires other { is_init task ≡ false }
+    requires other { is_run task ≡ true }
     ensures kept { OnOk result (IsKept D.Disk disk.new store.new) }
     ensures goes { FirstGoes D.Disk disk.old disk.new store.old (first_of store.old.node task) result store.new }
 {
     match task {
-        Task::Init(_) => unreachable!(),
         Task::Push(staged) => commit(store, disk, Event::Stage(staged)),
+        Task::Restore => commit(store, disk, Event::Restore),
         Task::Consistency => Ok(()),
         Task::Boot => {
             if store.state().reboot {
@@ -143,6 +170,9 @@ fn commit_first<D: Disk>(task: Task, store: &mut NodeStore, disk: &mut D) -> Res
             } else {
                 Ok(())
             }
+        }
+        Task::Init(_) | Task::Meta(_) | Task::Get | Task::Remove(_) | Task::Reports => {
+            unreachable!()
         }
     }
 }

@@ -2,14 +2,17 @@
 ghost use Rattle.std.specs.Prelude.{◌≡◌};
 ghost use Rattle.dsc_node.specs.Status.{number_of};
 
+use meta_config::MetaError;
 use mof_codec::MofError;
+use mof_values::Items;
 use node_state::Why;
 use partial_merge::MergeError;
 
 /// Why the input was refused.
 #[derive(Debug, Drop, PartialEq)]
 pub enum InputError {
-    /// It is longer than the command takes: 2,097,152 bytes of a document, 67,108,864 bytes for a checksum.
+    /// It is longer than the command takes: 2,097,152 bytes of a document, 262,144 bytes of a meta-configuration, 67,108,864
+    /// bytes for a checksum.
     TooLong,
 
     /// It spells no instances. `MofError::TooLong` and `MofError::Memory` are never told so.
@@ -17,6 +20,12 @@ pub enum InputError {
 
     /// It declares no document. `MergeError::Memory` is never told so.
     Merge(MergeError),
+
+    /// It declares no meta-configuration. `MetaError::Memory` is never told so.
+    Meta(MetaError),
+
+    /// Its partial configurations have no order: each at these places depends on the next, and the last on the first.
+    Parts(Items<u32>),
 }
 
 /// How the program ended.

@@ -5,9 +5,11 @@ use Rattle.std.specs.Str.Parse.{digits_value}
 use Rattle.std.proofs.lemmas.Str.Parse.{numerals_by_value, tells_digits}
 use Rattle.std.proofs.lemmas.Fmt.{digits_value-decimal}
 use Rattle.uuid.proofs.OnLiterals.{uuid_on_literals}
+use Rattle.node_state.specs.declared.event.Stage.{Stage}
+use Rattle.node_state.specs.declared.event.Stage.TheVariants.{Pending, Current, Previous}
 use Rattle.lcm_program.specs.declared.words.Command.{Command}
-use Rattle.lcm_program.specs.declared.words.Command.TheVariants.{Test, Check, Order, Canon, Checksum, Generate, Init, Push, Consistency, Boot}
-use Rattle.lcm_program.specs.Words.{IsAgent, IsCount, IsForm, IsInRange, IsUsage, agent_of}
+use Rattle.lcm_program.specs.declared.words.Command.TheVariants.{Test, Check, Order, Canon, Checksum, Generate, Init, Meta, Push, Consistency, Boot, Get, Restore, Remove, Reports}
+use Rattle.lcm_program.specs.Words.{IsAgent, IsCount, IsForm, IsInRange, IsStage, IsUsage, agent_of}
 
 -- the first letter of a word, and that of the first word, which tells the commands that take another word from all others
 abbrev letter : List ℕ → ℕ
@@ -15,6 +17,23 @@ letter word = get_or word 0 0
 
 abbrev first_letter : List (List ℕ) → ℕ
 first_letter words = letter (get_or words 0 [])
+
+-- its length, where that letter does not
+abbrev first_length : List (List ℕ) → ℕ
+first_length words = length (get_or words 0 [])
+
+-- the stage that a word names
+stage_of : List ℕ → Stage
+stage_of word =
+    if bytes_eq word (codes "pending") then Pending else
+    if bytes_eq word (codes "current") then Current else
+    Previous
+
+named_stage : (word : List ℕ) (stage : Stage) → IsStage word stage → stage_of word ≡ stage
+unfolding stage_of
+named_stage word Pending is = ap stage_of is
+named_stage word Current is = ap stage_of is
+named_stage word Previous is = ap stage_of is
 
 -- the command that words in a form ask for
 asked : List (List ℕ) → Command
@@ -25,9 +44,14 @@ asked words =
     if bytes_eq first (codes "order") then Order else
     if bytes_eq first (codes "canon") then Canon else
     if bytes_eq first (codes "checksum") then Checksum else
+    if bytes_eq first (codes "meta") then Meta else
     if bytes_eq first (codes "push") then Push else
     if bytes_eq first (codes "consistency") then Consistency else
     if bytes_eq first (codes "boot") then Boot else
+    if bytes_eq first (codes "get") then Get else
+    if bytes_eq first (codes "restore") then Restore else
+    if bytes_eq first (codes "reports") then Reports else
+    if bytes_eq first (codes "remove") then Remove (stage_of (get_or words 1 [])) else
     if bytes_eq first (codes "init") then Init (unwrap_or (agent_of (get_or words 1 [])) 0) else
     Generate (digits_value 10 (get_or words 1 []))
 
@@ -41,9 +65,14 @@ form_asks Checksum words form = ap asked form
 form_asks (Generate count) words (word, is, counted) =
     ap asked is ∙ ap (λ (n : ℕ). Generate n) (ap (digits_value 10) counted.0 ∙ digits_value-decimal (numerals_by_value _ tells_digits) count (omega (arith, counted.2)))
 form_asks (Init agent) words (word, is, named) = ap asked is ∙ ap (λ found. Init (unwrap_or found 0)) named
+form_asks Meta words form = ap asked form
 form_asks Push words form = ap asked form
 form_asks Consistency words form = ap asked form
 form_asks Boot words form = ap asked form
+form_asks Get words form = ap asked form
+form_asks Restore words form = ap asked form
+form_asks (Remove stage) words (word, is, named) = ap asked is ∙ ap (λ (s : Stage). Remove s) (named_stage word stage named)
+form_asks Reports words form = ap asked form
 
 -- the words ask for one command
 pub one_form : (a b : Command) (words : List (List ℕ)) → IsForm a words → IsForm b words → a ≡ b
@@ -57,15 +86,20 @@ in_range Canon words form = tt
 in_range Checksum words form = tt
 in_range (Generate count) words form = (form.2.1, form.2.2)
 in_range (Init agent) words form = tt
+in_range Meta words form = tt
 in_range Push words form = tt
 in_range Consistency words form = tt
 in_range Boot words form = tt
+in_range Get words form = tt
+in_range Restore words form = tt
+in_range (Remove stage) words form = tt
+in_range Reports words form = tt
 
 -- ---- words alone
 
 -- the word of a command that takes another
 abbrev pub TakesWord : List ℕ → Type 0
-TakesWord first = (first ≡ codes "generate") ⊎ (first ≡ codes "init")
+TakesWord first = (first ≡ codes "generate") ⊎ ((first ≡ codes "init") ⊎ (first ≡ codes "remove"))
 
 -- any other form is a word alone
 form_parts : (command : Command) (first : List ℕ) (rest : List (List ℕ)) → IsForm command (first ∷ rest)
@@ -76,31 +110,57 @@ form_parts Order first rest form = inl (ap (take 1) form, ap (drop 1) form)
 form_parts Canon first rest form = inl (ap (take 1) form, ap (drop 1) form)
 form_parts Checksum first rest form = inl (ap (take 1) form, ap (drop 1) form)
 form_parts (Generate count) first rest (word, is, counted) = inr (inl (ap (λ words. get_or words 0 []) is))
-form_parts (Init agent) first rest (word, is, named) = inr (inr (ap (λ words. get_or words 0 []) is))
+form_parts (Init agent) first rest (word, is, named) = inr (inr (inl (ap (λ words. get_or words 0 []) is)))
+form_parts Meta first rest form = inl (ap (take 1) form, ap (drop 1) form)
 form_parts Push first rest form = inl (ap (take 1) form, ap (drop 1) form)
 form_parts Consistency first rest form = inl (ap (take 1) form, ap (drop 1) form)
 form_parts Boot first rest form = inl (ap (take 1) form, ap (drop 1) form)
+form_parts Get first rest form = inl (ap (take 1) form, ap (drop 1) form)
+form_parts Restore first rest form = inl (ap (take 1) form, ap (drop 1) form)
+form_parts (Remove stage) first rest (word, is, named) = inr (inr (inr (ap (λ words. get_or words 0 []) is)))
+form_parts Reports first rest form = inl (ap (take 1) form, ap (drop 1) form)
 
 -- a command whose word stands alone takes no other
 alone_takes_none : (command : Command) (first : List ℕ) → IsForm command (first ∷ []) → TakesWord first → ⊥
 alone_takes_none Test first form (inl is) = omega (arith, ap first_letter form, ap letter is)
-alone_takes_none Test first form (inr is) = omega (arith, ap first_letter form, ap letter is)
+alone_takes_none Test first form (inr (inl is)) = omega (arith, ap first_letter form, ap letter is)
+alone_takes_none Test first form (inr (inr is)) = omega (arith, ap first_letter form, ap letter is)
 alone_takes_none Check first form (inl is) = omega (arith, ap first_letter form, ap letter is)
-alone_takes_none Check first form (inr is) = omega (arith, ap first_letter form, ap letter is)
+alone_takes_none Check first form (inr (inl is)) = omega (arith, ap first_letter form, ap letter is)
+alone_takes_none Check first form (inr (inr is)) = omega (arith, ap first_letter form, ap letter is)
 alone_takes_none Order first form (inl is) = omega (arith, ap first_letter form, ap letter is)
-alone_takes_none Order first form (inr is) = omega (arith, ap first_letter form, ap letter is)
+alone_takes_none Order first form (inr (inl is)) = omega (arith, ap first_letter form, ap letter is)
+alone_takes_none Order first form (inr (inr is)) = omega (arith, ap first_letter form, ap letter is)
 alone_takes_none Canon first form (inl is) = omega (arith, ap first_letter form, ap letter is)
-alone_takes_none Canon first form (inr is) = omega (arith, ap first_letter form, ap letter is)
+alone_takes_none Canon first form (inr (inl is)) = omega (arith, ap first_letter form, ap letter is)
+alone_takes_none Canon first form (inr (inr is)) = omega (arith, ap first_letter form, ap letter is)
 alone_takes_none Checksum first form (inl is) = omega (arith, ap first_letter form, ap letter is)
-alone_takes_none Checksum first form (inr is) = omega (arith, ap first_letter form, ap letter is)
+alone_takes_none Checksum first form (inr (inl is)) = omega (arith, ap first_letter form, ap letter is)
+alone_takes_none Checksum first form (inr (inr is)) = omega (arith, ap first_letter form, ap letter is)
 alone_takes_none (Generate count) first (word, is, counted) takes = omega (arith, ap length is)
 alone_takes_none (Init agent) first (word, is, named) takes = omega (arith, ap length is)
+alone_takes_none Meta first form (inl is) = omega (arith, ap first_letter form, ap letter is)
+alone_takes_none Meta first form (inr (inl is)) = omega (arith, ap first_letter form, ap letter is)
+alone_takes_none Meta first form (inr (inr is)) = omega (arith, ap first_letter form, ap letter is)
 alone_takes_none Push first form (inl is) = omega (arith, ap first_letter form, ap letter is)
-alone_takes_none Push first form (inr is) = omega (arith, ap first_letter form, ap letter is)
+alone_takes_none Push first form (inr (inl is)) = omega (arith, ap first_letter form, ap letter is)
+alone_takes_none Push first form (inr (inr is)) = omega (arith, ap first_letter form, ap letter is)
 alone_takes_none Consistency first form (inl is) = omega (arith, ap first_letter form, ap letter is)
-alone_takes_none Consistency first form (inr is) = omega (arith, ap first_letter form, ap letter is)
+alone_takes_none Consistency first form (inr (inl is)) = omega (arith, ap first_letter form, ap letter is)
+alone_takes_none Consistency first form (inr (inr is)) = omega (arith, ap first_letter form, ap letter is)
 alone_takes_none Boot first form (inl is) = omega (arith, ap first_letter form, ap letter is)
-alone_takes_none Boot first form (inr is) = omega (arith, ap first_letter form, ap letter is)
+alone_takes_none Boot first form (inr (inl is)) = omega (arith, ap first_letter form, ap letter is)
+alone_takes_none Boot first form (inr (inr is)) = omega (arith, ap first_letter form, ap letter is)
+alone_takes_none Get first form (inl is) = omega (arith, ap first_length form, ap length is)
+alone_takes_none Get first form (inr (inl is)) = omega (arith, ap first_letter form, ap letter is)
+alone_takes_none Get first form (inr (inr is)) = omega (arith, ap first_letter form, ap letter is)
+alone_takes_none Restore first form (inl is) = omega (arith, ap first_letter form, ap letter is)
+alone_takes_none Restore first form (inr (inl is)) = omega (arith, ap first_letter form, ap letter is)
+alone_takes_none Restore first form (inr (inr is)) = omega (arith, ap first_length form, ap length is)
+alone_takes_none (Remove stage) first (word, is, named) takes = omega (arith, ap length is)
+alone_takes_none Reports first form (inl is) = omega (arith, ap first_letter form, ap letter is)
+alone_takes_none Reports first form (inr (inl is)) = omega (arith, ap first_letter form, ap letter is)
+alone_takes_none Reports first form (inr (inr is)) = omega (arith, ap first_length form, ap length is)
 
 some_word : (command : Command) (words : List (List ℕ)) → IsForm command words → 0 < length words
 some_word Test words form = omega (arith, ap length form)
@@ -110,9 +170,14 @@ some_word Canon words form = omega (arith, ap length form)
 some_word Checksum words form = omega (arith, ap length form)
 some_word (Generate count) words (word, is, counted) = omega (arith, ap length is)
 some_word (Init agent) words (word, is, named) = omega (arith, ap length is)
+some_word Meta words form = omega (arith, ap length form)
 some_word Push words form = omega (arith, ap length form)
 some_word Consistency words form = omega (arith, ap length form)
 some_word Boot words form = omega (arith, ap length form)
+some_word Get words form = omega (arith, ap length form)
+some_word Restore words form = omega (arith, ap length form)
+some_word (Remove stage) words (word, is, named) = omega (arith, ap length is)
+some_word Reports words form = omega (arith, ap length form)
 
 -- there is no word
 pub no_word : IsUsage [] 0
@@ -215,9 +280,14 @@ generate_form Canon rest form = absurd (omega (arith, ap first_letter form))
 generate_form Checksum rest form = absurd (omega (arith, ap first_letter form))
 generate_form (Generate count) rest (word, is, counted) = (word, ap (drop 1) is, (count, counted))
 generate_form (Init agent) rest (word, is, named) = absurd (omega (arith, ap first_letter is))
+generate_form Meta rest form = absurd (omega (arith, ap first_letter form))
 generate_form Push rest form = absurd (omega (arith, ap first_letter form))
 generate_form Consistency rest form = absurd (omega (arith, ap first_letter form))
 generate_form Boot rest form = absurd (omega (arith, ap first_letter form))
+generate_form Get rest form = absurd (omega (arith, ap first_length form))
+generate_form Restore rest form = absurd (omega (arith, ap first_letter form))
+generate_form (Remove stage) rest (word, is, named) = absurd (omega (arith, ap first_letter is))
+generate_form Reports rest form = absurd (omega (arith, ap first_letter form))
 
 pub some_generate : (word : List ℕ) × (command : Command) × IsForm command (codes "generate" ∷ word ∷ [])
 some_generate = (decimal 1, Generate 1, (decimal 1, refl, (refl, omega arith, omega arith)))
@@ -234,9 +304,14 @@ init_form Canon rest form = absurd (omega (arith, ap first_letter form))
 init_form Checksum rest form = absurd (omega (arith, ap first_letter form))
 init_form (Generate count) rest (word, is, counted) = absurd (omega (arith, ap first_letter is))
 init_form (Init agent) rest (word, is, named) = (word, ap (drop 1) is, (agent, named))
+init_form Meta rest form = absurd (omega (arith, ap first_letter form))
 init_form Push rest form = absurd (omega (arith, ap first_letter form))
 init_form Consistency rest form = absurd (omega (arith, ap first_letter form))
 init_form Boot rest form = absurd (omega (arith, ap first_letter form))
+init_form Get rest form = absurd (omega (arith, ap first_letter form))
+init_form Restore rest form = absurd (omega (arith, ap first_letter form))
+init_form (Remove stage) rest (word, is, named) = absurd (omega (arith, ap first_letter is))
+init_form Reports rest form = absurd (omega (arith, ap first_letter form))
 
 zeros : List ℕ
 zeros = codes "00000000000000000000000000000000"
@@ -247,6 +322,30 @@ agent_of_zeros = refl
 
 pub some_init : (word : List ℕ) × (command : Command) × IsForm command (codes "init" ∷ word ∷ [])
 some_init = (zeros, Init 0, (zeros, refl, agent_of_zeros))
+
+abbrev pub IsAnyStage : List ℕ → Type 0
+IsAnyStage word = (stage : Stage) × IsStage word stage
+
+pub remove_form : (command : Command) (rest : List (List ℕ)) → IsForm command (codes "remove" ∷ rest)
+    → (word : List ℕ) × (rest ≡ word ∷ []) × IsAnyStage word
+remove_form Test rest form = absurd (omega (arith, ap first_letter form))
+remove_form Check rest form = absurd (omega (arith, ap first_letter form))
+remove_form Order rest form = absurd (omega (arith, ap first_letter form))
+remove_form Canon rest form = absurd (omega (arith, ap first_letter form))
+remove_form Checksum rest form = absurd (omega (arith, ap first_letter form))
+remove_form (Generate count) rest (word, is, counted) = absurd (omega (arith, ap first_letter is))
+remove_form (Init agent) rest (word, is, named) = absurd (omega (arith, ap first_letter is))
+remove_form Meta rest form = absurd (omega (arith, ap first_letter form))
+remove_form Push rest form = absurd (omega (arith, ap first_letter form))
+remove_form Consistency rest form = absurd (omega (arith, ap first_letter form))
+remove_form Boot rest form = absurd (omega (arith, ap first_letter form))
+remove_form Get rest form = absurd (omega (arith, ap first_letter form))
+remove_form Restore rest form = absurd (omega (arith, ap first_length form))
+remove_form (Remove stage) rest (word, is, named) = (word, ap (drop 1) is, (stage, named))
+remove_form Reports rest form = absurd (omega (arith, ap first_length form))
+
+pub some_remove : (word : List ℕ) × (command : Command) × IsForm command (codes "remove" ∷ word ∷ [])
+some_remove = (codes "pending", Remove Pending, (codes "pending", refl, refl))
 
 -- words as the bytes of the texts that were handed over
 module _ {X : Type 0} (f : X → List ℕ) where

@@ -14,14 +14,19 @@ use Rattle.partial_merge.specs.Merged.{Merged}
 use Rattle.partial_merge.specs.Parts.{unnamed_part}
 use Rattle.partial_merge.specs.Refused.{Refused}
 use Rattle.partial_merge.proofs.SameParts.{merged_same, refused_same}
+use Rattle.meta_config.specs.declared.error.MetaError.{MetaError}
+use Rattle.meta_config.specs.declared.error.MetaError.TheVariants as meta_errors
+use Rattle.meta_config.specs.declared.meta.Meta as declared
+use Rattle.meta_config.specs.Parts.{HasPartsOrder, IsCycleOfParts, IsOrderOfParts}
+use Rattle.meta_config.specs.Refusals as metas
 use Rattle.dsc_node.specs.declared.status.InputError.{InputError}
-use Rattle.dsc_node.specs.declared.status.InputError.TheVariants.{TooLong, Mof, Merge}
+use Rattle.dsc_node.specs.declared.status.InputError.TheVariants.{TooLong, Mof, Merge, Meta, Parts}
 use Rattle.lcm_program.specs.declared.input.Unread.{Unread}
 use Rattle.lcm_program.specs.declared.input.Unread.TheVariants as unread
 use Rattle.lcm_program.specs.declared.refusal.Refusal.{Refusal}
 use Rattle.lcm_program.specs.declared.refusal.Refusal.TheVariants as refusals
 use Rattle.lcm_program.specs.Checksum.{AnswersChecksum, checksum_limit}
-use Rattle.lcm_program.specs.Input.{IsInput, IsLonger, IsRefused, IsUnread, Reading, ReadsBytes, ReadsDocument, ReadsInstances, input_limit}
+use Rattle.lcm_program.specs.Input.{IsInput, IsLonger, IsRefused, IsUnread, Reading, ReadsBytes, ReadsDocument, ReadsInstances, ReadsMeta, input_limit, meta_limit}
 
 -- ---- inputs that are too long
 
@@ -62,6 +67,13 @@ module _ (left : Option (List ℕ)) (before now : ℕ) where
       refusal left before now cause
   too_long_unspelled unread.Memory cause = tt
 
+  -- and declares no meta-configuration
+  pub too_long_undeclared : (e : Unread) → IsUnread (ReadsBytes meta_limit) e left before now → IsUnread ReadsMeta e left before now
+  too_long_undeclared (unread.Refused refusal) cause =
+      weaker (ReadsBytes meta_limit) ReadsMeta (λ all error long. subst (λ (x : InputError). ReadsMeta all (Err x)) (sym long.0) long.1)
+      refusal left before now cause
+  too_long_undeclared unread.Memory cause = tt
+
   -- bytes that are not merged, as a part without a name, are refused so
   pub unmerged_unread : (bytes : List ℕ) (part : Part) (error : MergeError) (e : Unread) → IsInput (ReadsBytes input_limit) left (Ok bytes)
       → part.name ≡ [] → part.bytes ≡ bytes → Refused (part ∷ []) error
@@ -95,6 +107,31 @@ module _ (left : Option (List ℕ)) (before now : ℕ) where
             (omega (arith, input.is_answer.1, ap length (same ∙ input.is_answer.0)), record { caused = refused.0; unspelled = none refused.0; refused = wins });
       })
 
+  -- bytes that declare no meta-configuration are refused so
+  pub undeclared_unread : (bytes taken : List ℕ) (error : MetaError) (e : Unread) → IsInput (ReadsBytes meta_limit) left (Ok bytes) → taken ≡ bytes
+      → (error ≢ meta_errors.Memory → (meta : declared.Meta) → metas.Means taken meta → ⊥) → metas.Refuses taken error
+      → ((error ≡ meta_errors.Memory) × (e ≡ unread.Memory)) ⊎ ((error ≢ meta_errors.Memory) × (e ≡ unread.Refused (refusals.Input (Meta error))))
+      → IsUnread ReadsMeta e left before now
+  undeclared_unread bytes taken error e input same none wins (inl memory) =
+      subst (λ (u : Unread). IsUnread ReadsMeta u left before now) (sym memory.1) tt
+  undeclared_unread bytes taken error e input same none wins (inr refused) =
+      subst (λ (u : Unread). IsUnread ReadsMeta u left before now) (sym refused.1) (record {
+        all = input.all;
+        input_is = input.input_is;
+        is_answer = subst (λ (b : List ℕ). ReadsMeta b (Err (Meta error))) (same ∙ input.is_answer.0)
+            (record { fits = omega (arith, input.is_answer.1, ap length (same ∙ input.is_answer.0)); wins = wins; cause = refused.0; none = none refused.0 });
+      })
+
+  -- so are bytes that declare one whose partial configurations have no order
+  pub unordered_unread : (bytes taken walk : List ℕ) (meta : declared.Meta) → IsInput (ReadsBytes meta_limit) left (Ok bytes) → taken ≡ bytes → metas.Means taken meta
+      → IsCycleOfParts meta walk → ((order : List ℕ) → IsOrderOfParts meta order → ⊥) → IsUnread ReadsMeta (unread.Refused (refusals.Input (Parts walk))) left before now
+  unordered_unread bytes taken walk meta input same means cycle none = record {
+    all = input.all;
+    input_is = input.input_is;
+    is_answer = subst (λ (b : List ℕ). ReadsMeta b (Err (Parts walk))) (same ∙ input.is_answer.0)
+        (record { fits = omega (arith, input.is_answer.1, ap length (same ∙ input.is_answer.0)); meta = meta; means = means; cycle = cycle; none = none });
+  }
+
 -- bytes that are merged so are the document's
 pub merged_input : (left : Option (List ℕ)) (bytes : List ℕ) (part : Part) (d : Document) → IsInput (ReadsBytes input_limit) left (Ok bytes)
     → part.name ≡ [] → part.bytes ≡ bytes → Merged (part ∷ []) d → IsInput ReadsDocument left (Ok d)
@@ -111,4 +148,14 @@ spelled_input left bytes taken instances input same reads = record {
   all = input.all;
   input_is = input.input_is;
   is_answer = subst (λ (b : List ℕ). syntax.Reads b instances) (same ∙ input.is_answer.0) reads;
+}
+
+-- bytes that declare this meta-configuration are its
+pub declared_input : (left : Option (List ℕ)) (bytes taken : List ℕ) (meta : declared.Meta) → IsInput (ReadsBytes meta_limit) left (Ok bytes) → taken ≡ bytes → metas.Means taken meta
+    → HasPartsOrder meta → IsInput ReadsMeta left (Ok meta)
+declared_input left bytes taken meta input same means ordered = record {
+  all = input.all;
+  input_is = input.input_is;
+  is_answer = subst (λ (b : List ℕ). ReadsMeta b (Ok meta)) (same ∙ input.is_answer.0)
+      (record { fits = omega (arith, input.is_answer.1, ap length (same ∙ input.is_answer.0)); means = means; ordered = ordered });
 }

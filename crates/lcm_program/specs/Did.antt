@@ -5,7 +5,7 @@ use Rattle.dsc_node.specs.declared.status.Status.{Status}
 use Rattle.dsc_node.specs.declared.status.Status.TheVariants.{Usage, Memory}
 use Rattle.lcm_program.specs.declared.refusal.Refusal.TheVariants as refusals
 use Rattle.lcm_program.specs.declared.words.Command.{Command}
-use Rattle.lcm_program.specs.declared.words.Command.TheVariants.{Test, Check, Order, Canon, Checksum, Generate, Init, Push, Consistency, Boot}
+use Rattle.lcm_program.specs.declared.words.Command.TheVariants.{Test, Check, Order, Canon, Checksum, Generate, Init, Meta, Push, Consistency, Boot, Get, Restore, Remove, Reports}
 use Rattle.lcm_program.specs.Canon.{AnswersCanon}
 use Rattle.lcm_program.specs.Check.{AnswersCheck}
 use Rattle.lcm_program.specs.Checksum.{Checksummed}
@@ -13,7 +13,7 @@ use Rattle.lcm_program.specs.Generate.{Generated}
 use Rattle.lcm_program.specs.Objects.{IsUntouched, Known, Objects}
 use Rattle.lcm_program.specs.Order.{AnswersOrder}
 use Rattle.lcm_program.specs.Printed.{PrintsRefusal}
-use Rattle.lcm_program.specs.Started.{Pushed, Started}
+use Rattle.lcm_program.specs.Started.{Configured, Pushed, Started}
 use Rattle.lcm_program.specs.Test.{Tested}
 use Rattle.lcm_program.specs.Tool.{RanTool}
 use Rattle.lcm_program.specs.Words.{IsUsage}
@@ -27,9 +27,14 @@ Did o Canon status before after = RanTool AnswersCanon o status before after
 Did o Checksum status before after = Checksummed o status before after
 Did o (Generate count) status before after = Generated count o status before after
 Did o (Init agent) status before after = Started (commands.Init agent) o status before after
+Did o Meta status before after = Configured o status before after
 Did o Push status before after = Pushed o status before after
 Did o Consistency status before after = Started commands.Consistency o status before after
 Did o Boot status before after = Started commands.Boot o status before after
+Did o Get status before after = Started commands.Get o status before after
+Did o Restore status before after = Started commands.Restore o status before after
+Did o (Remove stage) status before after = Started (commands.Remove stage) o status before after
+Did o Reports status before after = Started commands.Reports o status before after
 
 -- words in no form are refused with the place of the first word that does not fit; or memory was refused and nothing is printed
 abbrev pub UsageEnds : {S K D H L C : Type 0} → Known S K D H L C → List (List ℕ) → Status → Objects S K D H L C → Objects S K D H L C → Type 0

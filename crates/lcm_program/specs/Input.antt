@@ -12,8 +12,13 @@ use Rattle.partial_merge.specs.declared.error.MergeError.TheVariants as merge
 use Rattle.partial_merge.specs.Merged.{Merged}
 use Rattle.partial_merge.specs.Parts.{unnamed_part}
 use Rattle.partial_merge.specs.Refused.{IsUnspelled, Refused}
+use Rattle.meta_config.specs.declared.error.MetaError.{MetaError}
+use Rattle.meta_config.specs.declared.error.MetaError.TheVariants as meta_errors
+use Rattle.meta_config.specs.declared.meta.Meta as declared
+use Rattle.meta_config.specs.Parts.{HasPartsOrder, IsCycleOfParts, IsOrderOfParts}
+use Rattle.meta_config.specs.Refusals as metas
 use Rattle.dsc_node.specs.declared.status.InputError.{InputError}
-use Rattle.dsc_node.specs.declared.status.InputError.TheVariants.{TooLong, Mof, Merge}
+use Rattle.dsc_node.specs.declared.status.InputError.TheVariants.{TooLong, Mof, Merge, Meta, Parts}
 use Rattle.lcm_program.specs.declared.input.Unread.{Unread}
 use Rattle.lcm_program.specs.declared.input.Unread.TheVariants as unread
 use Rattle.lcm_program.specs.declared.refusal.Refusal.{Refusal}
@@ -22,6 +27,10 @@ use Rattle.lcm_program.specs.declared.refusal.Refusal.TheVariants as refusals
 -- the most bytes of an input: those of a document
 abbrev pub input_limit : ℕ
 input_limit = document_limit
+
+-- and those of a meta-configuration
+abbrev pub meta_limit : ℕ
+meta_limit = 262144
 
 -- ---- readings: what bytes are read as, or the error for which they are refused
 
@@ -39,6 +48,8 @@ ReadsInstances all (Ok instances) = syntax.Reads all instances
 ReadsInstances all (Err TooLong) = input_limit < length all
 ReadsInstances all (Err (Mof error)) = (length all ≤ input_limit) × IsUnspelled all error
 ReadsInstances all (Err (Merge error)) = ⊥
+ReadsInstances all (Err (Meta error)) = ⊥
+ReadsInstances all (Err (Parts walk)) = ⊥
 
 -- the part that an input is, which has no name
 abbrev pub parts_of : List ℕ → List Part
@@ -56,6 +67,37 @@ ReadsDocument all (Ok document) = Merged (parts_of all) document
 ReadsDocument all (Err TooLong) = input_limit < length all
 ReadsDocument all (Err (Mof error)) = ⊥
 ReadsDocument all (Err (Merge error)) = IsNoDocument all error
+ReadsDocument all (Err (Meta error)) = ⊥
+ReadsDocument all (Err (Parts walk)) = ⊥
+
+-- the bytes are within the limit and declare no meta-configuration, and of the refusals that apply to them this one wins
+pub record IsNoMeta (all : List ℕ) (error : MetaError) : Type 0 where
+  pub fits : length all ≤ meta_limit
+  pub wins : metas.Refuses all error
+  pub cause : error ≢ meta_errors.Memory
+  pub none : (meta : declared.Meta) → metas.Means all meta → ⊥
+
+-- they are within the limit and declare one whose partial configurations go round like this and have no order
+pub record IsUnordered (all walk : List ℕ) : Type 0 where
+  pub fits : length all ≤ meta_limit
+  pub meta : declared.Meta
+  pub means : metas.Means all meta
+  pub cycle : IsCycleOfParts meta walk
+  pub none : (order : List ℕ) → IsOrderOfParts meta order → ⊥
+
+-- the meta-configuration that the bytes declare, whose partial configurations have an order
+pub record IsMetaInput (all : List ℕ) (meta : declared.Meta) : Type 0 where
+  pub fits : length all ≤ meta_limit
+  pub means : metas.Means all meta
+  pub ordered : HasPartsOrder meta
+
+abbrev pub ReadsMeta : Reading declared.Meta
+ReadsMeta all (Ok meta) = IsMetaInput all meta
+ReadsMeta all (Err TooLong) = meta_limit < length all
+ReadsMeta all (Err (Mof error)) = ⊥
+ReadsMeta all (Err (Merge error)) = ⊥
+ReadsMeta all (Err (Meta error)) = IsNoMeta all error
+ReadsMeta all (Err (Parts walk)) = IsUnordered all walk
 
 -- ---- inputs
 

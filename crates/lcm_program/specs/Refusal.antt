@@ -13,13 +13,17 @@ use Rattle.partial_merge.specs.declared.error.PartFault.{PartFault}
 use Rattle.partial_merge.specs.declared.error.PartFault.TheVariants as parts
 use Rattle.partial_merge.specs.declared.error.MergeError.{MergeError}
 use Rattle.partial_merge.specs.declared.error.MergeError.TheVariants as merge
+use Rattle.meta_config.specs.declared.error.Limit.{Limit}
+use Rattle.meta_config.specs.declared.error.Limit.TheVariants as limits
+use Rattle.meta_config.specs.declared.error.MetaError.{MetaError}
+use Rattle.meta_config.specs.declared.error.MetaError.TheVariants as metas
 use Rattle.node_state.specs.declared.event.Why.{Why}
 use Rattle.node_state.specs.declared.event.Why.TheVariants as whys
 use Rattle.dsc_node.specs.Quoted.{quoted}
 use Rattle.lcm_program.specs.declared.refusal.Refusal.{Refusal}
 use Rattle.lcm_program.specs.declared.refusal.Refusal.TheVariants.{Usage, Input, ReadFault, DiskFault, ClockFault, NotAStore, NotAllowed, RebootWaiting}
 use Rattle.dsc_node.specs.declared.status.InputError.{InputError}
-use Rattle.dsc_node.specs.declared.status.InputError.TheVariants.{TooLong, Mof, Merge}
+use Rattle.dsc_node.specs.declared.status.InputError.TheVariants.{TooLong, Mof, Merge, Meta, Parts}
 use Rattle.dsc_node.specs.declared.status.Status.{Status}
 use Rattle.dsc_node.specs.declared.status.Status.TheVariants as statuses
 
@@ -113,11 +117,40 @@ merge_words (merge.DependsUnknown spot name) = codes "DependsUnknown " ++ spot_w
 merge_words (merge.Cycle walk) = codes "Cycle" ++ flat_map place_words walk
 merge_words merge.Memory = codes "Memory"
 
+abbrev pub limit_name : Limit → List ℕ
+limit_name limits.Partials = codes "partials"
+limit_name limits.Names = codes "names"
+limit_name limits.Text = codes "text"
+
+-- an instance and the name of its property
+abbrev pub bad_value_words : ℕ → List ℕ → List ℕ
+bad_value_words index name = codes "BadValue " ++ decimal index ++ codes " " ++ encode_utf8_all name
+
+-- an instance and a name that no partial configuration has
+abbrev pub unknown_part_words : ℕ → List ℕ → List ℕ
+unknown_part_words index name = codes "DependsUnknown " ++ decimal index ++ codes " " ++ quoted name
+
+-- the name of a meta-configuration's refusal, and its values
+abbrev pub meta_words : MetaError → List ℕ
+meta_words (metas.Mof error) = mof_words error
+meta_words metas.NoMeta = codes "NoMeta"
+meta_words (metas.TwoMetas first second) = pair_words (codes "TwoMetas") first second
+meta_words (metas.TwoManagers first second) = pair_words (codes "TwoManagers") first second
+meta_words (metas.BadUrl index) = codes "BadUrl " ++ decimal index
+meta_words (metas.TwoServers first second) = pair_words (codes "TwoServers") first second
+meta_words (metas.BadValue index name) = bad_value_words index name
+meta_words (metas.TooMany name) = codes "TooMany " ++ limit_name name
+meta_words (metas.DuplicatePartial first second) = pair_words (codes "DuplicatePartial") first second
+meta_words (metas.DependsUnknown index name) = unknown_part_words index name
+meta_words metas.Memory = codes "Memory"
+
 -- the name of an input's error, and its values
 abbrev pub error_words : InputError → List ℕ
 error_words TooLong = codes "TooLong"
 error_words (Mof error) = mof_words error
 error_words (Merge error) = merge_words error
+error_words (Meta error) = codes "Meta " ++ meta_words error
+error_words (Parts walk) = codes "Parts" ++ flat_map place_words walk
 
 abbrev pub why_word : Why → List ℕ
 why_word whys.NoAgent = codes "NoAgent"

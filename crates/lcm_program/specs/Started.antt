@@ -1,4 +1,4 @@
--- The commands `init`, `push`, `consistency` and `boot`: starts of the node.
+-- The commands that start the node.
 use Rattle.std.specs.Prelude.{◌≡◌, ◌≤◌, ℕ, List, Ok}
 use Rattle.dsc_outside.specs.declared.ends.Ends as ends
 use Rattle.dsc_outside.specs.declared.disk.Disk as disks
@@ -15,7 +15,7 @@ use Rattle.dsc_node.specs.Start as starts
 use Rattle.dsc_node.specs.Start.{Outside, Start, outside}
 use Rattle.lcm_program.specs.declared.input.Unread.{Unread}
 use Rattle.lcm_program.specs.Endings.{StartEnds, UnreadEnds}
-use Rattle.lcm_program.specs.Input.{IsInput, IsUnread, ReadsBytes, input_limit}
+use Rattle.lcm_program.specs.Input.{IsInput, IsUnread, Reading, ReadsBytes, ReadsMeta, input_limit}
 use Rattle.lcm_program.specs.Objects.{Known, Objects}
 
 -- A start of the node by the command: it ended so, with these lines, by the table of starts, and has its headline; where every image
@@ -30,15 +30,25 @@ pub record IsStart {K D H C : Type 0} (sink : ends.Ghosts K) (disk : disks.Ghost
   pub later : clock.faults before.clock ≤ clock.faults after.clock
   pub prints : StartEnds sink ended lines status old new
 
--- the document that is pushed is the whole input; an input that was not read is refused, and nothing else was touched
-pub data PushEnds {S K D H C : Type 0} (source : ends.Ghosts S) (sink : ends.Ghosts K) (disk : disks.Ghosts D) (host : hosts.Ghosts H)
+-- A start with what the whole input is read as; an input that was not read is refused, and nothing else was touched.
+pub data InputEnds {A S K D H C : Type 0} (reads : Reading A) (command_of : A → Command) (source : ends.Ghosts S) (sink : ends.Ghosts K) (disk : disks.Ghosts D) (host : hosts.Ghosts H)
     (clock : clocks.Ghosts C) (status : Status) (input input_after : S) (old new : K) (before after : Outside D (Kinds H) C) : Type 0 where
-  pushed : (bytes : List ℕ) → IsInput (ReadsBytes input_limit) (source.left input) (Ok bytes)
-      → IsStart sink disk host clock (commands.Push bytes) status old new before after
-      → PushEnds source sink disk host clock status input input_after old new before after
-  unread : (cause : Unread) → IsUnread (ReadsBytes input_limit) cause (source.left input) (source.faults input) (source.faults input_after)
+  started : (value : A) → IsInput reads (source.left input) (Ok value)
+      → IsStart sink disk host clock (command_of value) status old new before after
+      → InputEnds reads command_of source sink disk host clock status input input_after old new before after
+  unread : (cause : Unread) → IsUnread reads cause (source.left input) (source.faults input) (source.faults input_after)
       → UnreadEnds sink cause status old new → after ≡ before
-      → PushEnds source sink disk host clock status input input_after old new before after
+      → InputEnds reads command_of source sink disk host clock status input input_after old new before after
+
+-- the input is the document that is pushed
+abbrev pub PushEnds : {S K D H C : Type 0} → ends.Ghosts S → ends.Ghosts K → disks.Ghosts D → hosts.Ghosts H → clocks.Ghosts C → Status → S → S → K → K → Outside D (Kinds H) C → Outside D (Kinds H) C → Type 0
+PushEnds source sink disk host clock status input input_after old new before after =
+    InputEnds (ReadsBytes input_limit) commands.Push source sink disk host clock status input input_after old new before after
+
+-- it declares the meta-configuration
+abbrev pub MetaEnds : {S K D H C : Type 0} → ends.Ghosts S → ends.Ghosts K → disks.Ghosts D → hosts.Ghosts H → clocks.Ghosts C → Status → S → S → K → K → Outside D (Kinds H) C → Outside D (Kinds H) C → Type 0
+MetaEnds source sink disk host clock status input input_after old new before after =
+    InputEnds ReadsMeta commands.Meta source sink disk host clock status input input_after old new before after
 
 -- ---- the rows of the table
 
@@ -51,6 +61,11 @@ pub record Started {S K D H L C : Type 0} (command : Command) (o : Known S K D H
   pub input : after.input ≡ before.input
   pub link : after.link ≡ before.link
   pub start : IsStart o.sink o.disk o.host o.clock command status before.output after.output (outside_of before) (outside_of after)
+
+-- `meta`
+pub record Configured {S K D H L C : Type 0} (o : Known S K D H L C) (status : Status) (before after : Objects S K D H L C) : Type 0 where
+  pub link : after.link ≡ before.link
+  pub ends : MetaEnds o.source o.sink o.disk o.host o.clock status before.input after.input before.output after.output (outside_of before) (outside_of after)
 
 -- `push`
 pub record Pushed {S K D H L C : Type 0} (o : Known S K D H L C) (status : Status) (before after : Objects S K D H L C) : Type 0 where

@@ -3,8 +3,10 @@ use Rattle.std.specs.Prelude.{◌≡◌, ℕ, ◌+◌, ◌<◌, ◌≤◌, List,
 use Rattle.std.specs.Fmt.{decimal}
 use Rattle.std.specs.Int.{w128, from_be_bytes}
 use Rattle.uuid.specs.Text.{parsed}
+use Rattle.node_state.specs.declared.event.Stage.{Stage}
+use Rattle.node_state.specs.declared.event.Stage.TheVariants.{Pending, Current, Previous}
 use Rattle.lcm_program.specs.declared.words.Command.{Command}
-use Rattle.lcm_program.specs.declared.words.Command.TheVariants.{Test, Check, Order, Canon, Checksum, Generate, Init, Push, Consistency, Boot}
+use Rattle.lcm_program.specs.declared.words.Command.TheVariants.{Test, Check, Order, Canon, Checksum, Generate, Init, Meta, Push, Consistency, Boot, Get, Restore, Remove, Reports}
 
 -- the most resources of a generated document
 abbrev pub generated_limit : ℕ
@@ -21,6 +23,15 @@ agent_of word = option_map (from_be_bytes w128) (parsed word)
 abbrev pub IsAgent : List ℕ → ℕ → Type 0
 IsAgent word agent = agent_of word ≡ Some agent
 
+abbrev pub stage_name : Stage → List ℕ
+stage_name Pending = codes "pending"
+stage_name Current = codes "current"
+stage_name Previous = codes "previous"
+
+-- the word names the stage
+abbrev pub IsStage : List ℕ → Stage → Type 0
+IsStage word stage = word ≡ stage_name stage
+
 -- the words, each in UTF-8, ask for the command
 abbrev pub IsForm : Command → List (List ℕ) → Type 0
 IsForm Test words = words ≡ codes "test" ∷ []
@@ -30,9 +41,14 @@ IsForm Canon words = words ≡ codes "canon" ∷ []
 IsForm Checksum words = words ≡ codes "checksum" ∷ []
 IsForm (Generate count) words = (word : List ℕ) × (words ≡ codes "generate" ∷ word ∷ []) × IsCount word count
 IsForm (Init agent) words = (word : List ℕ) × (words ≡ codes "init" ∷ word ∷ []) × IsAgent word agent
+IsForm Meta words = words ≡ codes "meta" ∷ []
 IsForm Push words = words ≡ codes "push" ∷ []
 IsForm Consistency words = words ≡ codes "consistency" ∷ []
 IsForm Boot words = words ≡ codes "boot" ∷ []
+IsForm Get words = words ≡ codes "get" ∷ []
+IsForm Restore words = words ≡ codes "restore" ∷ []
+IsForm (Remove stage) words = (word : List ℕ) × (words ≡ codes "remove" ∷ word ∷ []) × IsStage word stage
+IsForm Reports words = words ≡ codes "reports" ∷ []
 
 -- the number of a command is one that its words can give
 abbrev pub IsInRange : Command → Type 0

@@ -1,13 +1,16 @@
 //! What the input is: bytes, instances, and the document that they declare.
-ghost use Rattle.std.specs.Prelude.{◌≡◌, ◌≢◌, ◌⊎◌, IfErr, IfOk, Ok};
+ghost use Rattle.std.specs.Prelude.{◌≡◌, ◌≢◌, ◌≤◌, ◌⊎◌, IfErr, IfOk, Ok};
+ghost use Rattle.node_state.specs.Metas.{IsNodeMeta};
 ghost use Rattle.lcm_program.specs.declared.input.Unread.TheVariants.{Memory};
-ghost use Rattle.lcm_program.specs.Input.{IsInput, IsUnread, ReadsBytes, ReadsDocument, ReadsInstances, input_limit};
+ghost use Rattle.lcm_program.specs.Input.{IsInput, IsUnread, ReadsBytes, ReadsDocument, ReadsInstances, ReadsMeta, input_limit};
 
 use crate::refusal::Refusal;
 use crate::streams::{ReadError, read_all};
+use depend_order::OrderError;
 use dsc_document::Document;
 use dsc_node::InputError;
 use dsc_outside::Source;
+use meta_config::{Meta, MetaError, parts_order};
 use mof_codec::{MofError, read};
 use mof_values::{Instance, Text};
 use partial_merge::{MergeError, merge, part_of};
@@ -15,6 +18,9 @@ use std::alloc::{AllocError, AllocFailed, Global};
 
 /// The most bytes of a document.
 const LIMIT: usize = 2_097_152;
+
+/// The most bytes of a meta-configuration.
+const META_LIMIT: usize = 262_144;
 
 /// Why there is no document, or why there are no instances.
 #[derive(Debug, Drop, PartialEq)]
@@ -81,16 +87,57 @@ pub fn read_instances<S: Source>(alloc: Global, input: &mut S) -> Result<Vec<Ins
     }
 }
 
-/// Reads the input to its end.
+/// Reads the input to its end, and the meta-configuration that it declares, whose partial configurations have an order.
+pub fn read_meta<S: Source>(alloc: Global, input: &mut S) -> Result<Meta, Unread>
+    ensures ok { IfOk result (λ meta. IsInput ReadsMeta (S.left input.old) (Ok meta)) }
+    ensures taken { IfOk result IsNodeMeta }
+    ensures err { IfErr result (λ e. IsUnread ReadsMeta e (S.left input.old) (S.faults input.old) (S.faults input.new)) }
+{
+    let bytes = match read_within(alloc, input, META_LIMIT) {
+        Ok(bytes) => bytes,
+        Err(unread) => return Err(unread),
+    };
+    let meta = match meta_config::read_meta(alloc, &bytes) {
+        Ok(meta) => meta,
+        Err(error) => return Err(undeclared(error)),
+    };
+    match parts_order(alloc, &meta) {
+        Ok(_) => Ok(meta),
+        Err(OrderError::Cycle(walk)) => Err(Unread::Refused(Refusal::Input(InputError::Parts(walk)))),
+        Err(OrderError::Memory) => Err(Unread::Memory),
+    }
+}
+
+/// Reads the input to its end, as the bytes of a document.
 pub fn read_bytes<S: Source>(alloc: Global, input: &mut S) -> Result<Vec<u8>, Unread>
     ensures ok { IfOk result (λ bytes. IsInput (ReadsBytes input_limit) (S.left input.old) (Ok bytes.items)) }
     ensures err { IfErr result (λ e. IsUnread (ReadsBytes input_limit) e (S.left input.old) (S.faults input.old) (S.faults input.new)) }
 {
-    match read_all(alloc, input, LIMIT) {
+    read_within(alloc, input, LIMIT)
+}
+
+// Reads the input to its end, if it has at most this number of bytes.
+fn read_within<S: Source>(alloc: Global, input: &mut S, limit: usize) -> Result<Vec<u8>, Unread>
+    requires { limit ≤ input_limit }
+    ensures ok { IfOk result (λ bytes. IsInput (ReadsBytes limit) (S.left input.old) (Ok bytes.items)) }
+    ensures err { IfErr result (λ e. IsUnread (ReadsBytes limit) e (S.left input.old) (S.faults input.old) (S.faults input.new)) }
+{
+    match read_all(alloc, input, limit) {
         Ok(bytes) => Ok(bytes),
         Err(ReadError::Failed) => Err(Unread::Refused(Refusal::ReadFault)),
         Err(ReadError::TooLong) => Err(Unread::Refused(Refusal::Input(InputError::TooLong))),
         Err(ReadError::Memory) => Err(Unread::Memory),
+    }
+}
+
+// What a refusal of a meta-configuration is here.
+fn undeclared(error: MetaError) -> Unread
+    ensures { ((error ≡ MetaError.Memory) × (result ≡ Unread.Memory))
+        ⊎ ((error ≢ MetaError.Memory) × (result ≡ Unread.Refused (Refusal.Input (InputError.Meta error)))) }
+{
+    match error {
+        MetaError::Memory => Unread::Memory,
+        _ => Unread::Refused(Refusal::Input(InputError::Meta(error))),
     }
 }
 

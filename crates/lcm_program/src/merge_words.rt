@@ -74,24 +74,24 @@ fn push_repeated(out: &mut String, index: u32, name: &Ident) -> Result<(), Alloc
     push_ident(out, name)
 }
 
-// A name and the places of two instances.
-fn push_pair(out: &mut String, name: &str, first: u32, second: u32) -> Result<(), AllocError>
+/// Appends a name and the places of two instances.
+pub fn push_pair(out: &mut String, name: &str, first: u32, second: u32) -> Result<(), AllocError>
     ensures { OnOk result (string_bytes out.new ≡ string_bytes out.old ++ pair_words name.now first second) }
 {
     out.push_str(name)?;
     write!(out, " {first} {second}")
 }
 
-// A space and a text as a literal.
-fn push_text(out: &mut String, text: &Text) -> Result<(), AllocError>
+/// Appends a space and a text as a literal.
+pub fn push_text(out: &mut String, text: &Text) -> Result<(), AllocError>
     ensures { OnOk result (string_bytes out.new ≡ string_bytes out.old ++ codes " " ++ quoted text.now) }
 {
     out.push_str(" ")?;
     push_literal(out, text.as_slice())
 }
 
-// A space and an identifier.
-fn push_ident(out: &mut String, name: &Ident) -> Result<(), AllocError>
+/// Appends a space and an identifier.
+pub fn push_ident(out: &mut String, name: &Ident) -> Result<(), AllocError>
     ensures { OnOk result (string_bytes out.new ≡ string_bytes out.old ++ codes " " ++ encode_utf8_all name.now) }
 {
     out.push_str(" ")?;
@@ -116,8 +116,8 @@ fn push_spot(out: &mut String, spot: Spot) -> Result<(), AllocError>
     write!(out, "{part}.{index}")
 }
 
-// The places of a walk, a space before each.
-fn push_places(out: &mut String, places: &[u32]) -> Result<(), AllocError>
+/// Appends the places of a walk, a space before each.
+pub fn push_places(out: &mut String, places: &[u32]) -> Result<(), AllocError>
     ensures { OnOk result (string_bytes out.new ≡ string_bytes out.old ++ flat_map place_words places.now) }
 {
     for place in places {

@@ -13,7 +13,7 @@ use crate::generate::repair_generated;
 use crate::order::read_order;
 use crate::printing::{print_answer, print_run, print_text, refuse};
 use crate::refusal::Refusal;
-use crate::starts::{push, start_node};
+use crate::starts::{push, set_meta, start_node};
 use crate::test::read_and_monitor;
 use crate::words::{Command, UsageError, read_words};
 use dsc_node::{Command as StartCommand, Status};
@@ -86,10 +86,18 @@ fn do_command<S: Source, K: Sink, D: Disk, H: Host, L: Link, C: Clock>(
             let init = StartCommand::Init(agent);
             start_node(alloc, init, output, disk, kinds, clock)
         }
+        Command::Meta => set_meta(alloc, input, output, disk, kinds, clock),
         Command::Push => push(alloc, input, output, disk, kinds, clock),
         Command::Consistency => {
             start_node(alloc, StartCommand::Consistency, output, disk, kinds, clock)
         }
         Command::Boot => start_node(alloc, StartCommand::Boot, output, disk, kinds, clock),
+        Command::Get => start_node(alloc, StartCommand::Get, output, disk, kinds, clock),
+        Command::Restore => start_node(alloc, StartCommand::Restore, output, disk, kinds, clock),
+        Command::Remove { stage } => {
+            let remove = StartCommand::Remove(stage);
+            start_node(alloc, remove, output, disk, kinds, clock)
+        }
+        Command::Reports => start_node(alloc, StartCommand::Reports, output, disk, kinds, clock),
     }
 }

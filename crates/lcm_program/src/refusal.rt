@@ -2,7 +2,8 @@
 ghost use Rattle.std.specs.Prelude.{◌≡◌, ◌++◌, Some, None, codes, IfErr, IfOk, OnOk, string_bytes};
 ghost use Rattle.lcm_program.specs.Refusal.{status_of, reason_words, refusal_line, refusal_of, error_words, why_word};
 
-use crate::merge_words::push_merge_error;
+use crate::merge_words::{push_merge_error, push_places};
+use crate::meta_words::push_meta_error;
 use crate::mof_words::push_mof_error;
 use dsc_node::{InputError, Status};
 use node_state::Why;
@@ -109,6 +110,14 @@ fn push_input_error(out: &mut String, error: &InputError) -> Result<(), AllocErr
         InputError::TooLong => out.push_str("TooLong"),
         InputError::Mof(error) => push_mof_error(out, *error),
         InputError::Merge(error) => push_merge_error(out, error),
+        InputError::Meta(error) => {
+            out.push_str("Meta ")?;
+            push_meta_error(out, error)
+        }
+        InputError::Parts(walk) => {
+            out.push_str("Parts")?;
+            push_places(out, walk.as_slice())
+        }
     }
 }
 

@@ -1,7 +1,8 @@
 //! The words of the command line.
 ghost use Rattle.std.specs.Prelude.{ℕ, [], ◌∷◌, IfOk, IfErr, IfSome, IfNone, codes, map, string_bytes};
-ghost use Rattle.lcm_program.specs.Words.{IsAgent, IsCount, IsForm, IsUsage};
+ghost use Rattle.lcm_program.specs.Words.{IsAgent, IsCount, IsForm, IsStage, IsUsage};
 
+use node_state::Stage;
 use uuid::Uuid;
 
 /// The most resources of a generated document.
@@ -31,6 +32,9 @@ pub enum Command {
     /// Makes the node that of an agent.
     Init { agent: u128 },
 
+    /// Has the node behave as the meta-configuration that the input is says.
+    Meta,
+
     /// Keeps the document that the input is, and brings the machine to it.
     Push,
 
@@ -39,6 +43,18 @@ pub enum Command {
 
     /// Does the same, also where a reboot was asked for: the machine booted.
     Boot,
+
+    /// Prints what the node is and holds.
+    Get,
+
+    /// Goes back to the document that was reached before the last one, and brings the machine to it.
+    Restore,
+
+    /// Drops a document.
+    Remove { stage: Stage },
+
+    /// Prints the reports that the node keeps.
+    Reports,
 }
 
 /// The words are in no form; `word` is the place of the first word that no form goes on with, or their count.
@@ -61,6 +77,9 @@ pub fn read_words(words: &[String]) -> Result<Command, UsageError>
     if first.as_str() == "init" {
         return read_init(rest);
     }
+    if first.as_str() == "remove" {
+        return read_remove(rest);
+    }
     let Some(command) = command_of(first) else {
         return Err(UsageError { word: 0 });
     };
@@ -81,9 +100,13 @@ fn command_of(word: &str) -> Option<Command>
         "order" => Some(Command::Order),
         "canon" => Some(Command::Canon),
         "checksum" => Some(Command::Checksum),
+        "meta" => Some(Command::Meta),
         "push" => Some(Command::Push),
         "consistency" => Some(Command::Consistency),
         "boot" => Some(Command::Boot),
+        "get" => Some(Command::Get),
+        "restore" => Some(Command::Restore),
+        "reports" => Some(Command::Reports),
         _ => None,
     }
 }
@@ -119,6 +142,36 @@ fn read_init(rest: &[String]) -> Result<Command, UsageError>
     match more {
         [] => Ok(Command::Init { agent }),
         _ => Err(UsageError { word: 2 }),
+    }
+}
+
+// What the words after `remove` ask for.
+fn read_remove(rest: &[String]) -> Result<Command, UsageError>
+    ensures ok { IfOk result (λ command. IsForm command (codes "remove" ∷ map string_bytes rest.now)) }
+    ensures usage { IfErr result (λ error. IsUsage (codes "remove" ∷ map string_bytes rest.now) error.word) }
+{
+    let [word, more @ ..] = rest else {
+        return Err(UsageError { word: 1 });
+    };
+    let Some(stage) = read_stage(word) else {
+        return Err(UsageError { word: 1 });
+    };
+    match more {
+        [] => Ok(Command::Remove { stage }),
+        _ => Err(UsageError { word: 2 }),
+    }
+}
+
+// The stage that the word names.
+fn read_stage(word: &str) -> Option<Stage>
+    ensures some { IfSome result (IsStage word.now) }
+    ensures none { IfNone result ((stage : Stage) → IsStage word.now stage → ⊥) }
+{
+    match word {
+        "pending" => Some(Stage::Pending),
+        "current" => Some(Stage::Current),
+        "previous" => Some(Stage::Previous),
+        _ => None,
     }
 }
 

@@ -11,6 +11,11 @@ returns-in-Push-clause-goes g c =
     first_goes g.D.Disk c.args.disk.now c.commit.new.disk c.args.store.now c.commit.new.store (first_of c.args.store.now.node c.args.task) (events.Stage c.in-Push.staged)
     (ap (λ (t : Task). first_of c.args.store.now.node t) c.in-Push.is) c.commit.result c.commit.ensures.goes
 
+pub returns-in-Restore-clause-goes : goal.returns-in-Restore-clause-goes
+returns-in-Restore-clause-goes g c =
+    first_goes g.D.Disk c.args.disk.now c.commit-in-Restore.new.disk c.args.store.now c.commit-in-Restore.new.store (first_of c.args.store.now.node c.args.task) events.Restore
+    (ap (λ (t : Task). first_of c.args.store.now.node t) c.in-Restore.is) c.commit-in-Restore.result c.commit-in-Restore.ensures.goes
+
 pub returns-then-state-clause-goes : goal.returns-then-state-clause-goes
 returns-then-state-clause-goes g c =
     first_goes g.D.Disk c.args.disk.now c.commit-then-state.new.disk c.args.store.now c.commit-then-state.new.store (first_of c.args.store.now.node c.args.task) events.Boot

@@ -1,11 +1,11 @@
 use Rattle.std.proofs.Common.{◌≡◌, ◌≤◌, ◌++◌, ℕ, List, Option, Some, None, false, refl, ◌∙◌, arith, sym, subst, Bool}
 use Rattle.std.specs.Prelude.{string_bytes}
 use Rattle.node_state.specs.declared.event.Event.{Event}
-use Rattle.dsc_node.specs.Commands.{IsAllowed, first_of}
+use Rattle.dsc_node.specs.Commands.{IsAllowed, first_of, is_run}
 use Rattle.dsc_node.specs.Work.{Finish, clock_failed, finished, first_refused, not_allowed, waiting}
 use Rattle.dsc_node.proofs.Commits.{ends_as, ends_here, ends_on}
 use Rattle.dsc_node.proofs.Readings.{gave_none, gave_some, took}
-use Rattle.dsc_node.proofs.Tasks.{init_goes, other_task, reads_before, said_stops, said_waits, said_why}
+use Rattle.dsc_node.proofs.Tasks.{reads_before, settle_goes, said_stops, said_waits, said_why}
 use Rattle.dsc_node.proofs.starting.opened.Goals as goal
 
 pub returns-in-Some-clause-goes : goal.returns-in-Some-clause-goes
@@ -26,13 +26,13 @@ returns-then-waits-clause-goes g c =
           (c.silent-then-waits.ensures.status, c.silent-then-waits.ensures.lines)),
     )
 
-pub returns-in-Init-clause-goes : goal.returns-in-Init-clause-goes
-returns-in-Init-clause-goes g c =
+pub returns-then-not-is_run-clause-goes : goal.returns-then-not-is_run-clause-goes
+returns-then-not-is_run-clause-goes g c =
     let none = said_why c.args.store.now.node c.state.result.now c.args.task c.why_not.result None c.state.ensures c.why_not.ensures c.in_default.is in
     let ready = said_waits c.args.store.now.node c.state-2.result.now c.args.task c.waits.result false c.state-2.ensures c.waits.ensures c.if-waits.false in (
       None,
-      init_goes g.D.Disk g.M.Resources g.C.Clock c.args.task c.in-Init.agent c.in-Init.is c.args.disk.now c.initialize.new.disk c.args.store.now c.args.machine.now c.args.clock.now
-          c.initialize.result.status (string_bytes c.initialize.result.lines) (record { allowed = none; ready = ready }) c.initialize.ensures.goes,
+      settle_goes g.D.Disk g.M.Resources g.C.Clock c.args.task c.args.disk.now c.settle.new.disk c.args.store.now c.args.machine.now c.args.clock.now
+          c.settle.result.status (string_bytes c.settle.result.lines) (record { allowed = none; ready = ready }) (sym c.is_run.ensures ∙ c.if-not-is_run.true) c.settle.ensures.goes,
     )
 
 pub returns-in_default-now : goal.returns-in_default-now
@@ -47,7 +47,7 @@ returns-in_default-now g c =
       goes = (
         None,
         ends_here g.D.Disk c.requires.kept (λ from counts work.
-            clock_failed c.silent-in_default-now.result.status (string_bytes c.silent-in_default-now.result.lines) allowed (other_task c.args.task c.in_default-task.not-Init) given taken
+            clock_failed c.silent-in_default-now.result.status (string_bytes c.silent-in_default-now.result.lines) allowed (sym c.is_run.ensures ∙ c.if-not-is_run.false) given taken
             c.in_default-now.ensures.cause.failed refl (c.silent-in_default-now.ensures.status, c.silent-in_default-now.ensures.lines)),
       );
       later = c.now.ensures.cause.later;
@@ -61,13 +61,13 @@ returns-in-Err g c =
     let reading = c.now.ensures.reading in
     let given = gave_some (g.C.Clock.coming c.args.clock.now) (g.C.Clock.coming c.now.new.self) c.now.result c.in-Ok.start c.in-Ok.is reading in
     let taken = took (g.C.Clock.coming c.args.clock.now) (g.C.Clock.coming c.now.new.self) c.now.result reading in
-    let other = other_task c.args.task c.in_default-task.not-Init in
+    let other = sym c.is_run.ensures ∙ c.if-not-is_run.false in
     record {
       goes = (
         None,
         ends_as g.D.Disk c.in-Err.ensures.goes (λ from counts work committed broken t.
             first_refused t.0 c.in-Err.error c.silent-in-Err.result.status (string_bytes c.silent-in-Err.result.lines) committed broken allowed t.1
-            (reads_before g.C.Clock c.args.task c.args.clock.now c.now.new.self c.in-Ok.start other given taken) refl t.2
+            (reads_before g.C.Clock (is_run c.args.task) c.args.clock.now c.now.new.self c.in-Ok.start other given taken) refl t.2
             (c.silent-in-Err.ensures.status ∙ c.status_of.ensures, c.silent-in-Err.ensures.lines)),
       );
       later = c.now.ensures.cause.later;
@@ -81,7 +81,7 @@ returns g c =
     let reading = c.now.ensures.reading in
     let given = gave_some (g.C.Clock.coming c.args.clock.now) (g.C.Clock.coming c.now.new.self) c.now.result c.in-Ok.start c.in-Ok.is reading in
     let taken = took (g.C.Clock.coming c.args.clock.now) (g.C.Clock.coming c.now.new.self) c.now.result reading in
-    let other = other_task c.args.task c.in_default-task.not-Init in
+    let other = sym c.is_run.ensures ∙ c.if-not-is_run.false in
     let stopped = said_stops c.args.store.now.node c.state-3.result.now c.args.task c.stops-stopped.result c.state-3.ensures c.stops-stopped.ensures in
     let first = c.in_default-commit_first.ensures.goes in
     let mid = c.commit_first.new.store.node in

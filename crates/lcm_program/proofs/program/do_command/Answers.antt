@@ -69,6 +69,9 @@ returns-in-Err g c =
 pub returns-in-Init : goal.returns-in-Init
 returns-in-Init g c = record { did = rw c.in-Init.is (record { input = refl; link = refl; start = c.start_node.ensures }) }
 
+pub returns-in-Meta : goal.returns-in-Meta
+returns-in-Meta g c = record { did = rw c.in-Meta.is (record { link = refl; ends = c.set_meta.ensures }) }
+
 pub returns-in-Push : goal.returns-in-Push
 returns-in-Push g c = record { did = rw c.in-Push.is (record { link = refl; ends = c.push.ensures }) }
 
@@ -77,3 +80,15 @@ returns-in-Consistency g c = record { did = rw c.in-Consistency.is (record { inp
 
 pub returns-in-Boot : goal.returns-in-Boot
 returns-in-Boot g c = record { did = rw c.in-Boot.is (record { input = refl; link = refl; start = c.start_node-in-Boot.ensures }) }
+
+pub returns-in-Get : goal.returns-in-Get
+returns-in-Get g c = record { did = rw c.in-Get.is (record { input = refl; link = refl; start = c.start_node-in-Get.ensures }) }
+
+pub returns-in-Restore : goal.returns-in-Restore
+returns-in-Restore g c = record { did = rw c.in-Restore.is (record { input = refl; link = refl; start = c.start_node-in-Restore.ensures }) }
+
+pub returns-in-Remove : goal.returns-in-Remove
+returns-in-Remove g c = record { did = rw c.in-Remove.is (record { input = refl; link = refl; start = c.start_node-in-Remove.ensures }) }
+
+pub returns-in-Reports : goal.returns-in-Reports
+returns-in-Reports g c = record { did = rw c.in-Reports.is (record { input = refl; link = refl; start = c.start_node-in-Reports.ensures }) }

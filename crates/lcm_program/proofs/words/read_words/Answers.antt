@@ -40,6 +40,22 @@ returns-then-eq-2-clause-usage c =
     (first_and_rest string_bytes c.args.words.now c.first-item.result (codes "init") c.in-len1-up.len_at_least c.first-item.is (sym init ∙ c.as_str-2.ensures.value))
     c.read_init.ensures.usage
 
+-- they begin with `remove`
+
+pub returns-then-eq-3-clause-ok : goal.returns-then-eq-3-clause-ok
+returns-then-eq-3-clause-ok c =
+    let remove = (bytes_eq-Decides c.as_str-3.result.now (codes "remove")).0 (sym c.if-eq-3.ensures) in
+    subst (λ (words : List (List ℕ)). IfOk c.read_remove.result (λ command. IsForm command words))
+    (first_and_rest string_bytes c.args.words.now c.first-item.result (codes "remove") c.in-len1-up.len_at_least c.first-item.is (sym remove ∙ c.as_str-3.ensures.value))
+    c.read_remove.ensures.ok
+
+pub returns-then-eq-3-clause-usage : goal.returns-then-eq-3-clause-usage
+returns-then-eq-3-clause-usage c =
+    let remove = (bytes_eq-Decides c.as_str-3.result.now (codes "remove")).0 (sym c.if-eq-3.ensures) in
+    subst (λ (words : List (List ℕ)). IfErr c.read_remove.result (λ error. IsUsage words error.word))
+    (first_and_rest string_bytes c.args.words.now c.first-item.result (codes "remove") c.in-len1-up.len_at_least c.first-item.is (sym remove ∙ c.as_str-3.ensures.value))
+    c.read_remove.ensures.usage
+
 -- they begin with the word of no command
 
 pub returns-in_default-command_of-clause-usage : goal.returns-in_default-command_of-clause-usage
@@ -47,9 +63,11 @@ returns-in_default-command_of-clause-usage c =
     let word = c.deref.result.now in
     let generate = bytes_eq-Decides c.as_str.result.now (codes "generate") in
     let init = bytes_eq-Decides c.as_str-2.result.now (codes "init") in
+    let remove = bytes_eq-Decides c.as_str-3.result.now (codes "remove") in
     let other : TakesWord word → ⊥ = λ takes. elim takes [
       | inl is ↦ true≢false (sym (generate.1 (c.as_str.ensures.value ∙ sym c.deref.ensures ∙ is)) ∙ sym c.if-eq.ensures)
-      | inr is ↦ true≢false (sym (init.1 (c.as_str-2.ensures.value ∙ sym c.deref.ensures ∙ is)) ∙ sym c.if-eq-2.ensures)
+      | inr (inl is) ↦ true≢false (sym (init.1 (c.as_str-2.ensures.value ∙ sym c.deref.ensures ∙ is)) ∙ sym c.if-eq-2.ensures)
+      | inr (inr is) ↦ true≢false (sym (remove.1 (c.as_str-3.ensures.value ∙ sym c.deref.ensures ∙ is)) ∙ sym c.if-eq-3.ensures)
     ] in
     subst (λ (words : List (List ℕ)). IsUsage words 0)
     (first_and_rest string_bytes c.args.words.now c.first-item.result word c.in-len1-up.len_at_least c.first-item.is c.deref.ensures)
