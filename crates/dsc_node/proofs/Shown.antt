@@ -16,4 +16,4 @@ checksum_is digest = refl
 pub shown_answers : {T E : Type 0} (text_of : T → List ℕ) (made : Result T E) (wanted : List ℕ) (status : Status) (lines : List ℕ) → IfOk made (λ text. text_of text ≡ wanted)
     → IfOk made (λ text. Answers statuses.Done (text_of text) status lines) → (IsErr made → Ends statuses.Memory [] status lines) → Answers statuses.Done wanted status lines
 shown_answers text_of (Ok text) wanted status lines is answers memory = subst (λ (t : List ℕ). Answers statuses.Done t status lines) is answers
-shown_answers text_of (Err e) wanted status lines is answers memory = inr (memory tt)
+shown_answers text_of (Err e) wanted status lines is answers memory = inr (memory refl)
