@@ -324,7 +324,48 @@ def generated():
         case(f"a repair of {count}", f"generate {count}", "", 0, lines + f'first "{ids[order[0]]}" last "{ids[order[-1]]}"\n')
 
 
+# ---- meta-configurations
+
+META_LIMIT = 262_144  # the most bytes of a meta-configuration
+
+
+def partial(name, depends=(), exclusive=()):
+    texts = lambda values: "{" + ",".join(f'"{value}"' for value in values) + "}"
+    depends = texts("[PartialConfiguration]" + other for other in depends)
+    return (f'instance of MSFT_PartialConfiguration{{ResourceID="[PartialConfiguration]{name}";DependsOn={depends};'
+            f"ExclusiveResources={texts(exclusive)};}};\n")
+
+
+def metas():
+    settings = "instance of MSFT_DSCMetaConfiguration{};\n"
+    manager = lambda url, names: (f'instance of MSFT_WebDownloadManager{{ServerURL="{url}";ConfigurationNames={{'
+                                  + ",".join(f'"{name}"' for name in names) + "};};\n")
+    case("the settings alone", "meta", settings, 0, "ok\n")
+    for count in range(1, 9):
+        for length in (1, 255):
+            names = [str(k) * length for k in range(count)]
+            case(f"{count} names of {length} characters", "meta", settings + manager("http://s", names), 0, "ok\n")
+            backwards = "".join(partial(name, names[k + 1:]) for k, name in enumerate(names))
+            case(f"{count} partials with names of {length} characters", "meta", settings + backwards, 0, "ok\n")
+            ring = "".join(partial(name, [names[(k + 1) % count]]) for k, name in enumerate(names))
+            case(f"a cycle of {count} with names of {length} characters", "meta", settings + ring, 3,
+                 "refused Parts" + "".join(f" {k}" for k in range(count)) + "\n")
+    for resources in (0, 1, 7, 64, 256):
+        texts = "".join(partial(str(k), [], [f"Module{j}\\\\Resource{j}" for j in range(resources)]) for k in range(8))
+        case(f"8 partials with {resources} exclusive resources", "meta", settings + texts, 0, "ok\n")
+    url = "http://" + "s" * (2_048 - 7 - 3)
+    case("a URL of 2,048 bytes as it is written", "meta", settings + manager(url, ["Web"]), 0, "ok\n")
+    case("one more byte of a URL", "meta", settings + manager(url + "s", ["Web"]), 3, "refused Meta BadUrl 1\n")
+    fill = META_LIMIT - len(settings)
+    case("a comment up to the limit", "meta", "//" + "x" * (fill - 3) + "\n" + settings, 0, "ok\n")
+    case("one byte above the limit", "meta", "//" + "x" * (fill - 2) + "\n" + settings, 3, "refused TooLong\n")
+    long_key = "k" * (META_LIMIT - 1_000)
+    report = f'instance of MSFT_WebReportManager{{ServerURL="http://s";RegistrationKey="{long_key}";}};'
+    case("a key of 261,144 characters", "meta", settings + report, 0, "ok\n")
+
+
 documents()
+metas()
 cycles()
 unknown_ids()
 long_values()

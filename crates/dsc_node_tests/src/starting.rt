@@ -1,4 +1,7 @@
 //! One start over what earlier ones left.
+ghost use Rattle.std.specs.Prelude.{IfOk};
+ghost use Rattle.dsc_node.specs.Commands.{IsTaken};
+
 use dsc_node::{Command, Status, start};
 use dsc_outside::{DiskStop, HostContents, MemoryClock, MemoryDisk, MemoryHost};
 use mof_values::{Bytes, Memory};
@@ -48,11 +51,14 @@ impl Trouble<'static> {
 }
 
 /// The command that the word is, with this document.
-pub fn command_of(alloc: Global, word: &str, document: &str) -> Result<Command, Memory> {
+pub fn command_of(alloc: Global, word: &str, document: &str) -> Result<Command, Memory>
+    ensures { IfOk result IsTaken }
+{
     Ok(match word {
         "init" => Command::Init(16),
         "push" => Command::Push(Bytes::of(document.as_bytes().to_vec(alloc)?)),
         "boot" => Command::Boot,
+        "restore" => Command::Restore,
         _ => Command::Consistency,
     })
 }
