@@ -86,12 +86,13 @@ sent_word true = codes "sent"
 sent_word false = codes "unsent"
 
 -- its job, what the run came to, how many resources there were and how many of them did not succeed, and whether the server has it
+abbrev pub report_words : Kept → List ℕ
+report_words kept =
+    decimal kept.report.job ++ codes " " ++ outcome_name kept.report.outcome ++ codes " " ++ decimal kept.report.total
+    ++ codes " " ++ decimal kept.report.missed ++ codes " " ++ sent_word kept.sent
+
 abbrev pub report_line : Kept → List ℕ
-report_line kept =
-    line (codes "report") (
-      decimal kept.report.job ++ codes " " ++ outcome_name kept.report.outcome ++ codes " " ++ decimal kept.report.total
-      ++ codes " " ++ decimal kept.report.missed ++ codes " " ++ sent_word kept.sent
-    )
+report_line kept = line (codes "report") (report_words kept)
 
 -- the oldest first
 abbrev pub reports_text : Node → List ℕ

@@ -66,12 +66,8 @@ pub(crate) fn waits(node: &Node, task: &Task) -> bool
 {
     match task {
         Task::Push(_) | Task::Consistency | Task::Restore => node.reboot,
-        Task::Init(_)
-        | Task::Meta(_)
-        | Task::Boot
-        | Task::Get
-        | Task::Remove(_)
-        | Task::Reports => false,
+        Task::Init(_) | Task::Meta(_) | Task::Boot | Task::Get | Task::Remove(_) | Task::Reports =>
+            false,
     }
 }
 

@@ -214,7 +214,12 @@ pub(crate) fn reports_text(alloc: Global, node: &Node) -> Result<String, AllocEr
 fn push_report(out: &mut String, kept: &Kept) -> Result<(), AllocError>
     ensures { OnOk result (string_bytes out.new ≡ string_bytes out.old ++ report_line kept.now) }
 {
-    let Report { job, total, missed, .. } = &kept.report;
+    let Report {
+        job,
+        total,
+        missed,
+        ..
+    } = &kept.report;
     write!(out, "report {job} ")?;
     out.push_str(outcome_name(kept.report.outcome))?;
     write!(out, " {total} {missed} ")?;

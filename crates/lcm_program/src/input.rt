@@ -103,7 +103,10 @@ pub fn read_meta<S: Source>(alloc: Global, input: &mut S) -> Result<Meta, Unread
     };
     match parts_order(alloc, &meta) {
         Ok(_) => Ok(meta),
-        Err(OrderError::Cycle(walk)) => Err(Unread::Refused(Refusal::Input(InputError::Parts(walk)))),
+        Err(OrderError::Cycle(walk)) => {
+            let error = InputError::Parts(walk);
+            Err(Unread::Refused(Refusal::Input(error)))
+        }
         Err(OrderError::Memory) => Err(Unread::Memory),
     }
 }

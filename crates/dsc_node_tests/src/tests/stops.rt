@@ -35,11 +35,7 @@ fn replaced(alloc: Global) -> Result<Left, Memory> {
 }
 
 // The push of the document, or its restore, that meets this trouble, and what the next consistency ends with and prints.
-fn applied(
-    alloc: Global,
-    word: &str,
-    trouble: &Trouble<'_>,
-) -> Result<(Outcome, Outcome), Memory> {
+fn applied(alloc: Global, word: &str, trouble: &Trouble<'_>) -> Result<(Outcome, Outcome), Memory> {
     let left = match word {
         "restore" => replaced(alloc)?,
         _ => initialized(alloc)?,

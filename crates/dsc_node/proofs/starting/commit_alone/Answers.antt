@@ -8,8 +8,8 @@ returns-in-Ok g c = record { goes = inl (ends_after g.D.Disk c.in-Ok.ensures.goe
 pub returns-in-Err : goal.returns-in-Err
 returns-in-Err g c = record {
   goes = inr (
-      c.in-Err.error,
-      (c.silent.ensures.status ∙ c.status_of.ensures, c.silent.ensures.lines),
-      ends_as g.D.Disk c.in-Err.ensures.goes (λ from counts work committed broken refused. (c.args.event, refl, refused)),
+    c.in-Err.error,
+    (c.silent.ensures.status ∙ c.status_of.ensures, c.silent.ensures.lines),
+    ends_as g.D.Disk c.in-Err.ensures.goes (λ from counts work committed broken refused. (c.args.event, refl, refused)),
   );
 }

@@ -12,9 +12,9 @@ returns-in-Get g c =
     let text = subst (λ (n : Node). IfOk c.node_text.result (λ text. string_bytes text ≡ node_text n)) c.state.ensures c.node_text.ensures in
     record {
       goes = rw c.in-Get.is (inl (
-          ends_here g.D.Disk c.requires.kept (λ from counts work. (sym (append-nil work), refl)),
-          shown_answers (λ t. string_bytes t) c.node_text.result (node_text node) c.showing.result.status (string_bytes c.showing.result.lines) text
-              c.showing.ensures.shown c.showing.ensures.memory,
+        ends_here g.D.Disk c.requires.kept (λ from counts work. (sym (append-nil work), refl)),
+        shown_answers (λ t. string_bytes t) c.node_text.result (node_text node) c.showing.result.status (string_bytes c.showing.result.lines) text
+            c.showing.ensures.shown c.showing.ensures.memory,
       ));
     }
 
@@ -24,8 +24,8 @@ returns-in-Reports g c =
     let text = subst (λ (n : Node). IfOk c.reports_text.result (λ text. string_bytes text ≡ reports_text n)) c.state-in-Reports.ensures c.reports_text.ensures in
     record {
       goes = rw c.in-Reports.is (inl (
-          ends_here g.D.Disk c.requires.kept (λ from counts work. (sym (append-nil work), refl)),
-          shown_answers (λ t. string_bytes t) c.reports_text.result (reports_text node) c.showing-in-Reports.result.status (string_bytes c.showing-in-Reports.result.lines) text
-              c.showing-in-Reports.ensures.shown c.showing-in-Reports.ensures.memory,
+        ends_here g.D.Disk c.requires.kept (λ from counts work. (sym (append-nil work), refl)),
+        shown_answers (λ t. string_bytes t) c.reports_text.result (reports_text node) c.showing-in-Reports.result.status (string_bytes c.showing-in-Reports.result.lines) text
+            c.showing-in-Reports.ensures.shown c.showing-in-Reports.ensures.memory,
       ));
     }
