@@ -1,0 +1,4 @@
+//! What becomes of a store whose bank is full.
+mod banks;
+mod rewrites;
+mod staging;

@@ -1,0 +1,95 @@
+//! Many Stages.
+ghost use Rattle.std.specs.Prelude.{IfOk};
+ghost use Rattle.node_state.specs.Table.{IsWithin};
+ghost use Rattle.node_store.specs.Store.{IsReady};
+
+use dsc_outside::Disk;
+use mof_values::Text;
+use node_state::{Event, stored};
+use node_store::{NodeStore, StoreError};
+use partial_merge::{Part, part_of};
+use std::alloc::{AllocError, Global};
+use std::time::Clock;
+
+// The agent of a new node.
+const AGENT: u128 = 16;
+
+// A document of so many bytes, at least 44: a header and a comment.
+fn document(alloc: Global, size: u32) -> Result<Vec<u8>, AllocError> {
+    let mut bytes = b"instance of OMI_ConfigurationDocument{};/*".to_vec(alloc)?;
+    bytes.resize((size as usize).saturating_sub(2), b'x')?;
+    bytes.extend_from_slice(b"*/")?;
+    Ok(bytes)
+}
+
+// One part without a name.
+fn parts(alloc: Global, size: u32) -> Result<Vec<Part>, AllocError> {
+    let part = part_of(Text::of(Vec::new(alloc)), document(alloc, size)?);
+    let mut parts = Vec::new(alloc);
+    parts.push(part)?;
+    Ok(parts)
+}
+
+// The event that stages a document of so many bytes.
+fn stage_of(alloc: Global, size: u32) -> Result<Event, StoreError>
+    ensures { IfOk result IsWithin }
+{
+    let parts = match parts(alloc, size) {
+        Ok(parts) => parts,
+        Err(_) => return Err(StoreError::Memory),
+    };
+    match stored(alloc, parts) {
+        Ok(Some(staged)) => Ok(Event::Stage(staged)),
+        Ok(None) => Err(StoreError::NotAStore { at: 0 }),
+        Err(_) => Err(StoreError::Memory),
+    }
+}
+
+/// Commits so many of them, and gives the microseconds that the fastest commit took.
+pub fn stage_all<D: Disk, R: Clock>(
+    rt: &R,
+    alloc: Global,
+    store: &mut NodeStore,
+    disk: &mut D,
+    count: u32,
+    size: u32,
+) -> Result<u128, StoreError>
+    requires { IsReady D.Disk disk.old store.old }
+    ensures { IsReady D.Disk disk.new store.new }
+{
+    if let Err(error) = with_agent(store, disk) {
+        return Err(error);
+    }
+    let mut least = u128::MAX;
+    for _ in 0..count {
+        let event = match stage_of(alloc, size) {
+            Ok(event) => event,
+            Err(error) => return Err(error),
+        };
+        let begin = micros_of(rt);
+        if let Err(error) = store.commit(disk, event) {
+            return Err(error);
+        }
+        least = least.min(micros_of(rt).saturating_sub(begin));
+    }
+    Ok(least)
+}
+
+// The microseconds of the clock, or 0 where it failed.
+fn micros_of<R: Clock>(rt: &R) -> u128 {
+    match rt.monotonic() {
+        Ok(time) => time.as_micros(),
+        Err(_) => 0,
+    }
+}
+
+// Gives a new node its agent.
+fn with_agent<D: Disk>(store: &mut NodeStore, disk: &mut D) -> Result<(), StoreError>
+    requires { IsReady D.Disk disk.old store.old }
+    ensures { IsReady D.Disk disk.new store.new }
+{
+    if store.state().agent.is_some() {
+        return Ok(());
+    }
+    store.commit(disk, Event::Init(AGENT))
+}
