@@ -1,2 +1,3 @@
 pub mod Hearing
+pub mod OneMeaning
 pub mod Printed

@@ -6,16 +6,22 @@
 //! its exchanges each error is that of the answer, in a fixed order; a failure of the link shows in its count of faults.
 #![tactic(auto)]
 
+mod asking;
 mod content;
 mod error;
 mod exchange;
 mod fetching;
+mod laws;
 mod moments;
+mod queries;
 mod registering;
 mod reporting;
 mod requests;
+mod statuses;
 
+pub use asking::ask;
 pub use error::PeerError;
 pub use fetching::{fetch, fetch_module};
+pub use laws::one_meaning;
 pub use registering::register;
 pub use reporting::report;
