@@ -4,4 +4,5 @@ pub mod Heard
 pub mod Meaning
 pub mod Moments
 pub mod Queries
+pub mod Reports
 pub mod Requests
