@@ -1,12 +1,10 @@
 -- What comes of a request means one answer.
 use Rattle.std.proofs.Common.{◌≡◌, ◌≢◌, ◌⊎◌, inl, inr, ℕ, Bool, true, false, List, Some, Option, None, Result, Ok, Err, refl, sym, ap, subst, ◌∙◌}
-use Rattle.std.specs.Bool.{⊤}
 use Rattle.serde_json.specs.Data.{Data}
 use Rattle.dsc_outside.specs.declared.exchange.Outcome.{Outcome}
 use Rattle.dsc_outside.specs.declared.exchange.Outcome.TheVariants as outcomes
 use Rattle.http_frames.specs.declared.message.Reply.{Reply}
 use Rattle.http_frames.specs.declared.frame_error.FrameError.{FrameError}
-use Rattle.http_frames.specs.Frames.{IsAnswerFrame}
 use Rattle.http_frames.specs.OneAnswer.{OneReplyAnswer, ReplyAnswer}
 use Rattle.partial_merge.specs.declared.part.Part.{Part}
 use Rattle.report_log.specs.declared.report.PartMark.{PartMark}
@@ -17,7 +15,7 @@ use Rattle.pull_messages.specs.Bodies.{IsJson, ReadsBy, Says}
 use Rattle.pull_messages.specs.Tables.{action_of}
 use Rattle.pull_client.specs.declared.error.PeerError.{PeerError}
 use Rattle.pull_client.specs.declared.error.PeerError.TheVariants.{Link, TooLong, Frame, Status, Memory}
-use Rattle.pull_client.specs.Content.{GivesBody, GivesPart, IsPartOf, checked_body, content_of}
+use Rattle.pull_client.specs.Content.{GivesBody, GivesPart, IsPartOf, content_of}
 use Rattle.pull_client.specs.Heard.{Heard, IsDone, is_accepted, link_failed, too_long, no_answer, not_accepted, accepted, no_memory}
 use Rattle.pull_client.specs.Meaning.{MeansOne, OneMeaning, SamePart}
 use Rattle.pull_client.specs.Queries.{Tells, told_by}
@@ -101,9 +99,6 @@ one_part name (Err e) a b x y = both SamePart e a b (λ _. refl) x y
 -- what is said of a body, or that it is no JSON value
 abbrev pub Read : List ℕ → Result ActionAnswer MessageError → Type 0
 Read body message = Says action_of body message ⊎ ((message ≡ Err messages.Json) × ((value : Data) → IsJson body value → ⊥))
-
-abbrev pub IsMemory : Result ActionAnswer MessageError → Type 0
-IsMemory message = message ≡ Err messages.Memory
 
 read_of : (body : List ℕ) (message : Result ActionAnswer MessageError) → (message ≢ Err messages.Memory) → ReadsBy action_of body message → Read body message
 read_of body (Ok answer) not reads = inl reads

@@ -70,7 +70,11 @@ fn fetches(
     let mut fetched = Vec::new(alloc);
     let mut left = names;
     while let [name, rest @ ..] = left {
-        match fetch_of(name, held_under(held, name).is_some(), status_of(answer, only, name)) {
+        match fetch_of(
+            name,
+            held_under(held, name).is_some(),
+            status_of(answer, only, name),
+        ) {
             Ok(fetch) => fetched.push(fetch)?,
             Err(error) => return Err(error),
         }
