@@ -1,4 +1,4 @@
-//! The requests of a node to its pull server, and what is made of the answers.
+//! The requests of a node to its pull server, what is made of the answers, and the message of a report.
 //!
 //! A layer above may rely on this: each call sends at most one request, the one that its definition writes, to the
 //! server's peer and to no other; a server of https is sent nothing; a value comes exactly of an answer that is
