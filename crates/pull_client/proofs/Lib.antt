@@ -1,2 +1,4 @@
+pub mod Counts
 pub mod Hearing
+pub mod OneMeaning
 pub mod Printed

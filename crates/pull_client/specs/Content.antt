@@ -59,10 +59,10 @@ IsPartOf name (Err e) result = result ≡ Err e
 abbrev pub GivesPart : List ℕ → Reply → Result Part PeerError → Type 0
 GivesPart name reply result = IsPartOf name (content_of reply) result
 
--- the bytes that were given, seen as a list
-abbrev pub bytes_in : {T : Type 0} → Result T PeerError → (T → List ℕ) → Result (List ℕ) PeerError
-bytes_in (Ok bytes) view = Ok (view bytes)
-bytes_in (Err e) view = Err e
+-- what was given, seen as a list
+abbrev pub items_in : {T A : Type 0} → Result T PeerError → (T → List A) → Result (List A) PeerError
+items_in (Ok items) view = Ok (view items)
+items_in (Err e) view = Err e
 
 abbrev pub GivesBody : Reply → Result (List ℕ) PeerError → Type 0
 GivesBody reply result = result ≡ checked_body reply

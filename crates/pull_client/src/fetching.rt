@@ -1,7 +1,7 @@
 //! Contents of configurations and packages of modules.
 ghost use Rattle.std.specs.Prelude.{◌≡◌, true};
 ghost use Rattle.pull_client.specs.Asks.{Asks};
-ghost use Rattle.pull_client.specs.Content.{GivesBody, GivesPart, bytes_in};
+ghost use Rattle.pull_client.specs.Content.{GivesBody, GivesPart, items_in};
 ghost use Rattle.pull_client.specs.Heard.{SaysOr};
 ghost use Rattle.pull_client.specs.Requests.{content_request, module_request};
 
@@ -46,7 +46,7 @@ pub fn fetch_module<L: Link>(
     name: &Text,
     version: &Text,
 ) -> Result<Vec<u8>, PeerError>
-    ensures asks { Asks server.now (module_request server.now name.now version.now) GivesBody (L.told link.old) (L.told link.new) (L.faults link.old) (L.faults link.new) (bytes_in result (λ v. v.items)) }
+    ensures asks { Asks server.now (module_request server.now name.now version.now) GivesBody (L.told link.old) (L.told link.new) (L.faults link.old) (L.faults link.new) (items_in result (λ v. v.items)) }
     ensures unsent { server.now.https ≡ true → link.new ≡ link.old }
 {
     if server.https {
@@ -60,7 +60,7 @@ pub fn fetch_module<L: Link>(
 }
 
 fn body_in(reply: Reply) -> Result<Vec<u8>, PeerError>
-    ensures { SaysOr GivesBody reply (bytes_in result (λ v. v.items)) }
+    ensures { SaysOr GivesBody reply (items_in result (λ v. v.items)) }
 {
     match checked_body(reply) {
         Ok(body) => Ok(body.into_vec()),

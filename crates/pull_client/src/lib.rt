@@ -1,4 +1,4 @@
-//! The requests of a node to its pull server, and what is made of the answers.
+//! The requests of a node to its pull server, what is made of the answers, and the message of a report.
 //!
 //! A layer above may rely on this: each call sends at most one request, the one that its definition writes, to the
 //! server's peer and to no other; a server of https is sent nothing; a value comes exactly of an answer that is
@@ -6,16 +6,24 @@
 //! its exchanges each error is that of the answer, in a fixed order; a failure of the link shows in its count of faults.
 #![tactic(auto)]
 
+mod asking;
 mod content;
 mod error;
 mod exchange;
 mod fetching;
+mod laws;
+mod messages;
 mod moments;
+mod queries;
 mod registering;
 mod reporting;
 mod requests;
+mod statuses;
 
+pub use asking::ask;
 pub use error::PeerError;
 pub use fetching::{fetch, fetch_module};
+pub use laws::one_meaning;
+pub use messages::message_of;
 pub use registering::register;
 pub use reporting::report;

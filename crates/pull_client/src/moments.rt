@@ -6,13 +6,14 @@ use arrayvec::ArrayString;
 use jiff::Timestamp;
 use jiff::fmt::temporal::DateTimePrinter;
 
-/// A moment in seconds since 1970-01-01T00:00:00Z, as `YYYY-MM-DDThh:mm:ss.0000000Z`.
-pub fn date_text(moment: u64) -> ArrayString<33>
-    requires { moment ≤ last_moment }
-    ensures { IsMomentText (Some 7) moment result.bytes }
+/// A moment in seconds since 1970-01-01T00:00:00Z, as `YYYY-MM-DDThh:mm:ssZ` with so many places of a fraction.
+pub fn moment_text(moment: u64, places: u8) -> ArrayString<33>
+    requires moment { moment ≤ last_moment }
+    requires places { places ≤ 9 }
+    ensures { IsMomentText (Some places) moment result.bytes }
 {
     let instant = Timestamp::from_second(moment as i64).unwrap();
     DateTimePrinter::new()
-        .precision(Some(7))
+        .precision(Some(places))
         .timestamp_text(instant.to_plain())
 }

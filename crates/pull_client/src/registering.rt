@@ -7,7 +7,7 @@ ghost use Rattle.pull_client.specs.Requests.{registration_of, registration_reque
 
 use crate::PeerError;
 use crate::exchange::exchange;
-use crate::moments::date_text;
+use crate::moments::moment_text;
 use crate::requests::registration_request;
 use dsc_outside::Link;
 use meta_config::Server;
@@ -37,7 +37,7 @@ pub fn register<L: Link>(
         agent,
         node_name,
         names,
-        date_text(moment).as_str().as_bytes(),
+        moment_text(moment, 7).as_str().as_bytes(),
     )
 }
 

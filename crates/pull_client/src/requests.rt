@@ -1,15 +1,19 @@
 //! The requests of a node, as they are written.
 ghost use Rattle.std.specs.Prelude.{◌≡◌, ◌∷◌, [], IfOk, encode_utf8_all, string_bytes};
 ghost use Rattle.std.specs.Fmt.{decimal};
-ghost use Rattle.pull_client.specs.Requests.{authorization, content_request, content_type, date_header, got, host_text, module_request, posted, protocol_version, put, registration_of, registration_request, report_request, signed_headers, written};
+ghost use Rattle.pull_client.specs.Queries.{query_of};
+ghost use Rattle.pull_client.specs.Requests.{authorization, content_request, content_type, date_header, got, host_text, module_request, posted, protocol_version, put, query_request, registration_of, registration_request, report_request, signed_headers, written};
 
+use crate::queries::query_of;
 use dsc_outside::Peer;
 use http_frames::{Header, Request, write_request};
 use meta_config::Server;
 use mof_values::{Bytes, Items, Memory, Text};
 use pull_messages::{
-    Registration, ReportMessage, Target, write_registration, write_report, write_target,
+    Registration, ReportMessage, Target, write_query, write_registration, write_report,
+    write_target,
 };
+use report_log::PartMark;
 use shared_key::sign;
 use std::alloc::{AllocError, Global};
 
@@ -70,6 +74,19 @@ fn body_headers(alloc: Global) -> Result<Vec<Header>, AllocError>
     let mut headers = plain_headers(alloc)?;
     headers.push(header(alloc, "Content-Type", b"application/json")?)?;
     Ok(headers)
+}
+
+pub fn query_request(
+    alloc: Global,
+    server: &Server,
+    agent: u128,
+    held: &[PartMark],
+    names: &[Text],
+) -> Result<Vec<u8>, Memory>
+    ensures { IfOk result (λ bytes. bytes.items ≡ query_request server.now agent (query_of held.now names.now)) }
+{
+    let body = write_query(alloc, &query_of(alloc, held, names)?)?;
+    post(alloc, server, &Target::Action(agent), body)
 }
 
 pub fn report_request(

@@ -1,0 +1,33 @@
+//! Until when an exchange may take.
+use dsc_outside::Failed;
+use std::time::{Clock, Duration};
+
+/// A moment of the monotonic clock.
+#[derive(Clone, Copy)]
+pub struct Deadline {
+    end: Duration,
+}
+
+impl Deadline {
+    /// So long from now on.
+    pub fn after<R: Clock>(clock: &R, span: Duration) -> Result<Deadline, Failed> {
+        match clock.monotonic() {
+            Ok(now) => Ok(Deadline {
+                end: now.saturating_add(span),
+            }),
+            Err(_) => Err(Failed),
+        }
+    }
+
+    /// What is left of it, which is not nothing; `Failed` where nothing is left.
+    pub fn left<R: Clock>(self, clock: &R) -> Result<Duration, Failed> {
+        let Ok(now) = clock.monotonic() else {
+            return Err(Failed);
+        };
+        let left = self.end.saturating_sub(now);
+        if left.is_zero() {
+            return Err(Failed);
+        }
+        Ok(left)
+    }
+}
