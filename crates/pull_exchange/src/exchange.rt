@@ -1,0 +1,129 @@
+//! One request of a connection, and one reply.
+ghost use Rattle.std.specs.Prelude.{◌≡◌, ◌≤◌, ◌++◌, IfOk, IfSome, codes};
+ghost use Rattle.std.specs.Fmt.{decimal};
+ghost use Rattle.http_frames.specs.Writing.{answer_text};
+ghost use Rattle.pull_exchange.specs.Exchange.{IsReadCause, IsReceived, IsRefusal, IsSent, IsSized, refusal_of, refusing, told_by};
+
+use crate::streams::write_all;
+use dsc_outside::{Failed, Sink, Source};
+use http_frames::{FrameError, Reply, Request, RequestReader, write_answer};
+use mof_values::{Bytes, Items, Memory};
+use std::alloc::Global;
+
+/// What a connection gave.
+#[derive(Drop)]
+pub enum Received {
+    Request(Request),
+
+    /// The bytes are no request.
+    Refused(FrameError),
+
+    /// The connection ended after so many bytes, inside a request.
+    Torn { at: u64 },
+
+    ReadFault,
+    Memory,
+}
+
+/// How the writing of a reply ended.
+#[derive(Clone, Copy, Debug, PartialEq, Eq)]
+pub enum SendEnd {
+    Sent,
+
+    /// A part of the answer was written.
+    WriteFault,
+
+    /// Nothing was written.
+    Memory,
+}
+
+/// Reads one request, in whatever pieces its bytes come. Bytes after it do not count.
+pub fn receive<X: Source>(alloc: Global, conn: &mut X) -> Received
+    ensures received { IfSome (X.left conn.old) (λ all. IsReceived all result) }
+    ensures sized { IsSized result }
+    ensures cause { IsReadCause (X.faults conn.old) (X.faults conn.new) result }
+    ensures held { X.held conn.new ≡ X.held conn.old }
+    ensures count { X.faults conn.old ≤ X.faults conn.new }
+{
+    let mut reader = RequestReader::new(alloc);
+    let mut buffer = [0u8; 8192];
+    let mut length = 0;
+    loop {
+        let count = match conn.read(&mut buffer) {
+            Err(Failed) => return Received::ReadFault,
+            Ok(0) => return Received::Torn { at: length },
+            Ok(count) => count,
+        };
+        match reader.feed(&buffer[..count]) {
+            Ok(Some(request)) => return Received::Request(request),
+            Ok(None) => length += count as u64,
+            Err(error) => return told_by(error),
+        }
+    }
+}
+
+// Out of memory, the reader has not judged the bytes.
+fn told_by(error: FrameError) -> Received
+    ensures { result ≡ told_by error }
+{
+    match error {
+        FrameError::Memory => Received::Memory,
+        FrameError::Head => Received::Refused(error),
+        FrameError::HeadTooLong => Received::Refused(error),
+        FrameError::Coding => Received::Refused(error),
+        FrameError::Length => Received::Refused(error),
+        FrameError::NoLength => Received::Refused(error),
+        FrameError::BodyTooLong => Received::Refused(error),
+        FrameError::Chunk { at } => Received::Refused(FrameError::Chunk { at }),
+        FrameError::Torn { at } => Received::Refused(FrameError::Torn { at }),
+    }
+}
+
+/// The reply to bytes that are no request.
+pub fn refusal(alloc: Global, error: &FrameError) -> Result<Reply, Memory>
+    requires { IsRefusal error.now }
+    ensures { IfOk result (λ reply. reply ≡ refusal_of error.now) }
+{
+    match error {
+        FrameError::Head | FrameError::HeadTooLong => refusing(alloc, 400, b"head"),
+        FrameError::Coding => refusing(alloc, 501, b""),
+        FrameError::Length => refusing(alloc, 400, b"length"),
+        FrameError::NoLength => refusing(alloc, 411, b""),
+        FrameError::BodyTooLong => refusing(alloc, 413, b""),
+        FrameError::Chunk { at } => bad_chunk(alloc, *at),
+        FrameError::Torn { .. } | FrameError::Memory => unreachable!(),
+    }
+}
+
+fn refusing(alloc: Global, code: u16, body: &[u8]) -> Result<Reply, Memory>
+    ensures { IfOk result (λ reply. reply ≡ refusing code body.now) }
+{
+    Ok(Reply {
+        code,
+        headers: Items::of(Vec::new(alloc)),
+        body: Bytes::of(body.to_vec(alloc)?),
+    })
+}
+
+// That the chunk at this place is wrong.
+fn bad_chunk(alloc: Global, at: u64) -> Result<Reply, Memory>
+    ensures { IfOk result (λ reply. reply ≡ refusing 400 (codes "chunk " ++ decimal at)) }
+{
+    let text = format!(in alloc; "chunk {at}")?;
+    refusing(alloc, 400, text.as_bytes())
+}
+
+/// Writes a reply.
+pub fn send_reply<X: Sink>(alloc: Global, conn: &mut X, reply: &Reply) -> SendEnd
+    ensures sent { IsSent (X.held conn.old) (X.held conn.new) (answer_text reply.now) (X.faults conn.old) (X.faults conn.new) result }
+    ensures left { X.left conn.new ≡ X.left conn.old }
+    ensures count { X.faults conn.old ≤ X.faults conn.new }
+{
+    let Ok(text) = write_answer(alloc, reply) else {
+        return SendEnd::Memory;
+    };
+    match write_all(conn, &text) {
+        Ok(()) => SendEnd::Sent,
+        Err(Failed) => SendEnd::WriteFault,
+    }
+}

@@ -1,0 +1,12 @@
+//! One request of a connection, and one reply: what a server reads and writes, whatever it answers.
+//!
+//! A layer above may rely on this: a request is read from exactly the bytes that are its frame, in whatever pieces the connection
+//! gives them; bytes that are no request are refused by the fault of their shortest front that has one; and a reply is written as
+//! its text and nothing else, or where the connection fails a part from the front of it.
+#![tactic(auto)]
+
+mod exchange;
+mod streams;
+
+pub use exchange::{Received, SendEnd, receive, refusal, send_reply};
+pub use streams::write_all;

@@ -1,0 +1,127 @@
+ghost use Rattle.std.specs.Prelude.{◌<◌};
+
+use http_frames::{FrameError, Reply};
+use mof_values::{Bytes, Items};
+use pull_exchange::{Received, SendEnd, receive, refusal, send_reply};
+use pull_outside::MemoryConn;
+use std::alloc::{AllocError, Global};
+use std::rt::HostRuntime;
+use std::test::Fail;
+
+const GET: &[u8] =
+    b"GET /PSDSCPullServer.svc/Nodes(AgentId='00000000-0000-0000-0000-000000000001')/Configurations(ConfigurationName='Web')/ConfigurationContent HTTP/1.1\r\nHost: s\r\n\r\n";
+
+const POST: &[u8] = b"POST / HTTP/1.1\r\nHost: s\r\n\r\n";
+
+const CHUNKED: &[u8] =
+    b"PUT / HTTP/1.1\r\nTransfer-Encoding: chunked\r\n\r\n5\r\nhello\r\n0\r\n\r\nGET";
+
+const WRONG_CHUNK: &[u8] = b"PUT / HTTP/1.1\r\nTransfer-Encoding: chunked\r\n\r\nx";
+
+const GZIP: &[u8] = b"PUT / HTTP/1.1\r\nTransfer-Encoding: gzip\r\n\r\n";
+
+const LONG: &[u8] = b"PUT / HTTP/1.1\r\nContent-Length: 131073\r\n\r\n";
+
+const TWO_LENGTHS: &[u8] = b"PUT / HTTP/1.1\r\nContent-Length: 1\r\nContent-Length: 1\r\n\r\n";
+
+const NO_HEAD: &[u8] = b"GET / HTTP/3.0\r\n\r\n";
+
+const BEGUN: &[u8] = b"GET /PSDSCPullServer.svc/Nodes";
+
+// The bytes of a connection, and what they lead to.
+const ROWS: &[(&[u8], &str)] = &[
+    (b"", "torn 0"),
+    (BEGUN, "torn 30"),
+    (GET, "request GET 0"),
+    (CHUNKED, "request PUT 5"),
+    (POST, "411 "),
+    (GZIP, "501 "),
+    (LONG, "413 "),
+    (TWO_LENGTHS, "400 length"),
+    (NO_HEAD, "400 head"),
+    (WRONG_CHUNK, "400 chunk 46"),
+];
+
+fn refused(alloc: Global, error: &FrameError) -> Result<String, AllocError> {
+    match error {
+        FrameError::Torn { .. } | FrameError::Memory => format!(in alloc; "no refusal"),
+        _ => match refusal(alloc, error) {
+            Ok(reply) => {
+                let mut line = format!(in alloc; "{} ", reply.code)?;
+                for byte in reply.body.as_slice() {
+                    line.push(char::from(*byte))?;
+                }
+                Ok(line)
+            }
+            Err(_) => Err(AllocError),
+        },
+    }
+}
+
+// What a connection of these bytes gives, in pieces of at most so many.
+fn shown(alloc: Global, bytes: &[u8], most: usize) -> Result<String, AllocError>
+    requires { 0 < most }
+{
+    let mut conn = MemoryConn::new(alloc, bytes.to_vec(alloc)?, most, Vec::new(alloc));
+    match receive(alloc, &mut conn) {
+        Received::Request(request) => {
+            let mut line = format!(in alloc; "request ")?;
+            for byte in request.method.as_slice() {
+                line.push(char::from(*byte))?;
+            }
+            let length = format!(in alloc; " {}", request.body.as_slice().len())?;
+            line.push_str(length.as_str())?;
+            Ok(line)
+        }
+        Received::Refused(error) => refused(alloc, &error),
+        Received::Torn { at } => format!(in alloc; "torn {at}"),
+        Received::ReadFault => format!(in alloc; "read fault"),
+        Received::Memory => Err(AllocError),
+    }
+}
+
+#[test]
+fn bytes_lead_to_the_same_in_any_pieces(rt: HostRuntime) -> Result<(), Fail> {
+    for (bytes, wanted) in ROWS {
+        for most in 1..20 {
+            assert_eq!(rt;
+                shown(rt.alloc(), *bytes, most)?.as_str(),
+                *wanted,
+                "{most}"
+            );
+        }
+        assert_eq!(rt; shown(rt.alloc(), *bytes, 100_000)?.as_str(), *wanted);
+    }
+    Ok(())
+}
+
+const ANSWER: &[u8] =
+    b"HTTP/1.1 404 Not Found\r\nConnection: close\r\nProtocolVersion: 2.0\r\nContent-Length: 0\r\n\r\n";
+
+// How many bytes of the answer 404 are written where each call takes at most so many and the call of that number fails.
+fn sent(alloc: Global, most: usize, failing: u64) -> Result<(SendEnd, usize), AllocError>
+    requires { 0 < most }
+{
+    let mut numbers = Vec::new(alloc);
+    numbers.push(failing)?;
+    let mut conn = MemoryConn::new(alloc, Vec::new(alloc), most, numbers);
+    let reply = Reply {
+        code: 404,
+        headers: Items::of(Vec::new(alloc)),
+        body: Bytes::of(Vec::new(alloc)),
+    };
+    let end = send_reply(alloc, &mut conn, &reply);
+    let taken = conn.taken();
+    if ANSWER.starts_with(taken) {
+        return Ok((end, taken.len()));
+    }
+    Ok((end, 0))
+}
+
+#[test]
+fn a_connection_that_fails_has_a_front_of_the_answer(rt: HostRuntime) -> Result<(), Fail> {
+    assert_eq!(rt; sent(rt.alloc(), 10, 1)?, (SendEnd::WriteFault, 10));
+    assert_eq!(rt; sent(rt.alloc(), 10, 0)?, (SendEnd::WriteFault, 0));
+    assert_eq!(rt; sent(rt.alloc(), 10, 100)?, (SendEnd::Sent, ANSWER.len()));
+    Ok(())
+}

@@ -1,0 +1,19 @@
+-- Connections that are still to come, and those that were handed back.
+use Rattle.std.specs.Prelude.{◌≡◌, ℕ, List, [], ◌∷◌, ◌++◌, Option, Some, None}
+
+-- what is known of a connection: what it has left and what it took, where it tells, and its count of faults
+pub record Known : Type 0 where
+  pub left : Option (List ℕ)
+  pub held : Option (List ℕ)
+  pub faults : ℕ
+
+-- the first of those that are to come is taken. A door that does not tell them tells nothing afterwards either
+abbrev pub TakesFirst : Option (List Known) → Option (List Known) → Known → Type 0
+TakesFirst None after taken = after ≡ None
+TakesFirst (Some []) after taken = ⊥
+TakesFirst (Some (known ∷ rest)) after taken = (taken ≡ known) × (after ≡ Some rest)
+
+-- it is the last of those that were handed back
+abbrev pub GetsBack : Option (List Known) → Option (List Known) → Known → Type 0
+GetsBack None after given = after ≡ None
+GetsBack (Some known) after given = after ≡ Some (known ++ given ∷ [])

@@ -1,0 +1,5 @@
+pub mod Calls
+pub mod Conn
+pub mod Door
+pub mod Memory
+pub mod Shelf

@@ -1,0 +1,53 @@
+-- A shelf and a door in memory.
+use Rattle.std.specs.Prelude.{◌≡◌, ◌⊎◌, ℕ, Bool, true, false, nat_lt, List, [], ◌∷◌, map, length, Option, Some, None, is_some, Result, Ok, Err, if◌then◌else◌}
+use Rattle.pull_outside.specs.declared.shelf.ShelfError.{ShelfError}
+use Rattle.pull_outside.specs.declared.shelf.ShelfError.TheVariants as errors
+use Rattle.pull_outside.specs.declared.shelf.TheConstants.{LONGEST_ITEM}
+use Rattle.pull_outside.specs.declared.memory.contents.ShelfContents.{ShelfContents}
+use Rattle.pull_outside.specs.Calls.{CallCount, counted, is_to_fail, with_fault}
+use Rattle.pull_outside.specs.Conn.{ConnInMemory}
+use Rattle.pull_outside.specs.Door.{Known}
+use Rattle.pull_outside.specs.Shelf.{Contents}
+
+-- ---- shelves
+
+abbrev pub told_by : ShelfContents → Contents
+told_by contents = record { configurations = contents.configurations; packages = contents.packages; keys = contents.keys }
+
+pub record ShelfInMemory : Type 0 where
+  pub contents : Contents
+  pub calls : CallCount
+
+-- an item that is too long is a failure
+abbrev pub is_too_long : Option (List ℕ) → Bool
+is_too_long None = false
+is_too_long (Some item) = nat_lt LONGEST_ITEM (length item)
+
+-- a look for an item fails exactly where it is to fail, or the item is too long
+abbrev pub Looks : CallCount → Option (List ℕ) → Result Bool ShelfError → CallCount → Type 0
+Looks old item (Ok there) new = (is_to_fail old ≡ false) × (is_too_long item ≡ false) × (there ≡ is_some item) × (new ≡ counted old)
+Looks old item (Err errors.Failed) new =
+    ((is_to_fail old ≡ true) × (new ≡ counted old)) ⊎ ((is_to_fail old ≡ false) × (is_too_long item ≡ true) × (new ≡ with_fault (counted old)))
+Looks old item (Err errors.Memory) new = (is_to_fail old ≡ false) × (new ≡ counted old)
+
+-- ---- doors
+
+pub record DoorInMemory : Type 0 where
+  -- the connections that are still to come, in order
+  pub coming : List ConnInMemory
+  -- those that were handed back, in order
+  pub back : List ConnInMemory
+  -- how many were given and not handed back
+  pub out : ℕ
+  pub calls : CallCount
+
+abbrev pub known : ConnInMemory → Known
+known conn = record { left = Some conn.left; held = Some conn.held; faults = conn.calls.faults }
+
+abbrev pub is_empty : List ConnInMemory → Bool
+is_empty [] = true
+is_empty (conn ∷ conns) = false
+
+-- after the next call, which failed where it was to fail, or where no connection was left
+abbrev pub counted_with : Bool → CallCount → CallCount
+counted_with has calls = if is_to_fail calls then counted calls else if has then counted calls else with_fault (counted calls)

@@ -1,0 +1,40 @@
+//! Doors through which connections come.
+ghost use Rattle.std.specs.Prelude.{◌≡◌, ◌<◌, ◌≤◌, ◌+◌, ℕ, List, Option, IfOk, OnOk, OnErr};
+ghost use Rattle.dsc_outside.specs.Causes.{HasCause};
+ghost use Rattle.pull_outside.specs.Door.{Known, TakesFirst, GetsBack};
+
+use dsc_outside::{Failed, Sink, Source};
+
+/// Gives connections one after the other, and takes each back once it was served.
+pub trait Door {
+    type Conn: Source + Sink;
+
+    /// The connections that are still to come, in order, where they are told.
+    ghost coming: { Self → Option (List Known) };
+
+    /// The connections that were handed back, in order, where they are told.
+    ghost back: { Self → Option (List Known) };
+
+    /// How many connections were given and not yet handed back.
+    ghost out: { Self → ℕ };
+
+    /// How often a call has failed.
+    ghost faults: { Self → ℕ };
+
+    /// Gives the next connection. A call that fails gives none away.
+    fn next(&mut self) -> Result<Self::Conn, Failed>
+        ensures taken { IfOk result (λ conn. TakesFirst (coming self.old) (coming self.new) (record { left = Self.Conn.left conn; held = Self.Conn.held conn; faults = Self.Conn.faults conn })) }
+        ensures kept { OnErr result (coming self.new ≡ coming self.old) }
+        ensures back { back self.new ≡ back self.old }
+        ensures given { OnOk result (out self.new ≡ out self.old + 1) }
+        ensures not_given { OnErr result (out self.new ≡ out self.old) }
+        ensures cause { HasCause (faults self.old) (faults self.new) result };
+
+    /// Takes a connection back that was given.
+    fn close(&mut self, conn: Self::Conn)
+        requires { 0 < out self.old }
+        ensures back { GetsBack (back self.old) (back self.new) (record { left = Self.Conn.left conn; held = Self.Conn.held conn; faults = Self.Conn.faults conn }) }
+        ensures coming { coming self.new ≡ coming self.old }
+        ensures out { out self.old ≡ out self.new + 1 }
+        ensures count { faults self.old ≤ faults self.new };
+}

@@ -1,0 +1,113 @@
+//! A door in memory.
+ghost use Rattle.std.specs.Prelude.{◌≡◌, ◌<◌, ◌≤◌, ◌+◌, [], Some, false, not, map, IfOk, OnOk, OnErr};
+ghost use Rattle.dsc_outside.specs.Causes.{HasCause};
+ghost use Rattle.pull_outside.specs.Calls.{uncalled};
+ghost use Rattle.pull_outside.specs.Door.{Known, TakesFirst, GetsBack};
+ghost use Rattle.pull_outside.specs.Memory.{counted_with, is_empty, known};
+
+use super::calls::Calls;
+use super::conn::MemoryConn;
+use crate::door::Door;
+use dsc_outside::Failed;
+use mof_values::Memory;
+use std::alloc::Global;
+use std::marker::Model;
+
+/// A door through which these connections come, and which keeps those that are handed back.
+#[derive(Drop)]
+pub struct MemoryDoor {
+    coming: Vec<MemoryConn>,
+    back: Vec<MemoryConn>,
+    out: usize,
+    calls: Calls,
+}
+
+impl Model for MemoryDoor {
+    ghost use Rattle.std.specs.Prelude.{◌≤◌, ◌+◌, length, vec_capacity};
+    ghost use Rattle.pull_outside.specs.Memory.{DoorInMemory};
+
+    ghost Value = { DoorInMemory };
+
+    ghost view = { λ d. record { coming = d.coming.items; back = d.back.items; out = d.out; calls = d.calls } };
+
+    ghost invariant = { λ d. length d.back.items + d.out + length d.coming.items ≤ vec_capacity d.back };
+}
+
+impl MemoryDoor {
+    /// A door whose calls of these numbers, counted from 0, are to fail. It takes the room for all its connections.
+    pub fn new(
+        alloc: Global,
+        coming: Vec<MemoryConn>,
+        failing: Vec<u64>,
+    ) -> Result<MemoryDoor, Memory>
+        ensures { IfOk result (λ door. door ≡ record { coming = coming.items; back = []; out = 0; calls = uncalled failing.items }) }
+    {
+        let back = Vec::with_capacity(alloc, coming.len())?;
+        Ok(MemoryDoor {
+            coming,
+            back,
+            out: 0,
+            calls: Calls::new(failing),
+        })
+    }
+
+    /// The connections that were handed back, in order.
+    pub fn back(&self) -> &[MemoryConn]
+        ensures { result.now ≡ self.now.back }
+    {
+        &self.back
+    }
+
+    /// Answers whether a call failed because there was no memory. None does: the room was taken before.
+    pub fn short(&self) -> bool
+        ensures { result ≡ false }
+    {
+        false
+    }
+}
+
+impl Door for MemoryDoor {
+    type Conn = MemoryConn;
+
+    ghost coming = { λ d. Some (map known d.coming) };
+
+    ghost back = { λ d. Some (map known d.back) };
+
+    ghost out = { λ d. d.out };
+
+    ghost faults = { λ d. d.calls.faults };
+
+    fn next(&mut self) -> Result<MemoryConn, Failed>
+        ensures taken { IfOk result (λ conn. TakesFirst (Some (map known self.old.coming)) (Some (map known self.new.coming)) (known conn)) }
+        ensures kept { OnErr result (Some (map known self.new.coming) ≡ Some (map known self.old.coming)) }
+        ensures back { Some (map known self.new.back) ≡ Some (map known self.old.back) }
+        ensures given { OnOk result (self.new.out ≡ self.old.out + 1) }
+        ensures not_given { OnErr result (self.new.out ≡ self.old.out) }
+        ensures cause { HasCause self.old.calls.faults self.new.calls.faults result }
+
+        // Exactly when it fails.
+        ensures exact { self.new.calls ≡ counted_with (not (is_empty self.old.coming)) self.old.calls }
+    {
+        self.calls.begin()?;
+        if self.coming.is_empty() {
+            self.calls.add_fault();
+            return Err(Failed);
+        }
+        self.out += 1;
+        Ok(self.coming.remove(0))
+    }
+
+    fn close(&mut self, conn: MemoryConn)
+        requires { 0 < self.old.out }
+        ensures back { GetsBack (Some (map known self.old.back)) (Some (map known self.new.back)) (known conn) }
+        ensures coming { Some (map known self.new.coming) ≡ Some (map known self.old.coming) }
+        ensures out { self.old.out ≡ self.new.out + 1 }
+        ensures count { self.old.calls.faults ≤ self.new.calls.faults }
+    {
+        self.out -= 1;
+        match self.back.push(conn) {
+            Ok(()) => {}
+            Err(_) => unreachable!(),
+        }
+    }
+}

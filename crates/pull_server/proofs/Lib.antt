@@ -1,0 +1,6 @@
+pub mod Judged
+pub mod Keys
+pub mod Own
+pub mod Rows
+pub mod Said
+pub mod Served

@@ -1,0 +1,222 @@
+-- What comes of a change that is to be kept, of the request that asked for it.
+use Rattle.std.proofs.Common.{◌≡◌, ◌⊎◌, inl, inr, ℕ, ◌≤◌, ◌==◌, Bool, true, false, ◌&&◌, nat_le, is_none, if◌then◌else◌, length, List, [], Option, Some, None, Result, Ok, Err, IfOk, IsErr, refl, sym, ◌∙◌, ap, subst, arith}
+use Rattle.std.proofs.lemmas.Bool.{eq-eqb, false≢true}
+use Rattle.std.proofs.lemmas.Option.{same_Some}
+use Rattle.dsc_terms.specs.Counts.{Rose}
+use Rattle.dsc_outside.specs.declared.disk.Disk.{Ghosts}
+use Rattle.dsc_outside.proofs.Moments.{started, weaker}
+use Rattle.gate_log.specs.Standing.{StandsFor, AllStand, StandsAtAnyMoment}
+use Rattle.mof_values.specs.declared.memory.Memory.{Memory}
+use Rattle.http_frames.specs.declared.message.Request.{Request}
+use Rattle.http_frames.specs.declared.message.Reply.{Reply}
+use Rattle.pull_messages.specs.declared.registration.Registration.{Registration}
+use Rattle.pull_messages.specs.declared.target_kinds.Target.{Target}
+use Rattle.pull_messages.specs.declared.target_kinds.Target.TheVariants.{Node, SendReport}
+use Rattle.pull_messages.specs.Targets.{IsTarget}
+use Rattle.pull_store.specs.declared.row.Row.{Row}
+use Rattle.pull_store.specs.declared.change.Change.{Change}
+use Rattle.pull_store.specs.declared.change.Change.TheVariants.{Register, Report}
+use Rattle.pull_store.specs.declared.change.Refusal.{Refusal}
+use Rattle.pull_store.specs.declared.change.Refusal.TheVariants.{TooMany, Unknown}
+use Rattle.pull_store.specs.Rows.{after, most_rows, refusal, row_of}
+use Rattle.pull_store.specs.Stands.{BeforeOrAfter, Stands}
+use Rattle.pull_store.specs.Store.{StoreTerm, IsKept, IsReady, is_spent}
+use Rattle.pull_store.proofs.Committed.{is_kept, kept_stands}
+use Rattle.pull_outside.specs.Shelf.{Contents}
+use Rattle.pull_server.specs.Answers.{IsAcknowledged, LeavesRows, Pulled, Replies, by_table, Serves, is_done}
+use Rattle.pull_server.specs.Answers.{failed as rose_failed}
+use Rattle.pull_server.specs.Asked.{Asks, IsAim, asked, change_to, is_full_for}
+use Rattle.pull_server.specs.Judging.{Passes, change_asked, kept_outcome}
+use Rattle.pull_server.specs.Keeping.{KeptBy, Keeps, made, was_spent, crowded, overfull, failed}
+use Rattle.pull_server.specs.Replies.{plain}
+use Rattle.pull_server.specs.Table.{makes, outcome_of, says}
+use Rattle.pull_server.proofs.Judged.{never}
+
+code_of : Reply → ℕ
+code_of reply = reply.code
+
+undone : {X : Type 0} (reply : Reply) (code : ℕ) → reply ≡ plain code → is_done code ≡ false → is_done reply.code ≡ true → X
+undone reply code is never_done done = never (is_done code) (sym (ap (λ (r : Reply). is_done r.code) is) ∙ done) never_done
+
+no_fault : {X : Type 0} (reply : Reply) (code : ℕ) → reply ≡ plain code → (code == 500) ≡ false → reply.code ≡ 500 → X
+no_fault reply code is other fault = never (code == 500) (eq-eqb code 500 (sym (ap (λ (r : Reply). r.code) is) ∙ fault)) other
+
+-- ---- the store and the disk
+
+module _ {D : Type 0} (d : Ghosts D) (request : Request) (old : StoreTerm) (before : D) (target : Target) (change : Change)
+    (aim : IsTarget request.target target) (asks : change_to target request.body ≡ Some change) (only : (other : Change) → Asks request other → change ≡ other) where
+  asked_for : Asks request change
+  asked_for = record { target = target; aim = aim; is_change = asks }
+
+  leaves_rows : (rows : List Row) → BeforeOrAfter old.rows change rows → LeavesRows request old.rows rows
+  leaves_rows rows (inl same) = inl same
+  leaves_rows rows (inr now) = inr (change, asked_for, now)
+
+  meanwhile : (now : D) → StandsAtAnyMoment d before now Stands (BeforeOrAfter old.rows change) → StandsAtAnyMoment d before now Stands (LeavesRows request old.rows)
+  meanwhile now run = weaker d.moment d.left_since before now _ (StandsFor Stands (LeavesRows request old.rows)) run
+      (λ c s. record { value = s.value; stands = s.stands; has = leaves_rows s.value s.has })
+
+  acknowledges : (code : ℕ) (rose : Type 0) (reply : Reply) (new : StoreTerm) (now : D) → IsReady d now new → KeptBy old change code rose reply new
+      → is_done reply.code ≡ true → IsAcknowledged d request old now new
+  acknowledges code rose reply new now ready (made unspent accepted fits is rows fresh) done = record {
+    each = λ other is_asked.
+        let rows_are = rows ∙ ap (λ (c : Change). after c old.rows) (only other is_asked) in
+        let stand = kept_stands d now new (is_kept d now new ready fresh) in
+        (rows_are, λ c here. let s = stand c here in record { value = s.value; stands = s.stands; has = s.has ∙ rows_are });
+  }
+  acknowledges code rose reply new now ready (was_spent spent is same) done = undone reply 500 is refl done
+  acknowledges code rose reply new now ready (crowded unspent many is same) done = undone reply 503 is refl done
+  acknowledges code rose reply new now ready (overfull unspent accepted full is same) done = undone reply 507 is refl done
+  acknowledges code rose reply new now ready (failed unspent rises is rows) done = undone reply 500 is refl done
+
+  acknowledges_ok : (code : ℕ) (rose : Type 0) (result : Result Reply Memory) (new : StoreTerm) (now : D) → IsReady d now new → IfOk result (λ reply. KeptBy old change code rose reply new)
+      → IfOk result (λ reply. is_done reply.code ≡ true → IsAcknowledged d request old now new)
+  acknowledges_ok code rose (Ok reply) new now ready kept = acknowledges code rose reply new now ready kept
+  acknowledges_ok code rose (Err e) new now ready kept = tt
+
+  pub served : (code : ℕ) (result : Result Reply Memory) (new : StoreTerm) (now : D) → Keeps d old change code before result new now → Serves d request old before result new now
+  served code result new now keeps = record {
+    ready = keeps.ready;
+    rows = leaves_rows new.rows keeps.rows;
+    any_moment = λ kept. meanwhile now (keeps.any_moment kept);
+    acknowledged = acknowledges_ok code (Rose (d.faults before) (d.faults now)) result new now keeps.ready keeps.reply;
+    spent = keeps.spent;
+    count = keeps.count;
+  }
+
+-- where nothing is kept
+pub unserved : {D : Type 0} (d : Ghosts D) (request : Request) (store : StoreTerm) (disk : D) (reply : Reply)
+    → ((c : List ℕ) → d.left_since disk (d.moment disk) c → d.images disk c) → IsReady d disk store → (is_done reply.code ≡ true → (change : Change) → Asks request change → ⊥)
+    → Serves d request store disk (Ok reply) store disk
+unserved d request store disk reply now ready none = record {
+  ready = ready;
+  rows = inl refl;
+  any_moment = λ kept. started d.moment d.left_since disk (StandsFor Stands (LeavesRows request store.rows)) (λ c left.
+      let s = kept_stands d disk store kept c (now c left) in
+      record { value = s.value; stands = s.stands; has = inl s.has });
+  acknowledged = λ done. record { each = λ change asks. absurd (none done change asks) };
+  spent = λ fresh over. never (is_spent store) over fresh;
+  count = omega arith;
+}
+
+pub unserved_err : {D : Type 0} (d : Ghosts D) (request : Request) (store : StoreTerm) (disk : D) (e : Memory)
+    → ((c : List ℕ) → d.left_since disk (d.moment disk) c → d.images disk c) → IsReady d disk store → Serves d request store disk (Err e) store disk
+unserved_err d request store disk e now ready = record {
+  ready = ready;
+  rows = inl refl;
+  any_moment = λ kept. started d.moment d.left_since disk (StandsFor Stands (LeavesRows request store.rows)) (λ c left.
+      let s = kept_stands d disk store kept c (now c left) in
+      record { value = s.value; stands = s.stands; has = inl s.has });
+  acknowledged = tt;
+  spent = λ fresh over. never (is_spent store) over fresh;
+  count = omega arith;
+}
+
+-- ---- the cause of 500
+
+pub fault_of : (store new : StoreTerm) (change : Change) (code : ℕ) (rose other : Type 0) (reply : Reply) → (code == 500) ≡ false → KeptBy store change code rose reply new
+    → reply.code ≡ 500 → (rose ⊎ other) ⊎ (is_spent store ≡ true)
+fault_of store new change code rose other reply isnt (made unspent accepted fits is rows fresh) fault = no_fault reply code is isnt fault
+fault_of store new change code rose other reply isnt (was_spent spent is same) fault = inr spent
+fault_of store new change code rose other reply isnt (crowded unspent many is same) fault = no_fault reply 503 is refl fault
+fault_of store new change code rose other reply isnt (overfull unspent accepted full is same) fault = no_fault reply 507 is refl fault
+fault_of store new change code rose other reply isnt (failed unspent rises is rows) fault = inl (inl rises)
+
+-- ---- the rows of the table
+
+abbrev many_or_none : Bool → Option Refusal
+many_or_none b = if b then Some TooMany else None
+
+abbrev unknown_or_none : Bool → Option Refusal
+unknown_or_none b = if b then Some Unknown else None
+
+not_many : (b : Bool) → many_or_none b ≡ None → b ≡ false
+not_many true is = absurd (cc is)
+not_many false is = refl
+
+is_many : (b : Bool) → many_or_none b ≡ Some TooMany → b ≡ true
+is_many true is = refl
+is_many false is = absurd (cc is)
+
+never_many : (b : Bool) → unknown_or_none b ≡ Some TooMany → ⊥
+never_many true is = cc is
+never_many false is = cc is
+
+rows_same : (old new : StoreTerm) → new ≡ old → new.rows ≡ old.rows
+rows_same old new same = ap (λ (s : StoreTerm). s.rows) same
+
+module _ (store new : StoreTerm) (shelf : Contents) (request : Request) (rose other : Type 0) (reply : Reply) where
+  pub pulled_registration : (agent : ℕ) (r : Registration) → change_to (Node agent) request.body ≡ Some (Register agent r)
+      → outcome_of (asked store shelf request (Ok (Node agent))) ≡ kept_outcome (asked store shelf request (Ok (Node agent)))
+      → KeptBy store (Register agent r) 204 rose reply new → Pulled store shelf request (Ok (Node agent)) (rose ⊎ other) reply new.rows
+  unfolding kept_outcome asked
+  pulled_registration agent r asks passes (made unspent accepted fits is rows fresh) =
+      by_table (makes (plain 204)) (passes ∙ rw (unspent, not_many (is_none (row_of agent store.rows) && nat_le most_rows (length store.rows)) accepted, asks, fits) refl) is (rw asks rows)
+  pulled_registration agent r asks passes (was_spent spent is same) = by_table (says 500 []) (passes ∙ rw spent refl) is (rows_same store new same)
+  pulled_registration agent r asks passes (crowded unspent many is same) =
+      by_table (says 503 []) (passes ∙ rw (unspent, is_many (is_none (row_of agent store.rows) && nat_le most_rows (length store.rows)) many) refl) is (rows_same store new same)
+  pulled_registration agent r asks passes (overfull unspent accepted full is same) =
+      by_table (says 507 []) (passes ∙ rw (unspent, not_many (is_none (row_of agent store.rows) && nat_le most_rows (length store.rows)) accepted, asks, full) refl) is (rows_same store new same)
+  pulled_registration agent r asks passes (failed unspent rises is rows) = rose_failed (inl rises) is rows
+
+  pub pulled_report : (agent job : ℕ) (body : List ℕ) → change_to (SendReport agent) request.body ≡ Some (Report agent job body)
+      → outcome_of (asked store shelf request (Ok (SendReport agent))) ≡ kept_outcome (asked store shelf request (Ok (SendReport agent)))
+      → KeptBy store (Report agent job body) 200 rose reply new → Pulled store shelf request (Ok (SendReport agent)) (rose ⊎ other) reply new.rows
+  unfolding kept_outcome asked
+  pulled_report agent job body asks passes (made unspent accepted fits is rows fresh) = by_table (makes (plain 200)) (passes ∙ rw (unspent, asks, fits) refl) is (rw asks rows)
+  pulled_report agent job body asks passes (was_spent spent is same) = by_table (says 500 []) (passes ∙ rw spent refl) is (rows_same store new same)
+  pulled_report agent job body asks passes (crowded unspent many is same) = absurd (never_many (is_none (row_of agent store.rows)) many)
+  pulled_report agent job body asks passes (overfull unspent accepted full is same) = by_table (says 507 []) (passes ∙ rw (unspent, asks, full) refl) is (rows_same store new same)
+  pulled_report agent job body asks passes (failed unspent rises is rows) = rose_failed (inl rises) is rows
+
+-- another count may have risen too
+pub wider : (store : StoreTerm) (shelf : Contents) (request : Request) (target : Result Target ℕ) (rose other : Type 0) (reply : Reply) (rows : List Row)
+    → Pulled store shelf request target rose reply rows → Pulled store shelf request target (other ⊎ rose) reply rows
+wider store shelf request target rose other reply rows (by_table outcome row is now) = by_table outcome row is now
+wider store shelf request target rose other reply rows (rose_failed rises is now) = rose_failed (inr rises) is now
+
+-- ---- an answer
+
+module _ {D : Type 0} (d : Ghosts D) (request : Request) (old : StoreTerm) (before : D) (aim : Result Target ℕ) (target : Target) (change : Change) (same : aim ≡ Ok target)
+    (is_aim : IsAim request.target aim) (asks : change_asked request aim ≡ Some change) (only : (other : Change) → Asks request other → change_asked request aim ≡ Some other) where
+  pub target_is : IsTarget request.target target
+  target_is = subst (λ (a : Result Target ℕ). IsAim request.target a) same is_aim
+
+  pub asks_is : change_to target request.body ≡ Some change
+  asks_is = subst (λ (a : Result Target ℕ). change_asked request a ≡ Some change) same asks
+
+  pub kept_serves : (code : ℕ) (result : Result Reply Memory) (new : StoreTerm) (now : D) → Keeps d old change code before result new now → Serves d request old before result new now
+  kept_serves code result new now keeps =
+      served d request old before target change target_is asks_is (λ other is. same_Some change other (sym asks ∙ only other is)) code result new now keeps
+
+module _ (store new : StoreTerm) (request : Request) (holds : Option Contents) (rose other : Type 0) (aim : Result Target ℕ) (is_aim : IsAim request.target aim) where
+  moved_on : (target : Target) → aim ≡ Ok target → Passes store holds request aim → (shelf : Contents) → holds ≡ Some shelf
+      → outcome_of (asked store shelf request (Ok target)) ≡ kept_outcome (asked store shelf request (Ok target))
+  moved_on target same passes shelf told = subst (λ (a : Result Target ℕ). outcome_of (asked store shelf request a) ≡ kept_outcome (asked store shelf request a)) same (passes shelf told)
+
+  pub registration_replies : (agent : ℕ) (r : Registration) → aim ≡ Ok (Node agent) → change_asked request aim ≡ Some (Register agent r) → Passes store holds request aim
+      → (result : Result Reply Memory) → IfOk result (λ reply. KeptBy store (Register agent r) 204 rose reply new)
+      → IfOk result (λ reply. (shelf : Contents) → holds ≡ Some shelf → Replies store shelf request (rose ⊎ other) reply new.rows)
+  registration_replies agent r same asks passes (Ok reply) kept = λ shelf told. record {
+    aim = Ok (Node agent);
+    is_aim = subst (λ (a : Result Target ℕ). IsAim request.target a) same is_aim;
+    pulled = pulled_registration store new shelf request rose other reply agent r (subst (λ (a : Result Target ℕ). change_asked request a ≡ Some (Register agent r)) same asks)
+        (moved_on (Node agent) same passes shelf told) kept;
+  }
+  registration_replies agent r same asks passes (Err e) kept = tt
+
+  pub report_replies : (agent job : ℕ) (body : List ℕ) → aim ≡ Ok (SendReport agent) → change_asked request aim ≡ Some (Report agent job body) → Passes store holds request aim
+      → (result : Result Reply Memory) → IfOk result (λ reply. KeptBy store (Report agent job body) 200 rose reply new)
+      → IfOk result (λ reply. (shelf : Contents) → holds ≡ Some shelf → Replies store shelf request (rose ⊎ other) reply new.rows)
+  report_replies agent job body same asks passes (Ok reply) kept = λ shelf told. record {
+    aim = Ok (SendReport agent);
+    is_aim = subst (λ (a : Result Target ℕ). IsAim request.target a) same is_aim;
+    pulled = pulled_report store new shelf request rose other reply agent job body (subst (λ (a : Result Target ℕ). change_asked request a ≡ Some (Report agent job body)) same asks)
+        (moved_on (SendReport agent) same passes shelf told) kept;
+  }
+  report_replies agent job body same asks passes (Err e) kept = tt
+
+pub unserved_not_ok : {D : Type 0} (d : Ghosts D) (request : Request) (store : StoreTerm) (disk : D) (result : Result Reply Memory) → IsErr result
+    → ((c : List ℕ) → d.left_since disk (d.moment disk) c → d.images disk c) → IsReady d disk store → Serves d request store disk result store disk
+unserved_not_ok d request store disk (Ok reply) isnt now ready = absurd (cc isnt)
+unserved_not_ok d request store disk (Err e) is now ready = unserved_err d request store disk e now ready

@@ -1,0 +1,65 @@
+-- What an answer says, of the reply, the rows, and the disk.
+use Rattle.std.specs.Prelude.{◌≡◌, ◌⊎◌, ◌≤◌, ◌==◌, ◌||◌, ℕ, Bool, true, false, List, Option, Some, None, Result, Ok, Err, IfOk}
+use Rattle.dsc_terms.specs.Counts.{Rose}
+use Rattle.dsc_outside.specs.declared.disk.Disk.{Ghosts}
+use Rattle.gate_log.specs.Standing.{AllStand, StandsAtAnyMoment}
+use Rattle.mof_values.specs.declared.memory.Memory.{Memory}
+use Rattle.http_frames.specs.declared.message.Request.{Request}
+use Rattle.http_frames.specs.declared.message.Reply.{Reply}
+use Rattle.pull_messages.specs.declared.target_kinds.Target.{Target}
+use Rattle.pull_store.specs.declared.row.Row.{Row}
+use Rattle.pull_store.specs.declared.change.Change.{Change}
+use Rattle.pull_store.specs.Rows.{after}
+use Rattle.pull_store.specs.Stands.{Stands}
+use Rattle.pull_store.specs.Store.{StoreTerm, IsKept, IsReady, is_spent}
+use Rattle.pull_outside.specs.Shelf.{Contents}
+use Rattle.pull_server.specs.Asked.{Asks, IsAim, asked, change_to, on, target_in}
+use Rattle.pull_server.specs.Replies.{plain}
+use Rattle.pull_server.specs.Table.{Outcome, leaves, makes, outcome_of}
+
+-- ---- the reply, and the rows after it
+
+-- the rows after an outcome
+abbrev pub IsAfter : Option Change → List Row → Outcome → List Row → Type 0
+IsAfter change old (leaves reply) new = new ≡ old
+IsAfter None old (makes reply) new = ⊥
+IsAfter (Some change) old (makes reply) new = new ≡ after change old
+
+abbrev pub reply_of : Outcome → Reply
+reply_of (leaves reply) = reply
+reply_of (makes reply) = reply
+
+-- the reply and the rows after it are those of the table; or a count rose, and the reply is 500 and leaves the rows
+pub data Pulled (store : StoreTerm) (shelf : Contents) (request : Request) (aim : Result Target ℕ) (rose : Type 0) (reply : Reply) (rows : List Row) : Type 0 where
+  by_table : (outcome : Outcome) → outcome_of (asked store shelf request aim) ≡ Some outcome → reply ≡ reply_of outcome
+      → IsAfter (on (target_in aim) (λ target. change_to target request.body)) store.rows outcome rows → Pulled store shelf request aim rose reply rows
+  failed : rose → reply ≡ plain 500 → rows ≡ store.rows → Pulled store shelf request aim rose reply rows
+
+-- the same, of the target that the request has
+pub record Replies (store : StoreTerm) (shelf : Contents) (request : Request) (rose : Type 0) (reply : Reply) (rows : List Row) : Type 0 where
+  pub aim : Result Target ℕ
+  pub is_aim : IsAim request.target aim
+  pub pulled : Pulled store shelf request aim rose reply rows
+
+-- ---- whatever the shelf holds
+
+-- the rows are as they were, or those after the change that the request asks for
+abbrev pub LeavesRows : Request → List Row → List Row → Type 0
+LeavesRows request old new = (new ≡ old) ⊎ ((change : Change) × Asks request change × (new ≡ after change old))
+
+-- it says that it was done
+abbrev pub is_done : ℕ → Bool
+is_done code = code == 200 || code == 204
+
+-- the change that the request asks for is made, and every image stands for the rows after it
+pub record IsAcknowledged {D : Type 0} (d : Ghosts D) (request : Request) (old : StoreTerm) (now : D) (new : StoreTerm) : Type 0 where
+  pub each : (change : Change) → Asks request change → (new.rows ≡ after change old.rows) × AllStand d now Stands (λ rows. rows ≡ after change old.rows)
+
+-- the store and the disk after an answer
+pub record Serves {D : Type 0} (d : Ghosts D) (request : Request) (old : StoreTerm) (before : D) (result : Result Reply Memory) (new : StoreTerm) (now : D) : Type 0 where
+  pub ready : IsReady d now new
+  pub rows : LeavesRows request old.rows new.rows
+  pub any_moment : IsKept d before old → StandsAtAnyMoment d before now Stands (LeavesRows request old.rows)
+  pub acknowledged : IfOk result (λ reply. is_done reply.code ≡ true → IsAcknowledged d request old now new)
+  pub spent : is_spent old ≡ false → is_spent new ≡ true → Rose (d.faults before) (d.faults now) × IfOk result (λ reply. reply ≡ plain 500)
+  pub count : d.faults before ≤ d.faults now

@@ -1,0 +1,11 @@
+pub mod Actions
+pub mod Answers
+pub mod Asked
+pub mod Contents
+pub mod Judging
+pub mod Keeping
+pub mod Messages
+pub mod Own
+pub mod Replies
+pub mod Signed
+pub mod Table

@@ -1,0 +1,12 @@
+//! What the answer table means.
+ghost use Rattle.pull_server.specs.Own.{FirstDecides, RepliesAreOwn};
+
+/// The outcome is that of the first row that applies.
+pub fn the_first_row_decides()
+    ensures { FirstDecides }
+{}
+
+/// A reply that is not 500, 503 or 507 depends on the request, the agent's own row and the shelf alone.
+pub fn replies_are_of_own_rows()
+    ensures { RepliesAreOwn }
+{}
