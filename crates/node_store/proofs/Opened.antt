@@ -12,7 +12,7 @@ use Rattle.gate_log.specs.Replay.{FailsFirst, IsRefused, Opened, Unopened, no_me
 use Rattle.gate_log.specs.Standing.{AllStand, Any, ReadsAs, StandsAtAnyMoment, StandsFor, StoodFor}
 use Rattle.node_state.specs.declared.node.Node.{Node}
 use Rattle.node_store.specs.Stands.{EndsAt, FailsAt, LeadSomewhere, Leads, Stands, node_shape}
-use Rattle.node_store.specs.Store.{IsKeptBy}
+use Rattle.node_store.specs.Store.{IsKeptBy, IsNoStore}
 use Rattle.node_store.specs.Taking.{Reached}
 
 -- the first failure of a text or of a body
@@ -47,9 +47,9 @@ module _ {D : Type 0} (d : Ghosts D) (old new : D) where
           has = record { image = from.0; there = from.1; stands = before.stands };
         }
 
-  -- where the log named a byte, the store fails there
+  -- where the log named a byte, the store fails there, and the disk is as it was
   pub not_a_store : (node : Node) (begun : Bool) (error : LogError) (at : ℕ) → error ≡ NotAStore at → Unopened d old new node_shape (λ l. Reached node begun l) (λ l b. EndsAt l b) error
-      → IfSome (d.seen old) (λ held. FailsAt held at)
+      → IsNoStore d old new at
   not_a_store node begun error at is unopened =
       let refused = subst (λ (e : LogError). Unopened d old new node_shape (λ l. Reached node begun l) (λ l b. EndsAt l b) e) is unopened in
-      fails_at (d.seen old) node begun at refused.refused
+      record { fails = fails_at (d.seen old) node begun at refused.refused; still = refused.still }

@@ -1,6 +1,7 @@
 -- A store, its disk, and what its calls answer.
 use Rattle.std.specs.Prelude.{◌≡◌, ◌⊎◌, ℕ, Bool, true, false, List, Some, None, IfSome, Option, Result, Ok, Err, ⊤}
 use Rattle.dsc_outside.specs.declared.disk.Disk.{Ghosts}
+use Rattle.dsc_outside.specs.Disk.{Still}
 use Rattle.dsc_terms.specs.Counts.{Rose}
 use Rattle.gate_log.specs.Log.{LogTerm, IsLogOf}
 use Rattle.node_state.specs.declared.node.Node.{Node}
@@ -77,10 +78,15 @@ Committed d old event before now (Err Disk) new =
 Committed d old event before now (Err Memory) new = WasTried old event × TakesMemory old.reserved event × Untouched old new before now
 Committed d old event before now (Err (NotAStore at)) new = ⊥
 
+-- the file fails at that byte, and it is as it was
+pub record IsNoStore {D : Type 0} (d : Ghosts D) (old new : D) (at : ℕ) : Type 0 where
+  pub fails : IfSome (d.seen old) (λ held. FailsAt held at)
+  pub still : Still d.seen d.images d.moment d.left_since old new
+
 -- the cause of an opening's error
 abbrev pub Unopened : {D : Type 0} → Ghosts D → D → D → StoreError → Type 0
 Unopened d old new Disk = Rose (d.faults old) (d.faults new)
-Unopened d old new (NotAStore at) = IfSome (d.seen old) (λ held. FailsAt held at)
+Unopened d old new (NotAStore at) = IsNoStore d old new at
 Unopened d old new Memory = ⊤
 Unopened d old new (NotAllowed why) = ⊥
 Unopened d old new Spent = ⊥

@@ -24,7 +24,7 @@ const NODE_SHAPE: Shape = Shape {
 ///
 /// # Errors
 ///
-/// `Disk` where the disk failed; `NotAStore` with the first byte at which the file is no store of a node; `Memory`.
+/// `Disk` where the disk failed; `NotAStore` with the first byte at which the file is no store of a node, and then the disk is as it was; `Memory`.
 pub fn open_store<D: Disk>(alloc: Global, disk: &mut D) -> Result<NodeStore, StoreError>
     ensures kept { IfOk result (λ store. IsKept D.Disk disk.new store) }
     ensures found { IfOk result (λ store. ReadsAs D.Disk disk.old Stands store.node) }
