@@ -36,7 +36,7 @@ module _ (shelf : Option Contents) (came went : Known) (mid : ℕ) (later : came
   wrote (inr part) end = inr (rose_earlier came.faults mid went.faults later part.0, part.1)
 
   pub end_is : (end : ConnectionEnd) → IsReply shelf (turn end) r reply → IsSentEnd came.held went.held reply mid went.faults broken end → IsEnd shelf (turn end) end
-  end_is (ends.Answered code) is sent = record { reply = reply; is_reply = is; code = sent.1; written = sent.2 }
+  end_is (ends.Answered code) is sent = record { reply = reply; is_reply = is; has_code = sent.1; written = sent.2 }
   end_is ends.DiskFault is sent =
       let b = broke sent.0 in
       record {

@@ -1,5 +1,5 @@
 -- What serving a connection did, from what its calls answered.
-use Rattle.std.proofs.Common.{◌≡◌, ◌⊎◌, inl, inr, tt, ℕ, ◌≤◌, Bool, true, false, not, ◌&&◌, List, Option, Some, None, Result, Ok, Err, IfOk, IfSome, refl, sym, ◌∙◌, ap, subst, arith}
+use Rattle.std.proofs.Common.{◌≡◌, ◌⊎◌, inl, inr, ℕ, ◌≤◌, Bool, true, false, not, ◌&&◌, List, Option, Some, None, Result, Ok, Err, IfOk, IfSome, refl, sym, ◌∙◌, ap, subst, arith}
 use Rattle.dsc_terms.specs.Counts.{Rose}
 use Rattle.dsc_outside.specs.declared.disk.Disk.{Ghosts}
 use Rattle.dsc_outside.proofs.Moments.{started}
@@ -26,7 +26,7 @@ use Rattle.pull_serving.proofs.Ends.{Broke, end_is, newly, newly_is, shows}
 use Rattle.pull_serving.proofs.Pushed.{may_stay}
 
 never : {X : Type 0} (b : Bool) → b ≡ true → b ≡ false → X
-never b yes other = absurd (cc (yes, other))
+never b holds fails = absurd (cc (holds, fails))
 
 module _ {D : Type 0} (d : Ghosts D) (before : D) (shelf : Option Contents) (came went : Known) (store : StoreTerm) (shelf_faults : ℕ) where
   -- ---- a request
@@ -71,15 +71,6 @@ module _ {D : Type 0} (d : Ghosts D) (before : D) (shelf : Option Contents) (cam
           acknowledged = acknowledges reply broken mid end sent serves.acknowledged;
         }
 
-    -- memory was refused
-    pub served_without_memory : Serves d request store before (Err {T = Reply} {E = Memory} (record {})) new now → went.held ≡ came.held → IsServed d before now shelf came went old_state new_state ends.Memory
-    served_without_memory serves same = record {
-      received = received.Request request;
-      turn = record { heard = heard; rows = serves.rows; touches = tt; end = same; spent = λ fresh over. ((serves.spent fresh over).0, inr refl) };
-      any_moment = serves.any_moment;
-      acknowledged = tt;
-    }
-
   -- ---- no request
 
   module _ (only_now : (c : List ℕ) → d.left_since before (d.moment before) c → d.images before c) where
@@ -109,7 +100,15 @@ module _ {D : Type 0} (d : Ghosts D) (before : D) (shelf : Option Contents) (cam
       acknowledged = acknowledged;
     }
 
-    pub refused_end : (e : FrameError) (reply : Reply) (mid : ℕ) (end : ConnectionEnd) → came.faults ≤ mid → reply ≡ refusal_of e → IsSentEnd came.held went.held reply mid went.faults false end
+    refused_end : (e : FrameError) (reply : Reply) (mid : ℕ) (end : ConnectionEnd) → came.faults ≤ mid → reply ≡ refusal_of e → IsSentEnd came.held went.held reply mid went.faults false end
         → IsEnd shelf (record { came = came; went = went; received = received.Refused e; before = here; after = here; end = end }) end
     refused_end e reply mid end later is sent =
         end_is shelf came went mid later here here (received.Refused e) reply false (λ x. absurd (cc x)) end is sent
+
+    quiet : (e : FrameError) (end : ConnectionEnd) → Acknowledges d (received.Refused e) store before store end
+    quiet e end = tt
+
+    -- what was received is no request, and was refused
+    pub served_refused : (e : FrameError) (reply : Reply) (mid : ℕ) (end : ConnectionEnd) → IfSome came.left (λ bytes. IsReceived bytes (received.Refused e)) → came.faults ≤ mid → reply ≡ refusal_of e
+        → IsSentEnd came.held went.held reply mid went.faults false end → IsServed d before before shelf came went here here end
+    served_refused e reply mid end heard later is sent = served_otherwise (received.Refused e) end heard (refused_end e reply mid end later is sent) (quiet e end)

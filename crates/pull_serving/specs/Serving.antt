@@ -1,23 +1,20 @@
 -- A whole run of the server.
-use Rattle.std.specs.Prelude.{◌≡◌, ◌≢◌, ◌⊎◌, ℕ, ◌≤◌, ◌<◌, true, List, [], length, Option, ⊤}
-use Rattle.std.specs.Io.KnownBytes.{Appends}
-use Rattle.clap.specs.Faults.{fault_of}
-use Rattle.dsc_terms.specs.Counts.{Rose}
+use Rattle.std.specs.Prelude.{◌≡◌, ◌≢◌, ◌⊎◌, ℕ, List, [], Option}
+use Rattle.clap.specs.Words.{fault_of}
 use Rattle.dsc_outside.specs.declared.disk.Disk.{Ghosts}
 use Rattle.dsc_outside.specs.Disk.{From}
 use Rattle.gate_log.specs.Log.{AtAnyMoment}
 use Rattle.pull_outside.specs.Shelf.{Contents}
-use Rattle.pull_exchange.specs.Exchange.{AppendsPart}
 use Rattle.pull_store.specs.declared.error.PullError.{PullError}
 use Rattle.pull_store.specs.Stands.{KeepsRows}
-use Rattle.pull_store.specs.Store.{IsOpened, StoreTerm, Unopened, is_spent}
+use Rattle.pull_store.specs.Store.{IsOpened, StoreTerm, Unopened}
 use Rattle.serve_words.specs.declared.words.ServeWords.{ServeWords}
 use Rattle.serve_words.specs.Words.{AreValues, serve_app}
 use Rattle.pull_serving.specs.declared.status.ServeStatus.{ServeStatus}
 use Rattle.pull_serving.specs.declared.status.ServeStatus.TheVariants as statuses
 use Rattle.pull_serving.specs.Status.{status_of}
-use Rattle.pull_serving.specs.Printing.{Output, Writes, lines, refusal_line}
-use Rattle.pull_serving.specs.Turn.{State, Turn, state}
+use Rattle.pull_serving.specs.Printing.{Output, Printed, Writes, refusal_line}
+use Rattle.pull_serving.specs.Turn.{state}
 use Rattle.pull_serving.specs.Turns.{Doorway, IsRun, Visits}
 
 -- what is known of the door and the shelf
@@ -27,25 +24,8 @@ pub record Around : Type 0 where
   pub shelf : Option Contents
   pub shelf_faults : ℕ
 
-abbrev pub around : Doorway → ℕ → Option Contents → ℕ → Around
-around door door_faults shelf shelf_faults = record { door = door; door_faults = door_faults; shelf = shelf; shelf_faults = shelf_faults }
-
--- the lines of the turns were written whole, and then the line of the refusal
-pub record Refuses (old new : Output) (turns : List Turn) (status : ServeStatus) : Type 0 where
-  pub mid : Output
-  pub lines : Appends old.held mid.held (lines 1 turns)
-  pub refusal : Writes mid new (refusal_line status)
-
--- what was printed of so many connections at most, and why the run ended so
-abbrev pub Printed : ℕ → State → ℕ → ℕ → Output → Output → ServeStatus → List Turn → Type 0
-Printed count last door_before door_now old new statuses.Done turns = (length turns ≡ count) × Appends old.held new.held (lines 1 turns)
-Printed count last door_before door_now old new statuses.DiskFault turns = (length turns ≤ count) × (is_spent last.store ≡ true) × Refuses old new turns statuses.DiskFault
-Printed count last door_before door_now old new statuses.DoorFault turns =
-    (length turns < count) × Rose door_before door_now × Refuses old new turns statuses.DoorFault
-Printed count last door_before door_now old new statuses.WriteFault turns = (length turns ≤ count) × Rose old.faults new.faults × AppendsPart old.held new.held (lines 1 turns)
-Printed count last door_before door_now old new statuses.Usage turns = ⊥
-Printed count last door_before door_now old new (statuses.NotAStore at) turns = ⊥
-Printed count last door_before door_now old new statuses.Memory turns = ⊥
+abbrev pub around_of : Doorway → ℕ → Option Contents → ℕ → Around
+around_of door door_faults shelf shelf_faults = record { door = door; door_faults = door_faults; shelf = shelf; shelf_faults = shelf_faults }
 
 -- The run of an opened store: the rows that the disk read as, and the turns. A crash at any moment leaves rows that an image stood for
 -- before, or rows that one of the turns may leave.

@@ -85,7 +85,7 @@ WroteWhat t reply = Appends t.came.held t.went.held (answer_text reply) ⊎ (Con
 pub record IsAnswered (shelf : Option Contents) (t : Turn) (code : ℕ) : Type 0 where
   pub reply : Reply
   pub is_reply : IsReply shelf t t.received reply
-  pub code : reply.code ≡ code
+  pub has_code : reply.code ≡ code
   pub written : Appends t.came.held t.went.held (answer_text reply)
 
 -- the store was spent in this turn, since the disk failed, and the reply is 500

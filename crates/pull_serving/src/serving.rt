@@ -1,7 +1,7 @@
 //! A whole run of the server.
 ghost use Rattle.std.specs.Prelude.{map, string_bytes};
 ghost use Rattle.pull_serving.specs.Printing.{output_of};
-ghost use Rattle.pull_serving.specs.Serving.{Service, around};
+ghost use Rattle.pull_serving.specs.Serving.{Service, around_of};
 ghost use Rattle.pull_serving.specs.Turns.{doorway};
 
 use crate::printing::refuse;
@@ -26,8 +26,8 @@ pub fn serve<G: Door, S: Shelf, D: Disk, K: Sink>(
     output: &mut K,
 ) -> ServeStatus
     ensures { Service D.Disk (map string_bytes words.now) disk.old disk.new
-        (around (doorway (G.coming door.old) (G.back door.old) (G.out door.old)) (G.faults door.old) (S.holds shelf.old) (S.faults shelf.old))
-        (around (doorway (G.coming door.new) (G.back door.new) (G.out door.new)) (G.faults door.new) (S.holds shelf.new) (S.faults shelf.new))
+        (around_of (doorway (G.coming door.old) (G.back door.old) (G.out door.old)) (G.faults door.old) (S.holds shelf.old) (S.faults shelf.old))
+        (around_of (doorway (G.coming door.new) (G.back door.new) (G.out door.new)) (G.faults door.new) (S.holds shelf.new) (S.faults shelf.new))
         (output_of (K.held output.old) (K.faults output.old)) (output_of (K.held output.new) (K.faults output.new)) result }
 {
     let values = match serve_words(alloc, words) {

@@ -2,8 +2,7 @@
 ghost use Rattle.std.specs.Prelude.{◌≡◌, ◌≤◌, ◌+◌, IfOk, OnErr};
 ghost use Rattle.dsc_terms.specs.Counts.{Rose};
 ghost use Rattle.pull_store.specs.Store.{IsKept, IsReady};
-ghost use Rattle.pull_serving.specs.Printing.{output_of};
-ghost use Rattle.pull_serving.specs.Serving.{Printed};
+ghost use Rattle.pull_serving.specs.Printing.{Printed, output_of};
 ghost use Rattle.pull_serving.specs.Turn.{state};
 ghost use Rattle.pull_serving.specs.Turns.{IsRun, IsStep, doorway};
 

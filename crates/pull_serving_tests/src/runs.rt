@@ -6,6 +6,7 @@ use pull_serving::serve;
 use std::alloc::{AllocError, Global};
 
 /// A peer: what it sends, how many bytes a call of its connection moves at most, and the calls that are to fail.
+#[derive(Clone, Copy)]
 pub struct Peer<'a> {
     pub sends: &'a str,
     pub most: usize,
@@ -13,6 +14,7 @@ pub struct Peer<'a> {
 }
 
 /// A run: the words, the peers, the bytes of the store, and the calls of disk, door and output that are to fail.
+#[derive(Clone, Copy)]
 pub struct Run<'a> {
     pub words: &'a [&'a str],
     pub peers: &'a [Peer<'a>],

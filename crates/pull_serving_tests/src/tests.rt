@@ -12,8 +12,7 @@ const FETCH: &str =
     "GET /PSDSCPullServer.svc/Nodes(AgentId='00000000-0000-0000-0000-000000000001')/Configurations(ConfigurationName='Web')/ConfigurationContent HTTP/1.1\r\nHost: s\r\n\r\n";
 
 // Runs, and what must be seen of them.
-fn runs() -> &'static [(Run<'static>, &'static str)] {
-    &[
+const RUNS: &[(Run<'static>, &str)] = &[
         (
             Run {
                 words: &["--store", "s", "--shelf", "f", "--listen", "l", "--connections", "3"],
@@ -294,12 +293,11 @@ fn runs() -> &'static [(Run<'static>, &'static str)] {
             },
             "4|refused DiskFault\n",
         ),
-    ]
-}
+];
 
 #[test]
 fn runs_end_as_their_objects_let_them(rt: HostRuntime) {
-    for (place, (run, wanted)) in runs().iter().enumerate() {
+    for (place, (run, wanted)) in RUNS.iter().enumerate() {
         match played(rt.alloc(), run) {
             Ok(seen) => assert_eq!(rt; seen.as_slice(), wanted.as_bytes(), "run {place}"),
             Err(_) => assert!(rt; false, "run {place}"),
