@@ -1,3 +1,4 @@
 pub mod Ends
 pub mod Pushed
 pub mod Served
+pub mod Stepped
