@@ -16,7 +16,7 @@ use Rattle.pull_serving.specs.declared.connection.ConnectionEnd.TheVariants as e
 use Rattle.pull_serving.specs.Sent.{IsSentEnd}
 use Rattle.pull_serving.specs.Turn.{ConnectionRose, DiskRose, IsAnswered, IsBroken, IsCut, IsEnd, IsReply, ShowsFault, State, Turn, WroteWhat}
 
-rose_earlier : (before mid after : ℕ) → before ≤ mid → Rose mid after → Rose before after
+pub rose_earlier : (before mid after : ℕ) → before ≤ mid → Rose mid after → Rose before after
 rose_earlier before mid after le rose = omega (arith, le, rose)
 
 -- what a store that the disk broke shows
