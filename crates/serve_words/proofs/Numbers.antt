@@ -1,5 +1,5 @@
 -- Words that give `--connections` what is no number from 1 to 1,000,000 are refused.
-use Rattle.std.proofs.Common.{◌≡◌, ◌≢◌, ◌∙◌, ◌++◌, ℕ, Bool, true, false, List, [], ◌∷◌, refl, sym, ap, subst, Option, Some, None, codes, arith, bytes_eq}
+use Rattle.std.proofs.Common.{◌≡◌, ◌≢◌, ◌∙◌, ◌++◌, ℕ, Bool, true, false, List, [], ◌∷◌, refl, sym, ap, subst, Option, Some, None, codes, arith, bytes_eq, is_some}
 use Rattle.std.specs.Prelude.{pos}
 use Rattle.std.specs.Str.Parse.{IsNumeral, digits_value, starts_with_minus, without_leading_plus}
 use Rattle.std.proofs.lemmas.Int.{ints}
@@ -93,6 +93,19 @@ first_name : Option (Text × Option Text) → Text
 first_name None = []
 first_name (Some p) = p.0
 
+given_with : Option (Text × Option Text) → Option Text
+given_with None = None
+given_with (Some p) = p.1
+
+none_is_none : (v : Text) → ◌≡◌ {A = Option Text} None (Some v) → ⊥
+none_is_none v e = cc
+
+some_is_some : (v w : Text) → Some v ≡ Some w → w ≡ v
+some_is_some v w e = cc
+
+is_read : true ≡ false → ⊥
+is_read e = cc
+
 abbrev apart : Text
 apart = codes "--connections"
 
@@ -104,10 +117,8 @@ named_joined : (text : Text) (p : Which) (v : Option Text) → long_of (codes "-
 unfolding first_name
 named_joined text p v e = same_option connections p (sym (ap (λ (o : Option (Text × Option Text)). bytes_eq (name connections) (first_name o)) e))
 
-joined_is : (text : Text) → long_of (codes "--connections=" ++ text) ≡ Some (name connections, Some text)
-joined_is text = refl
-
 pub apart_taken : (text : Text) (before rest : List Text) → fault_of serve_app (before ++ codes "--connections" ∷ text ∷ rest) ≡ [] → Takes (connections, text)
+unfolding given_with
 apart_taken text before rest e =
     let at = reaches before (apart ∷ text ∷ rest) [] closed 1 false (sym (fault_is (before ++ apart ∷ text ∷ rest)) ∙ e) in
     let on = goes apart (text ∷ rest) at.es at.place 1 at.is_over at.left in
@@ -118,11 +129,12 @@ apart_taken text before rest e =
     go es place fs next over (ended e) left = cc
     go es place fs next over (named p gs e adds) left =
         subst (λ (q : Which). Takes (q, text)) (sym (named_apart p None e)) (opened_taken p text rest gs 1 false left)
-    go es place fs next over (given p v gs e adds takes) left = cc
-    go es place fs next over (valued p e plain) left = cc
+    go es place fs next over (given p v gs e adds takes) left = absurd (none_is_none v (ap given_with e))
+    go es place fs next over (valued p e plain) left = absurd (is_read (ap is_some plain))
 
 pub joined_taken : (text : Text) (before rest : List Text) → fault_of serve_app (before ++ (codes "--connections=" ++ text) ∷ rest) ≡ []
     → Takes (connections, text)
+unfolding given_with
 joined_taken text before rest e =
     let word = codes "--connections=" ++ text in
     let at = reaches before (word ∷ rest) [] closed 1 false (sym (fault_is (before ++ word ∷ rest)) ∙ e) in
@@ -132,12 +144,12 @@ joined_taken text before rest e =
     go : (es : List Entry) (place : Place) (fs : List Entry) (next : Place) (over : Bool) → Step (codes "--connections=" ++ text) es place fs next over
         → Takes (connections, text)
     go es place fs next over (ended e) = cc
-    go es place fs next over (named p gs e adds) = let bad = sym (joined_is text) ∙ e in cc
+    go es place fs next over (named p gs e adds) = absurd (none_is_none text (sym (ap given_with e)))
     go es place fs next over (given p v gs e adds takes) =
         let same = sym (named_joined text p (Some v) e) in
-        let value : v ≡ text = let both = sym (joined_is text) ∙ e in cc in
+        let value : v ≡ text = some_is_some text v (ap given_with e) in
         subst (λ (q : Which). Takes (q, text)) same (subst (λ (t : Text). Takes (p, t)) value takes)
-    go es place fs next over (valued p e plain) = let bad = sym (joined_is text) ∙ e in cc
+    go es place fs next over (valued p e plain) = absurd (is_read (ap is_some plain))
 
 pub out_of_range : (text : Text) (before after : List Text) → ((count : ℕ) → SpellsCount text count → ⊥)
     → (fault_of serve_app (before ++ codes "--connections" ∷ text ∷ after) ≢ [])
