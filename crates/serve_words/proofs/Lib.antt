@@ -5,3 +5,4 @@ pub mod Steps
 pub mod Taken
 pub mod Lacking
 pub mod Numbers
+pub mod Reading
