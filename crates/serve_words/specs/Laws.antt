@@ -32,9 +32,9 @@ EightWordsAreTaken =
 abbrev pub IsOption : List ℕ → Type 0
 IsOption name = (name ≡ codes "store") ⊎ (name ≡ codes "shelf") ⊎ (name ≡ codes "listen") ⊎ (name ≡ codes "connections")
 
--- the word is `--name`, or `--name=` and a value
+-- the word is `--name`, or `--name=` and a value; 61 is `=`
 abbrev pub Names : List ℕ → List ℕ → Type 0
-Names name word = (word ≡ codes "--" ++ name) ⊎ ((value : List ℕ) × (word ≡ codes "--" ++ name ++ codes "=" ++ value))
+Names name word = (word ≡ codes "--" ++ name) ⊎ ((value : List ℕ) × (word ≡ codes "--" ++ name ++ 61 ∷ value))
 
 abbrev pub WordsThatLackAnOptionAreRefused : Type 0
 WordsThatLackAnOptionAreRefused =
