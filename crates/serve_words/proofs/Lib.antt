@@ -6,3 +6,4 @@ pub mod Taken
 pub mod Lacking
 pub mod Numbers
 pub mod Reading
+pub mod Eight

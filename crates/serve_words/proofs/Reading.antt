@@ -8,10 +8,10 @@ use Rattle.clap.specs.Faults.{fault_of}
 use Rattle.clap.specs.Matches.{ReadsOne}
 use Rattle.clap.specs.Simple.{matches_of}
 use Rattle.clap.specs.ValueTests.{accepts}
-use Rattle.clap.specs.Walk.{Row, Text, row_text}
+use Rattle.clap.specs.Walk.{Row, Text, first_of, row_text}
 use Rattle.clap.specs.declared.builder.value_parser.ValueParser.TheVariants as vp
 use Rattle.clap.proofs.ValueTestLemmas.{accepts-Accepts}
-use Rattle.serve_words.specs.Words.{HasCount, HasText, SpellsCount, serve_app}
+use Rattle.serve_words.specs.Words.{HasCount, HasText, SpellsCount, serve_app, value_of}
 use Rattle.serve_words.proofs.Options.{Which, connections, listen, name, shelf, store}
 use Rattle.serve_words.proofs.Entries.{row}
 use Rattle.serve_words.proofs.Numbers.{spelled}
@@ -52,6 +52,11 @@ module _ (words : List Text) (rows : List Row) (same : rows ≡ matches_of serve
         (got.0, ap (option_and_then (λ r. slice_get r.values 0)) found,
         ap (option_and_then row_text) found ∙ ap Some (read_whole got.0 (no_minus got.0 got.2)), spelled got.0 got.2),
       )
+
+pub value_is : (id : Text) (words : List Text) (rows : List Row) (v : Text) → rows ≡ matches_of serve_app words → first_of id rows ≡ Some v
+    → value_of id words ≡ Some v
+unfolding value_of
+value_is id words rows v same is = ap (first_of id) (sym same) ∙ is
 
 -- `u32` reads the number that the text spells
 pub reads_count : (E : Type 0) (G : Text → Result ℕ E → Type 0) (t : Text) (r : Option ℕ) (count : ℕ) → ReadsOne G t r
