@@ -33,9 +33,12 @@ map_push f (y ∷ xs) x = ap (λ l. f y ∷ l) (map_push f xs x)
 
 from_first : (known rest : List Known) (new : Option (List Known)) (ts : List Turn) (t : Turn) → known ≡ map came ts ++ rest → TakesFirst (Some rest) new t.came → Took (Some known) new (ts ++ t ∷ [])
 from_first known [] new ts t is takes = absurd takes
-from_first known (k ∷ rest) new ts t is takes =
-    (rest, is ∙ ap (λ (l : Known). map came ts ++ l ∷ rest) (sym takes.0) ∙ sym (append_assoc (map came ts) (t.came ∷ []) rest)
-      ∙ ap (λ (l : List Known). l ++ rest) (sym (map_push came ts t)), takes.1)
+from_first known (k ∷ rest) new ts t is takes = (
+  rest,
+  is ∙ ap (λ (l : Known). map came ts ++ l ∷ rest) (sym takes.0) ∙ sym (append_assoc (map came ts) (t.came ∷ []) rest)
+      ∙ ap (λ (l : List Known). l ++ rest) (sym (map_push came ts t)),
+  takes.1,
+)
 
 took_push : (old mid new : Option (List Known)) (ts : List Turn) (t : Turn) → Took old mid ts → TakesFirst mid new t.came → Took old new (ts ++ t ∷ [])
 took_push None mid new ts t took takes = subst (λ (o : Option (List Known)). TakesFirst o new t.came) took takes
@@ -85,10 +88,10 @@ lasts_push : {D : Type 0} (d : Ghosts D) (mid new : D) (shelf : Option Contents)
     → Lasts (d.moment new) (d.left_since new) (ts ++ t ∷ [])
 lasts_push d mid new shelf first half [] t runs before lasts run ends stands = (omega (arith, ends), stands, tt)
 lasts_push d mid new shelf first half (u ∷ ts) t runs before lasts run ends stands = (
-    omega (arith, lasts.0, run.later),
-    (λ unspent c here. ⊎_elim (λ past. visits_earlier shelf u.after ts half t c runs.3 before (lasts.1 unspent c past)) (λ now. visits_last u.after ts t c now) (run.before u.after.moment c lasts.0 here)),
-    lasts_push d mid new shelf u.after half ts t runs.3 before lasts.2 run ends stands,
-  )
+  omega (arith, lasts.0, run.later),
+  (λ unspent c here. ⊎_elim (λ past. visits_earlier shelf u.after ts half t c runs.3 before (lasts.1 unspent c past)) (λ now. visits_last u.after ts t c now) (run.before u.after.moment c lasts.0 here)),
+  lasts_push d mid new shelf u.after half ts t runs.3 before lasts.2 run ends stands,
+)
 
 took_none : (coming : Option (List Known)) → Took coming coming []
 took_none None = refl
@@ -129,8 +132,8 @@ run_push d old mid new shelf now first half last door door1 door2 end Before Aft
       none_out = step.none_out ∙ run.none_out;
       printed = printed run.turns step.turn run.printed step.ends;
       any_moment = then_on d.moment d.left_since old mid new (Visits first turns) (StandsFor Stands (MayLeave step.turn.received step.turn.before.store.rows))
-        (weaker d.moment d.left_since old mid (Visits first run.turns) (Visits first turns) run.any_moment (λ c here. visits_earlier shelf first run.turns half step.turn c run.runs step.starts here))
-        step.any_moment (λ c here. visits_last first run.turns step.turn c here);
+          (weaker d.moment d.left_since old mid (Visits first run.turns) (Visits first turns) run.any_moment (λ c here. visits_earlier shelf first run.turns half step.turn c run.runs step.starts here))
+          step.any_moment (λ c here. visits_last first run.turns step.turn c here);
       lasts = lasts_push d mid new shelf first half run.turns step.turn run.runs step.starts run.lasts step.any_moment step.ends_now step.stands;
     }
 
@@ -166,7 +169,12 @@ module _ (out0 out1 out2 : Option (List ℕ)) (number : ℕ) (end : ConnectionEn
 
   pub prints_part : AppendsPart out1 out2 written → (ts : List Turn) (t : Turn) → (length ts ≡ number) × Appends out0 out1 (lines 1 ts) → t.end ≡ end
       → (length (ts ++ t ∷ []) ≡ number + 1) × AppendsPart out0 out2 (lines 1 (ts ++ t ∷ []))
-  prints_part part ts t so_far same =
-      (longer ts t so_far.0, (lines 1 ts ++ part.0, part.1,
-        sym (joined ts t so_far.0 same) ∙ ap (λ (l : List ℕ). lines 1 ts ++ l) part.2 ∙ sym (append_assoc (lines 1 ts) part.0 part.1),
-        Appends-trans out0 out1 out2 (lines 1 ts) part.0 so_far.1 part.3))
+  prints_part part ts t so_far same = (
+    longer ts t so_far.0,
+    (
+      lines 1 ts ++ part.0,
+      part.1,
+      sym (joined ts t so_far.0 same) ∙ ap (λ (l : List ℕ). lines 1 ts ++ l) part.2 ∙ sym (append_assoc (lines 1 ts) part.0 part.1),
+      Appends-trans out0 out1 out2 (lines 1 ts) part.0 so_far.1 part.3,
+    ),
+  )

@@ -54,9 +54,9 @@ module _ {D : Type 0} (d : Ghosts D) (before : D) (shelf : Option Contents) (cam
         → IsServed d before now shelf came went old_state new_state end
     served_request reply broken mid end later is_broken serves replies cause sent =
         let broke : broken ≡ true → Broke old_state new_state reply = λ is.
-            let n = newly (is_spent store) (is_spent new) broken is_broken is in
-            let rose = serves.spent n.0 n.1 in
-            record { fresh = n.0; spent = n.1; rose = rose.0; is = rose.1 } in
+        let n = newly (is_spent store) (is_spent new) broken is_broken is in
+        let rose = serves.spent n.0 n.1 in
+        record { fresh = n.0; spent = n.1; rose = rose.0; is = rose.1 } in
         record {
           received = received.Request request;
           turn = record {
@@ -64,8 +64,10 @@ module _ {D : Type 0} (d : Ghosts D) (before : D) (shelf : Option Contents) (cam
             rows = serves.rows;
             touches = tt;
             end = end_is shelf came went mid later old_state new_state (received.Request request) reply broken broke end (record { table = replies; cause = cause }) sent;
-            spent = λ fresh over. ((serves.spent fresh over).0,
-              shows shelf came went mid later old_state new_state (received.Request request) reply broken broke end sent (newly_is (is_spent store) (is_spent new) broken is_broken fresh over));
+            spent = λ fresh over. (
+              (serves.spent fresh over).0,
+              shows shelf came went mid later old_state new_state (received.Request request) reply broken broke end sent (newly_is (is_spent store) (is_spent new) broken is_broken fresh over),
+            );
           };
           any_moment = serves.any_moment;
           acknowledged = acknowledges reply broken mid end sent serves.acknowledged;

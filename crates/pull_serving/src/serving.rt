@@ -36,7 +36,15 @@ pub fn serve<G: Door, S: Shelf, D: Disk, K: Sink>(
         Err(WordsError::Memory) => return ServeStatus::Memory,
     };
     match open_pull(alloc, disk) {
-        Ok(mut store) => serve_turns(alloc, values.connections, &mut store, door, shelf, disk, output),
+        Ok(mut store) => serve_turns(
+            alloc,
+            values.connections,
+            &mut store,
+            door,
+            shelf,
+            disk,
+            output,
+        ),
         Err(error) => refuse(output, ServeStatus::from(error)),
     }
 }

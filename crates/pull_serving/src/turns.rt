@@ -30,7 +30,7 @@ pub fn serve_turns<G: Door, S: Shelf, D: Disk, K: Sink>(
         (state D.Disk disk.old store.old (S.faults shelf.old)) (state D.Disk disk.new store.new (S.faults shelf.new))
         (doorway (G.coming door.old) (G.back door.old) (G.out door.old)) (doorway (G.coming door.new) (G.back door.new) (G.out door.new))
         (Printed count (state D.Disk disk.new store.new (S.faults shelf.new))
-            (G.faults door.old) (G.faults door.new) (output_of (K.held output.old) (K.faults output.old)) (output_of (K.held output.new) (K.faults output.new)) result) }
+        (G.faults door.old) (G.faults door.new) (output_of (K.held output.old) (K.faults output.old)) (output_of (K.held output.new) (K.faults output.new)) result) }
     ensures shelf { S.holds shelf.new ≡ S.holds shelf.old }
 {
     for number in 0..count {

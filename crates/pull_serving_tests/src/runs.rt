@@ -80,10 +80,7 @@ fn connections(alloc: Global, peers: &[Peer]) -> Result<Vec<MemoryConn>, AllocEr
 /// divided by `|`.
 pub fn played(alloc: Global, run: &Run) -> Result<Vec<u8>, Memory> {
     let words = words_of(alloc, run.words)?;
-    let mut disk = MemoryDisk::new(
-        run.store.as_bytes().to_vec(alloc)?,
-        run.disk.to_vec(alloc)?,
-    )?;
+    let mut disk = MemoryDisk::new(run.store.as_bytes().to_vec(alloc)?, run.disk.to_vec(alloc)?)?;
     let mut shelf = shelf(alloc)?;
     let mut door = MemoryDoor::new(
         alloc,
@@ -91,14 +88,7 @@ pub fn played(alloc: Global, run: &Run) -> Result<Vec<u8>, Memory> {
         run.door.to_vec(alloc)?,
     )?;
     let mut output = MemorySink::new(alloc, run.output.to_vec(alloc)?);
-    let status = serve(
-        alloc,
-        &words,
-        &mut door,
-        &mut shelf,
-        &mut disk,
-        &mut output,
-    );
+    let status = serve(alloc, &words, &mut door, &mut shelf, &mut disk, &mut output);
     Ok(seen(alloc, status.number(), output.bytes(), door.back())?)
 }
 

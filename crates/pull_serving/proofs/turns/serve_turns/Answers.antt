@@ -17,9 +17,9 @@ pub loop-number-init : goal.loop-number-init
 loop-number-init g c = record {
   kept = c.requires;
   run = run_start g.D.Disk c.args.disk.now c.args.store.now (g.S.Shelf.holds c.args.shelf.now) (g.S.Shelf.faults c.args.shelf.now)
-    (doorway (g.G.Door.coming c.args.door.now) (g.G.Door.back c.args.door.now) (g.G.Door.out c.args.door.now))
-    (λ turns. (length turns ≡ 0) × Appends (g.K.Ends.held c.args.output.now) (g.K.Ends.held c.args.output.now) (lines 1 turns))
-    (g.met.D.Disk.only_now c.args.disk.now) c.requires (refl, Appends-nil (g.K.Ends.held c.args.output.now));
+      (doorway (g.G.Door.coming c.args.door.now) (g.G.Door.back c.args.door.now) (g.G.Door.out c.args.door.now))
+      (λ turns. (length turns ≡ 0) × Appends (g.K.Ends.held c.args.output.now) (g.K.Ends.held c.args.output.now) (lines 1 turns))
+      (g.met.D.Disk.only_now c.args.disk.now) c.requires (refl, Appends-nil (g.K.Ends.held c.args.output.now));
   holds = refl;
   door = omega arith;
   output = omega arith;
@@ -38,12 +38,12 @@ returns-in-Err-clause-run g c =
     let is = c.as_bytes.ensures.value ∙ c.as_str.ensures.value ∙ c.line.ensures in
     let rose = rose_earlier old.faults (g.K.Ends.faults c.loop-number.output) new.faults c.loop-number.invariant.output c.in-Err.ensures.cause.failed in
     run_push g.D.Disk c.args.disk.now c.loop-number.disk c.serve_next.new.disk (g.S.Shelf.holds c.args.shelf.now) (g.S.Shelf.holds c.loop-number.shelf) first half last door door1 door2 c.in-Ok.end
-      (λ turns. (length turns ≡ c.loop-number.number) × Appends old.held (g.K.Ends.held c.loop-number.output) (lines 1 turns))
-      (Printed c.args.count last (g.G.Door.faults c.args.door.now) (g.G.Door.faults c.serve_next.new.door) old new statuses.WriteFault)
-      c.loop-number.invariant.run c.in-Ok.ensures.step c.loop-number.invariant.holds
-      (λ ts t so_far same.
-        let part = prints_part old.held (g.K.Ends.held c.loop-number.output) new.held c.loop-number.number c.in-Ok.end c.as_bytes.result.now is c.in-Err.ensures.err ts t so_far same in
-        (omega (arith, part.0, c.loop-number-test.true), rose, part.1))
+    (λ turns. (length turns ≡ c.loop-number.number) × Appends old.held (g.K.Ends.held c.loop-number.output) (lines 1 turns))
+    (Printed c.args.count last (g.G.Door.faults c.args.door.now) (g.G.Door.faults c.serve_next.new.door) old new statuses.WriteFault)
+    c.loop-number.invariant.run c.in-Ok.ensures.step c.loop-number.invariant.holds
+    (λ ts t so_far same.
+    let part = prints_part old.held (g.K.Ends.held c.loop-number.output) new.held c.loop-number.number c.in-Ok.end c.as_bytes.result.now is c.in-Err.ensures.err ts t so_far same in
+    (omega (arith, part.0, c.loop-number-test.true), rose, part.1))
 
 pub returns-then-is_spent-clause-run : goal.returns-then-is_spent-clause-run
 returns-then-is_spent-clause-run g c =
@@ -59,13 +59,13 @@ returns-then-is_spent-clause-run g c =
     let is = c.as_bytes.ensures.value ∙ c.as_str.ensures.value ∙ c.line.ensures in
     let spent = sym c.is_spent.ensures ∙ c.if-is_spent.true in
     run_push g.D.Disk c.args.disk.now c.loop-number.disk c.serve_next.new.disk (g.S.Shelf.holds c.args.shelf.now) (g.S.Shelf.holds c.loop-number.shelf) first half last door door1 door2 c.in-Ok.end
-      (λ turns. (length turns ≡ c.loop-number.number) × Appends old.held (g.K.Ends.held c.loop-number.output) (lines 1 turns))
-      (Printed c.args.count last (g.G.Door.faults c.args.door.now) (g.G.Door.faults c.serve_next.new.door) old new c.refuse-then-is_spent.result)
-      c.loop-number.invariant.run c.in-Ok.ensures.step c.loop-number.invariant.holds
-      (λ ts t so_far same.
-        let more = prints_more old.held (g.K.Ends.held c.loop-number.output) mid.held c.loop-number.number c.in-Ok.end c.as_bytes.result.now is c.in-Ok-write_all.ensures.ok ts t so_far same in
-        subst (λ (s : ServeStatus). Printed c.args.count last (g.G.Door.faults c.args.door.now) (g.G.Door.faults c.serve_next.new.door) old new s (ts ++ t ∷ [])) (sym c.refuse-then-is_spent.ensures.status)
-          (omega (arith, more.0, c.loop-number-test.true), spent, record { mid = mid; lines = more.1; refusal = c.refuse-then-is_spent.ensures.writes }))
+    (λ turns. (length turns ≡ c.loop-number.number) × Appends old.held (g.K.Ends.held c.loop-number.output) (lines 1 turns))
+    (Printed c.args.count last (g.G.Door.faults c.args.door.now) (g.G.Door.faults c.serve_next.new.door) old new c.refuse-then-is_spent.result)
+    c.loop-number.invariant.run c.in-Ok.ensures.step c.loop-number.invariant.holds
+    (λ ts t so_far same.
+    let more = prints_more old.held (g.K.Ends.held c.loop-number.output) mid.held c.loop-number.number c.in-Ok.end c.as_bytes.result.now is c.in-Ok-write_all.ensures.ok ts t so_far same in
+    subst (λ (s : ServeStatus). Printed c.args.count last (g.G.Door.faults c.args.door.now) (g.G.Door.faults c.serve_next.new.door) old new s (ts ++ t ∷ [])) (sym c.refuse-then-is_spent.ensures.status)
+    (omega (arith, more.0, c.loop-number-test.true), spent, record { mid = mid; lines = more.1; refusal = c.refuse-then-is_spent.ensures.writes }))
 
 pub loop-number-preserved : goal.loop-number-preserved
 loop-number-preserved g c =
@@ -79,7 +79,7 @@ loop-number-preserved g c =
     record {
       kept = is_kept g.D.Disk c.serve_next.new.disk c.serve_next.new.store c.serve_next.ensures.ready (sym c.is_spent.ensures ∙ c.if-is_spent.false);
       run =
-        run_push g.D.Disk c.args.disk.now c.loop-number.disk c.serve_next.new.disk (g.S.Shelf.holds c.args.shelf.now) (g.S.Shelf.holds c.loop-number.shelf) first half last door door1 door2 c.in-Ok.end
+          run_push g.D.Disk c.args.disk.now c.loop-number.disk c.serve_next.new.disk (g.S.Shelf.holds c.args.shelf.now) (g.S.Shelf.holds c.loop-number.shelf) first half last door door1 door2 c.in-Ok.end
           (λ turns. (length turns ≡ c.loop-number.number) × Appends (g.K.Ends.held c.args.output.now) (g.K.Ends.held c.loop-number.output) (lines 1 turns))
           (λ turns. (length turns ≡ c.loop-number.number + 1) × Appends (g.K.Ends.held c.args.output.now) (g.K.Ends.held c.write_all.new.sink) (lines 1 turns))
           c.loop-number.invariant.run c.in-Ok.ensures.step c.loop-number.invariant.holds
