@@ -1,20 +1,19 @@
 -- How a connection ended, from what its calls answered.
-use Rattle.std.proofs.Common.{◌≡◌, ◌⊎◌, inl, inr, ℕ, ◌≤◌, Bool, true, false, not, ◌&&◌, List, Option, Some, None, Result, Ok, Err, IfOk, IfSome, refl, sym, ◌∙◌, ap, subst, arith}
+use Rattle.std.proofs.Common.{◌≡◌, ◌⊎◌, inl, inr, ℕ, ◌≤◌, Bool, true, false, not, ◌&&◌, Option, refl, sym, ◌∙◌, subst, arith}
 use Rattle.std.specs.Io.KnownBytes.{Appends}
 use Rattle.dsc_terms.specs.Counts.{Rose}
-use Rattle.http_frames.specs.declared.message.Request.{Request}
 use Rattle.http_frames.specs.declared.message.Reply.{Reply}
 use Rattle.http_frames.specs.Writing.{answer_text}
 use Rattle.pull_exchange.specs.declared.exchange.Received.{Received}
 use Rattle.pull_exchange.specs.Exchange.{AppendsPart}
 use Rattle.pull_outside.specs.Door.{Known}
 use Rattle.pull_outside.specs.Shelf.{Contents}
-use Rattle.pull_store.specs.Store.{StoreTerm, is_spent}
+use Rattle.pull_store.specs.Store.{is_spent}
 use Rattle.pull_server.specs.Replies.{plain}
 use Rattle.pull_serving.specs.declared.connection.ConnectionEnd.{ConnectionEnd}
 use Rattle.pull_serving.specs.declared.connection.ConnectionEnd.TheVariants as ends
 use Rattle.pull_serving.specs.Sent.{IsSentEnd}
-use Rattle.pull_serving.specs.Turn.{ConnectionRose, DiskRose, IsAnswered, IsBroken, IsCut, IsEnd, IsReply, ShowsFault, State, Turn, WroteWhat}
+use Rattle.pull_serving.specs.Turn.{IsEnd, IsReply, ShowsFault, State, Turn, WroteWhat}
 
 pub rose_earlier : (before mid after : ℕ) → before ≤ mid → Rose mid after → Rose before after
 rose_earlier before mid after le rose = omega (arith, le, rose)

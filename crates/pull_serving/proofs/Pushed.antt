@@ -1,12 +1,10 @@
 -- A run and one turn more.
-use Rattle.std.proofs.Common.{◌≡◌, ◌⊎◌, inl, inr, ◌⊎◌, ⊎_elim, ℕ, ◌≤◌, ◌<◌, ◌+◌, suc, Bool, true, false, List, [], ◌∷◌, ◌++◌, map, length, Option, Some, None, refl, sym, ◌∙◌, ap, subst, arith, append-nil, append_assoc}
+use Rattle.std.proofs.Common.{◌≡◌, inl, inr, ⊎_elim, ℕ, ◌+◌, suc, false, List, [], ◌∷◌, ◌++◌, map, length, Option, Some, None, refl, sym, ◌∙◌, ap, subst, arith, append-nil, append_assoc}
 use Rattle.std.proofs.lemmas.List.{length-append}
 use Rattle.std.specs.Io.KnownBytes.{Appends}
 use Rattle.std.proofs.KnownBytes.{Appends-trans}
-use Rattle.dsc_terms.specs.Counts.{Rose}
 use Rattle.dsc_outside.specs.declared.disk.Disk.{Ghosts}
 use Rattle.dsc_outside.proofs.Moments.{started, then_on, weaker}
-use Rattle.gate_log.specs.Log.{AtAnyMoment}
 use Rattle.gate_log.specs.Standing.{StandsAtAnyMoment, StandsFor}
 use Rattle.pull_outside.specs.Door.{Known, GetsBack, TakesFirst}
 use Rattle.pull_outside.specs.Shelf.{Contents}

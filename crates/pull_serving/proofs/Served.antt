@@ -1,10 +1,9 @@
 -- What serving a connection did, from what its calls answered.
-use Rattle.std.proofs.Common.{◌≡◌, ◌⊎◌, inl, inr, ℕ, ◌≤◌, Bool, true, false, not, ◌&&◌, List, Option, Some, None, Result, Ok, Err, IfOk, IfSome, refl, sym, ◌∙◌, ap, subst, arith}
+use Rattle.std.proofs.Common.{◌≡◌, ◌⊎◌, ℕ, ◌≤◌, Bool, true, false, not, ◌&&◌, List, Option, Some, Ok, IfSome, refl, sym, ◌∙◌, ap, subst}
 use Rattle.dsc_terms.specs.Counts.{Rose}
 use Rattle.dsc_outside.specs.declared.disk.Disk.{Ghosts}
 use Rattle.dsc_outside.proofs.Moments.{started}
 use Rattle.gate_log.specs.Standing.{StandsAtAnyMoment, StandsFor}
-use Rattle.mof_values.specs.declared.memory.Memory.{Memory}
 use Rattle.http_frames.specs.declared.frame_error.FrameError.{FrameError}
 use Rattle.http_frames.specs.declared.message.Request.{Request}
 use Rattle.http_frames.specs.declared.message.Reply.{Reply}
@@ -14,14 +13,13 @@ use Rattle.pull_exchange.specs.Exchange.{IsReceived, refusal_of}
 use Rattle.pull_outside.specs.Door.{Known}
 use Rattle.pull_outside.specs.Shelf.{Contents}
 use Rattle.pull_store.specs.Stands.{Stands}
-use Rattle.pull_store.specs.Store.{IsKept, IsReady, StoreTerm, is_spent}
+use Rattle.pull_store.specs.Store.{IsKept, StoreTerm, is_spent}
 use Rattle.pull_store.proofs.Committed.{kept_stands}
 use Rattle.pull_server.specs.Answers.{IsAcknowledged, Replies, Serves, is_done}
-use Rattle.pull_server.specs.Replies.{plain}
 use Rattle.pull_serving.specs.declared.connection.ConnectionEnd.{ConnectionEnd}
 use Rattle.pull_serving.specs.declared.connection.ConnectionEnd.TheVariants as ends
 use Rattle.pull_serving.specs.Sent.{IsSentEnd}
-use Rattle.pull_serving.specs.Turn.{Acknowledges, IsEnd, IsServed, MayLeave, OutsideRose, ShowsFault, State, Touches, Turn, state}
+use Rattle.pull_serving.specs.Turn.{Acknowledges, IsEnd, IsServed, MayLeave, State, Touches, state}
 use Rattle.pull_serving.proofs.Ends.{Broke, end_is, newly, newly_is, shows}
 use Rattle.pull_serving.proofs.Pushed.{may_stay}
 

@@ -1,12 +1,12 @@
 -- One turn, from what its calls answered.
-use Rattle.std.proofs.Common.{◌≡◌, ℕ, false, List, Option, refl}
+use Rattle.std.proofs.Common.{◌≡◌, ℕ, List, Option, refl}
 use Rattle.dsc_outside.specs.declared.disk.Disk.{Ghosts}
 use Rattle.pull_outside.specs.Door.{GetsBack, Known, TakesFirst}
 use Rattle.pull_outside.specs.Shelf.{Contents}
 use Rattle.pull_store.specs.Store.{IsKept, IsReady, StoreTerm}
 use Rattle.pull_store.proofs.Committed.{is_kept, kept_stands}
 use Rattle.pull_serving.specs.declared.connection.ConnectionEnd.{ConnectionEnd}
-use Rattle.pull_serving.specs.Turn.{IsServed, Turn, state}
+use Rattle.pull_serving.specs.Turn.{IsServed, state}
 use Rattle.pull_serving.specs.Turns.{IsStep, doorway}
 
 pub stepped : {D : Type 0} (d : Ghosts D) (old new : D) (shelf : Option Contents) (store store_after : StoreTerm) (shelf_faults shelf_faults_after : ℕ) (came went : Known) (end : ConnectionEnd)

@@ -1,4 +1,4 @@
-use Rattle.std.proofs.Common.{◌≡◌, ◌&&◌, not, false, ◌∙◌, ap, refl, sym, subst, ℕ, Bool, List, Option}
+use Rattle.std.proofs.Common.{◌&&◌, not, false, ◌∙◌, ap, refl, subst, ℕ, Bool, List, Option}
 use Rattle.pull_exchange.specs.declared.exchange.Received.TheVariants as received
 use Rattle.pull_store.specs.Store.{is_spent}
 use Rattle.pull_serving.specs.declared.connection.ConnectionEnd.TheVariants as ends

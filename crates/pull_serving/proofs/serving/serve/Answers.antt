@@ -1,4 +1,4 @@
-use Rattle.std.proofs.Common.{◌≡◌, ◌∙◌, refl, sym, ap, subst, map, string_bytes, Result, Err}
+use Rattle.std.proofs.Common.{◌∙◌, refl, sym, ap, subst, map, string_bytes, Result, Err}
 use Rattle.serve_words.specs.declared.words.ServeWords.{ServeWords}
 use Rattle.serve_words.specs.declared.words.WordsError.{WordsError}
 use Rattle.pull_serving.specs.declared.status.ServeStatus.{ServeStatus}

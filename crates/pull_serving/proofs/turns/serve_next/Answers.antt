@@ -1,6 +1,6 @@
-use Rattle.std.proofs.Common.{◌∙◌, sym, subst, arith, List, Option}
+use Rattle.std.proofs.Common.{sym, subst, arith, List, Option}
 use Rattle.pull_outside.specs.Door.{GetsBack, Known, TakesFirst}
-use Rattle.pull_serving.specs.Turn.{known_by, state}
+use Rattle.pull_serving.specs.Turn.{known_by}
 use Rattle.pull_serving.proofs.Stepped.{stepped}
 use Rattle.pull_serving.proofs.turns.serve_next.Goals as goal
 

@@ -1,13 +1,11 @@
-use Rattle.std.proofs.Common.{◌≡◌, ◌≤◌, ◌<◌, ◌+◌, ◌∙◌, ℕ, true, List, [], ◌∷◌, ◌++◌, length, inl, refl, sym, subst, arith}
+use Rattle.std.proofs.Common.{◌≡◌, ◌+◌, ◌∙◌, [], ◌∷◌, ◌++◌, length, refl, sym, subst, arith}
 use Rattle.std.specs.Io.KnownBytes.{Appends}
 use Rattle.std.proofs.KnownBytes.{Appends-nil}
-use Rattle.dsc_terms.specs.Counts.{Rose}
-use Rattle.pull_exchange.specs.Exchange.{AppendsPart}
 use Rattle.pull_store.proofs.Committed.{is_kept}
 use Rattle.pull_serving.specs.declared.status.ServeStatus.{ServeStatus}
 use Rattle.pull_serving.specs.declared.status.ServeStatus.TheVariants as statuses
 use Rattle.pull_serving.specs.Printing.{Printed, lines, output_of}
-use Rattle.pull_serving.specs.Turn.{Turn, state}
+use Rattle.pull_serving.specs.Turn.{state}
 use Rattle.pull_serving.specs.Turns.{doorway}
 use Rattle.pull_serving.proofs.Ends.{rose_earlier}
 use Rattle.pull_serving.proofs.Pushed.{prints_more, prints_part, run_push, run_start}
