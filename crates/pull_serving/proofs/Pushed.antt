@@ -1,0 +1,178 @@
+-- A run and one turn more.
+use Rattle.std.proofs.Common.{◌≡◌, inl, inr, ⊎_elim, ℕ, ◌+◌, suc, false, List, [], ◌∷◌, ◌++◌, map, length, Option, Some, None, refl, sym, ◌∙◌, ap, subst, arith, append-nil, append_assoc}
+use Rattle.std.proofs.lemmas.List.{length-append}
+use Rattle.std.specs.Io.KnownBytes.{Appends}
+use Rattle.std.proofs.KnownBytes.{Appends-trans}
+use Rattle.dsc_outside.specs.declared.disk.Disk.{Ghosts}
+use Rattle.dsc_outside.proofs.Moments.{started, then_on, weaker}
+use Rattle.gate_log.specs.Standing.{StandsAtAnyMoment, StandsFor}
+use Rattle.pull_outside.specs.Door.{Known, GetsBack, TakesFirst}
+use Rattle.pull_outside.specs.Shelf.{Contents}
+use Rattle.pull_exchange.specs.declared.exchange.Received.{Received}
+use Rattle.pull_exchange.specs.declared.exchange.Received.TheVariants as received
+use Rattle.pull_exchange.specs.Exchange.{AppendsPart}
+use Rattle.pull_store.specs.declared.row.Row.{Row}
+use Rattle.pull_store.specs.Stands.{Stands}
+use Rattle.pull_store.specs.Store.{IsKept, StoreTerm, is_spent}
+use Rattle.pull_store.proofs.Committed.{kept_stands}
+use Rattle.pull_serving.specs.declared.connection.ConnectionEnd.{ConnectionEnd}
+use Rattle.pull_serving.specs.Printing.{line, lines}
+use Rattle.pull_serving.specs.Turn.{IsTurn, MayLeave, State, Turn, state}
+use Rattle.pull_serving.specs.Turns.{Doorway, Gave, IsRun, IsStep, Lasts, Runs, Took, Visits, came, went}
+
+runs_push : (shelf : Option Contents) (first : State) (ts : List Turn) (mid : State) (t : Turn) → Runs shelf first ts mid → t.before ≡ mid → is_spent mid.store ≡ false → IsTurn shelf t
+    → Runs shelf first (ts ++ t ∷ []) t.after
+runs_push shelf first [] mid t runs before fresh is = (before ∙ runs, subst (λ (s : State). is_spent s.store ≡ false) runs fresh, is, refl)
+runs_push shelf first (u ∷ ts) mid t runs before fresh is = (runs.0, runs.1, runs.2, runs_push shelf u.after ts mid t runs.3 before fresh is)
+
+map_push : {X Y : Type 0} (f : X → Y) (xs : List X) (x : X) → map f (xs ++ x ∷ []) ≡ map f xs ++ f x ∷ []
+map_push f [] x = refl
+map_push f (y ∷ xs) x = ap (λ l. f y ∷ l) (map_push f xs x)
+
+from_first : (known rest : List Known) (new : Option (List Known)) (ts : List Turn) (t : Turn) → known ≡ map came ts ++ rest → TakesFirst (Some rest) new t.came → Took (Some known) new (ts ++ t ∷ [])
+from_first known [] new ts t is takes = absurd takes
+from_first known (k ∷ rest) new ts t is takes = (
+  rest,
+  is ∙ ap (λ (l : Known). map came ts ++ l ∷ rest) (sym takes.0) ∙ sym (append_assoc (map came ts) (t.came ∷ []) rest)
+      ∙ ap (λ (l : List Known). l ++ rest) (sym (map_push came ts t)),
+  takes.1,
+)
+
+took_push : (old mid new : Option (List Known)) (ts : List Turn) (t : Turn) → Took old mid ts → TakesFirst mid new t.came → Took old new (ts ++ t ∷ [])
+took_push None mid new ts t took takes = subst (λ (o : Option (List Known)). TakesFirst o new t.came) took takes
+took_push (Some known) mid new ts t took takes =
+    let first = subst (λ (o : Option (List Known)). TakesFirst o new t.came) took.2 takes in
+    from_first known took.0 new ts t took.1 first
+
+abbrev some_known : List Known → Option (List Known)
+some_known l = Some l
+
+gave_push : (old mid new : Option (List Known)) (ts : List Turn) (t : Turn) → Gave old mid ts → GetsBack mid new t.went → Gave old new (ts ++ t ∷ [])
+gave_push None mid new ts t gave gets = subst (λ (o : Option (List Known)). GetsBack o new t.went) gave gets
+gave_push (Some known) mid new ts t gave gets =
+    let now : new ≡ Some ((known ++ map went ts) ++ t.went ∷ []) = subst (λ (o : Option (List Known)). GetsBack o new t.went) gave gets in
+    now ∙ ap some_known (append_assoc known (map went ts) (t.went ∷ []) ∙ ap (λ (l : List Known). known ++ l) (sym (map_push went ts t)))
+
+lines_push : (n : ℕ) (ts : List Turn) (t : Turn) → lines n (ts ++ t ∷ []) ≡ lines n ts ++ line (n + length ts) t.end
+lines_push n [] t = append-nil (line n t.end) ∙ ap (λ (m : ℕ). line m t.end) (omega arith)
+lines_push n (u ∷ ts) t =
+    ap (λ (l : List ℕ). line n u.end ++ l) (lines_push (suc n) ts t) ∙ sym (append_assoc (line n u.end) (lines (suc n) ts) (line (suc n + length ts) t.end))
+    ∙ ap (λ (m : ℕ). (line n u.end ++ lines (suc n) ts) ++ line m t.end) (omega arith)
+
+-- whatever was received, the rows may stay
+pub may_stay : (r : Received) (rows : List Row) → MayLeave r rows rows
+may_stay (received.Request request) rows = inl refl
+may_stay (received.Refused e) rows = refl
+may_stay (received.Torn at) rows = refl
+may_stay received.ReadFault rows = refl
+may_stay received.Memory rows = refl
+
+stays : (r : Received) (rows : List Row) (c : List ℕ) → StandsFor Stands (λ new. new ≡ rows) c → StandsFor Stands (MayLeave r rows) c
+stays r rows c s = record { value = s.value; stands = s.stands; has = subst (λ (new : List Row). MayLeave r rows new) (sym s.has) (may_stay r rows) }
+
+visits_earlier : (shelf : Option Contents) (first : State) (ts : List Turn) (mid : State) (t : Turn) (c : List ℕ) → Runs shelf first ts mid → t.before ≡ mid
+    → Visits first ts c → Visits first (ts ++ t ∷ []) c
+visits_earlier shelf first [] mid t c runs before stands = inl (stays t.received t.before.store.rows c (subst (λ (s : State). StandsFor Stands (λ rows. rows ≡ s.store.rows) c) (sym runs ∙ sym before) stands))
+visits_earlier shelf first (u ∷ ts) mid t c runs before (inl here) = inl here
+visits_earlier shelf first (u ∷ ts) mid t c runs before (inr later) = inr (visits_earlier shelf u.after ts mid t c runs.3 before later)
+
+visits_last : (first : State) (ts : List Turn) (t : Turn) (c : List ℕ) → StandsFor Stands (MayLeave t.received t.before.store.rows) c → Visits first (ts ++ t ∷ []) c
+visits_last first [] t c stands = inl stands
+visits_last first (u ∷ ts) t c stands = inr (visits_last u.after ts t c stands)
+
+lasts_push : {D : Type 0} (d : Ghosts D) (mid new : D) (shelf : Option Contents) (first half : State) (ts : List Turn) (t : Turn) → Runs shelf first ts half → t.before ≡ half
+    → Lasts (d.moment mid) (d.left_since mid) ts → StandsAtAnyMoment d mid new Stands (MayLeave t.received t.before.store.rows) → t.after.moment ≡ d.moment new
+    → (is_spent t.after.store ≡ false → (c : List ℕ) → d.left_since new t.after.moment c → StandsFor Stands (λ rows. rows ≡ t.after.store.rows) c)
+    → Lasts (d.moment new) (d.left_since new) (ts ++ t ∷ [])
+lasts_push d mid new shelf first half [] t runs before lasts run ends stands = (omega (arith, ends), stands, tt)
+lasts_push d mid new shelf first half (u ∷ ts) t runs before lasts run ends stands = (
+  omega (arith, lasts.0, run.later),
+  (λ unspent c here. ⊎_elim (λ past. visits_earlier shelf u.after ts half t c runs.3 before (lasts.1 unspent c past)) (λ now. visits_last u.after ts t c now) (run.before u.after.moment c lasts.0 here)),
+  lasts_push d mid new shelf u.after half ts t runs.3 before lasts.2 run ends stands,
+)
+
+took_none : (coming : Option (List Known)) → Took coming coming []
+took_none None = refl
+took_none (Some known) = (known, refl, refl)
+
+gave_none : (back : Option (List Known)) → Gave back back []
+gave_none None = refl
+gave_none (Some known) = ap some_known (sym (append-nil known))
+
+-- no turn yet
+pub run_start : {D : Type 0} (d : Ghosts D) (disk : D) (store : StoreTerm) (shelf : Option Contents) (shelf_faults : ℕ) (door : Doorway) (Printed : List Turn → Type 0)
+    → ((c : List ℕ) → d.left_since disk (d.moment disk) c → d.images disk c) → IsKept d disk store → Printed []
+    → IsRun d disk disk shelf (state d disk store shelf_faults) (state d disk store shelf_faults) door door Printed
+run_start d disk store shelf shelf_faults door Printed now kept printed = record {
+  turns = [];
+  runs = refl;
+  took = took_none door.coming;
+  gave = gave_none door.back;
+  none_out = refl;
+  printed = printed;
+  any_moment = started d.moment d.left_since disk (Visits (state d disk store shelf_faults) []) (λ c here. kept_stands d disk store kept c (now c here));
+  lasts = tt;
+}
+
+-- one turn more
+pub run_push : {D : Type 0} (d : Ghosts D) (old mid new : D) (shelf now : Option Contents) (first half last : State) (door door1 door2 : Doorway) (end : ConnectionEnd) (Before After : List Turn → Type 0)
+    → IsRun d old mid shelf first half door door1 Before → IsStep d mid new now half last door1 door2 end → now ≡ shelf
+    → ((ts : List Turn) (t : Turn) → Before ts → t.end ≡ end → After (ts ++ t ∷ []))
+    → IsRun d old new shelf first last door door2 After
+run_push d old mid new shelf now first half last door door1 door2 end Before After run step same printed =
+    let is = subst (λ (s : Option Contents). IsTurn s step.turn) same step.is_turn in
+    let turns = run.turns ++ step.turn ∷ [] in
+    record {
+      turns = turns;
+      runs = subst (λ (s : State). Runs shelf first turns s) step.leaves (runs_push shelf first run.turns half step.turn run.runs step.starts step.fresh is);
+      took = took_push door.coming door1.coming door2.coming run.turns step.turn run.took step.took;
+      gave = gave_push door.back door1.back door2.back run.turns step.turn run.gave step.gave;
+      none_out = step.none_out ∙ run.none_out;
+      printed = printed run.turns step.turn run.printed step.ends;
+      any_moment = then_on d.moment d.left_since old mid new (Visits first turns) (StandsFor Stands (MayLeave step.turn.received step.turn.before.store.rows))
+          (weaker d.moment d.left_since old mid (Visits first run.turns) (Visits first turns) run.any_moment (λ c here. visits_earlier shelf first run.turns half step.turn c run.runs step.starts here))
+          step.any_moment (λ c here. visits_last first run.turns step.turn c here);
+      lasts = lasts_push d mid new shelf first half run.turns step.turn run.runs step.starts run.lasts step.any_moment step.ends_now step.stands;
+    }
+
+-- the same turns, of which something else was printed
+pub run_printed : {D : Type 0} (d : Ghosts D) (old new : D) (shelf : Option Contents) (first last : State) (door door1 : Doorway) (Before After : List Turn → Type 0)
+    → IsRun d old new shelf first last door door1 Before → ((ts : List Turn) → Before ts → After ts) → IsRun d old new shelf first last door door1 After
+run_printed d old new shelf first last door door1 Before After run printed = record {
+  turns = run.turns;
+  runs = run.runs;
+  took = run.took;
+  gave = run.gave;
+  none_out = run.none_out;
+  printed = printed run.turns run.printed;
+  any_moment = run.any_moment;
+  lasts = run.lasts;
+}
+
+-- ---- the lines
+
+module _ (out0 out1 out2 : Option (List ℕ)) (number : ℕ) (end : ConnectionEnd) (written : List ℕ) (is : written ≡ line (number + 1) end) where
+  joined : (ts : List Turn) (t : Turn) → length ts ≡ number → t.end ≡ end → lines 1 ts ++ written ≡ lines 1 (ts ++ t ∷ [])
+  joined ts t count same =
+      let place : number + 1 ≡ 1 + length ts = omega (arith, count) in
+      ap (λ (l : List ℕ). lines 1 ts ++ l) (is ∙ ap (λ (m : ℕ). line m end) place ∙ ap (λ (e : ConnectionEnd). line (1 + length ts) e) (sym same)) ∙ sym (lines_push 1 ts t)
+
+  longer : (ts : List Turn) (t : Turn) → length ts ≡ number → length (ts ++ t ∷ []) ≡ number + 1
+  longer ts t count = omega (arith, length-append ts (t ∷ []), count)
+
+  pub prints_more : Appends out1 out2 written → (ts : List Turn) (t : Turn) → (length ts ≡ number) × Appends out0 out1 (lines 1 ts) → t.end ≡ end
+      → (length (ts ++ t ∷ []) ≡ number + 1) × Appends out0 out2 (lines 1 (ts ++ t ∷ []))
+  prints_more appends ts t so_far same =
+      (longer ts t so_far.0, subst (λ (l : List ℕ). Appends out0 out2 l) (joined ts t so_far.0 same) (Appends-trans out0 out1 out2 (lines 1 ts) written so_far.1 appends))
+
+  pub prints_part : AppendsPart out1 out2 written → (ts : List Turn) (t : Turn) → (length ts ≡ number) × Appends out0 out1 (lines 1 ts) → t.end ≡ end
+      → (length (ts ++ t ∷ []) ≡ number + 1) × AppendsPart out0 out2 (lines 1 (ts ++ t ∷ []))
+  prints_part part ts t so_far same = (
+    longer ts t so_far.0,
+    (
+      lines 1 ts ++ part.0,
+      part.1,
+      sym (joined ts t so_far.0 same) ∙ ap (λ (l : List ℕ). lines 1 ts ++ l) part.2 ∙ sym (append_assoc (lines 1 ts) part.0 part.1),
+      Appends-trans out0 out1 out2 (lines 1 ts) part.0 so_far.1 part.3,
+    ),
+  )

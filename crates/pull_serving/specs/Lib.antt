@@ -1,0 +1,6 @@
+pub mod Printing
+pub mod Sent
+pub mod Serving
+pub mod Status
+pub mod Turn
+pub mod Turns

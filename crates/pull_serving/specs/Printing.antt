@@ -1,0 +1,71 @@
+-- What the server prints: a line for each connection, and one for a refusal.
+use Rattle.std.specs.Prelude.{◌≡◌, ◌⊎◌, ℕ, ◌≤◌, ◌<◌, suc, true, List, [], ◌∷◌, ◌++◌, length, codes, Option}
+use Rattle.std.specs.Io.KnownBytes.{Appends}
+use Rattle.std.specs.Fmt.{decimal}
+use Rattle.dsc_terms.specs.Counts.{Rose}
+use Rattle.pull_exchange.specs.Exchange.{AppendsPart}
+use Rattle.pull_serving.specs.declared.connection.ConnectionEnd.{ConnectionEnd}
+use Rattle.pull_serving.specs.declared.connection.ConnectionEnd.TheVariants as ends
+use Rattle.pull_serving.specs.declared.status.ServeStatus.{ServeStatus}
+use Rattle.pull_serving.specs.declared.status.ServeStatus.TheVariants as statuses
+use Rattle.pull_store.specs.Store.{is_spent}
+use Rattle.pull_serving.specs.Turn.{State, Turn}
+
+-- how a connection ended
+abbrev pub end_text : ConnectionEnd → List ℕ
+end_text (ends.Answered code) = codes "answer " ++ decimal code
+end_text ends.DiskFault = codes "disk fault"
+end_text (ends.Torn at) = codes "torn " ++ decimal at
+end_text ends.ReadFault = codes "read fault"
+end_text ends.WriteFault = codes "write fault"
+end_text ends.Memory = codes "memory"
+
+-- the line of the connection with that number
+abbrev pub line : ℕ → ConnectionEnd → List ℕ
+line number end = decimal number ++ codes " " ++ end_text end ++ codes "\n"
+
+-- the lines of connections, from that number on
+abbrev pub lines : ℕ → List Turn → List ℕ
+lines number [] = []
+lines number (t ∷ ts) = line number t.end ++ lines (suc number) ts
+
+-- the line of a refusal; where memory was refused, or writing failed, there is none
+abbrev pub refusal_line : ServeStatus → List ℕ
+refusal_line statuses.Done = []
+refusal_line statuses.Usage = codes "refused Usage\n"
+refusal_line (statuses.NotAStore at) = codes "refused NotAStore " ++ decimal at ++ codes "\n"
+refusal_line statuses.DiskFault = codes "refused DiskFault\n"
+refusal_line statuses.DoorFault = codes "refused DoorFault\n"
+refusal_line statuses.WriteFault = []
+refusal_line statuses.Memory = []
+
+-- ---- the output
+
+-- what is known of the output: what it took, where it tells that, and its count of faults
+pub record Output : Type 0 where
+  pub held : Option (List ℕ)
+  pub faults : ℕ
+
+abbrev pub output_of : Option (List ℕ) → ℕ → Output
+output_of held faults = record { held = held; faults = faults }
+
+-- the whole text was written, or the output failed and a part from its front was
+abbrev pub Writes : Output → Output → List ℕ → Type 0
+Writes old new text = Appends old.held new.held text ⊎ (Rose old.faults new.faults × AppendsPart old.held new.held text)
+
+-- the lines of the turns were written whole, and then the line of the refusal
+pub record Refuses (old new : Output) (turns : List Turn) (status : ServeStatus) : Type 0 where
+  pub mid : Output
+  pub lines : Appends old.held mid.held (lines 1 turns)
+  pub refusal : Writes mid new (refusal_line status)
+
+-- what was printed of so many connections at most, and why the run ended so
+abbrev pub Printed : ℕ → State → ℕ → ℕ → Output → Output → ServeStatus → List Turn → Type 0
+Printed count last door_before door_now old new statuses.Done turns = (length turns ≡ count) × Appends old.held new.held (lines 1 turns)
+Printed count last door_before door_now old new statuses.DiskFault turns = (length turns ≤ count) × (is_spent last.store ≡ true) × Refuses old new turns statuses.DiskFault
+Printed count last door_before door_now old new statuses.DoorFault turns =
+    (length turns < count) × Rose door_before door_now × Refuses old new turns statuses.DoorFault
+Printed count last door_before door_now old new statuses.WriteFault turns = (length turns ≤ count) × Rose old.faults new.faults × AppendsPart old.held new.held (lines 1 turns)
+Printed count last door_before door_now old new statuses.Usage turns = ⊥
+Printed count last door_before door_now old new (statuses.NotAStore at) turns = ⊥
+Printed count last door_before door_now old new statuses.Memory turns = ⊥

@@ -1,0 +1,155 @@
+-- One connection: what was received, what was replied, and how it ended.
+use Rattle.std.specs.Prelude.{◌≡◌, ◌⊎◌, ℕ, true, false, List, Option, Some, IfSome, ⊤}
+use Rattle.std.specs.Io.KnownBytes.{Appends}
+use Rattle.dsc_terms.specs.Counts.{Rose}
+use Rattle.dsc_outside.specs.declared.disk.Disk.{Ghosts}
+use Rattle.gate_log.specs.Standing.{StandsAtAnyMoment}
+use Rattle.http_frames.specs.declared.message.Request.{Request}
+use Rattle.http_frames.specs.declared.message.Reply.{Reply}
+use Rattle.http_frames.specs.Writing.{answer_text}
+use Rattle.pull_outside.specs.Door.{Known}
+use Rattle.pull_outside.specs.Shelf.{Contents}
+use Rattle.pull_exchange.specs.declared.exchange.Received.{Received}
+use Rattle.pull_exchange.specs.declared.exchange.Received.TheVariants as received
+use Rattle.pull_exchange.specs.Exchange.{AppendsPart, IsReceived, refusal_of}
+use Rattle.pull_store.specs.declared.row.Row.{Row}
+use Rattle.pull_store.specs.Stands.{Stands}
+use Rattle.pull_store.specs.Store.{StoreTerm, IsKept, is_spent}
+use Rattle.pull_server.specs.Answers.{IsAcknowledged, LeavesRows, Replies, is_done}
+use Rattle.pull_server.specs.Replies.{plain}
+use Rattle.pull_serving.specs.declared.connection.ConnectionEnd.{ConnectionEnd}
+use Rattle.pull_serving.specs.declared.connection.ConnectionEnd.TheVariants as ends
+
+-- what connections are served over: the store, the counts of faults of the disk and of the shelf, and the disk's moment
+pub record State : Type 0 where
+  pub store : StoreTerm
+  pub disk_faults : ℕ
+  pub shelf_faults : ℕ
+  pub moment : ℕ
+
+-- what is known of a connection
+abbrev pub known_by : Option (List ℕ) → Option (List ℕ) → ℕ → Known
+known_by left held faults = record { left = left; held = held; faults = faults }
+
+-- what connections are served over, by what is known of the disk
+abbrev pub state : {D : Type 0} → Ghosts D → D → StoreTerm → ℕ → State
+state d disk store shelf_faults = record { store = store; disk_faults = d.faults disk; shelf_faults = shelf_faults; moment = d.moment disk }
+
+-- a connection as it came and as it was left, what was received of it, what there was before it and after it, and how it ended
+pub record Turn : Type 0 where
+  pub came : Known
+  pub went : Known
+  pub received : Received
+  pub before : State
+  pub after : State
+  pub end : ConnectionEnd
+
+-- ---- the reply
+
+-- in the turn the disk's count of faults rose
+abbrev pub DiskRose : Turn → Type 0
+DiskRose t = Rose t.before.disk_faults t.after.disk_faults
+
+-- in the turn the connection's count of faults rose
+abbrev pub ConnectionRose : Turn → Type 0
+ConnectionRose t = Rose t.came.faults t.went.faults
+
+-- in the turn the count of the disk rose, or that of the shelf
+abbrev pub OutsideRose : Turn → Type 0
+OutsideRose t = DiskRose t ⊎ Rose t.before.shelf_faults t.after.shelf_faults
+
+-- the reply to a request, and the rows after it: by the table, over what the shelf holds where it tells that; 500 has a cause whatever it holds
+pub record IsReplyTo (shelf : Option Contents) (t : Turn) (request : Request) (reply : Reply) : Type 0 where
+  pub table : (contents : Contents) → shelf ≡ Some contents → Replies t.before.store contents request (OutsideRose t) reply t.after.store.rows
+  pub cause : reply.code ≡ 500 → OutsideRose t ⊎ (is_spent t.before.store ≡ true)
+
+-- the reply to what was received
+abbrev pub IsReply : Option Contents → Turn → Received → Reply → Type 0
+IsReply shelf t (received.Request request) reply = IsReplyTo shelf t request reply
+IsReply shelf t (received.Refused e) reply = reply ≡ refusal_of e
+IsReply shelf t (received.Torn at) reply = ⊥
+IsReply shelf t received.ReadFault reply = ⊥
+IsReply shelf t received.Memory reply = ⊥
+
+-- ---- the end
+
+-- nothing was written
+abbrev pub WroteNothing : Turn → Type 0
+WroteNothing t = t.went.held ≡ t.came.held
+
+-- the whole reply was written, or the connection failed and a part from its front was
+abbrev pub WroteWhat : Turn → Reply → Type 0
+WroteWhat t reply = Appends t.came.held t.went.held (answer_text reply) ⊎ (ConnectionRose t × AppendsPart t.came.held t.went.held (answer_text reply))
+
+-- the reply was written whole
+pub record IsAnswered (shelf : Option Contents) (t : Turn) (code : ℕ) : Type 0 where
+  pub reply : Reply
+  pub is_reply : IsReply shelf t t.received reply
+  pub has_code : reply.code ≡ code
+  pub written : Appends t.came.held t.went.held (answer_text reply)
+
+-- the store was spent in this turn, since the disk failed, and the reply is 500
+pub record IsBroken (shelf : Option Contents) (t : Turn) : Type 0 where
+  pub fresh : is_spent t.before.store ≡ false
+  pub spent : is_spent t.after.store ≡ true
+  pub rose : DiskRose t
+  pub is_reply : IsReply shelf t t.received (plain 500)
+  pub written : WroteWhat t (plain 500)
+
+-- the connection failed, and a part from the front of the reply was written
+pub record IsCut (shelf : Option Contents) (t : Turn) : Type 0 where
+  pub reply : Reply
+  pub is_reply : IsReply shelf t t.received reply
+  pub rose : ConnectionRose t
+  pub written : AppendsPart t.came.held t.went.held (answer_text reply)
+
+-- why the turn ended so
+abbrev pub IsEnd : Option Contents → Turn → ConnectionEnd → Type 0
+IsEnd shelf t (ends.Answered code) = IsAnswered shelf t code
+IsEnd shelf t ends.DiskFault = IsBroken shelf t
+IsEnd shelf t (ends.Torn at) = (t.received ≡ received.Torn at) × WroteNothing t
+IsEnd shelf t ends.ReadFault = (t.received ≡ received.ReadFault) × ConnectionRose t × WroteNothing t
+IsEnd shelf t ends.WriteFault = IsCut shelf t
+IsEnd shelf t ends.Memory = WroteNothing t
+
+-- ---- the turn
+
+-- the rows that what was received may leave
+abbrev pub MayLeave : Received → List Row → List Row → Type 0
+MayLeave (received.Request request) old new = LeavesRows request old new
+MayLeave (received.Refused e) old new = new ≡ old
+MayLeave (received.Torn at) old new = new ≡ old
+MayLeave received.ReadFault old new = new ≡ old
+MayLeave received.Memory old new = new ≡ old
+
+-- what is no request touches nothing
+abbrev pub Touches : Received → State → State → Type 0
+Touches (received.Request request) old new = ⊤
+Touches (received.Refused e) old new = new ≡ old
+Touches (received.Torn at) old new = new ≡ old
+Touches received.ReadFault old new = new ≡ old
+Touches received.Memory old new = new ≡ old
+
+-- the end of a turn in which the store was spent
+abbrev pub ShowsFault : ConnectionEnd → Type 0
+ShowsFault end = (end ≡ ends.DiskFault) ⊎ (end ≡ ends.Memory)
+
+-- the connection was served over what the shelf holds
+pub record IsTurn (shelf : Option Contents) (t : Turn) : Type 0 where
+  pub heard : IfSome t.came.left (λ bytes. IsReceived bytes t.received)
+  pub rows : MayLeave t.received t.before.store.rows t.after.store.rows
+  pub touches : Touches t.received t.before t.after
+  pub end : IsEnd shelf t t.end
+  pub spent : is_spent t.before.store ≡ false → is_spent t.after.store ≡ true → DiskRose t × ShowsFault t.end
+
+-- where a registration or a report was answered that it was done, every image stands for the rows after it
+abbrev pub Acknowledges : {D : Type 0} → Ghosts D → Received → StoreTerm → D → StoreTerm → ConnectionEnd → Type 0
+Acknowledges d (received.Request request) old now new (ends.Answered code) = is_done code ≡ true → IsAcknowledged d request old now new
+Acknowledges d received old now new end = ⊤
+
+-- all that serving a connection did, and what a crash at any moment of it leaves
+pub record IsServed {D : Type 0} (d : Ghosts D) (before now : D) (shelf : Option Contents) (came went : Known) (old new : State) (end : ConnectionEnd) : Type 0 where
+  pub received : Received
+  pub turn : IsTurn shelf (record { came = came; went = went; received = received; before = old; after = new; end = end })
+  pub any_moment : IsKept d before old.store → StandsAtAnyMoment d before now Stands (MayLeave received old.store.rows)
+  pub acknowledged : Acknowledges d received old.store now new.store end

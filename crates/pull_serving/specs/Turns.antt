@@ -1,0 +1,78 @@
+-- Connections, one after the other.
+use Rattle.std.specs.Prelude.{◌≡◌, ◌⊎◌, ℕ, ◌≤◌, false, List, [], ◌∷◌, ◌++◌, map, Option, Some, None, ⊤}
+use Rattle.dsc_outside.specs.declared.disk.Disk.{Ghosts}
+use Rattle.gate_log.specs.Log.{AtAnyMoment}
+use Rattle.gate_log.specs.Standing.{StandsAtAnyMoment, StandsFor}
+use Rattle.pull_outside.specs.Door.{Known, GetsBack, TakesFirst}
+use Rattle.pull_outside.specs.Shelf.{Contents}
+use Rattle.pull_store.specs.Stands.{Stands}
+use Rattle.pull_store.specs.Store.{is_spent}
+use Rattle.pull_serving.specs.declared.connection.ConnectionEnd.{ConnectionEnd}
+use Rattle.pull_serving.specs.Turn.{IsTurn, MayLeave, State, Turn}
+
+-- each was served in its turn over what the one before it left, while the store was not spent
+abbrev pub Runs : Option Contents → State → List Turn → State → Type 0
+Runs shelf first [] last = last ≡ first
+Runs shelf first (t ∷ ts) last = (t.before ≡ first) × (is_spent first.store ≡ false) × IsTurn shelf t × Runs shelf t.after ts last
+
+abbrev pub came : Turn → Known
+came t = t.came
+
+abbrev pub went : Turn → Known
+went t = t.went
+
+-- they were the first that were to come
+abbrev pub Took : Option (List Known) → Option (List Known) → List Turn → Type 0
+Took None new turns = new ≡ None
+Took (Some known) new turns = (rest : List Known) × (known ≡ map came turns ++ rest) × (new ≡ Some rest)
+
+-- they were handed back in order
+abbrev pub Gave : Option (List Known) → Option (List Known) → List Turn → Type 0
+Gave None new turns = new ≡ None
+Gave (Some known) new turns = new ≡ Some (known ++ map went turns)
+
+-- the image stands for the rows that were there first, or for rows that one of the turns may leave
+abbrev pub Visits : State → List Turn → List ℕ → Type 0
+Visits first [] image = StandsFor Stands (λ rows. rows ≡ first.store.rows) image
+Visits first (t ∷ ts) image = StandsFor Stands (MayLeave t.received t.before.store.rows) image ⊎ Visits t.after ts image
+
+-- from the end of each turn on, unless the disk failed in it, every image stands for the rows that it left, or for rows that a later one may leave
+abbrev pub Lasts : ℕ → (ℕ → List ℕ → Type 0) → List Turn → Type 0
+Lasts now since [] = ⊤
+Lasts now since (t ∷ ts) =
+    (t.after.moment ≤ now) × (is_spent t.after.store ≡ false → (image : List ℕ) → since t.after.moment image → Visits t.after ts image) × Lasts now since ts
+
+-- what is known of the door: the connections that are still to come, those that were handed back, and how many were given and not handed back
+pub record Doorway : Type 0 where
+  pub coming : Option (List Known)
+  pub back : Option (List Known)
+  pub out : ℕ
+
+abbrev pub doorway : Option (List Known) → Option (List Known) → ℕ → Doorway
+doorway coming back out = record { coming = coming; back = back; out = out }
+
+-- one turn: the next connection was taken, served, and handed back
+pub record IsStep {D : Type 0} (d : Ghosts D) (old new : D) (shelf : Option Contents) (first last : State) (door door_after : Doorway) (end : ConnectionEnd) : Type 0 where
+  pub turn : Turn
+  pub starts : turn.before ≡ first
+  pub leaves : turn.after ≡ last
+  pub ends : turn.end ≡ end
+  pub fresh : is_spent first.store ≡ false
+  pub is_turn : IsTurn shelf turn
+  pub took : TakesFirst door.coming door_after.coming turn.came
+  pub gave : GetsBack door.back door_after.back turn.went
+  pub none_out : door_after.out ≡ door.out
+  pub any_moment : StandsAtAnyMoment d old new Stands (MayLeave turn.received turn.before.store.rows)
+  pub ends_now : turn.after.moment ≡ d.moment new
+  pub stands : is_spent turn.after.store ≡ false → (image : List ℕ) → d.left_since new turn.after.moment image → StandsFor Stands (λ rows. rows ≡ turn.after.store.rows) image
+
+-- all turns of a run, and what a crash at any moment of it leaves; what was printed is said of them
+pub record IsRun {D : Type 0} (d : Ghosts D) (old new : D) (shelf : Option Contents) (first last : State) (door door_after : Doorway) (Printed : List Turn → Type 0) : Type 0 where
+  pub turns : List Turn
+  pub runs : Runs shelf first turns last
+  pub took : Took door.coming door_after.coming turns
+  pub gave : Gave door.back door_after.back turns
+  pub none_out : door_after.out ≡ door.out
+  pub printed : Printed turns
+  pub any_moment : AtAnyMoment d old new (Visits first turns)
+  pub lasts : Lasts (d.moment new) (d.left_since new) turns

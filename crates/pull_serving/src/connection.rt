@@ -1,0 +1,113 @@
+//! One connection.
+ghost use Rattle.std.specs.Prelude.{◌≡◌, ◌≤◌, ◌&&◌, not, if◌then◌else◌};
+ghost use Rattle.pull_store.specs.Store.{IsReady, is_spent};
+ghost use Rattle.pull_serving.specs.Sent.{IsSentEnd};
+ghost use Rattle.pull_serving.specs.Turn.{IsServed, known_by, state};
+
+use dsc_outside::{Disk, Sink, Source};
+use http_frames::Reply;
+use mof_values::Memory;
+use pull_exchange::{Received, SendEnd, receive, refusal, send_reply};
+use pull_outside::Shelf;
+use pull_server::answer;
+use pull_store::PullStore;
+use std::alloc::Global;
+
+/// How serving a connection ended.
+#[derive(Clone, Copy, Debug, PartialEq, Eq)]
+pub enum ConnectionEnd {
+    /// The answer, with this code, was written whole.
+    Answered { code: u16 },
+
+    /// The disk failed while the request was answered: 500 was written, or a part of it where the connection failed too.
+    DiskFault,
+
+    /// The connection ended after so many bytes, inside a request; nothing was written.
+    Torn { at: u64 },
+
+    /// Nothing was written.
+    ReadFault,
+
+    /// A part of the answer was written.
+    WriteFault,
+
+    /// Nothing was written; a change that the request asked for may have been made.
+    Memory,
+}
+
+/// Reads one request, answers it, and writes the answer.
+///
+/// What is no request leaves store, disk and shelf as they were. A crash at any moment leaves the rows before the request, or those
+/// after the change that it asks for.
+pub fn serve_connection<X: Source + Sink, D: Disk, S: Shelf>(
+    alloc: Global,
+    conn: &mut X,
+    store: &mut PullStore,
+    disk: &mut D,
+    shelf: &mut S,
+) -> ConnectionEnd
+    requires { IsReady D.Disk disk.old store.old }
+    ensures ready { IsReady D.Disk disk.new store.new }
+    ensures served { IsServed D.Disk disk.old disk.new (S.holds shelf.old)
+        (known_by (X.left conn.old) (X.held conn.old) (X.faults conn.old)) (known_by (X.left conn.new) (X.held conn.new) (X.faults conn.new))
+        (state D.Disk disk.old store.old (S.faults shelf.old)) (state D.Disk disk.new store.new (S.faults shelf.new)) result }
+    ensures shelf { S.holds shelf.new ≡ S.holds shelf.old }
+    ensures shelf_count { S.faults shelf.old ≤ S.faults shelf.new }
+    ensures count { D.faults disk.old ≤ D.faults disk.new }
+    ensures conn_count { X.faults conn.old ≤ X.faults conn.new }
+{
+    match receive(alloc, conn) {
+        Received::Request(request) => {
+            let was_spent = store.is_spent();
+            match answer(alloc, store, disk, shelf, &request) {
+                Ok(reply) => send(alloc, conn, &reply, is_newly_spent(was_spent, store)),
+                Err(Memory) => ConnectionEnd::Memory,
+            }
+        }
+        Received::Refused(error) => match refusal(alloc, &error) {
+            Ok(reply) => send(alloc, conn, &reply, false),
+            Err(Memory) => ConnectionEnd::Memory,
+        },
+        Received::Torn { at } => ConnectionEnd::Torn { at },
+        Received::ReadFault => ConnectionEnd::ReadFault,
+        Received::Memory => ConnectionEnd::Memory,
+    }
+}
+
+fn is_newly_spent(was_spent: bool, store: &PullStore) -> bool
+    ensures { result ≡ (not was_spent && is_spent store.now) }
+{
+    !was_spent && store.is_spent()
+}
+
+// Writes the reply, in whose making the disk failed or did not.
+fn send<X: Sink>(alloc: Global, conn: &mut X, reply: &Reply, broken: bool) -> ConnectionEnd
+    ensures sent { IsSentEnd (X.held conn.old) (X.held conn.new) reply.now (X.faults conn.old) (X.faults conn.new) broken result }
+    ensures count { X.faults conn.old ≤ X.faults conn.new }
+{
+    match send_reply(alloc, conn, reply) {
+        SendEnd::Memory => ConnectionEnd::Memory,
+        SendEnd::Sent => sent(reply.code, broken),
+        SendEnd::WriteFault => cut(broken),
+    }
+}
+
+fn sent(code: u16, broken: bool) -> ConnectionEnd
+    ensures { result ≡ (if broken then ConnectionEnd.DiskFault else ConnectionEnd.Answered code) }
+{
+    if broken {
+        ConnectionEnd::DiskFault
+    } else {
+        ConnectionEnd::Answered { code }
+    }
+}
+
+fn cut(broken: bool) -> ConnectionEnd
+    ensures { result ≡ (if broken then ConnectionEnd.DiskFault else ConnectionEnd.WriteFault) }
+{
+    if broken {
+        ConnectionEnd::DiskFault
+    } else {
+        ConnectionEnd::WriteFault
+    }
+}

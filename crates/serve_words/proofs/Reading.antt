@@ -1,0 +1,66 @@
+-- The values in what a parse found.
+use Rattle.std.proofs.Common.{◌≡◌, ◌∙◌, ◌<◌, ◌==◌, ℕ, Bool, true, false, List, [], ◌∷◌, refl, sym, ap, Option, Some, None, codes, arith, bytes_eq, if◌then◌else◌, ◌^◌}
+use Rattle.std.specs.Prelude.{Err, Ok, Result, find, option_and_then, pos, slice_get, unwrap_or}
+use Rattle.std.specs.Str.Parse.{ParsesUnsigned, starts_with_minus}
+use Rattle.std.proofs.lemmas.Int.{ints}
+use Rattle.clap.specs.Lexer.{without_minus}
+use Rattle.clap.specs.Faults.{fault_of}
+use Rattle.clap.specs.Matches.{ReadsOne}
+use Rattle.clap.specs.Simple.{matches_of}
+use Rattle.clap.specs.ValueTests.{accepts}
+use Rattle.clap.specs.Walk.{Row, Text, first_of, row_text}
+use Rattle.clap.specs.declared.builder.value_parser.ValueParser.TheVariants as vp
+use Rattle.clap.proofs.ValueTestLemmas.{accepts-Accepts}
+use Rattle.serve_words.specs.Words.{HasCount, HasText, SpellsCount, serve_app, value_of}
+use Rattle.serve_words.proofs.Options.{Which, connections, listen, name, shelf, store}
+use Rattle.serve_words.proofs.Entries.{row}
+use Rattle.serve_words.proofs.Numbers.{spelled}
+use Rattle.serve_words.proofs.Taken.{taken}
+
+pub none_is_none : {X : Type 0} (x : X) → None ≡ Some x → ⊥
+none_is_none x e = cc
+
+pub same_some : {X : Type 0} (x y : X) → Some x ≡ Some y → x ≡ y
+same_some x y e = cc
+
+-- a number of the range has no minus
+no_minus : (t : Text) → accepts false (vp.Signed (pos 1) (pos 1_000_000)) t ≡ true → starts_with_minus t ≡ false
+no_minus t takes = go (starts_with_minus t) refl
+  where
+    go : (b : Bool) → starts_with_minus t ≡ b → b ≡ false
+    go false minus = refl
+    go true minus =
+        let passed = accepts-Accepts false (vp.Signed (pos 1) (pos 1_000_000)) t takes in
+        let low = rw minus at passed.2 in
+        absurd (omega (arith, ints))
+
+read_whole : (t : Text) → starts_with_minus t ≡ false → without_minus t ≡ t
+read_whole [] minus = refl
+read_whole (x ∷ xs) minus = ap (λ (b : Bool). unwrap_or (if b then Some xs else None) (x ∷ xs)) minus
+
+module _ (words : List Text) (rows : List Row) (same : rows ≡ matches_of serve_app words) (whole : fault_of serve_app words ≡ []) where
+  pub has_text : (o : Which) → HasText (name o) rows
+  has_text o =
+      let got = taken words whole o in
+      (got.0, ap (option_and_then (λ r. slice_get r.values 0)) (ap (find (λ r. bytes_eq r.id (name o))) same ∙ got.1))
+
+  pub has_count : (count : ℕ) × HasCount rows count
+  has_count =
+      let got = taken words whole connections in
+      let found = ap (find (λ r. bytes_eq r.id (name connections))) same ∙ got.1 in (
+        _,
+        (got.0, ap (option_and_then (λ r. slice_get r.values 0)) found,
+        ap (option_and_then row_text) found ∙ ap Some (read_whole got.0 (no_minus got.0 got.2)), spelled got.0 got.2),
+      )
+
+pub value_is : (id : Text) (words : List Text) (rows : List Row) (v : Text) → rows ≡ matches_of serve_app words → first_of id rows ≡ Some v
+    → value_of id words ≡ Some v
+unfolding value_of
+value_is id words rows v same is = ap (first_of id) (sym same) ∙ is
+
+-- `u32` reads the number that the text spells
+pub reads_count : (E : Type 0) (G : Text → Result ℕ E → Type 0) (t : Text) (r : Option ℕ) (count : ℕ) → ReadsOne G t r
+    → ((u : Text) (x : Result ℕ E) → G u x → ParsesUnsigned 32 10 u x) → SpellsCount t count → r ≡ Some count
+reads_count E G t (Some v) count read only spells = ap Some ((only t (Ok v) read).1 ∙ spells.value)
+reads_count E G t None count read only spells =
+    absurd (only t (Err read.0) read.1 (spells.numeral, omega (arith, spells.value, spells.most)))

@@ -1,0 +1,17 @@
+//! The command line of the pull server.
+//!
+//! The words are four options in any order, each once and with a value: the file of the store, the folder of the shelf, the
+//! address to listen at, and how many connections to serve. The command line is read with `clap`; a layer above may rely on it
+//! that the values are those of the words, and that words are refused exactly where the command of `clap` refuses them, which
+//! the laws say of whole lists of words.
+#![tactic(auto)]
+
+mod command;
+mod laws;
+mod values;
+mod words;
+
+pub use laws::{
+    a_number_out_of_range_is_refused, eight_words_are_taken, words_that_lack_an_option_are_refused,
+};
+pub use words::{ServeWords, WordsError, serve_words};

@@ -1,0 +1,5 @@
+//! The tests of `serve_words`.
+#![tactic(auto)]
+
+#[cfg(test)]
+mod tests;
