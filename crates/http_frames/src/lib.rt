@@ -28,4 +28,4 @@ pub use headers::{count_named, first_named};
 pub use laws::{answers_stay, one_answer};
 pub use message::{Header, Reply, Request};
 pub use reader::RequestReader;
-pub use writing::{write_answer, write_request};
+pub use writing::{write_answer, write_answer_head, write_request};

@@ -4,9 +4,9 @@ ghost use Rattle.std.specs.Fmt.{decimal};
 ghost use Rattle.http_frames.specs.Writing.{answer_text};
 ghost use Rattle.pull_exchange.specs.Exchange.{IsReadCause, IsReceived, IsRefusal, IsSent, IsSized, refusal_of, refusing, told_by};
 
-use crate::streams::write_all;
+use crate::streams::{write_all, write_both};
 use dsc_outside::{Failed, Sink, Source};
-use http_frames::{FrameError, Reply, Request, RequestReader, write_answer};
+use http_frames::{FrameError, Reply, Request, RequestReader, write_answer, write_answer_head};
 use mof_values::{Bytes, Items, Memory};
 use std::alloc::Global;
 
@@ -113,8 +113,28 @@ fn bad_chunk(alloc: Global, at: u64) -> Result<Reply, Memory>
     refusing(alloc, 400, text.as_bytes())
 }
 
-/// Writes a reply.
+/// Writes a reply. A body of more than 64 KiB is written from where it lies, after the head.
 pub fn send_reply<X: Sink>(alloc: Global, conn: &mut X, reply: &Reply) -> SendEnd
+    ensures sent { IsSent (X.held conn.old) (X.held conn.new) (answer_text reply.now) (X.faults conn.old) (X.faults conn.new) result }
+    ensures left { X.left conn.new ≡ X.left conn.old }
+    ensures count { X.faults conn.old ≤ X.faults conn.new }
+{
+    if reply.body.as_slice().len() <= LONGEST_COPY {
+        return send_copy(alloc, conn, reply);
+    }
+    let Ok(head) = write_answer_head(alloc, reply) else {
+        return SendEnd::Memory;
+    };
+    match write_both(conn, &head, reply.body.as_slice()) {
+        Ok(()) => SendEnd::Sent,
+        Err(Failed) => SendEnd::WriteFault,
+    }
+}
+
+// The bytes of a body that is copied behind its head, so that both are one piece.
+const LONGEST_COPY: usize = 65_536;
+
+fn send_copy<X: Sink>(alloc: Global, conn: &mut X, reply: &Reply) -> SendEnd
     ensures sent { IsSent (X.held conn.old) (X.held conn.new) (answer_text reply.now) (X.faults conn.old) (X.faults conn.new) result }
     ensures left { X.left conn.new ≡ X.left conn.old }
     ensures count { X.faults conn.old ≤ X.faults conn.new }

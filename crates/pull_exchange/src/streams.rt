@@ -1,5 +1,5 @@
 //! Whole outputs.
-ghost use Rattle.std.specs.Prelude.{◌≡◌, OnOk, OnErr};
+ghost use Rattle.std.specs.Prelude.{◌≡◌, ◌++◌, OnOk, OnErr};
 ghost use Rattle.std.specs.Io.KnownBytes.{Appends};
 ghost use Rattle.dsc_outside.specs.Causes.{HasCause};
 ghost use Rattle.pull_exchange.specs.Exchange.{AppendsPart};
@@ -19,4 +19,15 @@ pub fn write_all<K: Sink>(sink: &mut K, bytes: &[u8]) -> Result<(), Failed>
         rest = &rest[count..];
     }
     Ok(())
+}
+
+/// Writes the first piece and then the second, or where the sink fails a part from the front of both.
+pub fn write_both<K: Sink>(sink: &mut K, first: &[u8], second: &[u8]) -> Result<(), Failed>
+    ensures ok { OnOk result (Appends (K.held sink.old) (K.held sink.new) (first.now ++ second.now)) }
+    ensures err { OnErr result (AppendsPart (K.held sink.old) (K.held sink.new) (first.now ++ second.now)) }
+    ensures left { K.left sink.new ≡ K.left sink.old }
+    ensures cause { HasCause (K.faults sink.old) (K.faults sink.new) result }
+{
+    write_all(sink, first)?;
+    write_all(sink, second)
 }
