@@ -1,5 +1,5 @@
 #!/usr/bin/env python3
-"""Makes a shelf with a content of 2 KB and one of 16 MB, and a store of 512 agents with four reports of 1 KB each: make_data.py FOLDER"""
+"""Makes a shelf with a content of 2 KB and one of 16 MB, and a store of 512 agents with four reports of 16 KB each: make_data.py FOLDER"""
 import os
 import sys
 
@@ -25,7 +25,7 @@ def registration(agent):
 
 
 def report(agent, job):
-    body = '{"JobId":"00000000-0000-0000-%04x-%012x","Status":"Success","Errors":["%s"]}' % (agent, job, "x" * 930)
+    body = '{"JobId":"00000000-0000-0000-%04x-%012x","Status":"Success","Errors":["%s"]}' % (agent, job, "x" * 16300)
     job = (agent << 48) + job
     return b"\2" + agent.to_bytes(16, "big") + job.to_bytes(16, "big") + body.encode()
 

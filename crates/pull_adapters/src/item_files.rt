@@ -67,6 +67,7 @@ fn append_unchanged<R: Files>(
         Err(e) if e.kind() == ErrorKind::NotFound => return Ok(false),
         Err(_) => return Err(ShelfError::Failed),
     };
+    into.reserve_exact(found.len() as usize)?;
     append_rest(&mut file, into)?;
     match file.metadata() {
         Ok(read) => Ok(is_unchanged(found, &read)),
