@@ -1,3 +1,4 @@
+pub mod Alone
 pub mod Judged
 pub mod Keys
 pub mod Own

@@ -1,12 +1,11 @@
 -- The laws of the table.
-use Rattle.std.proofs.Common.{◌≡◌, ◌⊎◌, inl, inr, ◌==◌, ◌||◌, ◌&&◌, not, ℕ, nat_le, Bool, true, false, is_none, if◌then◌else◌, List, [], ◌∷◌, ◌++◌, Option, Some, None, refl, sym, ◌∙◌, ap, subst}
-use Rattle.std.specs.List.{AllByRecursion}
+use Rattle.std.proofs.Common.{◌≡◌, ◌⊎◌, inl, inr, ◌&&◌, ℕ, nat_le, Bool, true, false, is_none, List, [], ◌∷◌, Option, Some, None, refl, sym, ◌∙◌, ap}
 use Rattle.std.proofs.lemmas.Bool.{false≢true}
 use Rattle.std.proofs.lemmas.Option.{same_Some}
 use Rattle.pull_store.specs.Rows.{most_rows}
 use Rattle.pull_server.specs.Answers.{reply_of}
 use Rattle.pull_server.specs.Asked.{Asked, on}
-use Rattle.pull_server.specs.Own.{IsFirst, is_shared, own_outcome, own_table}
+use Rattle.pull_server.specs.Own.{IsFirst, is_shared, own_outcome}
 use Rattle.pull_server.specs.Table.{Outcome, Rule, bad_message, bad_target, first, is_node, no_name, no_place, no_room, no_row, not_signed, not_there, or_else, outcome_of, says, spent, table, target, unknown_method, where_, wrong_method, wrong_version}
 
 chosen : (x y : Option Outcome) (o : Outcome) → or_else x y ≡ Some o → (x ≡ Some o) ⊎ ((x ≡ None) × (y ≡ Some o))

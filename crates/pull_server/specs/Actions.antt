@@ -1,5 +1,5 @@
 -- What agents are told to do.
-use Rattle.std.specs.Prelude.{ℕ, Bool, true, false, not, ◌==◌, if◌then◌else◌, List, [], ◌∷◌, map, length, codes, bytes_eq, encode_utf8_all, Option, Some, None}
+use Rattle.std.specs.Prelude.{ℕ, Bool, true, false, ◌==◌, if◌then◌else◌, List, [], ◌∷◌, map, length, codes, bytes_eq, encode_utf8_all, Option, Some, None}
 use Rattle.std.specs.List.{list_any}
 use Rattle.sha2.specs.Sha256.{sha256}
 use Rattle.shared_key.specs.Checksum.{spelled_digest}

@@ -1,5 +1,5 @@
 -- What a request asks for, and all that its answer depends on.
-use Rattle.std.specs.Prelude.{◌≡◌, ℕ, Bool, true, false, ◌&&◌, nat_lt, List, [], length, codes, option_map, Option, Some, None, Result, Ok, Err}
+use Rattle.std.specs.Prelude.{◌≡◌, ℕ, Bool, false, ◌&&◌, nat_lt, List, length, codes, option_map, Option, Some, None, Result, Ok, Err}
 use Rattle.std.specs.Result.{result_ok}
 use Rattle.gate_log.specs.Text.{need_of}
 use Rattle.gate_log.specs.Log.{room_in}

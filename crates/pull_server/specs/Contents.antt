@@ -1,5 +1,5 @@
 -- The contents that an agent may have.
-use Rattle.std.specs.Prelude.{ℕ, Bool, if◌then◌else◌, List, bytes_eq, encode_utf8_all, Option, Some, None}
+use Rattle.std.specs.Prelude.{ℕ, Bool, if◌then◌else◌, List, bytes_eq, encode_utf8_all, Option, None}
 use Rattle.std.specs.List.{list_any}
 use Rattle.pull_outside.specs.Shelf.{Contents, configuration_of}
 

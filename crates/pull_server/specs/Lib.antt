@@ -1,4 +1,5 @@
 pub mod Actions
+pub mod Alone
 pub mod Answers
 pub mod Asked
 pub mod Contents

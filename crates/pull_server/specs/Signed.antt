@@ -1,5 +1,5 @@
 -- Signatures of registrations.
-use Rattle.std.specs.Prelude.{ℕ, Bool, true, false, if◌then◌else◌, ◌==◌, List, length, take, drop, bytes_eq, codes, find, option_map, Option, Some, None, is_some}
+use Rattle.std.specs.Prelude.{ℕ, Bool, false, if◌then◌else◌, ◌==◌, List, length, take, drop, bytes_eq, codes, find, option_map, Option, Some, None, is_some}
 use Rattle.http_frames.specs.declared.message.Header.{Header}
 use Rattle.http_frames.specs.declared.message.Request.{Request}
 use Rattle.http_frames.specs.Headers.{count_named, is_named}

@@ -1,4 +1,5 @@
 //! What the answer table means.
+ghost use Rattle.pull_server.specs.Alone.{AgentsAreAlone};
 ghost use Rattle.pull_server.specs.Own.{FirstDecides, RepliesAreOwn};
 
 /// The outcome is that of the first row that applies.
@@ -9,4 +10,9 @@ pub fn the_first_row_decides()
 /// A reply that is not 500, 503 or 507 depends on the request, the agent's own row and the shelf alone.
 pub fn replies_are_of_own_rows()
     ensures { RepliesAreOwn }
+{}
+
+/// Where no reply is 500, 503 or 507, an agent is answered as if no other agent had asked.
+pub fn agents_are_alone()
+    ensures { AgentsAreAlone }
 {}

@@ -17,4 +17,4 @@ mod signatures;
 mod verdict;
 
 pub use answers::answer;
-pub use laws::{replies_are_of_own_rows, the_first_row_decides};
+pub use laws::{agents_are_alone, replies_are_of_own_rows, the_first_row_decides};
