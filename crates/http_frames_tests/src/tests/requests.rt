@@ -399,43 +399,67 @@ fn wrong_chunks_are_refused_at_their_place(rt: HostRuntime) -> Result<(), Fail> 
     Ok(())
 }
 
+// How many header lines a head has, and its end: whole, begun, and wrong.
+fn whole_lines() -> &'static [(usize, &'static [u8])] {
+    &[(63, b"\r\n"), (64, b"\r\n")]
+}
+
+fn begun_lines() -> &'static [(usize, &'static [u8])] {
+    &[(63, b"x"), (64, b""), (64, b"\r")]
+}
+
+fn wrong_lines() -> &'static [(usize, &'static [u8])] {
+    &[(64, b"x"), (65, b"\r\n"), (66, b"\r\n")]
+}
+
 #[test]
 fn a_head_has_64_header_lines_at_most(rt: HostRuntime) -> Result<(), Fail> {
-    let alloc = rt.alloc();
-    reads(&rt, alloc, &lines(alloc, 63, b"\r\n")?, b"");
-    reads(&rt, alloc, &lines(alloc, 64, b"\r\n")?, b"");
-    awaits(&rt, alloc, &lines(alloc, 63, b"x")?);
-    awaits(&rt, alloc, &lines(alloc, 64, b"")?);
-    awaits(&rt, alloc, &lines(alloc, 64, b"\r")?);
-    refuses(&rt, alloc, &lines(alloc, 64, b"x")?, FrameError::Head);
-    refuses(&rt, alloc, &lines(alloc, 65, b"\r\n")?, FrameError::Head);
-    refuses(&rt, alloc, &lines(alloc, 66, b"\r\n")?, FrameError::Head);
+    for (count, end) in whole_lines() {
+        reads(&rt, rt.alloc(), &lines(rt.alloc(), *count, end)?, b"");
+    }
+    for (count, end) in begun_lines() {
+        awaits(&rt, rt.alloc(), &lines(rt.alloc(), *count, end)?);
+    }
+    for (count, end) in wrong_lines() {
+        refuses(
+            &rt,
+            rt.alloc(),
+            &lines(rt.alloc(), *count, end)?,
+            FrameError::Head,
+        );
+    }
     Ok(())
+}
+
+// To how many bytes a head is filled, its end, where it is split, and why it is refused.
+fn long_heads() -> &'static [(usize, &'static [u8], usize, FrameError)] {
+    &[
+        (16_384, b"", 16_383, FrameError::HeadTooLong),
+        (16_381, b"\r\n\r\n", 16_383, FrameError::HeadTooLong),
+        (16_383, b"\x00", 16_383, FrameError::Head),
+    ]
 }
 
 #[test]
 fn a_head_has_16384_bytes_at_most(rt: HostRuntime) -> Result<(), Fail> {
-    let alloc = rt.alloc();
-    assert!(rt; waits(&filled_head(alloc, 16_383, b"", 16_000)?));
-    assert!(rt;
-        fails(
-            &filled_head(alloc, 16_384, b"", 16_383)?,
-            FrameError::HeadTooLong
-        )
-    );
-    assert!(rt; gives(&filled_head(alloc, 16_380, b"\r\n\r\n", 16_383)?, b""));
-    assert!(rt;
-        fails(
-            &filled_head(alloc, 16_381, b"\r\n\r\n", 16_383)?,
-            FrameError::HeadTooLong
-        )
-    );
-    assert!(rt;
-        fails(
-            &filled_head(alloc, 16_383, b"\x00", 16_383)?,
-            FrameError::Head
-        )
-    );
+    for (length, end, at, error) in long_heads() {
+        let read = filled_head(rt.alloc(), *length, end, *at)?;
+        assert!(rt; fails(&read, *error));
+    }
+    Ok(())
+}
+
+#[test]
+fn a_head_of_16383_bytes_is_waited_for(rt: HostRuntime) -> Result<(), Fail> {
+    let read = filled_head(rt.alloc(), 16_383, b"", 16_000)?;
+    assert!(rt; waits(&read));
+    Ok(())
+}
+
+#[test]
+fn a_head_of_16384_bytes_is_read(rt: HostRuntime) -> Result<(), Fail> {
+    let read = filled_head(rt.alloc(), 16_380, b"\r\n\r\n", 16_383)?;
+    assert!(rt; gives(&read, b""));
     Ok(())
 }
 
