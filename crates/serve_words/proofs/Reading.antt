@@ -1,5 +1,5 @@
 -- The values in what a parse found.
-use Rattle.std.proofs.Common.{◌≡◌, ◌∙◌, ◌<◌, ◌==◌, ℕ, Bool, true, false, List, [], ◌∷◌, refl, sym, ap, Option, Some, None, codes, arith, bytes_eq, if◌then◌else◌, ◌^◌}
+use Rattle.std.proofs.Common.{◌≡◌, ◌∙◌, ℕ, Bool, true, false, List, [], ◌∷◌, refl, sym, ap, Option, Some, None, arith, bytes_eq, if◌then◌else◌}
 use Rattle.std.specs.Prelude.{Err, Ok, Result, find, option_and_then, pos, slice_get, unwrap_or}
 use Rattle.std.specs.Str.Parse.{ParsesUnsigned, starts_with_minus}
 use Rattle.std.proofs.lemmas.Int.{ints}
@@ -12,8 +12,7 @@ use Rattle.clap.specs.Walk.{Row, Text, first_of, row_text}
 use Rattle.clap.specs.declared.builder.value_parser.ValueParser.TheVariants as vp
 use Rattle.clap.proofs.ValueTestLemmas.{accepts-Accepts}
 use Rattle.serve_words.specs.Words.{HasCount, HasText, SpellsCount, serve_app, value_of}
-use Rattle.serve_words.proofs.Options.{Which, connections, listen, name, shelf, store}
-use Rattle.serve_words.proofs.Entries.{row}
+use Rattle.serve_words.proofs.Options.{Which, connections, name}
 use Rattle.serve_words.proofs.Numbers.{spelled}
 use Rattle.serve_words.proofs.Taken.{taken}
 
@@ -49,8 +48,12 @@ module _ (words : List Text) (rows : List Row) (same : rows ≡ matches_of serve
       let got = taken words whole connections in
       let found = ap (find (λ r. bytes_eq r.id (name connections))) same ∙ got.1 in (
         _,
-        (got.0, ap (option_and_then (λ r. slice_get r.values 0)) found,
-        ap (option_and_then row_text) found ∙ ap Some (read_whole got.0 (no_minus got.0 got.2)), spelled got.0 got.2),
+        (
+          got.0,
+          ap (option_and_then (λ r. slice_get r.values 0)) found,
+          ap (option_and_then row_text) found ∙ ap Some (read_whole got.0 (no_minus got.0 got.2)),
+          spelled got.0 got.2,
+        ),
       )
 
 pub value_is : (id : Text) (words : List Text) (rows : List Row) (v : Text) → rows ≡ matches_of serve_app words → first_of id rows ≡ Some v
