@@ -19,6 +19,20 @@ impl Deadline {
         }
     }
 
+    /// Later by so long.
+    pub fn later(self, span: Duration) -> Deadline {
+        Deadline {
+            end: self.end.saturating_add(span),
+        }
+    }
+
+    /// The earlier of the two.
+    pub fn or_earlier(self, other: Deadline) -> Deadline {
+        Deadline {
+            end: self.end.min(other.end),
+        }
+    }
+
     /// What is left of it, which is not nothing; `Failed` where nothing is left.
     pub fn left<R: Clock>(self, clock: &R) -> Result<Duration, Failed> {
         let Ok(now) = clock.monotonic() else {

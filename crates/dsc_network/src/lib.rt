@@ -3,10 +3,15 @@
 //! `TcpLink` is the trait `Link` over a connection for each exchange. A layer above may rely on what the trait promises
 //! of every link: an answer is appended whole or not at all, has fewer than 67,108,864 bytes, and a failure shows in
 //! the count of faults. What a peer sends is told by no clause: this crate is an edge that is trusted and tested.
+//!
+//! `Line` is any open connection whose use ends in time, and `Deadline` says when: programs that take connections use
+//! them too.
 #![tactic(auto)]
 
 mod deadline;
 mod line;
 mod tcp_link;
 
+pub use deadline::Deadline;
+pub use line::Line;
 pub use tcp_link::{CONNECT_SECONDS, EXCHANGE_SECONDS, LinkLimits, TcpLink};

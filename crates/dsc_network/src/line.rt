@@ -6,21 +6,40 @@ ghost use Rattle.dsc_outside.specs.Link.{answer_limit};
 use crate::deadline::Deadline;
 use dsc_outside::{Failed, LinkError};
 use std::io::{ErrorKind, Read, Write};
-use std::net::{Net, OpenStream};
-use std::time::Clock;
+use std::net::{Net, OpenStream, Shutdown};
+use std::time::{Clock, Duration};
 
 // An answer has fewer bytes.
 const ANSWER_LIMIT: usize = 67_108_864;
 
-// An open connection, and until when it may be used.
+// How much is read at once.
+const BUFFER_SIZE: usize = 8192;
+
+/// An open connection, until when it may be used, and how long a single call may wait. A call that would wait longer is
+/// a failure.
 #[derive(Drop)]
-pub struct Line<'r, R: Net + Clock> {
-    pub rt: &'r R,
-    pub stream: R::Stream,
-    pub deadline: Deadline,
+pub struct Line<R: Net + Clock> {
+    rt: R,
+    stream: R::Stream,
+    deadline: Deadline,
+    patience: Duration,
 }
 
-impl<'r, R: Net + Clock> Line<'r, R> {
+impl<R: Net + Clock> Line<R> {
+    pub fn new(rt: R, stream: R::Stream, deadline: Deadline, patience: Duration) -> Line<R> {
+        Line {
+            rt,
+            stream,
+            deadline,
+            patience,
+        }
+    }
+
+    /// Lets it be used for so much longer.
+    pub fn prolong(&mut self, span: Duration) {
+        self.deadline = self.deadline.later(span);
+    }
+
     /// Sends all bytes.
     pub fn send(&mut self, bytes: &[u8]) -> Result<(), Failed> {
         let mut left = bytes;
@@ -39,7 +58,7 @@ impl<'r, R: Net + Clock> Line<'r, R> {
         ensures start { StartsWith into.new.items into.old.items }
         ensures limit { length into.new.items < length into.old.items + answer_limit }
     {
-        let mut buffer = [0; 8192];
+        let mut buffer = [0; BUFFER_SIZE];
         let mut room = ANSWER_LIMIT;
         for _ in 0..u64::MAX {
             let Ok(count) = self.read_some(&mut buffer) else {
@@ -57,8 +76,28 @@ impl<'r, R: Net + Clock> Line<'r, R> {
         Err(LinkError::Failed)
     }
 
-    // Reads once, and again where a signal came between. No call waits longer than is left.
-    fn read_some(&mut self, into: &mut [u8]) -> Result<usize, Failed>
+    /// Ends the writing side, and reads away what the peer still sends, until it ends its own side or for so long, but
+    /// no longer than the connection may be used. Were the stream closed with bytes unread, the system would reset the
+    /// connection, and the peer could lose what it has not read yet.
+    pub fn finish(&mut self, linger: Duration) {
+        if self.stream.shutdown(Shutdown::Write).is_err() {
+            return;
+        }
+        let Ok(end) = Deadline::after(&self.rt, linger) else {
+            return;
+        };
+        self.deadline = self.deadline.or_earlier(end);
+        let mut buffer = [0; BUFFER_SIZE];
+        for _ in 0..u64::MAX {
+            match self.read_some(&mut buffer) {
+                Ok(0) | Err(_) => return,
+                Ok(_) => {}
+            }
+        }
+    }
+
+    /// Reads once, and again where a signal came between.
+    pub fn read_some(&mut self, into: &mut [u8]) -> Result<usize, Failed>
         ensures bound { ReadsAtMost result into.new }
     {
         for _ in 0..u64::MAX {
@@ -72,17 +111,10 @@ impl<'r, R: Net + Clock> Line<'r, R> {
         Err(Failed)
     }
 
-    fn limit_read(&self) -> Result<(), Failed> {
-        let left = self.deadline.left(self.rt)?;
-        match self.stream.set_read_timeout(Some(left)) {
-            Ok(()) => Ok(()),
-            Err(_) => Err(Failed),
-        }
-    }
-
-    // Writes once, and again where a signal came between. To take nothing of a piece is a failure.
-    fn write_some(&mut self, piece: &[u8]) -> Result<usize, Failed>
+    /// Writes once, and again where a signal came between. To take nothing of a piece is a failure.
+    pub fn write_some(&mut self, piece: &[u8]) -> Result<usize, Failed>
         ensures bound { WritesAtMost result piece.now }
+        ensures progress { 0 < length piece.now → IfOk result (λ n. 0 < n) }
     {
         for _ in 0..u64::MAX {
             self.limit_write()?;
@@ -96,11 +128,23 @@ impl<'r, R: Net + Clock> Line<'r, R> {
         Err(Failed)
     }
 
-    fn limit_write(&self) -> Result<(), Failed> {
-        let left = self.deadline.left(self.rt)?;
-        match self.stream.set_write_timeout(Some(left)) {
+    fn limit_read(&self) -> Result<(), Failed> {
+        match self.stream.set_read_timeout(Some(self.longest_wait()?)) {
             Ok(()) => Ok(()),
             Err(_) => Err(Failed),
         }
+    }
+
+    fn limit_write(&self) -> Result<(), Failed> {
+        match self.stream.set_write_timeout(Some(self.longest_wait()?)) {
+            Ok(()) => Ok(()),
+            Err(_) => Err(Failed),
+        }
+    }
+
+    // How long the next call may wait, which is not nothing unless the patience is.
+    fn longest_wait(&self) -> Result<Duration, Failed> {
+        let left = self.deadline.left(&self.rt)?;
+        Ok(left.min(self.patience))
     }
 }

@@ -122,7 +122,7 @@ fn connect<'r, R: Net + Clock>(
     limits: LinkLimits,
     host: &str,
     port: u16,
-) -> Result<Line<'r, R>, Failed> {
+) -> Result<Line<&'r R>, Failed> {
     let deadline = Deadline::after(rt, limits.exchange)?;
     let Ok(addresses) = (host, port).to_socket_addrs(rt) else {
         return Err(Failed);
@@ -131,11 +131,7 @@ fn connect<'r, R: Net + Clock>(
         let left = deadline.left(rt)?;
         let longest = left.min(limits.connect);
         if let Ok(stream) = TcpStream::connect_timeout(rt, &address, longest) {
-            return Ok(Line {
-                rt,
-                stream,
-                deadline,
-            });
+            return Ok(Line::new(rt, stream, deadline, limits.exchange));
         }
     }
     Err(Failed)

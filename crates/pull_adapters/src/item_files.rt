@@ -1,0 +1,105 @@
+//! Files that are items of a shelf.
+ghost use Rattle.std.specs.Prelude.{◌≡◌, ◌+◌, ◌≤◌, length};
+ghost use Rattle.std.specs.Io.{StartsWith};
+ghost use Rattle.pull_outside.specs.Shelf.{Leaves};
+ghost use Rattle.pull_outside.specs.declared.shelf.TheConstants.{LONGEST_ITEM};
+
+use pull_outside::{LONGEST_ITEM, ShelfError};
+use std::fs;
+use std::fs::{Metadata, OpenFile};
+use std::io::{ErrorKind, Read};
+use std::os::unix::fs::MetadataExt;
+use std::rt::Files;
+
+// How much is read at once.
+const BUFFER_SIZE: usize = 16_384;
+
+// How often a file is read that is changed meanwhile.
+const MOST_TRIES: usize = 8;
+
+/// Appends the bytes of the plain file at the place, and answers whether it is there. A link, a folder, or anything else in
+/// its place is a failure, and so is a file of more than 62,914,560 bytes.
+///
+/// The file is taken as it is at one moment, as far as its length and the time of its last change tell: where it was changed
+/// or another one took its place meanwhile, it is read again, and after eight such tries the call fails.
+pub fn append_item<R: Files>(rt: &R, place: &str, into: &mut Vec<u8>) -> Result<bool, ShelfError>
+    ensures { Leaves result into.old.items into.new.items }
+{
+    let kept = into.len();
+    for _ in 0..MOST_TRIES {
+        let Some(found) = plain_file(rt, place)? else {
+            return Ok(false);
+        };
+        match append_unchanged(rt, place, &found, into) {
+            Ok(true) => return Ok(true),
+            Ok(false) => into.truncate(kept),
+            Err(error) => {
+                into.truncate(kept);
+                return Err(error);
+            }
+        }
+    }
+    Err(ShelfError::Failed)
+}
+
+// What is known of the plain file at the place. A pipe that is opened would wait for its writer: so it is looked at before.
+fn plain_file<R: Files>(rt: &R, place: &str) -> Result<Option<Metadata>, ShelfError> {
+    match fs::symlink_metadata(rt, place) {
+        Ok(found) if found.is_file() && found.len() <= LONGEST_ITEM as u64 => Ok(Some(found)),
+        Err(e) if matches!(e.kind(), ErrorKind::NotFound | ErrorKind::InvalidFilename) => Ok(None),
+        _ => Err(ShelfError::Failed),
+    }
+}
+
+// Appends the file, and answers whether it is the one that was found, unchanged. Where it is not, or it failed, a part may
+// stand there.
+fn append_unchanged<R: Files>(
+    rt: &R,
+    place: &str,
+    found: &Metadata,
+    into: &mut Vec<u8>,
+) -> Result<bool, ShelfError>
+    ensures start { StartsWith into.new.items into.old.items }
+    ensures limit { length into.new.items ≤ length into.old.items + LONGEST_ITEM }
+{
+    let mut file = match fs::open(rt, place) {
+        Ok(file) => file,
+        Err(e) if e.kind() == ErrorKind::NotFound => return Ok(false),
+        Err(_) => return Err(ShelfError::Failed),
+    };
+    into.reserve_exact(found.len() as usize)?;
+    append_rest(&mut file, into)?;
+    match file.metadata() {
+        Ok(read) => Ok(is_unchanged(found, &read)),
+        Err(_) => Err(ShelfError::Failed),
+    }
+}
+
+fn is_unchanged(before: &Metadata, after: &Metadata) -> bool {
+    before.dev() == after.dev()
+        && before.ino() == after.ino()
+        && before.len() == after.len()
+        && before.mtime() == after.mtime()
+        && before.mtime_nsec() == after.mtime_nsec()
+}
+
+// Appends all that the reader gives, up to its end. The bytes are counted, since a file may grow while it is read.
+fn append_rest<R: Read>(reader: &mut R, into: &mut Vec<u8>) -> Result<(), ShelfError>
+    ensures start { StartsWith into.new.items into.old.items }
+    ensures limit { length into.new.items ≤ length into.old.items + LONGEST_ITEM }
+{
+    let mut buffer = [0; BUFFER_SIZE];
+    let mut room = LONGEST_ITEM;
+    for _ in 0..u64::MAX {
+        match reader.read(&mut buffer) {
+            Ok(0) => return Ok(()),
+            Ok(count) if count <= room => {
+                into.extend_from_slice(&buffer[..count])?;
+                room -= count;
+            }
+            Err(e) if e.kind() == ErrorKind::Interrupted => {}
+            _ => return Err(ShelfError::Failed),
+        }
+    }
+    Err(ShelfError::Failed)
+}

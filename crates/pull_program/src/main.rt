@@ -1,0 +1,83 @@
+//! The pull server program, over the files and the network of this machine.
+//!
+//! `serve` serves connections; its contract says what each was answered and what was printed. `main` makes the real objects
+//! that the words name, hands them to `serve` with the same words, and ends with the number of its status.
+#![tactic(auto)]
+
+use dsc_outside::real::{FileDisk, OutSink};
+use mof_values::Memory;
+use pull_adapters::{FolderShelf, TcpDoor};
+use pull_serving::{ServeStatus, serve};
+use serve_words::{ServeWords, WordsError, serve_words};
+use std::alloc::{AllocError, Global};
+use std::env::{self, Env};
+use std::io::ErrorKind;
+use std::process::ExitCode;
+
+fn main(rt: HostRuntime) -> ExitCode {
+    let status = match arguments(&rt) {
+        Ok(arguments) => match arguments.as_slice() {
+            [_program, words @ ..] => run_server(&rt, words),
+            [] => run_server(&rt, &[]),
+        },
+        Err(AllocError) => ServeStatus::Memory,
+    };
+    ExitCode::from(status.number())
+}
+
+// The arguments, the program's name first, or none where one of them is not in UTF-8.
+fn arguments<R: AllocGlobal + Env>(rt: &R) -> Result<Vec<String>, AllocError> {
+    match env::args(rt) {
+        Ok(arguments) => Ok(arguments.collect(rt.alloc())?),
+        Err(e) if e.kind() == ErrorKind::OutOfMemory => Err(AllocError),
+        Err(_) => Ok(Vec::new(rt.alloc())),
+    }
+}
+
+// Makes the real objects, which touch nothing before their first call, and calls `serve`.
+fn run_server(rt: &HostRuntime, words: &[String]) -> ServeStatus {
+    let Ok(places) = places_of(rt.alloc(), words) else {
+        return ServeStatus::Memory;
+    };
+    let mut disk = FileDisk::new(rt, places.store);
+    let mut shelf = FolderShelf::new(rt, places.shelf);
+    let mut door = TcpDoor::new(rt, places.listen);
+    let mut output = OutSink::new(rt);
+    serve(
+        rt.alloc(),
+        words,
+        &mut door,
+        &mut shelf,
+        &mut disk,
+        &mut output,
+    )
+}
+
+// What the words name.
+#[derive(Drop)]
+struct Places {
+    store: String,
+    shelf: String,
+    listen: String,
+}
+
+// Where the words are refused, the places are empty, and `serve` touches none of them.
+fn places_of(alloc: Global, words: &[String]) -> Result<Places, Memory> {
+    match serve_words(alloc, words) {
+        Ok(values) => named(&values),
+        Err(WordsError::Usage) => Ok(Places {
+            store: String::new(alloc),
+            shelf: String::new(alloc),
+            listen: String::new(alloc),
+        }),
+        Err(WordsError::Memory) => Err(Memory),
+    }
+}
+
+fn named(values: &ServeWords) -> Result<Places, Memory> {
+    Ok(Places {
+        store: values.store.to_utf8()?,
+        shelf: values.shelf.to_utf8()?,
+        listen: values.listen.to_utf8()?,
+    })
+}
