@@ -1,5 +1,6 @@
 mod answers;
 mod faults;
+mod full_disk;
 mod running;
 mod sizes;
 mod steps;
