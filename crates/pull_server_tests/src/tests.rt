@@ -1,6 +1,5 @@
 mod answers;
 mod faults;
-mod full_disk;
 mod running;
 mod sizes;
 mod steps;

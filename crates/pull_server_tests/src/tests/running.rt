@@ -154,28 +154,19 @@ fn first_other_in<D: Disk, S: Shelf>(
     first_other_step(alloc, store, disk, shelf, steps)
 }
 
-/// The first of the steps in front, or else of the others, that the server of a disk over such a shelf answers otherwise.
-pub fn first_other_on<D: Disk>(
-    alloc: Global,
-    disk: &mut D,
-    shelved: Shelved<'_>,
-    front: &[Step],
-    steps: &[Step],
-) -> Result<Option<usize>, PullError> {
-    let mut shelf = shelf(alloc, shelved)?;
-    match open_pull(alloc, disk) {
-        Ok(mut store) => Ok(first_other_in(alloc, &mut store, disk, &mut shelf, front, steps)?),
-        Err(error) => Err(error),
-    }
-}
-
-/// The same of a new server.
+/// The first of the steps in front, or else of the others, that a new server over such a shelf answers otherwise.
 pub fn first_other_over(
     alloc: Global,
     shelved: Shelved<'_>,
     front: &[Step],
     steps: &[Step],
 ) -> Result<Option<usize>, PullError> {
+    let mut shelf = shelf(alloc, shelved)?;
     let mut disk = new_disk(alloc, &[])?;
-    first_other_on(alloc, &mut disk, shelved, front, steps)
+    match open_pull(alloc, &mut disk) {
+        Ok(mut store) => Ok(first_other_in(
+            alloc, &mut store, &mut disk, &mut shelf, front, steps,
+        )?),
+        Err(error) => Err(error),
+    }
 }

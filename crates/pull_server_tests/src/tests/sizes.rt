@@ -1,6 +1,5 @@
 //! That ample memory is enough for requests of each size, for as many agents as there may be, and for any keys.
-use super::full_disk::FullDisk;
-use super::running::{Shelved, first_other_on, first_other_over};
+use super::running::{Shelved, first_other_over};
 use super::steps::{Asked, Query, Said, Step, Wanted};
 use pull_store::PullError;
 use std::rt::HostRuntime;
@@ -475,30 +474,4 @@ fn a_server_has_512_agents(rt: HostRuntime) {
         first_other_over(rt.alloc(), shelved(&[0, 1, 63], &[]), &agents(), &among()),
         Ok(None)
     );
-}
-
-// The registrations that the agent 0x511 has no room for, beside those that it has room for.
-fn full() -> [Step; 8] {
-    let long = "y7kjAehqLUxqIYVFET+JbxhwcuA7DK8z1V+vYAQSz4Y=";
-    let short = "5KBfqCD3vDC1wFJQxFLpqxtEvNn3yBJNH2Bu5tV+F3M=";
-    [
-        of_agents(511, 1, said((65_535, 65_461), (0, 0), 507, long)),
-        of_agents(512, 1, said((65_535, 65_461), (0, 0), 503, long)),
-        of_agents(511, 1, said((0, 0), (0, 0), 204, short)),
-        of_agents(511, 1, said((65_535, 65_461), (0, 0), 507, long)),
-        of_agents(511, 1, report(0, 130_994)),
-        of_agents(10, 1, report(0, 130_994)),
-        of_agents(511, 1, said((65_535, 65_461), (0, 0), 507, long)),
-        of_agents(511, 1, said((0, 0), (0, 0), 204, short)),
-    ]
-}
-
-fn first_other_in_full(rt: &HostRuntime) -> Result<Option<usize>, PullError> {
-    let mut disk = FullDisk::new(rt.alloc())?;
-    first_other_on(rt.alloc(), &mut disk, shelved(&[], &[]), &[], &full())
-}
-
-#[test]
-fn a_full_bank_is_answered_507(rt: HostRuntime) {
-    assert_eq!(rt; first_other_in_full(&rt), Ok(None));
 }
