@@ -85,13 +85,12 @@ pub fn first_other_of(
     failing: &[u64],
     exchanges: &[(&str, &str, u16, &str)],
 ) -> Result<Option<usize>, PullError> {
-    let mut disk = new_disk(alloc, &[])?;
     let mut shelf = new_shelf(alloc, failing)?;
-    let mut store = match open_pull(alloc, &mut disk) {
-        Ok(store) => store,
-        Err(error) => return Err(error),
-    };
-    Ok(first_other(alloc, &mut store, &mut disk, &mut shelf, exchanges))
+    let mut disk = new_disk(alloc, &[])?;
+    match open_pull(alloc, &mut disk) {
+        Ok(mut store) => Ok(first_other(alloc, &mut store, &mut disk, &mut shelf, exchanges)),
+        Err(error) => Err(error),
+    }
 }
 
 /// The codes of the answers of a new server to requests of these heads and bodies, where the call of that number of the disk fails.
@@ -101,15 +100,24 @@ pub fn codes_after(
     requests: &[(&str, &str)],
 ) -> Result<String, AllocError> {
     let mut line = String::new(alloc);
+    put_codes_after(&mut line, failing, requests)?;
+    Ok(line)
+}
+
+fn put_codes_after(
+    line: &mut String,
+    failing: u64,
+    requests: &[(&str, &str)],
+) -> Result<(), AllocError> {
+    let alloc = *line.allocator();
+    let mut shelf = new_shelf(alloc, &[])?;
     let Ok(mut disk) = new_disk(alloc, &[failing]) else {
         return Err(AllocError);
     };
-    let mut shelf = new_shelf(alloc, &[])?;
     match open_pull(alloc, &mut disk) {
-        Ok(mut store) => put_codes(&mut line, &mut store, &mut disk, &mut shelf, requests)?,
-        Err(_) => line.push_str("unopened")?,
+        Ok(mut store) => put_codes(line, &mut store, &mut disk, &mut shelf, requests),
+        Err(_) => line.push_str("unopened"),
     }
-    Ok(line)
 }
 
 fn put_codes<D: Disk, S: Shelf>(

@@ -11,7 +11,7 @@ use std::alloc::{AllocError, Global};
 
 /// What stands on a shelf: configurations and packages of these sizes, of which the first has a name of one byte and each further
 /// one of a byte more; and so many keys, of which that of this place is k0.
-#[derive(Clone, Copy, Debug)]
+#[derive(Clone, Copy)]
 pub struct Shelved<'a> {
     pub configurations: &'a [usize],
     pub packages: &'a [usize],
@@ -30,12 +30,15 @@ fn configuration(alloc: Global, name: usize, size: usize) -> Result<Configuratio
     })
 }
 
-fn configurations(alloc: Global, sizes: &[usize]) -> Result<Vec<Configuration>, AllocError> {
-    let mut items = Vec::new(alloc);
+fn put_configurations(
+    items: &mut Vec<Configuration>,
+    alloc: Global,
+    sizes: &[usize],
+) -> Result<(), AllocError> {
     for (place, size) in sizes.iter().enumerate() {
         items.push(configuration(alloc, place.saturating_add(1), *size)?)?;
     }
-    Ok(items)
+    Ok(())
 }
 
 fn package(alloc: Global, name: usize, size: usize) -> Result<Package, AllocError> {
@@ -47,35 +50,62 @@ fn package(alloc: Global, name: usize, size: usize) -> Result<Package, AllocErro
     })
 }
 
-fn packages(alloc: Global, sizes: &[usize]) -> Result<Vec<Package>, AllocError> {
-    let mut items = Vec::new(alloc);
+fn put_packages(
+    items: &mut Vec<Package>,
+    alloc: Global,
+    sizes: &[usize],
+) -> Result<(), AllocError> {
     for (place, size) in sizes.iter().enumerate() {
         items.push(package(alloc, place.saturating_add(1), *size)?)?;
     }
-    Ok(items)
+    Ok(())
 }
 
 // So many keys, of which that of this place is k0.
-fn keys(alloc: Global, count: usize, place: usize) -> Result<Vec<Bytes>, AllocError> {
-    let mut keys = Vec::new(alloc);
+fn put_keys(
+    keys: &mut Vec<Bytes>,
+    alloc: Global,
+    count: usize,
+    place: usize,
+) -> Result<(), AllocError> {
     for number in 0..count {
-        let key = if number == place {
-            b"k0".to_vec(alloc)?
-        } else {
-            b"other".to_vec(alloc)?
-        };
-        keys.push(Bytes::of(key))?;
+        let key = if number == place { b'k' } else { b'o' };
+        let mut bytes = vec![in alloc; key; 1]?;
+        bytes.push(b'0')?;
+        keys.push(Bytes::of(bytes))?;
     }
-    Ok(keys)
+    Ok(())
 }
 
 fn shelf(alloc: Global, shelved: Shelved<'_>) -> Result<MemoryShelf, AllocError> {
+    let mut configurations = Vec::new(alloc);
+    let mut packages = Vec::new(alloc);
+    let mut keys = Vec::new(alloc);
+    put_all(
+        alloc,
+        shelved,
+        &mut configurations,
+        &mut packages,
+        &mut keys,
+    )?;
     let contents = ShelfContents {
-        configurations: Items::of(configurations(alloc, shelved.configurations)?),
-        packages: Items::of(packages(alloc, shelved.packages)?),
-        keys: Items::of(keys(alloc, shelved.keys, shelved.place)?),
+        configurations: Items::of(configurations),
+        packages: Items::of(packages),
+        keys: Items::of(keys),
     };
     Ok(MemoryShelf::new(contents, Vec::new(alloc)))
+}
+
+fn put_all(
+    alloc: Global,
+    shelved: Shelved<'_>,
+    configurations: &mut Vec<Configuration>,
+    packages: &mut Vec<Package>,
+    keys: &mut Vec<Bytes>,
+) -> Result<(), AllocError> {
+    put_configurations(configurations, alloc, shelved.configurations)?;
+    put_packages(packages, alloc, shelved.packages)?;
+    put_keys(keys, alloc, shelved.keys, shelved.place)
 }
 
 // Whether an agent is answered so.

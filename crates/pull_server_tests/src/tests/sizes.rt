@@ -1,8 +1,9 @@
 //! That ample memory is enough for requests of each size, for as many agents as there may be, and for any keys.
 use super::running::{Shelved, first_other_over};
 use super::steps::{Asked, Query, Said, Step, Wanted};
-use pull_store::PullError;
+use std::alloc::Global;
 use std::rt::HostRuntime;
+use std::test::Fail;
 
 // A request of the agent 1, of whose answer the code is wanted.
 fn coded(asked: Asked, code: u16) -> Step {
@@ -244,7 +245,7 @@ fn contents() -> [Step; 9] {
     ]
 }
 
-fn packages() -> [Step; 9] {
+fn packages() -> [Step; 8] {
     [
         item(
             Asked::Package(1),
@@ -286,11 +287,6 @@ fn packages() -> [Step; 9] {
             1_048_576,
             "C5A3E27D1ED0F894843BCA3A5473C4BF0F76A19B6830A2E491292591613A12BF",
         ),
-        item(
-            Asked::Package(9),
-            16_777_216,
-            "194FFE2B26412215E7EAD5495702963823951FC17B18B58199A356C32F44F3AC",
-        ),
     ]
 }
 
@@ -304,45 +300,51 @@ fn shelved<'a>(configurations: &'a [usize], packages: &'a [usize]) -> Shelved<'a
     }
 }
 
-// The bytes of the contents whose names have one to nine bytes.
-const SIZES: &[usize] = &[0, 1, 63, 64, 65, 4_096, 65_537, 1_048_576, 16_777_216];
+// The bytes of the contents whose names have one to nine bytes, and of the packages of the modules whose names have one to eight.
+const SIZES: [usize; 9] = [0, 1, 63, 64, 65, 4_096, 65_537, 1_048_576, 16_777_216];
 
-// The first of the steps that is answered otherwise, once the agent 1 has its nine names.
-fn first_other(
-    rt: &HostRuntime,
-    shelved: Shelved<'_>,
-    steps: &[Step],
-) -> Result<Option<usize>, PullError> {
-    first_other_over(rt.alloc(), shelved, &registrations(), steps)
+// Expects of a new server over such a shelf what the steps in front say, and then what the others say.
+fn expect(alloc: Global, shelved: Shelved<'_>, front: &[Step], steps: &[Step]) -> Result<(), Fail> {
+    match first_other_over(alloc, shelved, front, steps) {
+        Ok(None) => Ok(()),
+        Ok(Some(place)) => Err(Fail::new(format_args!("step {place} is answered otherwise"))),
+        Err(error) => Err(Fail::new(format_args!("{error}"))),
+    }
 }
 
 #[test]
-fn reports_of_each_size_are_kept(rt: HostRuntime) {
-    assert_eq!(rt; first_other(&rt, shelved(&[], &[]), &reports()), Ok(None));
+fn reports_of_each_size_are_kept(rt: HostRuntime) -> Result<(), Fail> {
+    expect(rt.alloc(), shelved(&[], &[]), &registrations(), &reports())
 }
 
 #[test]
-fn queries_of_each_size_are_answered(rt: HostRuntime) {
-    assert_eq!(rt;
-        first_other(&rt, shelved(&[7; 9], &[]), &queries()),
-        Ok(None)
-    );
+fn queries_of_each_size_are_answered(rt: HostRuntime) -> Result<(), Fail> {
+    expect(
+        rt.alloc(),
+        shelved(&[7; 9], &[]),
+        &registrations(),
+        &queries(),
+    )
 }
 
 #[test]
-fn contents_of_each_size_are_handed_out(rt: HostRuntime) {
-    assert_eq!(rt;
-        first_other(&rt, shelved(SIZES, &[]), &contents()),
-        Ok(None)
-    );
+fn contents_of_each_size_are_handed_out(rt: HostRuntime) -> Result<(), Fail> {
+    expect(
+        rt.alloc(),
+        shelved(&SIZES, &[]),
+        &registrations(),
+        &contents(),
+    )
 }
 
 #[test]
-fn packages_of_each_size_are_handed_out(rt: HostRuntime) {
-    assert_eq!(rt;
-        first_other(&rt, shelved(&[], SIZES), &packages()),
-        Ok(None)
-    );
+fn packages_of_each_size_are_handed_out(rt: HostRuntime) -> Result<(), Fail> {
+    expect(
+        rt.alloc(),
+        shelved(&[], &SIZES[..8]),
+        &registrations(),
+        &packages(),
+    )
 }
 
 // How many keys the shelf has, the place of the right one, and what a registration is answered.
@@ -371,7 +373,7 @@ fn with_keys(keys: usize, place: usize) -> Shelved<'static> {
 }
 
 #[test]
-fn the_first_64_keys_count(rt: HostRuntime) {
+fn the_first_64_keys_count(rt: HostRuntime) -> Result<(), Fail> {
     for (count, place, code) in keys() {
         let step = said(
             (0, 0),
@@ -379,12 +381,9 @@ fn the_first_64_keys_count(rt: HostRuntime) {
             *code,
             "5KBfqCD3vDC1wFJQxFLpqxtEvNn3yBJNH2Bu5tV+F3M=",
         );
-        assert_eq!(rt;
-            first_other_over(rt.alloc(), with_keys(*count, *place), &[], &[step]),
-            Ok(None),
-            "{count} {place}"
-        );
+        expect(rt.alloc(), with_keys(*count, *place), &[], &[step])?;
     }
+    Ok(())
 }
 
 // The same, of so many agents from that number on.
@@ -469,9 +468,6 @@ fn among() -> [Step; 13] {
 }
 
 #[test]
-fn a_server_has_512_agents(rt: HostRuntime) {
-    assert_eq!(rt;
-        first_other_over(rt.alloc(), shelved(&[0, 1, 63], &[]), &agents(), &among()),
-        Ok(None)
-    );
+fn a_server_has_512_agents(rt: HostRuntime) -> Result<(), Fail> {
+    expect(rt.alloc(), shelved(&[0, 1, 63], &[]), &agents(), &among())
 }

@@ -3,7 +3,7 @@ use http_frames::Reply;
 use std::alloc::{AllocError, Global};
 
 /// What a request asks for.
-#[derive(Clone, Copy, Debug)]
+#[derive(Clone, Copy)]
 pub enum Asked {
     /// To be registered under these names.
     Registration(Said),
@@ -23,7 +23,7 @@ pub enum Asked {
 
 /// A registration: the bytes of the version and of the node's name, how many names there are, and the bytes of the first name;
 /// each further one has a byte more.
-#[derive(Clone, Copy, Debug)]
+#[derive(Clone, Copy)]
 pub struct Said {
     pub version: usize,
     pub node: usize,
@@ -35,7 +35,7 @@ pub struct Said {
 }
 
 /// A query: so many clients, each with a name and a checksum of so many bytes.
-#[derive(Clone, Copy, Debug)]
+#[derive(Clone, Copy)]
 pub struct Query {
     pub clients: usize,
     pub name: usize,
@@ -43,7 +43,7 @@ pub struct Query {
 }
 
 /// What is wanted of an answer beside its code.
-#[derive(Clone, Copy, Debug)]
+#[derive(Clone, Copy)]
 pub enum Wanted {
     Code,
 
@@ -55,7 +55,7 @@ pub enum Wanted {
 }
 
 /// A request that each of some agents sends: the first agent, how many there are, what they ask for, and what they are answered.
-#[derive(Clone, Copy, Debug)]
+#[derive(Clone, Copy)]
 pub struct Step {
     pub first: u32,
     pub count: u32,
