@@ -63,12 +63,9 @@ fn push_reports(bytes: &mut Vec<u8>, agent: u128) -> Result<(), AllocError> {
     Ok(())
 }
 
-// Sets the two last bytes of an agent at this place.
-fn set_number(bytes: &mut [u8], place: usize, number: u16) {
-    let [high, low] = number.to_be_bytes();
-    if let [first, second, ..] = bytes.get_mut(place..).unwrap_or(&mut []) {
-        *first = high;
-        *second = low;
+fn set_byte(bytes: &mut [u8], place: usize, byte: u8) {
+    if let Some(old) = bytes.get_mut(place) {
+        *old = byte;
     }
 }
 
@@ -94,11 +91,12 @@ impl FullDisk {
         Ok(FullDisk { whole, last })
     }
 
-    // Gives the cells of the whole agents the number of one.
-    fn number(&mut self, number: u64) {
-        let number = u16::try_from(number).unwrap_or(0);
-        for place in [20, 131_121, 262_231, 393_341, 524_451] {
-            set_number(&mut self.whole, place, number);
+    // Gives these cells the number of an agent, of which the last two bytes stand in each.
+    fn set_number(&mut self, number: u64) {
+        let [high, low] = u16::try_from(number).unwrap_or(0).to_be_bytes();
+        for place in [20usize, 131_121, 262_231, 393_341, 524_451] {
+            set_byte(&mut self.whole, place, high);
+            set_byte(&mut self.whole, place.saturating_add(1), low);
         }
     }
 }
@@ -139,11 +137,11 @@ impl Disk for FullDisk {
             return Ok(copy_from(HEAD, at, into));
         }
         let place = at - 8;
-        let size = (self.whole.len() as u64).max(1);
-        let number = place / size;
+        let size = self.whole.len() as u64;
+        let number = place.checked_div(size).unwrap_or(0);
         if number < WHOLE {
-            self.number(number);
-            return Ok(copy_from(&self.whole, place % size, into));
+            self.set_number(number);
+            return Ok(copy_from(&self.whole, place.checked_rem(size).unwrap_or(0), into));
         }
         let behind = place.saturating_sub(size.saturating_mul(WHOLE));
         Ok(copy_from(&self.last, behind, into))
