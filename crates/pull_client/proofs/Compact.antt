@@ -13,7 +13,6 @@ use Rattle.pull_client.proofs.Escaped.{AreShown, escape_shown, glyph_shown, show
 
 -- ---- decimals
 
-
 digits_shown : (k n : ℕ) (rest : List ℕ) → AreShown rest → AreShown (digits_onto k 10 false n rest)
 digits_shown zero n rest h = h
 digits_shown (suc k) n rest h =
