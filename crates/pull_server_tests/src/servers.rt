@@ -23,42 +23,53 @@ fn package(alloc: Global) -> Result<Package, AllocError> {
     })
 }
 
-fn put_all(
-    alloc: Global,
-    configurations: &mut Vec<Configuration>,
-    packages: &mut Vec<Package>,
-    keys: &mut Vec<Bytes>,
-    numbers: &mut Vec<u64>,
-    failing: &[u64],
-) -> Result<(), AllocError> {
-    configurations.push(configuration(alloc)?)?;
-    packages.push(package(alloc)?)?;
+fn put_keys(alloc: Global, keys: &mut Vec<Bytes>) -> Result<(), AllocError> {
     keys.push(bytes(alloc, "k0")?)?;
-    keys.push(bytes(alloc, "k1")?)?;
-    numbers.extend_from_slice(failing)
+    Ok(keys.push(bytes(alloc, "k1")?)?)
+}
+
+// What is to stand on a shelf, and the numbers of its calls that are to fail.
+#[derive(Drop)]
+struct Lists {
+    configurations: Vec<Configuration>,
+    packages: Vec<Package>,
+    keys: Vec<Bytes>,
+    numbers: Vec<u64>,
+}
+
+impl Lists {
+    fn new(alloc: Global) -> Lists {
+        Lists {
+            configurations: Vec::new(alloc),
+            packages: Vec::new(alloc),
+            keys: Vec::new(alloc),
+            numbers: Vec::new(alloc),
+        }
+    }
+
+    fn into_shelf(self) -> MemoryShelf {
+        let contents = ShelfContents {
+            configurations: Items::of(self.configurations),
+            packages: Items::of(self.packages),
+            keys: Items::of(self.keys),
+        };
+        MemoryShelf::new(contents, self.numbers)
+    }
+}
+
+fn fill(alloc: Global, lists: &mut Lists, failing: &[u64]) -> Result<(), AllocError> {
+    lists.configurations.push(configuration(alloc)?)?;
+    lists.packages.push(package(alloc)?)?;
+    put_keys(alloc, &mut lists.keys)?;
+    lists.numbers.extend_from_slice(failing)
 }
 
 /// A shelf with the content `abc` of the configuration Web, a package of the module m, and the keys k0 and k1. Its calls of these
 /// numbers are to fail.
 pub fn new_shelf(alloc: Global, failing: &[u64]) -> Result<MemoryShelf, AllocError> {
-    let mut configurations = Vec::new(alloc);
-    let mut packages = Vec::new(alloc);
-    let mut keys = Vec::new(alloc);
-    let mut numbers = Vec::new(alloc);
-    put_all(
-        alloc,
-        &mut configurations,
-        &mut packages,
-        &mut keys,
-        &mut numbers,
-        failing,
-    )?;
-    let contents = ShelfContents {
-        configurations: Items::of(configurations),
-        packages: Items::of(packages),
-        keys: Items::of(keys),
-    };
-    Ok(MemoryShelf::new(contents, numbers))
+    let mut lists = Lists::new(alloc);
+    fill(alloc, &mut lists, failing)?;
+    Ok(lists.into_shelf())
 }
 
 /// A disk without bytes, whose calls of these numbers are to fail.
