@@ -6,7 +6,7 @@ use depend_order::*;
 use std::test::Fail;
 
 // What each place depends on, whether there is an order, and that order or the closed walk.
-const ROWS: [(&[&[u32]], bool, &[u32]); 16] = [
+const ROWS: &[(&[&[u32]], bool, &[u32])] = &[
     (&[], true, &[]),
     (&[&[]], true, &[0]),
     (&[&[], &[], &[]], true, &[0, 1, 2]),
@@ -86,7 +86,7 @@ fn places_have_an_order_or_a_closed_walk(rt: HostRuntime) -> Result<(), Fail> {
         let depends = lists(&rt, numbers)?;
         let found = answer(&rt, &depends)?;
         assert!(rt;
-            is_answer(&found, ordered, wanted),
+            is_answer(&found, *ordered, wanted),
             "{numbers:?}: {found:?}"
         );
     }

@@ -25,6 +25,3 @@ pub use order::order_of_merged;
 pub use run::{run_kinds, run_merged};
 pub use starting::{start, start_over};
 pub use status::{InputError, Status};
-
-#[cfg(test)]
-mod tests;

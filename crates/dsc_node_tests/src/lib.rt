@@ -1,8 +1,10 @@
 //! The tests of `dsc_node`: starts, one after another, over a disk, a host and a clock in memory.
 #![tactic(auto)]
 
+#[cfg(test)]
 mod starting;
 #[cfg(test)]
 mod tests;
 
+#[cfg(test)]
 pub use starting::{Left, Outcome, Trouble, started};

@@ -26,7 +26,7 @@ enum Wanted {
 }
 
 // An answer for each order, unknown id and cycle.
-const RESOURCES: [(Rows, Wanted); 10] = [
+const RESOURCES: &[(Rows, Wanted)] = &[
     (&[], Wanted::Order(&[])),
     (&[("[Log]A", "")], Wanted::Order(&[0])),
     (
@@ -79,7 +79,7 @@ const LOST: Rows = &[("[Log]L", "\"[Log]Z\"")];
 const ROUND: Rows = &[("[Log]R", "\"[log]r\"")];
 
 // An answer for each list: the first reason that applies, where there are several.
-const LISTS: [(List, Wanted); 18] = [
+const LISTS: &[(List, Wanted)] = &[
     (&[("p", A), ("q", B)], Wanted::Order(&[0, 1])),
     (&[("p", &[]), ("q", &[])], Wanted::Order(&[])),
     // a dependency on an earlier and on a later part
@@ -244,22 +244,50 @@ fn is_spot(spot: Spot, at: (u32, u32)) -> bool {
 }
 
 fn is_answer(found: &Result<OrderedDocument, MergeError>, wanted: &Wanted) -> bool {
-    match (found, wanted) {
-        (Ok(merged), Wanted::Order(order)) => merged.order.as_slice() == *order,
-        (Err(MergeError::TwoNames { first, second }), Wanted::TwoNames(one, other)) => {
-            first == one && second == other
+    match found {
+        Ok(merged) => is_order(merged.order.as_slice(), wanted),
+        Err(error) => is_refusal(error, wanted),
+    }
+}
+
+fn is_order(order: &[u32], wanted: &Wanted) -> bool {
+    matches!(wanted, Wanted::Order(places) if order == *places)
+}
+
+fn is_refusal(error: &MergeError, wanted: &Wanted) -> bool {
+    match error {
+        MergeError::TwoNames { first, second } => {
+            matches!(wanted, Wanted::TwoNames(one, other) if first == one && second == other)
         }
-        (Err(MergeError::Part { index, .. }), Wanted::Part(place)) => index == place,
-        (Err(MergeError::TooMany { count }), Wanted::TooMany(most)) => count == most,
-        (Err(MergeError::DuplicateId { first, second }), Wanted::DuplicateId(one, other)) => {
-            is_spot(*first, *one) && is_spot(*second, *other)
+        MergeError::Part { index, .. } => {
+            matches!(wanted, Wanted::Part(place) if index == place)
         }
-        (Err(MergeError::DependsUnknown { spot, name }), Wanted::Unknown(at, word)) => {
-            is_spot(*spot, *at) && is_text(name, word)
+        MergeError::TooMany { count } => {
+            matches!(wanted, Wanted::TooMany(most) if count == most)
         }
-        (Err(MergeError::Cycle(walk)), Wanted::Cycle(places)) => walk.as_slice() == *places,
+        MergeError::DuplicateId { first, second } => are_spots(*first, *second, wanted),
+        MergeError::DependsUnknown { spot, name } => is_unknown(*spot, name, wanted),
+        MergeError::Cycle(walk) => is_cycle(walk.as_slice(), wanted),
+        MergeError::Memory => false,
+    }
+}
+
+fn are_spots(first: Spot, second: Spot, wanted: &Wanted) -> bool {
+    match wanted {
+        Wanted::DuplicateId(one, other) => is_spot(first, *one) && is_spot(second, *other),
         _ => false,
     }
+}
+
+fn is_unknown(spot: Spot, name: &Text, wanted: &Wanted) -> bool {
+    match wanted {
+        Wanted::Unknown(at, word) => is_spot(spot, *at) && is_text(name, word),
+        _ => false,
+    }
+}
+
+fn is_cycle(walk: &[u32], wanted: &Wanted) -> bool {
+    matches!(wanted, Wanted::Cycle(places) if walk == *places)
 }
 
 #[test]
@@ -279,9 +307,9 @@ fn a_part_has_the_digest_of_its_bytes(rt: HostRuntime) -> Result<(), Fail> {
 #[test]
 fn one_part_has_an_order_or_is_refused(rt: HostRuntime) -> Result<(), Fail> {
     for (resources, wanted) in RESOURCES {
-        let bytes = document(&rt, resources)?;
+        let bytes = document(&rt, *resources)?;
         let found = merged(&rt, bytes.as_bytes())?;
-        assert!(rt; is_answer(&found, &wanted), "{bytes}");
+        assert!(rt; is_answer(&found, wanted), "{bytes}");
     }
     Ok(())
 }
@@ -289,15 +317,15 @@ fn one_part_has_an_order_or_is_refused(rt: HostRuntime) -> Result<(), Fail> {
 #[test]
 fn a_list_of_parts_is_merged_or_refused(rt: HostRuntime) -> Result<(), Fail> {
     for (list, wanted) in LISTS {
-        let parts = parts(&rt, list)?;
+        let parts = parts(&rt, *list)?;
         let found = list_merged(rt.alloc(), &parts);
-        assert!(rt; is_answer(&found, &wanted), "{found:?}");
+        assert!(rt; is_answer(&found, wanted), "{found:?}");
     }
     Ok(())
 }
 
 // How many resources each part has, and how many too many there are together; `None` where there are not.
-const SIZES: [(&[u32], Option<u64>); 5] = [
+const SIZES: &[(&[u32], Option<u64>)] = &[
     (&[512, 512, 512, 512, 512, 512, 512, 512], None),
     (&[0, 4096], None),
     (&[4096, 1], Some(4097)),
@@ -313,7 +341,7 @@ fn parts_have_4096_resources_together(rt: HostRuntime) -> Result<(), Fail> {
             parts.push(numbered(&rt, number, *count)?)?;
         }
         let found = list_merged(rt.alloc(), &parts);
-        assert!(rt; is_size(&found, excess), "{sizes:?}");
+        assert!(rt; is_size(&found, *excess), "{sizes:?}");
     }
     Ok(())
 }

@@ -1,4 +1,9 @@
+pub mod Compact
 pub mod Counts
+pub mod CountsSizes
+pub mod Escaped
 pub mod Hearing
+pub mod MessagesFit
 pub mod OneMeaning
 pub mod Printed
+pub mod TextSizes

@@ -1,5 +1,6 @@
 pub mod Asks
 pub mod Content
+pub mod Fitting
 pub mod Heard
 pub mod Meaning
 pub mod Moments

@@ -1,5 +1,6 @@
-//! Laws of the answers. The call does nothing; its clause is the law.
+//! Laws of the answers and of the messages. The calls do nothing; their clauses are the laws.
 ghost use Rattle.http_frames.specs.OneAnswer.{OneReplyAnswer};
+ghost use Rattle.pull_client.specs.Fitting.{MessagesFit};
 ghost use Rattle.pull_client.specs.Meaning.{OneMeaning};
 
 use http_frames::one_answer;
@@ -11,3 +12,8 @@ pub fn one_meaning()
 {
     one_answer();
 }
+
+/// The message of a report in size is a body that a server takes: it has at most 131,072 bytes.
+pub fn messages_fit()
+    ensures { MessagesFit }
+{}

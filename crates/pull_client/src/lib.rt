@@ -23,7 +23,7 @@ mod statuses;
 pub use asking::ask;
 pub use error::PeerError;
 pub use fetching::{fetch, fetch_module};
-pub use laws::one_meaning;
+pub use laws::{messages_fit, one_meaning};
 pub use messages::message_of;
 pub use registering::register;
 pub use reporting::report;

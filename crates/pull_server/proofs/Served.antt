@@ -82,6 +82,8 @@ module _ {D : Type 0} (d : Ghosts D) (request : Request) (old : StoreTerm) (befo
     acknowledged = acknowledges_ok code (Rose (d.faults before) (d.faults now)) result new now keeps.ready keeps.reply;
     spent = keeps.spent;
     count = keeps.count;
+    refused = keeps.refused;
+    rests = keeps.rests;
   }
 
 -- where nothing is kept
@@ -97,6 +99,8 @@ unserved d request store disk reply now ready none = record {
   acknowledged = λ done. record { each = λ change asks. absurd (none done change asks) };
   spent = λ fresh over. never (is_spent store) over fresh;
   count = omega arith;
+  refused = tt;
+  rests = λ spent. record { store = refl; disk = refl };
 }
 
 pub unserved_err : {D : Type 0} (d : Ghosts D) (request : Request) (store : StoreTerm) (disk : D) (e : Memory)
@@ -110,6 +114,8 @@ unserved_err d request store disk e now ready = record {
   acknowledged = tt;
   spent = λ fresh over. never (is_spent store) over fresh;
   count = omega arith;
+  refused = record { store = refl; disk = refl };
+  rests = λ spent. record { store = refl; disk = refl };
 }
 
 -- ---- the cause of 500

@@ -1,5 +1,5 @@
 -- What an answer says, of the reply, the rows, and the disk.
-use Rattle.std.specs.Prelude.{◌≡◌, ◌⊎◌, ◌≤◌, ◌==◌, ◌||◌, ℕ, Bool, true, false, List, Option, Some, None, Result, IfOk}
+use Rattle.std.specs.Prelude.{◌≡◌, ◌⊎◌, ◌≤◌, ◌==◌, ◌||◌, ℕ, Bool, true, false, List, Option, Some, None, Result, IfOk, OnErr}
 use Rattle.dsc_terms.specs.Counts.{Rose}
 use Rattle.dsc_outside.specs.declared.disk.Disk.{Ghosts}
 use Rattle.gate_log.specs.Standing.{AllStand, StandsAtAnyMoment}
@@ -11,7 +11,7 @@ use Rattle.pull_store.specs.declared.row.Row.{Row}
 use Rattle.pull_store.specs.declared.change.Change.{Change}
 use Rattle.pull_store.specs.Rows.{after}
 use Rattle.pull_store.specs.Stands.{Stands}
-use Rattle.pull_store.specs.Store.{StoreTerm, IsKept, IsReady, is_spent}
+use Rattle.pull_store.specs.Store.{StoreTerm, IsKept, IsReady, Untouched, is_spent}
 use Rattle.pull_outside.specs.Shelf.{Contents}
 use Rattle.pull_server.specs.Asked.{Asks, IsAim, asked, change_to, on, target_in}
 use Rattle.pull_server.specs.Replies.{plain}
@@ -63,3 +63,6 @@ pub record Serves {D : Type 0} (d : Ghosts D) (request : Request) (old : StoreTe
   pub acknowledged : IfOk result (λ reply. is_done reply.code ≡ true → IsAcknowledged d request old now new)
   pub spent : is_spent old ≡ false → is_spent new ≡ true → Rose (d.faults before) (d.faults now) × IfOk result (λ reply. reply ≡ plain 500)
   pub count : d.faults before ≤ d.faults now
+  -- where memory was refused, or the store was spent before, nothing was touched
+  pub refused : OnErr result (Untouched old new before now)
+  pub rests : is_spent old ≡ true → Untouched old new before now

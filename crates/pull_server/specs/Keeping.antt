@@ -1,5 +1,5 @@
 -- What comes of a registration or a report that is to be kept; for private clauses.
-use Rattle.std.specs.Prelude.{◌≡◌, ◌⊎◌, ◌≤◌, ◌&&◌, nat_lt, ℕ, Bool, true, false, List, Option, Some, None, Result, Ok, Err, IfOk}
+use Rattle.std.specs.Prelude.{◌≡◌, ◌⊎◌, ◌≤◌, ◌&&◌, nat_lt, ℕ, Bool, true, false, List, Option, Some, None, Result, Ok, Err, IfOk, OnErr}
 use Rattle.dsc_terms.specs.Counts.{Rose}
 use Rattle.dsc_outside.specs.declared.disk.Disk.{Ghosts}
 use Rattle.gate_log.specs.Standing.{StandsAtAnyMoment}
@@ -12,7 +12,7 @@ use Rattle.pull_store.specs.declared.error.PullError.{PullError}
 use Rattle.pull_store.specs.declared.error.PullError.TheVariants as errors
 use Rattle.pull_store.specs.Rows.{after, refusal}
 use Rattle.pull_store.specs.Stands.{BeforeOrAfter, Stands}
-use Rattle.pull_store.specs.Store.{StoreTerm, IsKept, IsReady, is_spent}
+use Rattle.pull_store.specs.Store.{StoreTerm, IsKept, IsReady, Untouched, is_spent}
 use Rattle.pull_server.specs.Asked.{is_full_for}
 use Rattle.pull_server.specs.Replies.{plain}
 
@@ -45,3 +45,5 @@ pub record Keeps {D : Type 0} (d : Ghosts D) (old : StoreTerm) (change : Change)
   pub any_moment : IsKept d before old → StandsAtAnyMoment d before now Stands (BeforeOrAfter old.rows change)
   pub spent : is_spent old ≡ false → is_spent new ≡ true → Rose (d.faults before) (d.faults now) × IfOk result (λ reply. reply ≡ plain 500)
   pub count : d.faults before ≤ d.faults now
+  pub refused : OnErr result (Untouched old new before now)
+  pub rests : is_spent old ≡ true → Untouched old new before now

@@ -23,7 +23,7 @@ use std::alloc::Global;
 /// The body has at most 131,072 bytes. A registration and a report are answered 204 and 200 only once every image of the disk
 /// stands for the rows after them. A crash at any moment leaves the rows before the request, or those after the change that it
 /// asks for. 500 comes only where the count of faults of the disk or of the shelf rose, or where the store was spent. Where memory
-/// is refused, a change that was made before stays.
+/// is refused, or the store was spent before, store and disk are as they were.
 pub fn answer<D: Disk, S: Shelf>(
     alloc: Global,
     store: &mut PullStore,

@@ -1,62 +1,12 @@
-//! Requests as texts, and what they are answered.
-ghost use Rattle.std.specs.Prelude.{◌≤◌, IfOk, IfSome, length};
-ghost use Rattle.pull_store.specs.Sound.{most_bytes};
+//! Exchanges, one after the other.
 ghost use Rattle.pull_store.specs.Store.{IsReady};
 
+use crate::asking::ask;
 use crate::servers::{new_disk, new_shelf};
 use dsc_outside::Disk;
-use http_frames::{Reply, Request, RequestReader};
-use mof_values::Memory;
 use pull_outside::Shelf;
-use pull_server::answer;
 use pull_store::{PullError, PullStore, open_pull};
 use std::alloc::{AllocError, Global};
-
-// The bytes of a request with this head, in which a length is added, and this body.
-fn request_bytes(alloc: Global, head: &str, body: &str) -> Result<Vec<u8>, AllocError> {
-    let mut bytes = head.as_bytes().to_vec(alloc)?;
-    let length = format!(in alloc; "{}", body.len())?;
-    bytes.extend_from_slice(b"Content-Length: ")?;
-    bytes.extend_from_slice(length.as_bytes())?;
-    bytes.extend_from_slice(b"\r\n\r\n")?;
-    bytes.extend_from_slice(body.as_bytes())?;
-    Ok(bytes)
-}
-
-fn request_of(alloc: Global, head: &str, body: &str) -> Option<Request>
-    ensures { IfSome result (λ request. length request.body ≤ most_bytes) }
-{
-    let bytes = match request_bytes(alloc, head, body) {
-        Ok(bytes) => bytes,
-        Err(_) => return None,
-    };
-    let mut reader = RequestReader::new(alloc);
-    match reader.feed(&bytes) {
-        Ok(request) => request,
-        Err(_) => None,
-    }
-}
-
-/// What a request with this head and body is answered; none where it is no request.
-pub fn ask<D: Disk, S: Shelf>(
-    alloc: Global,
-    store: &mut PullStore,
-    disk: &mut D,
-    shelf: &mut S,
-    head: &str,
-    body: &str,
-) -> Option<Reply>
-    requires { IsReady D.Disk disk.old store.old }
-    ensures { IsReady D.Disk disk.new store.new }
-{
-    match request_of(alloc, head, body) {
-        Some(request) => match answer(alloc, store, disk, shelf, &request) {
-            Ok(reply) => Some(reply),
-            Err(Memory) => None,
-        },
-        None => None,
-    }
-}
 
 /// The first of the exchanges that is answered otherwise: a head, a body, and the code and the body that must come.
 pub fn first_other<D: Disk, S: Shelf>(
@@ -85,13 +35,12 @@ pub fn first_other_of(
     failing: &[u64],
     exchanges: &[(&str, &str, u16, &str)],
 ) -> Result<Option<usize>, PullError> {
-    let mut disk = new_disk(alloc, &[])?;
     let mut shelf = new_shelf(alloc, failing)?;
-    let mut store = match open_pull(alloc, &mut disk) {
-        Ok(store) => store,
-        Err(error) => return Err(error),
-    };
-    Ok(first_other(alloc, &mut store, &mut disk, &mut shelf, exchanges))
+    let mut disk = new_disk(alloc, &[])?;
+    match open_pull(alloc, &mut disk) {
+        Ok(mut store) => Ok(first_other(alloc, &mut store, &mut disk, &mut shelf, exchanges)),
+        Err(error) => Err(error),
+    }
 }
 
 /// The codes of the answers of a new server to requests of these heads and bodies, where the call of that number of the disk fails.
@@ -101,15 +50,24 @@ pub fn codes_after(
     requests: &[(&str, &str)],
 ) -> Result<String, AllocError> {
     let mut line = String::new(alloc);
+    put_codes_after(&mut line, failing, requests)?;
+    Ok(line)
+}
+
+fn put_codes_after(
+    line: &mut String,
+    failing: u64,
+    requests: &[(&str, &str)],
+) -> Result<(), AllocError> {
+    let alloc = *line.allocator();
+    let mut shelf = new_shelf(alloc, &[])?;
     let Ok(mut disk) = new_disk(alloc, &[failing]) else {
         return Err(AllocError);
     };
-    let mut shelf = new_shelf(alloc, &[])?;
     match open_pull(alloc, &mut disk) {
-        Ok(mut store) => put_codes(&mut line, &mut store, &mut disk, &mut shelf, requests)?,
-        Err(_) => line.push_str("unopened")?,
+        Ok(mut store) => put_codes(line, &mut store, &mut disk, &mut shelf, requests),
+        Err(_) => line.push_str("unopened"),
     }
-    Ok(line)
 }
 
 fn put_codes<D: Disk, S: Shelf>(

@@ -1,2 +1,5 @@
 mod answers;
 mod faults;
+mod running;
+mod sizes;
+mod steps;

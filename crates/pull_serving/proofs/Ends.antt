@@ -1,5 +1,5 @@
 -- How a connection ended, from what its calls answered.
-use Rattle.std.proofs.Common.{◌≡◌, ◌⊎◌, inl, inr, ℕ, ◌≤◌, Bool, true, false, not, ◌&&◌, Option, refl, sym, ◌∙◌, subst, arith}
+use Rattle.std.proofs.Common.{◌≡◌, ◌⊎◌, inl, inr, ℕ, ◌≤◌, Bool, true, false, not, ◌&&◌, List, Option, refl, sym, ◌∙◌, subst, arith}
 use Rattle.std.specs.Io.KnownBytes.{Appends}
 use Rattle.dsc_terms.specs.Counts.{Rose}
 use Rattle.http_frames.specs.declared.message.Reply.{Reply}
@@ -12,11 +12,17 @@ use Rattle.pull_store.specs.Store.{is_spent}
 use Rattle.pull_server.specs.Replies.{plain}
 use Rattle.pull_serving.specs.declared.connection.ConnectionEnd.{ConnectionEnd}
 use Rattle.pull_serving.specs.declared.connection.ConnectionEnd.TheVariants as ends
+use Rattle.pull_serving.specs.Printing.{Output, Writes, output_of}
 use Rattle.pull_serving.specs.Sent.{IsSentEnd}
 use Rattle.pull_serving.specs.Turn.{IsEnd, IsReply, ShowsFault, State, Turn, WroteWhat}
 
 pub rose_earlier : (before mid after : ℕ) → before ≤ mid → Rose mid after → Rose before after
 rose_earlier before mid after le rose = omega (arith, le, rose)
+
+-- what was written since a count that stood lower
+pub writes_earlier : (held : Option (List ℕ)) (old mid : ℕ) (new : Output) (text : List ℕ) → old ≤ mid → Writes (output_of held mid) new text → Writes (output_of held old) new text
+writes_earlier held old mid new text later (inl whole) = inl whole
+writes_earlier held old mid new text later (inr part) = inr (rose_earlier old mid new.faults later part.0, part.1)
 
 -- what a store that the disk broke shows
 pub record Broke (before after : State) (reply : Reply) : Type 0 where
@@ -48,7 +54,7 @@ module _ (shelf : Option Contents) (came went : Known) (mid : ℕ) (later : came
   end_is (ends.Torn at) is sent = absurd sent
   end_is ends.ReadFault is sent = absurd sent
   end_is ends.WriteFault is sent = record { reply = reply; is_reply = is; rose = rose_earlier came.faults mid went.faults later sent.1; written = sent.2 }
-  end_is ends.Memory is sent = sent
+  end_is ends.Memory is sent = (sent, inr (record { reply = reply; is_reply = is }))
 
   -- a store that was broken shows
   pub shows : (end : ConnectionEnd) → IsSentEnd came.held went.held reply mid went.faults broken end → broken ≡ true → ShowsFault end

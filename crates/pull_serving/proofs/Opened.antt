@@ -1,5 +1,5 @@
 -- A run over a store that was opened.
-use Rattle.std.proofs.Common.{◌≡◌, ◌⊎◌, inl, inr, ℕ, List}
+use Rattle.std.proofs.Common.{◌≡◌, ◌⊎◌, inl, inr, ◌≤◌, ℕ, List}
 use Rattle.dsc_outside.specs.declared.disk.Disk.{Ghosts}
 use Rattle.dsc_outside.specs.Disk.{From}
 use Rattle.dsc_outside.proofs.Moments.{then_on, weaker}
@@ -13,17 +13,18 @@ use Rattle.pull_serving.specs.Turn.{state}
 use Rattle.pull_serving.specs.Turns.{IsRun, Visits}
 
 pub opened_run : {D : Type 0} (d : Ghosts D) (count : ℕ) (before mid after : D) (old new : Around) (out out_after : Output) (status : ServeStatus) (opened last : StoreTerm)
-    → IsOpened d before mid opened → AtAnyMoment d before mid (From KeepsRows (d.images before))
+    → IsOpened d before mid opened → d.faults before ≤ d.faults mid → AtAnyMoment d before mid (From KeepsRows (d.images before))
     → IsRun d mid after old.shelf (state d mid opened old.shelf_faults) (state d after last new.shelf_faults) old.door new.door
     (Printed count (state d after last new.shelf_faults) old.door_faults new.door_faults out out_after status)
     → new.shelf ≡ old.shelf → IsOpenedRun d count before after old new out out_after status
-opened_run d count before mid after old new out out_after status opened last is opening run same =
+opened_run d count before mid after old new out out_after status opened last is later opening run same =
     let first = state d mid opened old.shelf_faults in
     record {
       disk = mid;
       opened = opened;
       last = last;
       is_opened = is;
+      later = later;
       run = run;
       any_moment = then_on d.moment d.left_since before mid after (λ (image : List ℕ). From KeepsRows (d.images before) image ⊎ Visits first run.turns image) (Visits first run.turns)
           (weaker d.moment d.left_since before mid (From KeepsRows (d.images before)) (λ (image : List ℕ). From KeepsRows (d.images before) image ⊎ Visits first run.turns image) opening (λ c here. inl here))

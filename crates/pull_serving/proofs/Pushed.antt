@@ -13,12 +13,12 @@ use Rattle.pull_exchange.specs.declared.exchange.Received.TheVariants as receive
 use Rattle.pull_exchange.specs.Exchange.{AppendsPart}
 use Rattle.pull_store.specs.declared.row.Row.{Row}
 use Rattle.pull_store.specs.Stands.{Stands}
-use Rattle.pull_store.specs.Store.{IsKept, StoreTerm, is_spent}
+use Rattle.pull_store.specs.Store.{IsKept, IsReady, StoreTerm, is_spent}
 use Rattle.pull_store.proofs.Committed.{kept_stands}
 use Rattle.pull_serving.specs.declared.connection.ConnectionEnd.{ConnectionEnd}
-use Rattle.pull_serving.specs.Printing.{line, lines}
+use Rattle.pull_serving.specs.Printing.{IsCutOff, line, lines}
 use Rattle.pull_serving.specs.Turn.{IsTurn, MayLeave, State, Turn, state}
-use Rattle.pull_serving.specs.Turns.{Doorway, Gave, IsRun, IsStep, Lasts, Runs, Took, Visits, came, went}
+use Rattle.pull_serving.specs.Turns.{Doorway, Gave, IsRun, IsStep, Lasts, Passes, Runs, Took, Visits, came, went}
 
 runs_push : (shelf : Option Contents) (first : State) (ts : List Turn) (mid : State) (t : Turn) → Runs shelf first ts mid → t.before ≡ mid → is_spent mid.store ≡ false → IsTurn shelf t
     → Runs shelf first (ts ++ t ∷ []) t.after
@@ -91,6 +91,11 @@ lasts_push d mid new shelf first half (u ∷ ts) t runs before lasts run ends st
   lasts_push d mid new shelf u.after half ts t runs.3 before lasts.2 run ends stands,
 )
 
+passes_push : {D : Type 0} (d : Ghosts D) (old mid new : D) (ts : List Turn) (t : Turn) → Passes d old ts mid → t.after ≡ state d new t.after.store t.after.shelf_faults → IsReady d new t.after.store
+    → StandsAtAnyMoment d mid new Stands (MayLeave t.received t.before.store.rows) → Passes d old (ts ++ t ∷ []) new
+passes_push d old mid new [] t passes is ready run = (new, is, ready, subst (λ x. StandsAtAnyMoment d x new Stands (MayLeave t.received t.before.store.rows)) passes run, refl)
+passes_push d old mid new (u ∷ ts) t passes is ready run = (passes.0, passes.1, passes.2, passes.3, passes_push d passes.0 mid new ts t passes.4 is ready run)
+
 took_none : (coming : Option (List Known)) → Took coming coming []
 took_none None = refl
 took_none (Some known) = (known, refl, refl)
@@ -110,6 +115,7 @@ run_start d disk store shelf shelf_faults door Printed now kept printed = record
   gave = gave_none door.back;
   none_out = refl;
   printed = printed;
+  passes = refl;
   any_moment = started d.moment d.left_since disk (Visits (state d disk store shelf_faults) []) (λ c here. kept_stands d disk store kept c (now c here));
   lasts = tt;
 }
@@ -129,6 +135,7 @@ run_push d old mid new shelf now first half last door door1 door2 end Before Aft
       gave = gave_push door.back door1.back door2.back run.turns step.turn run.gave step.gave;
       none_out = step.none_out ∙ run.none_out;
       printed = printed run.turns step.turn run.printed step.ends;
+      passes = passes_push d old mid new run.turns step.turn run.passes step.is_state step.ready step.any_moment;
       any_moment = then_on d.moment d.left_since old mid new (Visits first turns) (StandsFor Stands (MayLeave step.turn.received step.turn.before.store.rows))
           (weaker d.moment d.left_since old mid (Visits first run.turns) (Visits first turns) run.any_moment (λ c here. visits_earlier shelf first run.turns half step.turn c run.runs step.starts here))
           step.any_moment (λ c here. visits_last first run.turns step.turn c here);
@@ -145,6 +152,7 @@ run_printed d old new shelf first last door door1 Before After run printed = rec
   gave = run.gave;
   none_out = run.none_out;
   printed = printed run.turns run.printed;
+  passes = run.passes;
   any_moment = run.any_moment;
   lasts = run.lasts;
 }
@@ -166,13 +174,17 @@ module _ (out0 out1 out2 : Option (List ℕ)) (number : ℕ) (end : ConnectionEn
       (longer ts t so_far.0, subst (λ (l : List ℕ). Appends out0 out2 l) (joined ts t so_far.0 same) (Appends-trans out0 out1 out2 (lines 1 ts) written so_far.1 appends))
 
   pub prints_part : AppendsPart out1 out2 written → (ts : List Turn) (t : Turn) → (length ts ≡ number) × Appends out0 out1 (lines 1 ts) → t.end ≡ end
-      → (length (ts ++ t ∷ []) ≡ number + 1) × AppendsPart out0 out2 (lines 1 (ts ++ t ∷ []))
-  prints_part part ts t so_far same = (
-    longer ts t so_far.0,
-    (
-      lines 1 ts ++ part.0,
-      part.1,
-      sym (joined ts t so_far.0 same) ∙ ap (λ (l : List ℕ). lines 1 ts ++ l) part.2 ∙ sym (append_assoc (lines 1 ts) part.0 part.1),
-      Appends-trans out0 out1 out2 (lines 1 ts) part.0 so_far.1 part.3,
-    ),
-  )
+      → (length (ts ++ t ∷ []) ≡ number + 1) × IsCutOff out0 out2 (ts ++ t ∷ [])
+  prints_part part ts t so_far same =
+      let place : number + 1 ≡ suc (length ts) = omega (arith, so_far.0) in
+      let is_line : written ≡ line (suc (length ts)) t.end = is ∙ ap (λ (m : ℕ). line m end) place ∙ ap (λ (e : ConnectionEnd). line (suc (length ts)) e) (sym same) in (
+        longer ts t so_far.0,
+        record {
+          done = ts;
+          last = t;
+          split = refl;
+          mid = out1;
+          whole = so_far.1;
+          part = subst (λ (l : List ℕ). AppendsPart out1 out2 l) is_line part;
+        },
+      )

@@ -1,25 +1,26 @@
 -- What serving a connection did, from what its calls answered.
-use Rattle.std.proofs.Common.{◌≡◌, ◌⊎◌, ℕ, ◌≤◌, Bool, true, false, not, ◌&&◌, List, Option, Some, Ok, IfSome, refl, sym, ◌∙◌, ap, subst}
+use Rattle.std.proofs.Common.{◌≡◌, ◌⊎◌, inl, inr, ℕ, ◌≤◌, Bool, true, false, not, ◌&&◌, List, Option, Some, Result, Ok, Err, IsErr, IfSome, refl, sym, ◌∙◌, ap, subst, arith}
 use Rattle.dsc_terms.specs.Counts.{Rose}
 use Rattle.dsc_outside.specs.declared.disk.Disk.{Ghosts}
 use Rattle.dsc_outside.proofs.Moments.{started}
 use Rattle.gate_log.specs.Standing.{StandsAtAnyMoment, StandsFor}
+use Rattle.mof_values.specs.declared.memory.Memory.{Memory}
 use Rattle.http_frames.specs.declared.frame_error.FrameError.{FrameError}
 use Rattle.http_frames.specs.declared.message.Request.{Request}
 use Rattle.http_frames.specs.declared.message.Reply.{Reply}
 use Rattle.pull_exchange.specs.declared.exchange.Received.{Received}
 use Rattle.pull_exchange.specs.declared.exchange.Received.TheVariants as received
-use Rattle.pull_exchange.specs.Exchange.{IsReceived, refusal_of}
+use Rattle.pull_exchange.specs.Exchange.{IsReceived, IsRefusal, refusal_of}
 use Rattle.pull_outside.specs.Door.{Known}
 use Rattle.pull_outside.specs.Shelf.{Contents}
 use Rattle.pull_store.specs.Stands.{Stands}
-use Rattle.pull_store.specs.Store.{IsKept, StoreTerm, is_spent}
+use Rattle.pull_store.specs.Store.{IsKept, StoreTerm, Untouched, is_spent}
 use Rattle.pull_store.proofs.Committed.{kept_stands}
 use Rattle.pull_server.specs.Answers.{IsAcknowledged, Replies, Serves, is_done}
 use Rattle.pull_serving.specs.declared.connection.ConnectionEnd.{ConnectionEnd}
 use Rattle.pull_serving.specs.declared.connection.ConnectionEnd.TheVariants as ends
 use Rattle.pull_serving.specs.Sent.{IsSentEnd}
-use Rattle.pull_serving.specs.Turn.{Acknowledges, IsEnd, IsServed, MayLeave, State, Touches, state}
+use Rattle.pull_serving.specs.Turn.{Acknowledges, IsEnd, IsServed, MayLeave, State, Leaves, Rests, state}
 use Rattle.pull_serving.proofs.Ends.{Broke, end_is, newly, newly_is, shows}
 use Rattle.pull_serving.proofs.Pushed.{may_stay}
 
@@ -48,9 +49,9 @@ module _ {D : Type 0} (d : Ghosts D) (before : D) (shelf : Option Contents) (cam
     pub served_request : (reply : Reply) (broken : Bool) (mid : ℕ) (end : ConnectionEnd) → came.faults ≤ mid → broken ≡ (not (is_spent store) && is_spent new) → Serves d request store before (Ok reply) new now
         → ((contents : Contents) → shelf ≡ Some contents → Replies store contents request (Rose (d.faults before) (d.faults now) ⊎ Rose shelf_faults shelf_faults_after) reply new.rows)
         → (reply.code ≡ 500 → (Rose (d.faults before) (d.faults now) ⊎ Rose shelf_faults shelf_faults_after) ⊎ (is_spent store ≡ true))
-        → IsSentEnd came.held went.held reply mid went.faults broken end
+        → IsSentEnd came.held went.held reply mid went.faults broken end → shelf_faults ≤ shelf_faults_after → came.faults ≤ went.faults
         → IsServed d before now shelf came went old_state new_state end
-    served_request reply broken mid end later is_broken serves replies cause sent =
+    served_request reply broken mid end later is_broken serves replies cause sent shelf_later conn_later =
         let broke : broken ≡ true → Broke old_state new_state reply = λ is.
         let n = newly (is_spent store) (is_spent new) broken is_broken is in
         let rose = serves.spent n.0 n.1 in
@@ -60,16 +61,41 @@ module _ {D : Type 0} (d : Ghosts D) (before : D) (shelf : Option Contents) (cam
           turn = record {
             heard = heard;
             rows = serves.rows;
-            touches = tt;
+            leaves = tt;
             end = end_is shelf came went mid later old_state new_state (received.Request request) reply broken broke end (record { table = replies; cause = cause }) sent;
             spent = λ fresh over. (
               (serves.spent fresh over).0,
               shows shelf came went mid later old_state new_state (received.Request request) reply broken broke end sent (newly_is (is_spent store) (is_spent new) broken is_broken fresh over),
             );
+            disk_count = serves.count;
+            shelf_count = shelf_later;
+            connection_count = conn_later;
           };
           any_moment = serves.any_moment;
           acknowledged = acknowledges reply broken mid end sent serves.acknowledged;
+          rests = serves.rests;
         }
+
+    -- memory was refused for the reply
+    pub served_without_memory : (result : Result Reply Memory) → IsErr result → Serves d request store before result new now → went.held ≡ came.held
+        → shelf_faults ≤ shelf_faults_after → came.faults ≤ went.faults → IsServed d before now shelf came went old_state new_state ends.Memory
+    served_without_memory (Ok reply) fails serves silent shelf_later conn_later = absurd (cc fails)
+    served_without_memory (Err e) fails serves silent shelf_later conn_later = record {
+      received = received.Request request;
+      turn = record {
+        heard = heard;
+        rows = serves.rows;
+        leaves = tt;
+        end = (silent, inl serves.refused.store);
+        spent = λ fresh over. ((serves.spent fresh over).0, inr refl);
+        disk_count = serves.count;
+        shelf_count = shelf_later;
+        connection_count = conn_later;
+      };
+      any_moment = serves.any_moment;
+      acknowledged = tt;
+      rests = serves.rests;
+    }
 
   -- ---- no request
 
@@ -82,33 +108,53 @@ module _ {D : Type 0} (d : Ghosts D) (before : D) (shelf : Option Contents) (cam
         let s = kept_stands d before store kept c (only_now c left) in
         record { value = s.value; stands = s.stands; has = subst (λ rows. MayLeave r store.rows rows) (sym s.has) (may_stay r store.rows) })
 
-    untouched : (r : Received) → Touches r here here
-    untouched (received.Request request) = tt
-    untouched (received.Refused e) = refl
-    untouched (received.Torn at) = refl
-    untouched received.ReadFault = refl
-    untouched received.Memory = refl
+    same : (r : Received) → Leaves r here here
+    same (received.Request request) = tt
+    same (received.Refused e) = refl
+    same (received.Torn at) = refl
+    same received.ReadFault = refl
+    same received.Memory = refl
+
+    untouched : Untouched store store before before
+    untouched = record { store = refl; disk = refl }
+
+    resting : (r : Received) → Rests r store (Untouched store store before before)
+    resting (received.Request request) = λ spent. untouched
+    resting (received.Refused e) = untouched
+    resting (received.Torn at) = untouched
+    resting received.ReadFault = untouched
+    resting received.Memory = untouched
 
     -- what was received is no request
     pub served_otherwise : (r : Received) (end : ConnectionEnd) → IfSome came.left (λ bytes. IsReceived bytes r)
-        → IsEnd shelf (record { came = came; went = went; received = r; before = here; after = here; end = end }) end → Acknowledges d r store before store end
+        → IsEnd shelf (record { came = came; went = went; received = r; before = here; after = here; end = end }) end → Acknowledges d r store before store end → came.faults ≤ went.faults
         → IsServed d before before shelf came went here here end
-    served_otherwise r end heard is acknowledged = record {
+    served_otherwise r end heard is acknowledged later = record {
       received = r;
-      turn = record { heard = heard; rows = may_stay r store.rows; touches = untouched r; end = is; spent = λ fresh over. never (is_spent store) over fresh };
+      turn = record {
+        heard = heard;
+        rows = may_stay r store.rows;
+        leaves = same r;
+        end = is;
+        spent = λ fresh over. never (is_spent store) over fresh;
+        disk_count = omega arith;
+        shelf_count = omega arith;
+        connection_count = later;
+      };
       any_moment = stays r;
       acknowledged = acknowledged;
+      rests = resting r;
     }
 
-    refused_end : (e : FrameError) (reply : Reply) (mid : ℕ) (end : ConnectionEnd) → came.faults ≤ mid → reply ≡ refusal_of e → IsSentEnd came.held went.held reply mid went.faults false end
+    refused_end : (e : FrameError) (reply : Reply) (mid : ℕ) (end : ConnectionEnd) → came.faults ≤ mid → IsRefusal e → reply ≡ refusal_of e → IsSentEnd came.held went.held reply mid went.faults false end
         → IsEnd shelf (record { came = came; went = went; received = received.Refused e; before = here; after = here; end = end }) end
-    refused_end e reply mid end later is sent =
-        end_is shelf came went mid later here here (received.Refused e) reply false (λ x. absurd (cc x)) end is sent
+    refused_end e reply mid end later fault is sent =
+        end_is shelf came went mid later here here (received.Refused e) reply false (λ x. absurd (cc x)) end (fault, is) sent
 
     quiet : (e : FrameError) (end : ConnectionEnd) → Acknowledges d (received.Refused e) store before store end
     quiet e end = tt
 
     -- what was received is no request, and was refused
-    pub served_refused : (e : FrameError) (reply : Reply) (mid : ℕ) (end : ConnectionEnd) → IfSome came.left (λ bytes. IsReceived bytes (received.Refused e)) → came.faults ≤ mid → reply ≡ refusal_of e
-        → IsSentEnd came.held went.held reply mid went.faults false end → IsServed d before before shelf came went here here end
-    served_refused e reply mid end heard later is sent = served_otherwise (received.Refused e) end heard (refused_end e reply mid end later is sent) (quiet e end)
+    pub served_refused : (e : FrameError) (reply : Reply) (mid : ℕ) (end : ConnectionEnd) → IfSome came.left (λ bytes. IsReceived bytes (received.Refused e)) → came.faults ≤ mid → IsRefusal e → reply ≡ refusal_of e
+        → IsSentEnd came.held went.held reply mid went.faults false end → came.faults ≤ went.faults → IsServed d before before shelf came went here here end
+    served_refused e reply mid end heard later fault is sent conn_later = served_otherwise (received.Refused e) end heard (refused_end e reply mid end later fault is sent) (quiet e end) conn_later

@@ -33,6 +33,8 @@ stepped d old new shelf store store_after shelf_faults shelf_faults_after came w
   gave = gave;
   none_out = none_out;
   any_moment = served.any_moment kept;
+  is_state = refl;
+  ready = ready;
   ends_now = refl;
   stands = λ fresh c left. kept_stands d new store_after (is_kept d new store_after ready fresh) c (now c left);
 }

@@ -1,5 +1,5 @@
 -- What the server prints: a line for each connection, and one for a refusal.
-use Rattle.std.specs.Prelude.{◌≡◌, ◌⊎◌, ℕ, ◌≤◌, ◌<◌, suc, true, List, [], ◌∷◌, ◌++◌, length, codes, Option}
+use Rattle.std.specs.Prelude.{◌≡◌, ◌⊎◌, ℕ, ◌≤◌, ◌<◌, suc, true, false, List, [], ◌∷◌, ◌++◌, length, codes, Option}
 use Rattle.std.specs.Io.KnownBytes.{Appends}
 use Rattle.std.specs.Fmt.{decimal}
 use Rattle.dsc_terms.specs.Counts.{Rose}
@@ -55,17 +55,26 @@ Writes old new text = Appends old.held new.held text ⊎ (Rose old.faults new.fa
 
 -- the lines of the turns were written whole, and then the line of the refusal
 pub record Refuses (old new : Output) (turns : List Turn) (status : ServeStatus) : Type 0 where
-  pub mid : Output
-  pub lines : Appends old.held mid.held (lines 1 turns)
-  pub refusal : Writes mid new (refusal_line status)
+  pub mid : Option (List ℕ)
+  pub lines : Appends old.held mid (lines 1 turns)
+  pub refusal : Writes (output_of mid old.faults) new (refusal_line status)
+
+-- the line of the last turn could not be written whole, but a part from its front
+pub record IsCutOff (old new : Option (List ℕ)) (turns : List Turn) : Type 0 where
+  pub done : List Turn
+  pub last : Turn
+  pub split : turns ≡ done ++ last ∷ []
+  pub mid : Option (List ℕ)
+  pub whole : Appends old mid (lines 1 done)
+  pub part : AppendsPart mid new (line (suc (length done)) last.end)
 
 -- what was printed of so many connections at most, and why the run ended so
 abbrev pub Printed : ℕ → State → ℕ → ℕ → Output → Output → ServeStatus → List Turn → Type 0
-Printed count last door_before door_now old new statuses.Done turns = (length turns ≡ count) × Appends old.held new.held (lines 1 turns)
+Printed count last door_before door_now old new statuses.Done turns = (length turns ≡ count) × (is_spent last.store ≡ false) × Appends old.held new.held (lines 1 turns)
 Printed count last door_before door_now old new statuses.DiskFault turns = (length turns ≤ count) × (is_spent last.store ≡ true) × Refuses old new turns statuses.DiskFault
 Printed count last door_before door_now old new statuses.DoorFault turns =
-    (length turns < count) × Rose door_before door_now × Refuses old new turns statuses.DoorFault
-Printed count last door_before door_now old new statuses.WriteFault turns = (length turns ≤ count) × Rose old.faults new.faults × AppendsPart old.held new.held (lines 1 turns)
+    (length turns < count) × (is_spent last.store ≡ false) × Rose door_before door_now × Refuses old new turns statuses.DoorFault
+Printed count last door_before door_now old new statuses.WriteFault turns = (length turns ≤ count) × Rose old.faults new.faults × IsCutOff old.held new.held turns
 Printed count last door_before door_now old new statuses.Usage turns = ⊥
 Printed count last door_before door_now old new (statuses.NotAStore at) turns = ⊥
 Printed count last door_before door_now old new statuses.Memory turns = ⊥

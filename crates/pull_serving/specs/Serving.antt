@@ -1,5 +1,5 @@
 -- A whole run of the server.
-use Rattle.std.specs.Prelude.{◌≡◌, ◌≢◌, ◌⊎◌, ℕ, List, [], Option}
+use Rattle.std.specs.Prelude.{◌≡◌, ◌≢◌, ◌⊎◌, ◌≤◌, ℕ, List, [], Option}
 use Rattle.clap.specs.Words.{fault_of}
 use Rattle.dsc_outside.specs.declared.disk.Disk.{Ghosts}
 use Rattle.dsc_outside.specs.Disk.{From}
@@ -34,6 +34,7 @@ pub record IsOpenedRun {D : Type 0} (d : Ghosts D) (count : ℕ) (before after :
   pub opened : StoreTerm
   pub last : StoreTerm
   pub is_opened : IsOpened d before disk opened
+  pub later : d.faults before ≤ d.faults disk
   pub run : IsRun d disk after around.shelf (state d disk opened around.shelf_faults) (state d after last around_after.shelf_faults) around.door around_after.door
       (Printed count (state d after last around_after.shelf_faults) around.door_faults around_after.door_faults out out_after status)
   pub any_moment : AtAnyMoment d before after (λ image. From KeepsRows (d.images before) image ⊎ Visits (state d disk opened around.shelf_faults) run.turns image)

@@ -1,5 +1,5 @@
 -- One connection: what was received, what was replied, and how it ended.
-use Rattle.std.specs.Prelude.{◌≡◌, ◌⊎◌, ℕ, true, false, List, Option, Some, IfSome, ⊤}
+use Rattle.std.specs.Prelude.{◌≡◌, ◌⊎◌, ◌≤◌, ℕ, true, false, List, Option, Some, IfSome, ⊤}
 use Rattle.std.specs.Io.KnownBytes.{Appends}
 use Rattle.dsc_terms.specs.Counts.{Rose}
 use Rattle.dsc_outside.specs.declared.disk.Disk.{Ghosts}
@@ -11,10 +11,10 @@ use Rattle.pull_outside.specs.Door.{Known}
 use Rattle.pull_outside.specs.Shelf.{Contents}
 use Rattle.pull_exchange.specs.declared.exchange.Received.{Received}
 use Rattle.pull_exchange.specs.declared.exchange.Received.TheVariants as received
-use Rattle.pull_exchange.specs.Exchange.{AppendsPart, IsReceived, refusal_of}
+use Rattle.pull_exchange.specs.Exchange.{AppendsPart, IsReceived, IsRefusal, refusal_of}
 use Rattle.pull_store.specs.declared.row.Row.{Row}
 use Rattle.pull_store.specs.Stands.{Stands}
-use Rattle.pull_store.specs.Store.{StoreTerm, IsKept, is_spent}
+use Rattle.pull_store.specs.Store.{StoreTerm, IsKept, Untouched, is_spent}
 use Rattle.pull_server.specs.Answers.{IsAcknowledged, LeavesRows, Replies, is_done}
 use Rattle.pull_server.specs.Replies.{plain}
 use Rattle.pull_serving.specs.declared.connection.ConnectionEnd.{ConnectionEnd}
@@ -66,7 +66,7 @@ pub record IsReplyTo (shelf : Option Contents) (t : Turn) (request : Request) (r
 -- the reply to what was received
 abbrev pub IsReply : Option Contents → Turn → Received → Reply → Type 0
 IsReply shelf t (received.Request request) reply = IsReplyTo shelf t request reply
-IsReply shelf t (received.Refused e) reply = reply ≡ refusal_of e
+IsReply shelf t (received.Refused e) reply = IsRefusal e × (reply ≡ refusal_of e)
 IsReply shelf t (received.Torn at) reply = ⊥
 IsReply shelf t received.ReadFault reply = ⊥
 IsReply shelf t received.Memory reply = ⊥
@@ -103,6 +103,15 @@ pub record IsCut (shelf : Option Contents) (t : Turn) : Type 0 where
   pub rose : ConnectionRose t
   pub written : AppendsPart t.came.held t.went.held (answer_text reply)
 
+-- memory was refused before the store was changed
+abbrev pub IsStoreSame : Turn → Type 0
+IsStoreSame t = t.after.store ≡ t.before.store
+
+-- there is a reply, for whose text memory was refused
+pub record IsUnsent (shelf : Option Contents) (t : Turn) : Type 0 where
+  pub reply : Reply
+  pub is_reply : IsReply shelf t t.received reply
+
 -- why the turn ended so
 abbrev pub IsEnd : Option Contents → Turn → ConnectionEnd → Type 0
 IsEnd shelf t (ends.Answered code) = IsAnswered shelf t code
@@ -110,7 +119,7 @@ IsEnd shelf t ends.DiskFault = IsBroken shelf t
 IsEnd shelf t (ends.Torn at) = (t.received ≡ received.Torn at) × WroteNothing t
 IsEnd shelf t ends.ReadFault = (t.received ≡ received.ReadFault) × ConnectionRose t × WroteNothing t
 IsEnd shelf t ends.WriteFault = IsCut shelf t
-IsEnd shelf t ends.Memory = WroteNothing t
+IsEnd shelf t ends.Memory = WroteNothing t × (IsStoreSame t ⊎ IsUnsent shelf t)
 
 -- ---- the turn
 
@@ -122,13 +131,13 @@ MayLeave (received.Torn at) old new = new ≡ old
 MayLeave received.ReadFault old new = new ≡ old
 MayLeave received.Memory old new = new ≡ old
 
--- what is no request touches nothing
-abbrev pub Touches : Received → State → State → Type 0
-Touches (received.Request request) old new = ⊤
-Touches (received.Refused e) old new = new ≡ old
-Touches (received.Torn at) old new = new ≡ old
-Touches received.ReadFault old new = new ≡ old
-Touches received.Memory old new = new ≡ old
+-- what is no request leaves all as it was
+abbrev pub Leaves : Received → State → State → Type 0
+Leaves (received.Request request) old new = ⊤
+Leaves (received.Refused e) old new = new ≡ old
+Leaves (received.Torn at) old new = new ≡ old
+Leaves received.ReadFault old new = new ≡ old
+Leaves received.Memory old new = new ≡ old
 
 -- the end of a turn in which the store was spent
 abbrev pub ShowsFault : ConnectionEnd → Type 0
@@ -138,14 +147,25 @@ ShowsFault end = (end ≡ ends.DiskFault) ⊎ (end ≡ ends.Memory)
 pub record IsTurn (shelf : Option Contents) (t : Turn) : Type 0 where
   pub heard : IfSome t.came.left (λ bytes. IsReceived bytes t.received)
   pub rows : MayLeave t.received t.before.store.rows t.after.store.rows
-  pub touches : Touches t.received t.before t.after
+  pub leaves : Leaves t.received t.before t.after
   pub end : IsEnd shelf t t.end
   pub spent : is_spent t.before.store ≡ false → is_spent t.after.store ≡ true → DiskRose t × ShowsFault t.end
+  pub disk_count : t.before.disk_faults ≤ t.after.disk_faults
+  pub shelf_count : t.before.shelf_faults ≤ t.after.shelf_faults
+  pub connection_count : t.came.faults ≤ t.went.faults
 
 -- where a registration or a report was answered that it was done, every image stands for the rows after it
 abbrev pub Acknowledges : {D : Type 0} → Ghosts D → Received → StoreTerm → D → StoreTerm → ConnectionEnd → Type 0
 Acknowledges d (received.Request request) old now new (ends.Answered code) = is_done code ≡ true → IsAcknowledged d request old now new
 Acknowledges d received old now new end = ⊤
+
+-- what is no request touches neither store nor disk, nor does a request to a spent store
+abbrev pub Rests : Received → StoreTerm → Type 0 → Type 0
+Rests (received.Request request) store untouched = is_spent store ≡ true → untouched
+Rests (received.Refused e) store untouched = untouched
+Rests (received.Torn at) store untouched = untouched
+Rests received.ReadFault store untouched = untouched
+Rests received.Memory store untouched = untouched
 
 -- all that serving a connection did, and what a crash at any moment of it leaves
 pub record IsServed {D : Type 0} (d : Ghosts D) (before now : D) (shelf : Option Contents) (came went : Known) (old new : State) (end : ConnectionEnd) : Type 0 where
@@ -153,3 +173,4 @@ pub record IsServed {D : Type 0} (d : Ghosts D) (before now : D) (shelf : Option
   pub turn : IsTurn shelf (record { came = came; went = went; received = received; before = old; after = new; end = end })
   pub any_moment : IsKept d before old.store → StandsAtAnyMoment d before now Stands (MayLeave received old.store.rows)
   pub acknowledged : Acknowledges d received old.store now new.store end
+  pub rests : Rests received old.store (Untouched old.store new.store before now)

@@ -6,9 +6,9 @@ use Rattle.gate_log.specs.Standing.{StandsAtAnyMoment, StandsFor}
 use Rattle.pull_outside.specs.Door.{Known, GetsBack, TakesFirst}
 use Rattle.pull_outside.specs.Shelf.{Contents}
 use Rattle.pull_store.specs.Stands.{Stands}
-use Rattle.pull_store.specs.Store.{is_spent}
+use Rattle.pull_store.specs.Store.{IsReady, is_spent}
 use Rattle.pull_serving.specs.declared.connection.ConnectionEnd.{ConnectionEnd}
-use Rattle.pull_serving.specs.Turn.{IsTurn, MayLeave, State, Turn}
+use Rattle.pull_serving.specs.Turn.{IsTurn, MayLeave, State, Turn, state}
 
 -- each was served in its turn over what the one before it left, while the store was not spent
 abbrev pub Runs : Option Contents → State → List Turn → State → Type 0
@@ -42,6 +42,13 @@ Lasts now since [] = ⊤
 Lasts now since (t ∷ ts) =
     (t.after.moment ≤ now) × (is_spent t.after.store ≡ false → (image : List ℕ) → since t.after.moment image → Visits t.after ts image) × Lasts now since ts
 
+-- the disk went with the turns from one to the next, and at each moment of a turn left rows that the turn may leave
+abbrev pub Passes : {D : Type 0} → Ghosts D → D → List Turn → D → Type 0
+Passes {D = D} d old [] new = new ≡ old
+Passes {D = D} d old (t ∷ ts) new =
+    (mid : D) × (t.after ≡ state d mid t.after.store t.after.shelf_faults) × IsReady d mid t.after.store
+    × StandsAtAnyMoment d old mid Stands (MayLeave t.received t.before.store.rows) × Passes d mid ts new
+
 -- what is known of the door: the connections that are still to come, those that were handed back, and how many were given and not handed back
 pub record Doorway : Type 0 where
   pub coming : Option (List Known)
@@ -63,6 +70,8 @@ pub record IsStep {D : Type 0} (d : Ghosts D) (old new : D) (shelf : Option Cont
   pub gave : GetsBack door.back door_after.back turn.went
   pub none_out : door_after.out ≡ door.out
   pub any_moment : StandsAtAnyMoment d old new Stands (MayLeave turn.received turn.before.store.rows)
+  pub is_state : turn.after ≡ state d new turn.after.store turn.after.shelf_faults
+  pub ready : IsReady d new turn.after.store
   pub ends_now : turn.after.moment ≡ d.moment new
   pub stands : is_spent turn.after.store ≡ false → (image : List ℕ) → d.left_since new turn.after.moment image → StandsFor Stands (λ rows. rows ≡ turn.after.store.rows) image
 
@@ -74,5 +83,6 @@ pub record IsRun {D : Type 0} (d : Ghosts D) (old new : D) (shelf : Option Conte
   pub gave : Gave door.back door_after.back turns
   pub none_out : door_after.out ≡ door.out
   pub printed : Printed turns
+  pub passes : Passes d old turns new
   pub any_moment : AtAnyMoment d old new (Visits first turns)
   pub lasts : Lasts (d.moment new) (d.left_since new) turns

@@ -1,5 +1,5 @@
 -- The eight words are taken, and give their values.
-use Rattle.std.proofs.Common.{◌≡◌, ◌≢◌, ◌∙◌, ◌<◌, ◌≤◌, ◌==◌, ◌^◌, ℕ, Bool, true, false, List, [], ◌∷◌, refl, sym, ap, ap₂, cond, drop, subst, Option, Some, None, codes, arith, rules, bytes_eq, length, if◌then◌else◌, ◌&&◌}
+use Rattle.std.proofs.Common.{◌≡◌, ◌∙◌, ◌≤◌, ◌==◌, ℕ, Bool, true, false, List, [], ◌∷◌, refl, sym, ap, ap₂, cond, drop, subst, Option, Some, None, codes, arith, rules, bytes_eq, if◌then◌else◌, ◌&&◌}
 use Rattle.std.specs.Prelude.{fold, option_and_then, pos}
 use Rattle.std.specs.Fmt.{decimal}
 use Rattle.std.specs.Option.{option_map_or}
@@ -8,9 +8,8 @@ use Rattle.std.proofs.lemmas.Bool.{ne_eqb}
 use Rattle.std.proofs.lemmas.Fmt.{decimal_is_IsNumeral}
 use Rattle.std.proofs.lemmas.Str.Parse.{digit_from_value}
 use Rattle.clap.specs.Lexer.{long_of, long_of_rest, short_of, short_of_rest, strip_byte}
-use Rattle.clap.specs.Faults.{bundle_fault, check_fault, defaults_fault, fault_of, flag_word_fault, settle_fault, step_fault, turn_fault, walk_fault, word_fault}
+use Rattle.clap.specs.Faults.{bundle_fault, check_fault, defaults_fault, flag_word_fault, settle_fault, step_fault, turn_fault, walk_fault, word_fault}
 use Rattle.clap.specs.Kinds.{Kinds, or_else}
-use Rattle.clap.specs.Simple.{matches_of}
 use Rattle.clap.specs.Values.{IsSignedIn}
 use Rattle.clap.specs.ValueTests.{accepts}
 use Rattle.clap.specs.Walk.{Held, Row, Step, Text, Walk, after_step, finished, first_of, long_or_other, option, plain_word, settled, short_or_plain, trailing, walked, word_met}
@@ -19,7 +18,7 @@ use Rattle.clap.specs.declared.builder.value_parser.ValueParser.TheVariants as v
 use Rattle.clap.proofs.OnLiterals.{clap_on_literals}
 use Rattle.clap.proofs.ValueTestLemmas.{Accepts-accepts}
 use Rattle.serve_words.specs.Laws.{Give, IsPlain, eight_words}
-use Rattle.serve_words.specs.Words.{SpellsCount, serve_app, value_of}
+use Rattle.serve_words.specs.Words.{SpellsCount, value_of}
 use Rattle.serve_words.proofs.Options.{Which, connections, fault_is, listen, name, remains, shape, shelf, store}
 use Rattle.serve_words.proofs.Options as built
 use Rattle.serve_words.proofs.Turns.{closed, full, held_at, opened, state}
@@ -89,8 +88,10 @@ module _ (x : ℕ) (xs : Text) (other : (x == 45) ≡ false) where
 module _ (s f l n : Text) where
   abbrev one : List Row
   one = rows_of ((store, s) ∷ [])
+
   abbrev two : List Row
   two = rows_of ((store, s) ∷ (shelf, f) ∷ [])
+
   abbrev three : List Row
   three = rows_of ((store, s) ∷ (shelf, f) ∷ (listen, l) ∷ [])
 
@@ -122,10 +123,13 @@ module _ (s f l n : Text) where
 module _ (x y z u : ℕ) (xs ys zs us : Text) (hx : (x == 45) ≡ false) (hy : (y == 45) ≡ false) (hz : (z == 45) ≡ false) (hu : (u == 45) ≡ false) where
   abbrev s' : Text
   s' = x ∷ xs
+
   abbrev f' : Text
   f' = y ∷ ys
+
   abbrev l' : Text
   l' = z ∷ zs
+
   abbrev n' : Text
   n' = u ∷ us
 

@@ -1,13 +1,12 @@
 -- The rows of a walk without faults: each option at most once, each with one value that its parser takes.
-use Rattle.std.proofs.Common.{◌≡◌, ◌∙◌, ◌++◌, ℕ, Bool, true, false, not, List, [], ◌∷◌, refl, sym, ap, subst, map, Option, Some, None, bytes_eq, cond, ◌&&◌, ◌||◌, if◌then◌else◌}
+use Rattle.std.proofs.Common.{◌≡◌, ◌∙◌, ◌++◌, Bool, true, false, not, List, [], ◌∷◌, refl, sym, ap, subst, map, Option, Some, None, bytes_eq, cond, ◌&&◌, ◌||◌, if◌then◌else◌}
 use Rattle.std.specs.Prelude.{find, fold}
 use Rattle.std.specs.Option.{option_map_or}
 use Rattle.std.proofs.lemmas.List.{append-nil, map_push}
 use Rattle.clap.specs.Facts.{explicit_source}
 use Rattle.clap.specs.Faults.{check_fault, settle_fault, use_fault}
-use Rattle.clap.specs.Kinds.{Kinds}
 use Rattle.clap.specs.Takes.{is_given}
-use Rattle.clap.specs.Walk.{Held, Row, Rule, Text, at_row, finished, has_row, more_values, reading_by, settled, used, with_default, with_values, without}
+use Rattle.clap.specs.Walk.{Held, Row, Text, at_row, finished, has_row, more_values, reading_by, settled, used, with_default, with_values, without}
 use Rattle.clap.specs.ValueTests.{accepts}
 use Rattle.clap.specs.declared.error.kind.ErrorKind.{ErrorKind}
 use Rattle.clap.specs.declared.error.kind.ErrorKind.TheVariants as kind
@@ -61,9 +60,10 @@ use_adds o v es h =
     let parts = first_empty _ _ h in
     let new : has_row (name o) (rows_of es) ≡ false = not_there _ kind.ArgumentConflict parts.0 in
     let left : without (name o) (rows_of es) ≡ rows_of es = fresh (name o) (λ _. []) [] (rows_of es) new ∙ append-nil (rows_of es) in
-    let put = fresh (name o) (more_values CommandLine (v ∷ [])) (row (o, v) ∷ []) (rows_of es) new in
-    (ap (with_values (name o) (reading_by (rule o)) CommandLine (v ∷ [])) left ∙ put ∙ sym (map_push row es (o, v)),
-    is_taken _ _ (first_empty _ _ parts.1).0)
+    let put = fresh (name o) (more_values CommandLine (v ∷ [])) (row (o, v) ∷ []) (rows_of es) new in (
+      ap (with_values (name o) (reading_by (rule o)) CommandLine (v ∷ [])) left ∙ put ∙ sym (map_push row es (o, v)),
+      is_taken _ _ (first_empty _ _ parts.1).0,
+    )
 
 -- ---- the use that a place still owes
 

@@ -1,17 +1,17 @@
 -- Words none of which names some option are refused.
-use Rattle.std.proofs.Common.{◌≡◌, ◌≢◌, ◌⊎◌, ◌∙◌, ◌++◌, ◌<◌, ◌==◌, ℕ, Bool, true, false, List, [], ◌∷◌, refl, sym, ap, subst, Option, Some, None, codes, arith, length, inl, inr, slice_index_or, if◌then◌else◌}
+use Rattle.std.proofs.Common.{◌≡◌, ◌≢◌, ◌⊎◌, ◌∙◌, ◌++◌, ◌==◌, ℕ, Bool, true, false, List, [], ◌∷◌, refl, sym, ap, subst, Option, Some, None, length, inl, inr, slice_index_or, if◌then◌else◌}
 use Rattle.std.specs.List.{All, after_first, before_first, position_or_len}
 use Rattle.std.proofs.lemmas.Bool.{cases_lt, eqb-true}
 use Rattle.std.proofs.lemmas.List.{take_all}
 use Rattle.std.proofs.lemmas.List.Sums.{passes_at_first, split_at_first}
-use Rattle.clap.specs.Lexer.{long_of, long_of_rest, name_and_value, strip_byte}
+use Rattle.clap.specs.Lexer.{long_of, long_of_rest, strip_byte}
 use Rattle.clap.specs.Faults.{fault_of}
 use Rattle.clap.specs.Walk.{Text}
 use Rattle.serve_words.specs.Laws.{IsOption, Names}
 use Rattle.serve_words.specs.Words.{serve_app}
 use Rattle.serve_words.proofs.Options.{Which, connections, fault_is, listen, name, shelf, store}
 use Rattle.serve_words.proofs.Turns.{Place, closed, full, opened}
-use Rattle.serve_words.proofs.Entries.{Each, Entry, Takes, each_adds, each_push}
+use Rattle.serve_words.proofs.Entries.{Each, Entry, each_adds, each_push}
 use Rattle.serve_words.proofs.Steps.{Step, ended, ends_with, given, named, valued}
 use Rattle.serve_words.proofs.Taken.{found_at_end}
 
@@ -93,9 +93,11 @@ stays_without : (o : Which) (word : Text) (es fs : List Entry) (place next : Pla
 stays_without o word es fs place next is_over q (ended e) holds = holds
 stays_without o word es fs place next is_over q (named p gs e adds) holds =
     (each_adds (Other o) place es gs adds holds.0 (λ r v at t. subst (Away o) at holds.1), other_than o p word None q e)
-stays_without o word es fs place next is_over q (given p v gs e adds takes) holds =
-    (each_push (Other o) gs (p, v) (each_adds (Other o) place es gs adds holds.0 (λ r w at t. subst (Away o) at holds.1))
-    (other_than o p word (Some v) q e), tt)
+stays_without o word es fs place next is_over q (given p v gs e adds takes) holds = (
+  each_push (Other o) gs (p, v) (each_adds (Other o) place es gs adds holds.0 (λ r w at t. subst (Away o) at holds.1))
+      (other_than o p word (Some v) q e),
+  tt,
+)
 stays_without o word es fs place next is_over q (valued p e plain) holds = (holds.0, subst (Away o) e holds.1)
 
 without_option : (o : Which) (words : List Text) → All (Unnamed o) words → fault_of serve_app words ≢ []

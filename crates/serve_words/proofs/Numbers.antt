@@ -6,7 +6,7 @@ use Rattle.std.proofs.lemmas.Int.{ints}
 use Rattle.clap.specs.Lexer.{long_of}
 use Rattle.clap.specs.Faults.{fault_of, walk_fault}
 use Rattle.clap.specs.ValueTests.{accepts}
-use Rattle.clap.specs.Walk.{Text, Walk}
+use Rattle.clap.specs.Walk.{Text}
 use Rattle.clap.specs.declared.builder.value_parser.ValueParser.TheVariants as vp
 use Rattle.clap.proofs.ValueTestLemmas.{accepts-Accepts}
 use Rattle.serve_words.specs.Words.{SpellsCount, serve_app}
@@ -15,21 +15,26 @@ use Rattle.serve_words.proofs.Turns.{Place, closed, first_empty, full, no_turn, 
 use Rattle.serve_words.proofs.Entries.{Entry, Takes, rows_of, settles}
 use Rattle.serve_words.proofs.Steps.{Step, ended, given, goes, named, remains_after, valued}
 
--- what the parser takes spells a number in its range
-pub spelled : (t : Text) → accepts false (vp.Signed (pos 1) (pos 1_000_000)) t ≡ true → SpellsCount t (digits_value 10 (without_leading_plus t))
-spelled t takes = go (starts_with_minus t) refl
+-- a number of the range has no minus
+pub no_minus : (t : Text) → accepts false (vp.Signed (pos 1) (pos 1_000_000)) t ≡ true → starts_with_minus t ≡ false
+no_minus t takes = go (starts_with_minus t) refl
   where
-    go : (b : Bool) → starts_with_minus t ≡ b → SpellsCount t (digits_value 10 (without_leading_plus t))
+    go : (b : Bool) → starts_with_minus t ≡ b → b ≡ false
+    go false minus = refl
     go true minus =
         let passed = accepts-Accepts false (vp.Signed (pos 1) (pos 1_000_000)) t takes in
         let low = rw minus at passed.2 in
         absurd (omega (arith, ints))
-    go false minus =
-        let passed = accepts-Accepts false (vp.Signed (pos 1) (pos 1_000_000)) t takes in
-        let low = rw minus at passed.2 in
-        let high = rw minus at passed.3 in
-        let numeral : IsNumeral 10 (without_leading_plus t) = rw minus at passed.0 in
-        record { numeral = numeral; value = refl; least = omega (arith, ints); most = omega (arith, ints) }
+
+-- what the parser takes spells a number in its range
+pub spelled : (t : Text) → accepts false (vp.Signed (pos 1) (pos 1_000_000)) t ≡ true → SpellsCount t (digits_value 10 (without_leading_plus t))
+spelled t takes =
+    let minus = no_minus t takes in
+    let passed = accepts-Accepts false (vp.Signed (pos 1) (pos 1_000_000)) t takes in
+    let numeral : IsNumeral 10 (without_leading_plus t) = rw minus at passed.0 in
+    let low = rw minus at passed.2 in
+    let high = rw minus at passed.3 in
+    record { numeral = numeral; value = refl; least = omega (arith, ints); most = omega (arith, ints) }
 
 -- ---- from a place on
 
@@ -97,11 +102,11 @@ given_with : Option (Text × Option Text) → Option Text
 given_with None = None
 given_with (Some p) = p.1
 
-none_is_none : (v : Text) → ◌≡◌ {A = Option Text} None (Some v) → ⊥
-none_is_none v e = cc
+pub none_is_none : {X : Type 0} (x : X) → None ≡ Some x → ⊥
+none_is_none x e = cc
 
-some_is_some : (v w : Text) → Some v ≡ Some w → w ≡ v
-some_is_some v w e = cc
+pub same_some : {X : Type 0} (x y : X) → Some x ≡ Some y → x ≡ y
+same_some x y e = cc
 
 is_read : true ≡ false → ⊥
 is_read e = cc
@@ -147,7 +152,7 @@ joined_taken text before rest e =
     go es place fs next over (named p gs e adds) = absurd (none_is_none text (sym (ap given_with e)))
     go es place fs next over (given p v gs e adds takes) =
         let same = sym (named_joined text p (Some v) e) in
-        let value : v ≡ text = some_is_some text v (ap given_with e) in
+        let value : v ≡ text = sym (same_some text v (ap given_with e)) in
         subst (λ (q : Which). Takes (q, text)) same (subst (λ (t : Text). Takes (p, t)) value takes)
     go es place fs next over (valued p e plain) = absurd (is_read (ap is_some plain))
 

@@ -1,5 +1,5 @@
 -- The four options of the built command, and what a name, a letter or an id finds there.
-use Rattle.std.proofs.Common.{◌≡◌, ◌∙◌, ℕ, Bool, true, false, List, [], ◌∷◌, refl, sym, codes, cond, ◌||◌, ◌==◌, Option, Some, None, pos, bytes_eq}
+use Rattle.std.proofs.Common.{◌≡◌, Bool, true, false, List, [], ◌∷◌, refl, sym, codes, cond, ◌||◌, Option, Some, None, pos, bytes_eq}
 use Rattle.std.proofs.lemmas.Slice.Eq.{bytes_eq-Decides}
 use Rattle.clap.specs.Faults.{fault_of, settle_fault, defaults_fault, check_fault, walk_fault}
 use Rattle.clap.specs.Kinds.{Kinds, or_else}

@@ -1,38 +1,16 @@
 -- The values in what a parse found.
-use Rattle.std.proofs.Common.{◌≡◌, ◌∙◌, ◌<◌, ◌==◌, ℕ, Bool, true, false, List, [], ◌∷◌, refl, sym, ap, Option, Some, None, codes, arith, bytes_eq, if◌then◌else◌, ◌^◌}
-use Rattle.std.specs.Prelude.{Err, Ok, Result, find, option_and_then, pos, slice_get, unwrap_or}
+use Rattle.std.proofs.Common.{◌≡◌, ◌∙◌, ℕ, Bool, false, List, [], ◌∷◌, refl, sym, ap, Option, Some, None, arith, bytes_eq, if◌then◌else◌}
+use Rattle.std.specs.Prelude.{Err, Ok, Result, find, option_and_then, slice_get, unwrap_or}
 use Rattle.std.specs.Str.Parse.{ParsesUnsigned, starts_with_minus}
-use Rattle.std.proofs.lemmas.Int.{ints}
 use Rattle.clap.specs.Lexer.{without_minus}
 use Rattle.clap.specs.Faults.{fault_of}
 use Rattle.clap.specs.Matches.{ReadsOne}
 use Rattle.clap.specs.Simple.{matches_of}
-use Rattle.clap.specs.ValueTests.{accepts}
 use Rattle.clap.specs.Walk.{Row, Text, first_of, row_text}
-use Rattle.clap.specs.declared.builder.value_parser.ValueParser.TheVariants as vp
-use Rattle.clap.proofs.ValueTestLemmas.{accepts-Accepts}
 use Rattle.serve_words.specs.Words.{HasCount, HasText, SpellsCount, serve_app, value_of}
-use Rattle.serve_words.proofs.Options.{Which, connections, listen, name, shelf, store}
-use Rattle.serve_words.proofs.Entries.{row}
-use Rattle.serve_words.proofs.Numbers.{spelled}
+use Rattle.serve_words.proofs.Options.{Which, connections, name}
+use Rattle.serve_words.proofs.Numbers.{no_minus, spelled}
 use Rattle.serve_words.proofs.Taken.{taken}
-
-pub none_is_none : {X : Type 0} (x : X) → None ≡ Some x → ⊥
-none_is_none x e = cc
-
-pub same_some : {X : Type 0} (x y : X) → Some x ≡ Some y → x ≡ y
-same_some x y e = cc
-
--- a number of the range has no minus
-no_minus : (t : Text) → accepts false (vp.Signed (pos 1) (pos 1_000_000)) t ≡ true → starts_with_minus t ≡ false
-no_minus t takes = go (starts_with_minus t) refl
-  where
-    go : (b : Bool) → starts_with_minus t ≡ b → b ≡ false
-    go false minus = refl
-    go true minus =
-        let passed = accepts-Accepts false (vp.Signed (pos 1) (pos 1_000_000)) t takes in
-        let low = rw minus at passed.2 in
-        absurd (omega (arith, ints))
 
 read_whole : (t : Text) → starts_with_minus t ≡ false → without_minus t ≡ t
 read_whole [] minus = refl
@@ -49,8 +27,12 @@ module _ (words : List Text) (rows : List Row) (same : rows ≡ matches_of serve
       let got = taken words whole connections in
       let found = ap (find (λ r. bytes_eq r.id (name connections))) same ∙ got.1 in (
         _,
-        (got.0, ap (option_and_then (λ r. slice_get r.values 0)) found,
-        ap (option_and_then row_text) found ∙ ap Some (read_whole got.0 (no_minus got.0 got.2)), spelled got.0 got.2),
+        (
+          got.0,
+          ap (option_and_then (λ r. slice_get r.values 0)) found,
+          ap (option_and_then row_text) found ∙ ap Some (read_whole got.0 (no_minus got.0 got.2)),
+          spelled got.0 got.2,
+        ),
       )
 
 pub value_is : (id : Text) (words : List Text) (rows : List Row) (v : Text) → rows ≡ matches_of serve_app words → first_of id rows ≡ Some v

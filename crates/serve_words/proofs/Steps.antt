@@ -1,13 +1,13 @@
 -- A walk without faults, word by word, in entries.
-use Rattle.std.proofs.Common.{◌≡◌, ◌∙◌, ◌++◌, ◌<◌, ℕ, zero, suc, Bool, true, false, List, [], ◌∷◌, refl, sym, ap, subst, Option, Some, None, arith, length}
+use Rattle.std.proofs.Common.{◌≡◌, ◌∙◌, ◌++◌, ℕ, suc, Bool, true, false, List, [], ◌∷◌, refl, ap, subst, Some, None, arith}
 use Rattle.std.specs.Prelude.{fold}
 use Rattle.std.specs.List.{All}
 use Rattle.clap.specs.Lexer.{long_of}
 use Rattle.clap.specs.Faults.{check_fault, defaults_fault, settle_fault, turn_fault, use_fault, walk_fault}
 use Rattle.clap.specs.Kinds.{Kinds, or_else}
-use Rattle.clap.specs.Walk.{Held, Row, Text, Walk, finished, settled, used, walked}
+use Rattle.clap.specs.Walk.{Row, Text, Walk, finished, settled, used, walked}
 use Rattle.serve_words.proofs.Options.{Which, name, remains, rule, rules, shape}
-use Rattle.serve_words.proofs.Turns.{Place, Turn, closed, dashes, ends, fills, first_empty, full, gives, held_at, no_turn, opened, opens, settled_at, state, turn}
+use Rattle.serve_words.proofs.Turns.{Place, Turn, closed, dashes, ends, fills, first_empty, full, gives, held_at, no_turn, opened, opens, state, turn}
 use Rattle.serve_words.proofs.Entries.{Adds, Entry, Takes, rows_of, settles, use_adds}
 
 -- what a word makes of the entries and the place; the last says that `--` was met

@@ -197,17 +197,13 @@ fn expect_failing(rt: &HostRuntime, case: &Case<'_>, failing: usize) -> Result<(
     play(rt, &watch, (*call, Failed), undone, done)
 }
 
+// The table is read in one place, since each place costs its proof again.
 #[test]
-fn each_call_takes_its_steps_in_their_order(rt: HostRuntime) -> Result<(), Fail> {
+fn each_call_takes_its_steps_and_one_that_fails_leaves_the_old_or_the_new(
+    rt: HostRuntime,
+) -> Result<(), Fail> {
     for case in CASES {
         expect_done(&rt, case)?;
-    }
-    Ok(())
-}
-
-#[test]
-fn a_step_that_fails_leaves_the_old_or_the_new(rt: HostRuntime) -> Result<(), Fail> {
-    for case in CASES {
         for failing in 0..case.1.len() {
             expect_failing(&rt, case, failing)?;
         }

@@ -331,6 +331,8 @@ fn long_chunks() -> &'static [&'static [u8]] {
     ]
 }
 
+const LONG_HEAD: &[u8] = b"GET / HTTP/1.1\r\nA: ";
+
 const CHUNKED: &[u8] = b"POST / HTTP/1.1\r\nTransfer-Encoding: chunked\r\n\r\n";
 
 type Read = Result<Option<Request>, FrameError>;
@@ -397,55 +399,86 @@ fn wrong_chunks_are_refused_at_their_place(rt: HostRuntime) -> Result<(), Fail> 
     Ok(())
 }
 
+// How many header lines a head has, and its end: whole, begun, and wrong.
+fn whole_lines() -> &'static [(usize, &'static [u8])] {
+    &[(63, b"\r\n"), (64, b"\r\n")]
+}
+
+fn begun_lines() -> &'static [(usize, &'static [u8])] {
+    &[(63, b"x"), (64, b""), (64, b"\r")]
+}
+
+fn wrong_lines() -> &'static [(usize, &'static [u8])] {
+    &[(64, b"x"), (65, b"\r\n"), (66, b"\r\n")]
+}
+
 #[test]
 fn a_head_has_64_header_lines_at_most(rt: HostRuntime) -> Result<(), Fail> {
-    let alloc = rt.alloc();
-    reads(&rt, alloc, &lines(alloc, 63, b"\r\n")?, b"");
-    reads(&rt, alloc, &lines(alloc, 64, b"\r\n")?, b"");
-    awaits(&rt, alloc, &lines(alloc, 63, b"x")?);
-    awaits(&rt, alloc, &lines(alloc, 64, b"")?);
-    awaits(&rt, alloc, &lines(alloc, 64, b"\r")?);
-    refuses(&rt, alloc, &lines(alloc, 64, b"x")?, FrameError::Head);
-    refuses(&rt, alloc, &lines(alloc, 65, b"\r\n")?, FrameError::Head);
-    refuses(&rt, alloc, &lines(alloc, 66, b"\r\n")?, FrameError::Head);
+    for (count, end) in whole_lines() {
+        reads(&rt, rt.alloc(), &lines(rt.alloc(), *count, end)?, b"");
+    }
+    for (count, end) in begun_lines() {
+        awaits(&rt, rt.alloc(), &lines(rt.alloc(), *count, end)?);
+    }
+    for (count, end) in wrong_lines() {
+        refuses(
+            &rt,
+            rt.alloc(),
+            &lines(rt.alloc(), *count, end)?,
+            FrameError::Head,
+        );
+    }
     Ok(())
+}
+
+// To how many bytes a head is filled, its end, where it is split, and why it is refused.
+fn long_heads() -> &'static [(usize, &'static [u8], usize, FrameError)] {
+    &[
+        (16_384, b"", 16_383, FrameError::HeadTooLong),
+        (16_381, b"\r\n\r\n", 16_383, FrameError::HeadTooLong),
+        (16_383, b"\x00", 16_383, FrameError::Head),
+    ]
 }
 
 #[test]
 fn a_head_has_16384_bytes_at_most(rt: HostRuntime) -> Result<(), Fail> {
-    let alloc = rt.alloc();
-    let front = b"GET / HTTP/1.1\r\nA: ";
-    let begun = filled(alloc, front, 16_383, b"")?;
-    assert!(rt; waits(&fed_at(alloc, &begun, 16_000)));
-    let long = filled(alloc, front, 16_384, b"")?;
-    assert!(rt; fails(&fed_by_byte(alloc, &long), FrameError::HeadTooLong));
-    let whole = filled(alloc, front, 16_380, b"\r\n\r\n")?;
-    assert!(rt; gives(&fed_at(alloc, &whole, 16_383), b""));
-    let past = filled(alloc, front, 16_381, b"\r\n\r\n")?;
-    assert!(rt; fails(&fed_at(alloc, &past, 16_383), FrameError::HeadTooLong));
-    let wrong = filled(alloc, front, 16_383, b"\x00")?;
-    assert!(rt; fails(&fed_at(alloc, &wrong, 16_383), FrameError::Head));
+    for (length, end, at, error) in long_heads() {
+        let read = filled_head(rt.alloc(), *length, end, *at)?;
+        assert!(rt; fails(&read, *error));
+    }
+    Ok(())
+}
+
+#[test]
+fn a_head_of_16383_bytes_is_waited_for(rt: HostRuntime) -> Result<(), Fail> {
+    let read = filled_head(rt.alloc(), 16_383, b"", 16_000)?;
+    assert!(rt; waits(&read));
+    Ok(())
+}
+
+#[test]
+fn a_head_of_16384_bytes_is_read(rt: HostRuntime) -> Result<(), Fail> {
+    let read = filled_head(rt.alloc(), 16_380, b"\r\n\r\n", 16_383)?;
+    assert!(rt; gives(&read, b""));
+    Ok(())
+}
+
+#[test]
+fn a_head_of_16384_bytes_is_too_long_byte_by_byte(rt: HostRuntime) -> Result<(), Fail> {
+    let long = filled(rt.alloc(), LONG_HEAD, 16_384, b"")?;
+    assert!(rt; fails(&fed_by_byte(rt.alloc(), &long), FrameError::HeadTooLong));
     Ok(())
 }
 
 #[test]
 fn a_body_in_chunks_has_1048576_bytes_at_most(rt: HostRuntime) -> Result<(), Fail> {
-    let alloc = rt.alloc();
-    let front = joined(alloc, CHUNKED, b"0;")?;
-    let whole = filled(
-        alloc,
-        &front,
-        CHUNKED.len().saturating_add(1_048_573),
-        b"\r\n\n",
-    )?;
-    assert!(rt; gives(&fed_at(alloc, &whole, 9_000), b""));
-    let long = filled(
-        alloc,
-        &front,
-        CHUNKED.len().saturating_add(1_048_574),
-        b"\r\n\n",
-    )?;
-    assert!(rt; fails(&fed_at(alloc, &long, 9_000), FrameError::BodyTooLong));
+    assert!(rt; gives(&filled_chunks(rt.alloc(), 1_048_573)?, b""));
+    assert!(rt;
+        fails(
+            &filled_chunks(rt.alloc(), 1_048_574)?,
+            FrameError::BodyTooLong
+        )
+    );
     Ok(())
 }
 
@@ -541,4 +574,18 @@ fn filled(alloc: Global, front: &[u8], length: usize, end: &[u8]) -> Result<Vec<
     }
     bytes.extend_from_slice(end)?;
     Ok(bytes)
+}
+
+// A head that is filled to so many bytes, with the end, in two pieces split at that place.
+fn filled_head(alloc: Global, length: usize, end: &[u8], at: usize) -> Result<Read, AllocError> {
+    let bytes = filled(alloc, LONG_HEAD, length, end)?;
+    Ok(fed_at(alloc, &bytes, at))
+}
+
+// A body in chunks whose last one has so many bytes but its line ends.
+fn filled_chunks(alloc: Global, length: usize) -> Result<Read, AllocError> {
+    let front = joined(alloc, CHUNKED, b"0;")?;
+    let length = CHUNKED.len().saturating_add(length);
+    let bytes = filled(alloc, &front, length, b"\r\n\n")?;
+    Ok(fed_at(alloc, &bytes, 9_000))
 }

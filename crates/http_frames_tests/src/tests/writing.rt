@@ -5,47 +5,103 @@ use mof_values::{Bytes, Items, Text};
 use std::alloc::{AllocError, Global};
 use std::test::Fail;
 
+// A method and a body, the host of the server, and the text of that request.
+fn request_rows() -> &'static [(&'static [u8], &'static [u8], &'static [u8], &'static [u8])] {
+    &[
+        (
+            b"GET",
+            b"",
+            b"pull:8080",
+            b"GET /a HTTP/1.1\r\nHost: pull:8080\r\nConnection: close\r\nProtocolVersion: 2.0\r\n\r\n",
+        ),
+        (
+            b"PUT",
+            b"{}",
+            b"pull:80",
+            b"PUT /a HTTP/1.1\r\nHost: pull\r\nConnection: close\r\nProtocolVersion: 2.0\r\nContent-Length: 2\r\n\r\n{}",
+        ),
+    ]
+}
+
+// A code and a body, and the text of that answer.
+fn answer_rows() -> &'static [(u16, &'static [u8], &'static [u8])] {
+    &[
+        (
+            404,
+            b"",
+            b"HTTP/1.1 404 Not Found\r\nConnection: close\r\nProtocolVersion: 2.0\r\nContent-Length: 0\r\n\r\n",
+        ),
+        (
+            204,
+            b"",
+            b"HTTP/1.1 204 No Content\r\nConnection: close\r\nProtocolVersion: 2.0\r\n\r\n",
+        ),
+        (
+            599,
+            b"x",
+            b"HTTP/1.1 599 \r\nConnection: close\r\nProtocolVersion: 2.0\r\nContent-Length: 1\r\n\r\nx",
+        ),
+    ]
+}
+
 #[test]
 fn requests_are_written(rt: HostRuntime) -> Result<(), Fail> {
-    let alloc = rt.alloc();
-    let get = request(alloc, b"GET", b"")?;
-    let host = Text::from_latin1(alloc, b"pull:8080")?;
-    let text =
-        b"GET /a HTTP/1.1\r\nHost: pull:8080\r\nConnection: close\r\nProtocolVersion: 2.0\r\n\r\n";
-    assert_eq!(rt;
-        write_request(alloc, &get, &host)?.as_slice(),
-        text.as_slice()
-    );
-    let put = request(alloc, b"PUT", b"{}")?;
-    let host = Text::from_latin1(alloc, b"pull:80")?;
-    let text =
-        b"PUT /a HTTP/1.1\r\nHost: pull\r\nConnection: close\r\nProtocolVersion: 2.0\r\nContent-Length: 2\r\n\r\n{}";
-    let written = write_request(alloc, &put, &host)?;
-    assert_eq!(rt; written.as_slice(), text.as_slice());
-    let mut reader = RequestReader::new(alloc);
-    let read = reader.feed(&written)?.ok_or("no request")?;
-    assert_eq!(rt; read.body.as_slice(), b"{}".as_slice());
-    assert_eq!(rt; read.headers.as_slice().len(), 4);
+    for (method, body, host, text) in request_rows() {
+        let written = written_request(rt.alloc(), method, body, host)?;
+        assert!(rt; written.as_slice() == *text);
+    }
+    Ok(())
+}
+
+#[test]
+fn a_written_request_reads_back(rt: HostRuntime) -> Result<(), Fail> {
+    let written = written_request(rt.alloc(), b"PUT", b"{}", b"pull:80")?;
+    assert!(rt; is_read_back(rt.alloc(), &written, b"{}", 4));
     Ok(())
 }
 
 #[test]
 fn answers_are_written(rt: HostRuntime) -> Result<(), Fail> {
-    let alloc = rt.alloc();
-    let missing = reply(alloc, 404, b"")?;
-    let text =
-        b"HTTP/1.1 404 Not Found\r\nConnection: close\r\nProtocolVersion: 2.0\r\nContent-Length: 0\r\n\r\n";
-    assert_eq!(rt; write_answer(alloc, &missing)?.as_slice(), text.as_slice());
-    let done = reply(alloc, 204, b"")?;
-    let text = b"HTTP/1.1 204 No Content\r\nConnection: close\r\nProtocolVersion: 2.0\r\n\r\n";
-    assert_eq!(rt; write_answer(alloc, &done)?.as_slice(), text.as_slice());
-    let unnamed = reply(alloc, 599, b"x")?;
-    let text =
-        b"HTTP/1.1 599 \r\nConnection: close\r\nProtocolVersion: 2.0\r\nContent-Length: 1\r\n\r\nx";
-    let written = write_answer(alloc, &unnamed)?;
-    assert_eq!(rt; written.as_slice(), text.as_slice());
-    assert_eq!(rt; read_answer(alloc, &written)?.code, 599);
+    for (code, body, text) in answer_rows() {
+        let written = written_answer(rt.alloc(), *code, body)?;
+        assert!(rt; written.as_slice() == *text);
+        assert!(rt; has_code(rt.alloc(), &written, *code));
+    }
     Ok(())
+}
+
+fn written_request(
+    alloc: Global,
+    method: &[u8],
+    body: &[u8],
+    host: &[u8],
+) -> Result<Vec<u8>, Fail> {
+    let host = Text::from_latin1(alloc, host)?;
+    let request = request(alloc, method, body)?;
+    Ok(write_request(alloc, &request, &host)?)
+}
+
+fn written_answer(alloc: Global, code: u16, body: &[u8]) -> Result<Vec<u8>, Fail> {
+    let reply = reply(alloc, code, body)?;
+    Ok(write_answer(alloc, &reply)?)
+}
+
+// The bytes are a request with that body and so many headers.
+fn is_read_back(alloc: Global, bytes: &[u8], body: &[u8], headers: usize) -> bool {
+    let mut reader = RequestReader::new(alloc);
+    match reader.feed(bytes) {
+        Ok(Some(request)) => {
+            request.body.as_slice() == body && request.headers.as_slice().len() == headers
+        }
+        _ => false,
+    }
+}
+
+fn has_code(alloc: Global, bytes: &[u8], code: u16) -> bool {
+    match read_answer(alloc, bytes) {
+        Ok(reply) => reply.code == code,
+        Err(_) => false,
+    }
 }
 
 fn request(alloc: Global, method: &[u8], body: &[u8]) -> Result<Request, AllocError> {

@@ -1,6 +1,6 @@
 ghost use Rattle.std.specs.Prelude.{◌<◌};
 
-use http_frames::{FrameError, Reply};
+use http_frames::{FrameError, Reply, Request};
 use mof_values::{Bytes, Items};
 use pull_exchange::{Received, SendEnd, receive, refusal, send_reply};
 use pull_outside::MemoryConn;
@@ -42,42 +42,66 @@ const ROWS: &[(&[u8], &str)] = &[
     (WRONG_CHUNK, "400 chunk 46"),
 ];
 
-fn refused(alloc: Global, error: &FrameError) -> Result<String, AllocError> {
+fn push_bytes(line: &mut String, bytes: &[u8]) -> Result<(), AllocError> {
+    for byte in bytes {
+        line.push(char::from(*byte))?;
+    }
+    Ok(())
+}
+
+fn push_number(line: &mut String, front: &str, number: u64) -> Result<(), AllocError> {
+    let text = format!(in *line.allocator(); "{front}{number}")?;
+    line.push_str(text.as_str())
+}
+
+fn push_reply(line: &mut String, reply: &Reply) -> Result<(), AllocError> {
+    push_number(line, "", u64::from(reply.code))?;
+    line.push(' ')?;
+    push_bytes(line, reply.body.as_slice())
+}
+
+fn push_refused(line: &mut String, error: &FrameError) -> Result<(), AllocError> {
     match error {
-        FrameError::Torn { .. } | FrameError::Memory => format!(in alloc; "no refusal"),
-        _ => match refusal(alloc, error) {
-            Ok(reply) => {
-                let mut line = format!(in alloc; "{} ", reply.code)?;
-                for byte in reply.body.as_slice() {
-                    line.push(char::from(*byte))?;
-                }
-                Ok(line)
-            }
+        FrameError::Torn { .. } | FrameError::Memory => line.push_str("no refusal"),
+        _ => match refusal(*line.allocator(), error) {
+            Ok(reply) => push_reply(line, &reply),
             Err(_) => Err(AllocError),
         },
     }
+}
+
+fn push_request(line: &mut String, request: &Request) -> Result<(), AllocError> {
+    line.push_str("request ")?;
+    push_bytes(line, request.method.as_slice())?;
+    push_number(line, " ", request.body.as_slice().len() as u64)
+}
+
+fn push_received(line: &mut String, received: &Received) -> Result<(), AllocError> {
+    match received {
+        Received::Request(request) => push_request(line, request),
+        Received::Refused(error) => push_refused(line, error),
+        Received::Torn { at } => push_number(line, "torn ", *at),
+        Received::ReadFault => line.push_str("read fault"),
+        Received::Memory => Err(AllocError),
+    }
+}
+
+fn push_given(line: &mut String, bytes: Vec<u8>, most: usize) -> Result<(), AllocError>
+    requires { 0 < most }
+{
+    let alloc = *line.allocator();
+    let mut conn = MemoryConn::new(alloc, bytes, most, Vec::new(alloc));
+    push_received(line, &receive(alloc, &mut conn))
 }
 
 // What a connection of these bytes gives, in pieces of at most so many.
 fn shown(alloc: Global, bytes: &[u8], most: usize) -> Result<String, AllocError>
     requires { 0 < most }
 {
-    let mut conn = MemoryConn::new(alloc, bytes.to_vec(alloc)?, most, Vec::new(alloc));
-    match receive(alloc, &mut conn) {
-        Received::Request(request) => {
-            let mut line = format!(in alloc; "request ")?;
-            for byte in request.method.as_slice() {
-                line.push(char::from(*byte))?;
-            }
-            let length = format!(in alloc; " {}", request.body.as_slice().len())?;
-            line.push_str(length.as_str())?;
-            Ok(line)
-        }
-        Received::Refused(error) => refused(alloc, &error),
-        Received::Torn { at } => format!(in alloc; "torn {at}"),
-        Received::ReadFault => format!(in alloc; "read fault"),
-        Received::Memory => Err(AllocError),
-    }
+    let bytes = bytes.to_vec(alloc)?;
+    let mut line = String::new(alloc);
+    push_given(&mut line, bytes, most)?;
+    Ok(line)
 }
 
 #[test]

@@ -31,7 +31,7 @@ returns-in-Ok-open_pull g c =
     ran c.in-Ok.values c.serve_turns.result c.in-Ok.ensures.taken
     (opened_run g.D.Disk c.in-Ok.values.connections c.args.disk.now c.open_pull.new.disk c.serve_turns.new.disk old new
     (output_of (g.K.Ends.held c.args.output.now) (g.K.Ends.faults c.args.output.now)) (output_of (g.K.Ends.held c.serve_turns.new.output) (g.K.Ends.faults c.serve_turns.new.output))
-    c.serve_turns.result c.in-Ok-open_pull.store c.serve_turns.new.store c.in-Ok-open_pull.ensures.opened c.open_pull.ensures.any_moment c.serve_turns.ensures.run c.serve_turns.ensures.shelf)
+    c.serve_turns.result c.in-Ok-open_pull.store c.serve_turns.new.store c.in-Ok-open_pull.ensures.opened c.open_pull.ensures.count c.open_pull.ensures.any_moment c.serve_turns.ensures.run c.serve_turns.ensures.shelf)
 
 pub returns : goal.returns
 returns g c =

@@ -1,9 +1,10 @@
-use Rattle.std.proofs.Common.{◌≡◌, ◌∙◌, ℕ, sym, ap, subst, Some, codes}
+use Rattle.std.proofs.Common.{◌∙◌, ℕ, sym, subst, codes}
 use Rattle.std.specs.Str.Parse.{ParsesUnsigned, ExplainsUnsignedError, HasUnsignedDigitsIfOk}
 use Rattle.clap.specs.Words.{found_of, rows_of}
 use Rattle.clap.proofs.WalkLemmas.{one_text-rows}
 use Rattle.serve_words.specs.Words.{HasCount}
-use Rattle.serve_words.proofs.Reading.{none_is_none, reads_count, same_some}
+use Rattle.serve_words.proofs.Numbers.{none_is_none, same_some}
+use Rattle.serve_words.proofs.Reading.{reads_count}
 use Rattle.serve_words.proofs.values.connections_of.Goals as goal
 
 pub unreachable-requires : goal.unreachable-requires

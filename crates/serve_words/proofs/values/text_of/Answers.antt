@@ -1,8 +1,8 @@
-use Rattle.std.proofs.Common.{◌≡◌, ◌∙◌, sym, ap, option_map, Some}
+use Rattle.std.proofs.Common.{◌∙◌, sym, ap, option_map, Some}
 use Rattle.std.proofs.lemmas.Result.{IfOk-weaker}
 use Rattle.clap.specs.Words.{found_of}
 use Rattle.clap.proofs.WalkLemmas.{first_value-rows}
-use Rattle.serve_words.proofs.Reading.{none_is_none}
+use Rattle.serve_words.proofs.Numbers.{none_is_none}
 use Rattle.serve_words.proofs.values.text_of.Goals as goal
 
 pub unreachable-requires : goal.unreachable-requires

@@ -1,0 +1,3 @@
+//! That ample memory is enough.
+mod doors;
+mod shelves;

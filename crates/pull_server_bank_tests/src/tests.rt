@@ -1,0 +1,2 @@
+mod full;
+mod full_disk;
