@@ -1,5 +1,5 @@
 -- How long the counts and the parts of a report are as JSON, and as JSON once more.
-use Rattle.std.proofs.Common.{◌≡◌, ℕ, suc, ◌+◌, ◌*◌, ◌/◌, ◌%◌, ◌<◌, ◌≤◌, ◌&&◌, nat_le, nat_lt, Bool, true, false, List, [], ◌∷◌, ◌++◌, map, length, get_or, IsUtf8, refl, sym, ap, subst, arith}
+use Rattle.std.proofs.Common.{◌≡◌, ℕ, suc, ◌+◌, ◌*◌, ◌/◌, ◌%◌, ◌<◌, ◌≤◌, ◌&&◌, nat_le, nat_lt, Bool, true, false, List, [], ◌∷◌, map, length, get_or, IsUtf8, refl, sym, subst, arith}
 use Rattle.std.proofs.lemmas.Bool.{leb-true, ltb-true}
 use Rattle.std.proofs.lemmas.List.Elements.{All-head, All-tail, recursion_from_All}
 use Rattle.std.proofs.lemmas.List.Sums.{AllPass-from_list_all}
@@ -9,25 +9,24 @@ use Rattle.std.proofs.Math.Utf8.{scalar, scalars}
 use Rattle.std.specs.Char.{IsScalar}
 use Rattle.std.specs.List.{All, AllByRecursion}
 use Rattle.std.specs.Prelude.{codes, encode_utf8_all, slice_index}
-use Rattle.std.specs.Str.{IsAscii, chars}
+use Rattle.std.specs.Str.{IsAscii}
 use Rattle.hex.specs.Hex.{IsBytes, encode_with, upper_digits}
 use Rattle.hex.proofs.HexLemmas.{IsAscii-encode_with, length-encode_with}
 use Rattle.json.specs.Print.{escape, escape_byte}
 use Rattle.json.proofs.Printed.Utf8.{IsUtf8-are_ascii}
-use Rattle.serde_json.specs.Data.{Data, string, array, object, number, unsigned, Items, item, no_items, Members, no_members, member}
+use Rattle.serde_json.specs.Data.{Data, string, array, object, number, unsigned, Members, no_members, member}
 use Rattle.serde_json.specs.View.{items_of}
-use Rattle.serde_json.specs.Written.{compact_text, items_text, members_text}
+use Rattle.serde_json.specs.Written.{compact_text, items_text}
 use Rattle.shared_key.specs.Checksum.{checksum_of}
 use Rattle.report_log.specs.declared.report.PartMark.{PartMark}
 use Rattle.report_log.specs.declared.report.Report.{Report}
 use Rattle.report_log.specs.Sizes.{Fits, ReportInSize}
-use Rattle.pull_messages.specs.declared.report.ReportMessage.{ReportMessage}
-use Rattle.pull_messages.specs.Writing.{id_text, report_data, report_text, text_data, texts_data}
-use Rattle.pull_client.specs.Fitting.{IsMark, MessagesFit}
-use Rattle.pull_client.specs.Reports.{IsMessageOf, counts_data, counts_text, error_text, operation_name, part_data, reboot_name, refresh_name, status_name}
+use Rattle.pull_messages.specs.Writing.{text_data}
+use Rattle.pull_client.specs.Fitting.{IsMark}
+use Rattle.pull_client.specs.Reports.{counts_data, counts_text, part_data}
 use Rattle.pull_client.proofs.Escaped.{AreShown, shown_size}
 use Rattle.pull_client.proofs.Compact.{AreTexts, ItemsAreTexts, decimal_size, item_size, member_size, quoted_size, value_shown, value_utf8}
-use Rattle.pull_client.proofs.TextSizes.{bytes_size, errors_size, format_size, job_size, moment_size, operation_size, reboot_size, refresh_size, short_size, status_size, text_size}
+use Rattle.pull_client.proofs.TextSizes.{bytes_size, text_size}
 
 -- ---- checksums
 

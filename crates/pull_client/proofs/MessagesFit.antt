@@ -1,14 +1,18 @@
 -- The message of a report in size is a body that a server takes.
-use Rattle.std.proofs.Common.{◌≡◌, ℕ, ◌+◌, ◌*◌, ◌≤◌, Bool, true, false, List, [], ◌∷◌, map, length, refl, sym, subst, arith}
+use Rattle.std.proofs.Common.{◌≡◌, ℕ, ◌≤◌, true, false, All, IfOk, List, [], ◌∷◌, map, length, Result, Ok, Err, refl, sym, subst, arith}
 use Rattle.std.proofs.lemmas.List.Elements.{recursion_from_All}
 use Rattle.std.specs.Prelude.{codes}
 use Rattle.json.specs.Print.{escape, escape_byte}
 use Rattle.serde_json.specs.Data.{Data, string, object, no_items, Members, no_members, member}
 use Rattle.serde_json.specs.Written.{compact_text, members_text}
-use Rattle.report_log.specs.Sizes.{Fits}
+use Rattle.mof_values.specs.declared.memory.Memory.{Memory}
+use Rattle.http_frames.specs.Limits.{request_limits}
+use Rattle.report_log.specs.declared.report.Report.{Report}
+use Rattle.report_log.specs.Sizes.{Fits, ReportInSize}
+use Rattle.pull_messages.specs.declared.report.ReportMessage.{ReportMessage}
 use Rattle.pull_messages.specs.Writing.{id_text, report_text, text_data, texts_data}
-use Rattle.pull_client.specs.Fitting.{MessagesFit}
-use Rattle.pull_client.specs.Reports.{counts_text, error_text, operation_name, reboot_name, refresh_name, status_name}
+use Rattle.pull_client.specs.Fitting.{IsMark, MessagesFit}
+use Rattle.pull_client.specs.Reports.{IsMessageOf, counts_text, error_text, operation_name, reboot_name, refresh_name, status_name}
 use Rattle.pull_client.proofs.Compact.{item_size, member_size, quoted_size}
 use Rattle.pull_client.proofs.CountsSizes.{counts_text_size}
 use Rattle.pull_client.proofs.TextSizes.{errors_size, format_size, job_size, moment_size, operation_size, reboot_size, refresh_size, short_size, status_size, text_size}
@@ -141,3 +145,8 @@ messages_fit agent report message are sized is =
     (same_size message.status (status_name report.outcome) 12 is.status (status_size report.outcome))
     (same_sizes message.status_data (counts_text report ∷ []) 27551 is.status_data
     (omega (arith, counts_text_size report are sized, item_size false (text_data (counts_text report)) no_items))))
+
+pub fits_if_made : (agent : ℕ) (report : Report) (made : Result ReportMessage Memory) → All IsMark report.parts → ReportInSize report
+    → IfOk made (λ message. IsMessageOf agent report message) → IfOk made (λ message. length (report_text message) ≤ request_limits.content)
+fits_if_made agent report (Ok message) are sized is = messages_fit agent report message are sized is
+fits_if_made agent report (Err e) are sized is = tt

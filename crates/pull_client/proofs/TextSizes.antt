@@ -1,5 +1,5 @@
 -- How long the texts of a report are as JSON.
-use Rattle.std.proofs.Common.{◌≡◌, ℕ, suc, pos, negsuc, ℤ, ◌+◌, ◌*◌, ◌≤◌, Bool, true, false, List, [], ◌∷◌, ◌++◌, map, length, Some, refl, sym, ap, subst, ◌∙◌, arith}
+use Rattle.std.proofs.Common.{◌≡◌, ℕ, pos, negsuc, ℤ, ◌+◌, ◌*◌, ◌≤◌, Bool, true, false, List, [], ◌∷◌, ◌++◌, map, length, Some, ap, ◌∙◌, arith}
 use Rattle.std.proofs.lemmas.Grind.{flat_map-append}
 use Rattle.std.proofs.lemmas.List.{length-append}
 use Rattle.std.proofs.lemmas.Str.{encodes-append, length-encode, len_utf8_bounds}
@@ -10,10 +10,8 @@ use Rattle.jiff.specs.Types.{Date, DateTime}
 use Rattle.jiff.specs.Words.{date_text, datetime_text, time_text}
 use Rattle.jiff_fmt.specs.Text.{year_text}
 use Rattle.json.specs.Print.{escape, escape_byte}
-use Rattle.serde_json.specs.Data.{item}
 use Rattle.serde_json.specs.View.{items_of}
 use Rattle.serde_json.specs.Written.{compact_text, items_text}
-use Rattle.uuid.specs.Text.{hyphenated_text, lower}
 use Rattle.uuid.proofs.TextLemmas.{by_index_length}
 use Rattle.report_log.specs.declared.report.FailureKind.TheVariants.{NoSuchResource, OutOfProfile, BadPath, InTheWay, HostFailed}
 use Rattle.report_log.specs.declared.report.Missed.{Missed}

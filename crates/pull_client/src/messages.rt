@@ -1,13 +1,16 @@
 //! The message of a report.
-ghost use Rattle.std.specs.Prelude.{◌≡◌, ◌≤◌, ◌∷◌, [], IfOk, Some, map, encode_utf8_all, string_bytes};
+ghost use Rattle.std.specs.Prelude.{◌≡◌, ◌≤◌, ◌∷◌, [], IfOk, Some, map, length, encode_utf8_all, string_bytes};
 ghost use Rattle.std.specs.Str.{chars};
 ghost use Rattle.serde_json.specs.View.{view};
 ghost use Rattle.serde_json.specs.Written.{compact_text};
+ghost use Rattle.http_frames.specs.Limits.{request_limits};
+ghost use Rattle.pull_messages.specs.Writing.{report_text};
 ghost use Rattle.pull_client.specs.Moments.{IsMomentText, last_moment};
 ghost use Rattle.pull_client.specs.Reports.{IsMessageOf, counts_data, counts_text, error_text, kind_name, operation_name, part_data, reason_name, reboot_name, refresh_name, status_name};
 ghost use Rattle.report_log.specs.Sizes.{ReportInSize};
 ghost use Rattle.shared_key.specs.Checksum.{checksum_of};
 
+use crate::marks::look_at_marks;
 use crate::moments::moment_text;
 use mof_values::{Items, Memory, Text};
 use pull_messages::ReportMessage;
@@ -16,8 +19,17 @@ use serde_json::{Value, json};
 use shared_key::checksum_text;
 use std::alloc::{AllocError, Global};
 
-/// The message of a report of that agent, which is the value of its identifier.
+/// The message of a report of that agent, which is the value of its identifier; a body that a server takes.
 pub fn message_of(alloc: Global, report: &Report, agent: u128) -> Result<ReportMessage, Memory>
+    requires { ReportInSize report.now }
+    ensures is { IfOk result (λ message. IsMessageOf agent report.now message) }
+    ensures fits { IfOk result (λ message. length (report_text message) ≤ request_limits.content) }
+{
+    look_at_marks(report.parts.as_slice());
+    made(alloc, report, agent)
+}
+
+fn made(alloc: Global, report: &Report, agent: u128) -> Result<ReportMessage, Memory>
     requires { ReportInSize report.now }
     ensures { IfOk result (λ message. IsMessageOf agent report.now message) }
 {
