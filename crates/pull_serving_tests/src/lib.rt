@@ -1,9 +1,7 @@
 //! The tests of `pull_serving`: runs of a server over objects in memory.
 #![tactic(auto)]
 
+#[cfg(test)]
 mod runs;
-
-pub use runs::{Peer, Run, played};
-
 #[cfg(test)]
 mod tests;

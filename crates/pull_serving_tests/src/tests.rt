@@ -1,4 +1,4 @@
-use crate::{Peer, Run, played};
+use crate::runs::{Peer, Run, played};
 use std::rt::HostRuntime;
 
 // A registration that is signed under k0.
