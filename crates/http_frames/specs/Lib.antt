@@ -1,5 +1,6 @@
 pub mod Limits
 pub mod Headers
+pub mod Replies
 pub mod Framing
 pub mod Phases
 pub mod Walks

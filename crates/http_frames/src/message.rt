@@ -1,5 +1,9 @@
 //! Messages without their frames.
-use mof_values::{Bytes, Items};
+ghost use Rattle.std.specs.Prelude.{◌≡◌, IfOk};
+ghost use Rattle.http_frames.specs.Replies.{saying};
+
+use mof_values::{Bytes, Items, Memory};
+use std::alloc::Global;
 
 /// A header line: its name, and its value without the white space around it.
 #[derive(Clone, Debug, Drop, PartialEq)]
@@ -23,4 +27,17 @@ pub struct Reply {
     pub code: u16,
     pub headers: Items<Header>,
     pub body: Bytes,
+}
+
+impl Reply {
+    /// A code and a body, without headers.
+    pub fn saying(alloc: Global, code: u16, body: &[u8]) -> Result<Reply, Memory>
+        ensures { IfOk result (λ reply. reply ≡ saying code body.now) }
+    {
+        Ok(Reply {
+            code,
+            headers: Items::of(Vec::new(alloc)),
+            body: Bytes::of(body.to_vec(alloc)?),
+        })
+    }
 }
