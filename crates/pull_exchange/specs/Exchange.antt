@@ -1,5 +1,5 @@
 -- What a connection gives and takes.
-use Rattle.std.specs.Prelude.{◌≡◌, ◌≢◌, ◌≤◌, ℕ, List, [], ◌++◌, length, codes, Option, Some, None, ⊤}
+use Rattle.std.specs.Prelude.{◌≡◌, ◌≢◌, ◌⊎◌, ◌≤◌, ℕ, List, [], ◌++◌, length, codes, Option, Some, None, ⊤}
 use Rattle.std.specs.Fmt.{decimal}
 use Rattle.std.specs.Io.KnownBytes.{Appends}
 use Rattle.dsc_terms.specs.Counts.{Rose}
@@ -8,6 +8,7 @@ use Rattle.http_frames.specs.declared.frame_error.FrameError.TheVariants as fram
 use Rattle.http_frames.specs.declared.message.Reply.{Reply}
 use Rattle.http_frames.specs.Frames.{AwaitsRest, BeginsWithRequest, RefusesRequest}
 use Rattle.http_frames.specs.Limits.{request_limits}
+use Rattle.http_frames.specs.Replies.{saying}
 use Rattle.pull_exchange.specs.declared.exchange.Received.{Received}
 use Rattle.pull_exchange.specs.declared.exchange.Received.TheVariants as received
 use Rattle.pull_exchange.specs.declared.exchange.SendEnd.{SendEnd}
@@ -27,21 +28,17 @@ IsRefusal frames.NoLength = ⊤
 IsRefusal frames.BodyTooLong = ⊤
 IsRefusal (frames.Chunk at) = ⊤
 
--- this code, and a body
-abbrev pub refusing : ℕ → List ℕ → Reply
-refusing code body = record { code = code; headers = []; body = body }
-
 -- the rows of the answer table for bytes that are no request
 abbrev pub refusal_of : FrameError → Reply
-refusal_of frames.Head = refusing 400 (codes "head")
-refusal_of frames.HeadTooLong = refusing 400 (codes "head")
-refusal_of frames.Coding = refusing 501 []
-refusal_of frames.Length = refusing 400 (codes "length")
-refusal_of frames.NoLength = refusing 411 []
-refusal_of frames.BodyTooLong = refusing 413 []
-refusal_of (frames.Chunk at) = refusing 400 (codes "chunk " ++ decimal at)
-refusal_of (frames.Torn at) = refusing 400 []
-refusal_of frames.Memory = refusing 400 []
+refusal_of frames.Head = saying 400 (codes "head")
+refusal_of frames.HeadTooLong = saying 400 (codes "head")
+refusal_of frames.Coding = saying 501 []
+refusal_of frames.Length = saying 400 (codes "length")
+refusal_of frames.NoLength = saying 411 []
+refusal_of frames.BodyTooLong = saying 413 []
+refusal_of (frames.Chunk at) = saying 400 (codes "chunk " ++ decimal at)
+refusal_of (frames.Torn at) = saying 400 []
+refusal_of frames.Memory = saying 400 []
 
 -- ---- one request
 
@@ -82,6 +79,10 @@ IsReadCause before now received.Memory = ⊤
 -- it grew by a part from the front of the bytes
 abbrev pub AppendsPart : Option (List ℕ) → Option (List ℕ) → List ℕ → Type 0
 AppendsPart old new bytes = (part : List ℕ) × (rest : List ℕ) × (bytes ≡ part ++ rest) × Appends old new part
+
+-- the whole text was written, or the sink failed and a part from its front was
+abbrev pub Writes : Option (List ℕ) → Option (List ℕ) → List ℕ → ℕ → ℕ → Type 0
+Writes old new text before now = Appends old new text ⊎ (Rose before now × AppendsPart old new text)
 
 -- what was written of a text, and why not all of it
 abbrev pub IsSent : Option (List ℕ) → Option (List ℕ) → List ℕ → ℕ → ℕ → SendEnd → Type 0

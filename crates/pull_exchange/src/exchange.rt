@@ -1,13 +1,14 @@
 //! One request of a connection, and one reply.
 ghost use Rattle.std.specs.Prelude.{◌≡◌, ◌≤◌, ◌++◌, IfOk, IfSome, codes};
 ghost use Rattle.std.specs.Fmt.{decimal};
+ghost use Rattle.http_frames.specs.Replies.{saying};
 ghost use Rattle.http_frames.specs.Writing.{answer_text};
-ghost use Rattle.pull_exchange.specs.Exchange.{IsReadCause, IsReceived, IsRefusal, IsSent, IsSized, refusal_of, refusing, told_by};
+ghost use Rattle.pull_exchange.specs.Exchange.{IsReadCause, IsReceived, IsRefusal, IsSent, IsSized, refusal_of, told_by};
 
 use crate::streams::{write_all, write_both};
 use dsc_outside::{Failed, Sink, Source};
 use http_frames::{FrameError, Reply, Request, RequestReader, write_answer, write_answer_head};
-use mof_values::{Bytes, Items, Memory};
+use mof_values::Memory;
 use std::alloc::Global;
 
 /// What a connection gave.
@@ -85,32 +86,22 @@ pub fn refusal(alloc: Global, error: &FrameError) -> Result<Reply, Memory>
     ensures { IfOk result (λ reply. reply ≡ refusal_of error.now) }
 {
     match error {
-        FrameError::Head | FrameError::HeadTooLong => refusing(alloc, 400, b"head"),
-        FrameError::Coding => refusing(alloc, 501, b""),
-        FrameError::Length => refusing(alloc, 400, b"length"),
-        FrameError::NoLength => refusing(alloc, 411, b""),
-        FrameError::BodyTooLong => refusing(alloc, 413, b""),
+        FrameError::Head | FrameError::HeadTooLong => Reply::saying(alloc, 400, b"head"),
+        FrameError::Coding => Reply::saying(alloc, 501, b""),
+        FrameError::Length => Reply::saying(alloc, 400, b"length"),
+        FrameError::NoLength => Reply::saying(alloc, 411, b""),
+        FrameError::BodyTooLong => Reply::saying(alloc, 413, b""),
         FrameError::Chunk { at } => bad_chunk(alloc, *at),
         FrameError::Torn { .. } | FrameError::Memory => unreachable!(),
     }
 }
 
-fn refusing(alloc: Global, code: u16, body: &[u8]) -> Result<Reply, Memory>
-    ensures { IfOk result (λ reply. reply ≡ refusing code body.now) }
-{
-    Ok(Reply {
-        code,
-        headers: Items::of(Vec::new(alloc)),
-        body: Bytes::of(body.to_vec(alloc)?),
-    })
-}
-
 // That the chunk at this place is wrong.
 fn bad_chunk(alloc: Global, at: u64) -> Result<Reply, Memory>
-    ensures { IfOk result (λ reply. reply ≡ refusing 400 (codes "chunk " ++ decimal at)) }
+    ensures { IfOk result (λ reply. reply ≡ saying 400 (codes "chunk " ++ decimal at)) }
 {
     let text = format!(in alloc; "chunk {at}")?;
-    refusing(alloc, 400, text.as_bytes())
+    Reply::saying(alloc, 400, text.as_bytes())
 }
 
 /// Writes a reply. A body of more than 64 KiB is written from where it lies, after the head.
