@@ -1,5 +1,5 @@
 -- What a request comes to, by the rows of the table.
-use Rattle.std.proofs.Common.{◌≡◌, ◌⊎◌, inl, inr, ℕ, ◌==◌, Bool, true, false, List, [], codes, option_map, IfOk, Option, Some, None, Result, Ok, Err, refl, sym, ◌∙◌, ap, subst}
+use Rattle.std.proofs.Common.{◌≡◌, inl, inr, ℕ, ◌==◌, Bool, true, false, List, [], codes, option_map, IfOk, Option, Some, None, Result, Ok, Err, refl, sym, ◌∙◌, ap}
 use Rattle.std.specs.Global.{Vec}
 use Rattle.std.proofs.lemmas.Bool.{eq-eqb, false≢true}
 use Rattle.dsc_terms.specs.Counts.{Rose}
@@ -7,6 +7,7 @@ use Rattle.dsc_outside.specs.Causes.{HasCauseOf}
 use Rattle.mof_values.specs.declared.memory.Memory.{Memory}
 use Rattle.http_frames.specs.declared.message.Request.{Request}
 use Rattle.http_frames.specs.declared.message.Reply.{Reply}
+use Rattle.http_frames.specs.Replies.{saying}
 use Rattle.pull_messages.specs.declared.target_kinds.Target.{Target}
 use Rattle.pull_messages.specs.declared.target_kinds.Target.TheVariants.{Node, Action, SendReport}
 use Rattle.pull_messages.specs.declared.error.MessageError.{MessageError}
@@ -23,11 +24,11 @@ use Rattle.pull_outside.specs.declared.shelf.ShelfError.TheVariants as errors
 use Rattle.pull_outside.specs.Shelf.{Contents}
 use Rattle.pull_messages.specs.Writing.{action_text}
 use Rattle.pull_server.specs.Actions.{action_for, asks_unnamed}
-use Rattle.pull_server.specs.Answers.{Pulled, by_table, failed, is_done}
+use Rattle.pull_server.specs.Answers.{by_table, failed, is_done}
 use Rattle.pull_server.specs.Asked.{asked}
 use Rattle.pull_server.specs.Judging.{IsPastHead, IsSaid, ItemReply, QueryReply, unnamed, was_spent, query_failed, answered, change_asked, past_outcome}
 use Rattle.pull_server.specs.Messages.{fault_text, query_in, registration_in, report_in}
-use Rattle.pull_server.specs.Replies.{content_reply, message_reply, plain, saying}
+use Rattle.pull_server.specs.Replies.{content_reply, message_reply, plain}
 use Rattle.pull_server.specs.Table.{Outcome, leaves, outcome_of, says}
 use Rattle.pull_server.proofs.Rows.{unnamed_query, spent_query, told_query, bad_query}
 

@@ -1,7 +1,9 @@
 pub mod Alone
 pub mod Judged
+pub mod Kept
 pub mod Keys
 pub mod Own
 pub mod Rows
 pub mod Said
 pub mod Served
+pub mod Shelves

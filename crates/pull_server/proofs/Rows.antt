@@ -1,5 +1,5 @@
 -- The rows of the table, for each kind of target.
-use Rattle.std.proofs.Common.{◌≡◌, ◌≢◌, ◌⊎◌, inl, inr, ℕ, Bool, true, false, not, ◌&&◌, nat_le, if◌then◌else◌, bytes_eq, codes, is_none, List, [], ◌∷◌, ◌++◌, length, Option, Some, None, Result, Ok, Err, refl, sym, ◌∙◌, ap, encode_utf8_all}
+use Rattle.std.proofs.Common.{◌≡◌, ℕ, true, false, bytes_eq, codes, is_none, List, [], ◌++◌, Some, None, Result, Ok, Err, refl, encode_utf8_all}
 use Rattle.std.specs.Fmt.{decimal}
 use Rattle.http_frames.specs.Headers.{all_named}
 use Rattle.http_frames.specs.declared.message.Request.{Request}
@@ -15,13 +15,13 @@ use Rattle.pull_store.specs.Rows.{row_of}
 use Rattle.pull_store.specs.Store.{StoreTerm, is_spent}
 use Rattle.pull_outside.specs.Shelf.{Contents, package_of}
 use Rattle.pull_server.specs.Actions.{action_for, asks_unnamed}
-use Rattle.pull_server.specs.Asked.{Asked, asked, method_of}
+use Rattle.pull_server.specs.Asked.{asked, method_of}
 use Rattle.pull_server.specs.Contents.{content_for}
 use Rattle.pull_server.specs.Judging.{kept_outcome, past_outcome}
 use Rattle.pull_server.specs.Messages.{fault_text, query_in, registration_in, report_in}
-use Rattle.pull_server.specs.Replies.{content_reply, message_reply, plain, saying}
+use Rattle.pull_server.specs.Replies.{content_reply, message_reply}
 use Rattle.pull_server.specs.Signed.{is_signed}
-use Rattle.pull_server.specs.Table.{Outcome, is_known, is_version, item_for, leaves, outcome_of, says}
+use Rattle.pull_server.specs.Table.{is_known, is_version, leaves, outcome_of, says}
 
 -- ---- the head of the request
 

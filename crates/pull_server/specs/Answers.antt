@@ -1,5 +1,5 @@
 -- What an answer says, of the reply, the rows, and the disk.
-use Rattle.std.specs.Prelude.{◌≡◌, ◌⊎◌, ◌≤◌, ◌==◌, ◌||◌, ℕ, Bool, true, false, List, Option, Some, None, Result, IfOk, OnErr}
+use Rattle.std.specs.Prelude.{◌≡◌, ◌⊎◌, ◌≤◌, ◌==◌, ◌||◌, ℕ, Bool, true, false, List, Option, Some, None, Result, Ok, IfOk, OnErr}
 use Rattle.dsc_terms.specs.Counts.{Rose}
 use Rattle.dsc_outside.specs.declared.disk.Disk.{Ghosts}
 use Rattle.gate_log.specs.Standing.{AllStand, StandsAtAnyMoment}
@@ -13,7 +13,7 @@ use Rattle.pull_store.specs.Rows.{after}
 use Rattle.pull_store.specs.Stands.{Stands}
 use Rattle.pull_store.specs.Store.{StoreTerm, IsKept, IsReady, Untouched, is_spent}
 use Rattle.pull_outside.specs.Shelf.{Contents}
-use Rattle.pull_server.specs.Asked.{Asks, IsAim, asked, change_to, on, target_in}
+use Rattle.pull_server.specs.Asked.{Asked, Asks, IsAim, Over, asked, change_to, on, target_in}
 use Rattle.pull_server.specs.Replies.{plain}
 use Rattle.pull_server.specs.Table.{Outcome, leaves, makes, outcome_of}
 
@@ -41,11 +41,20 @@ pub record Replies (store : StoreTerm) (shelf : Contents) (request : Request) (r
   pub is_aim : IsAim request.target aim
   pub pulled : Pulled store shelf request aim rose reply rows
 
--- ---- whatever the shelf holds
+-- ---- the store and the disk
 
--- the rows are as they were, or those after the change that the request asks for
-abbrev pub LeavesRows : Request → List Row → List Row → Type 0
-LeavesRows request old new = (new ≡ old) ⊎ ((change : Change) × Asks request change × (new ≡ after change old))
+-- the change that is asked for is made
+abbrev pub IsMade : Asked → Type 0
+IsMade a = (reply : Reply) × (outcome_of a ≡ Some (makes reply))
+
+-- the request asks for this change, and the table makes it
+pub record Makes (store : StoreTerm) (shelf : Option Contents) (request : Request) (change : Change) : Type 0 where
+  pub asks : Asks request change
+  pub made : Over shelf (λ contents. IsMade (asked store contents request (Ok asks.target)))
+
+-- the rows are as they were, or those after the change that the table makes
+abbrev pub LeavesRows : StoreTerm → Option Contents → Request → List Row → Type 0
+LeavesRows store shelf request rows = (rows ≡ store.rows) ⊎ ((change : Change) × Makes store shelf request change × (rows ≡ after change store.rows))
 
 -- it says that it was done
 abbrev pub is_done : ℕ → Bool
@@ -56,10 +65,10 @@ pub record IsAcknowledged {D : Type 0} (d : Ghosts D) (request : Request) (old :
   pub each : (change : Change) → Asks request change → (new.rows ≡ after change old.rows) × AllStand d now Stands (λ rows. rows ≡ after change old.rows)
 
 -- the store and the disk after an answer
-pub record Serves {D : Type 0} (d : Ghosts D) (request : Request) (old : StoreTerm) (before : D) (result : Result Reply Memory) (new : StoreTerm) (now : D) : Type 0 where
+pub record Serves {D : Type 0} (d : Ghosts D) (request : Request) (shelf : Option Contents) (old : StoreTerm) (before : D) (result : Result Reply Memory) (new : StoreTerm) (now : D) : Type 0 where
   pub ready : IsReady d now new
-  pub rows : LeavesRows request old.rows new.rows
-  pub any_moment : IsKept d before old → StandsAtAnyMoment d before now Stands (LeavesRows request old.rows)
+  pub rows : LeavesRows old shelf request new.rows
+  pub any_moment : IsKept d before old → StandsAtAnyMoment d before now Stands (LeavesRows old shelf request)
   pub acknowledged : IfOk result (λ reply. is_done reply.code ≡ true → IsAcknowledged d request old now new)
   pub spent : is_spent old ≡ false → is_spent new ≡ true → Rose (d.faults before) (d.faults now) × IfOk result (λ reply. reply ≡ plain 500)
   pub count : d.faults before ≤ d.faults now

@@ -1,5 +1,5 @@
 -- What a request asks for, and all that its answer depends on.
-use Rattle.std.specs.Prelude.{◌≡◌, ℕ, Bool, false, ◌&&◌, nat_lt, List, length, codes, option_map, Option, Some, None, Result, Ok, Err}
+use Rattle.std.specs.Prelude.{◌≡◌, ℕ, Bool, false, ◌&&◌, nat_lt, List, length, codes, option_map, Option, Some, None, Result, Ok, Err, IfSome}
 use Rattle.std.specs.Result.{result_ok}
 use Rattle.gate_log.specs.Text.{need_of}
 use Rattle.gate_log.specs.Log.{room_in}
@@ -67,6 +67,12 @@ pub record Asks (request : Request) (change : Change) : Type 0 where
   pub is_change : change_to target request.body ≡ Some change
 
 -- ---- what the answer depends on
+
+-- so it is of what the shelf holds, or where the shelf does not tell that, of some contents
+pub record Over (shelf : Option Contents) (P : Contents → Type 0) : Type 0 where
+  pub contents : Contents
+  pub are : IfSome shelf (λ told. contents ≡ told)
+  pub is : P contents
 
 -- the store answers Full to the change
 abbrev pub is_full_for : StoreTerm → Option Change → Bool

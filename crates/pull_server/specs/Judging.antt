@@ -1,8 +1,9 @@
 -- What a request comes to before anything is kept; for private clauses.
-use Rattle.std.specs.Prelude.{◌≡◌, ◌⊎◌, ℕ, Bool, true, false, if◌then◌else◌, List, [], ◌∷◌, codes, is_none, Option, Some, None, Result, Ok, Err, ⊤}
+use Rattle.std.specs.Prelude.{◌≡◌, ◌⊎◌, ℕ, Bool, true, false, if◌then◌else◌, List, [], ◌∷◌, codes, is_none, Option, Some, None, Result, Ok, Err}
 use Rattle.std.specs.Global.{Vec}
 use Rattle.http_frames.specs.declared.message.Request.{Request}
 use Rattle.http_frames.specs.declared.message.Reply.{Reply}
+use Rattle.http_frames.specs.Replies.{saying}
 use Rattle.pull_messages.specs.declared.target_kinds.Target.{Target}
 use Rattle.pull_messages.specs.declared.target_kinds.Target.TheVariants.{Node, SendReport}
 use Rattle.pull_messages.specs.declared.query.ActionQuery.{ActionQuery}
@@ -10,7 +11,7 @@ use Rattle.pull_messages.specs.Writing.{action_text}
 use Rattle.pull_store.specs.declared.change.Change.{Change}
 use Rattle.pull_store.specs.declared.change.Change.TheVariants as changes
 use Rattle.pull_store.specs.Rows.{row_of}
-use Rattle.pull_store.specs.Sound.{IsKeepable, most_bytes}
+use Rattle.pull_store.specs.Sound.{IsKeepable}
 use Rattle.pull_store.specs.Store.{StoreTerm, is_spent}
 use Rattle.pull_outside.specs.Shelf.{Contents}
 use Rattle.pull_outside.specs.declared.shelf.ShelfError.{ShelfError}
@@ -19,8 +20,8 @@ use Rattle.pull_server.specs.declared.verdict.Verdict.{Verdict}
 use Rattle.pull_server.specs.declared.verdict.Verdict.TheVariants.{Says, Register, Report}
 use Rattle.pull_server.specs.Actions.{action_for, asks_unnamed}
 use Rattle.pull_server.specs.Answers.{Pulled, is_done}
-use Rattle.pull_server.specs.Asked.{Asked, Asks, IsAim, asked, change_to, on, target_in}
-use Rattle.pull_server.specs.Replies.{content_reply, message_reply, plain, saying}
+use Rattle.pull_server.specs.Asked.{Asked, Asks, IsAim, Over, asked, change_to, on, target_in}
+use Rattle.pull_server.specs.Replies.{content_reply, message_reply, plain}
 use Rattle.pull_server.specs.Table.{Outcome, Rule, bad_message, first, found, no_name, no_place, no_room, no_row, not_signed, not_there, outcome_of, registered, reported, spent, told}
 
 -- the rows from that of a spent store on
@@ -46,7 +47,7 @@ IsPastHead store request target =
 -- no row before those of what is kept applies
 abbrev pub Passes : StoreTerm → Option Contents → Request → Result Target ℕ → Type 0
 Passes store holds request aim =
-    (shelf : Contents) → holds ≡ Some shelf → outcome_of (asked store shelf request aim) ≡ kept_outcome (asked store shelf request aim)
+    Over holds (λ contents. outcome_of (asked store contents request aim) ≡ kept_outcome (asked store contents request aim))
 
 abbrev pub change_asked : Request → Result Target ℕ → Option Change
 change_asked request aim = on (target_in aim) (λ target. change_to target request.body)

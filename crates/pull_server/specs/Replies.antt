@@ -4,13 +4,10 @@ use Rattle.sha2.specs.Sha256.{sha256}
 use Rattle.shared_key.specs.Checksum.{checksum_of}
 use Rattle.http_frames.specs.declared.message.Header.{Header}
 use Rattle.http_frames.specs.declared.message.Reply.{Reply}
+use Rattle.http_frames.specs.Replies.{saying}
 
 abbrev pub header : List ℕ → List ℕ → Header
 header name value = record { name = name; value = value }
-
--- with a body of plain bytes
-abbrev pub saying : ℕ → List ℕ → Reply
-saying code body = record { code = code; headers = []; body = body }
 
 -- without a body
 abbrev pub plain : ℕ → Reply

@@ -4,6 +4,7 @@ use Rattle.std.specs.Fmt.{decimal}
 use Rattle.std.specs.Result.{result_ok}
 use Rattle.http_frames.specs.declared.message.Reply.{Reply}
 use Rattle.http_frames.specs.Headers.{all_named}
+use Rattle.http_frames.specs.Replies.{saying}
 use Rattle.pull_messages.specs.declared.target_kinds.Target.{Target}
 use Rattle.pull_messages.specs.declared.target_kinds.Target.TheVariants.{Node, Action, Content, Module, SendReport}
 use Rattle.pull_messages.specs.declared.query.ActionQuery.{ActionQuery}
@@ -15,7 +16,7 @@ use Rattle.pull_server.specs.Actions.{action_for, asks_unnamed}
 use Rattle.pull_server.specs.Asked.{Asked, agent_of, fault_to, method_of, on, target_in}
 use Rattle.pull_server.specs.Contents.{content_for}
 use Rattle.pull_server.specs.Messages.{fault_text, query_in}
-use Rattle.pull_server.specs.Replies.{content_reply, message_reply, plain, saying}
+use Rattle.pull_server.specs.Replies.{content_reply, message_reply, plain}
 use Rattle.pull_server.specs.Signed.{is_signed}
 
 -- a reply, and whether the rows are left as they are, or the change is made that the request asks for

@@ -21,8 +21,8 @@ use std::alloc::Global;
 /// Answers a request, by the table.
 ///
 /// The body has at most 131,072 bytes. A registration and a report are answered 204 and 200 only once every image of the disk
-/// stands for the rows after them. A crash at any moment leaves the rows before the request, or those after the change that it
-/// asks for. 500 comes only where the count of faults of the disk or of the shelf rose, or where the store was spent. Where memory
+/// stands for the rows after them. A crash at any moment leaves the rows before the request, or those after the change that the
+/// table makes. 500 comes only where the count of faults of the disk or of the shelf rose, or where the store was spent. Where memory
 /// is refused, or the store was spent before, store and disk are as they were.
 pub fn answer<D: Disk, S: Shelf>(
     alloc: Global,
@@ -37,7 +37,7 @@ pub fn answer<D: Disk, S: Shelf>(
         → Replies store.old contents request.now (Rose (D.faults disk.old) (D.faults disk.new) ⊎ Rose (S.faults shelf.old) (S.faults shelf.new)) reply store.new.rows) }
     ensures cause { IfOk result (λ reply. reply.code ≡ 500
         → (Rose (D.faults disk.old) (D.faults disk.new) ⊎ Rose (S.faults shelf.old) (S.faults shelf.new)) ⊎ (is_spent store.old ≡ true)) }
-    ensures serves { Serves D.Disk request.now store.old disk.old result store.new disk.new }
+    ensures serves { Serves D.Disk request.now (S.holds shelf.old) store.old disk.old result store.new disk.new }
     ensures shelf { S.holds shelf.new ≡ S.holds shelf.old }
     ensures shelf_count { S.faults shelf.old ≤ S.faults shelf.new }
 {

@@ -11,7 +11,7 @@ ghost use Rattle.pull_server.specs.Table.{is_known, is_version};
 
 use crate::acting::{action, asks_unnamed};
 use crate::fetching::{content, package};
-use crate::replies::{bad_message, bad_target, content_reply, message_reply, plain, saying};
+use crate::replies::{bad_message, bad_target, content_reply, message_reply, plain};
 use crate::signatures::is_signed;
 use crate::verdict::Verdict;
 use http_frames::{Header, Reply, Request};
@@ -78,7 +78,7 @@ fn judge_target<S: Shelf>(
         return Ok(Verdict::Says(plain(alloc, 405)));
     }
     if !is_of_version(request.headers.as_slice()) {
-        let reply = saying(alloc, 400, b"wrong ProtocolVersion")?;
+        let reply = Reply::saying(alloc, 400, b"wrong ProtocolVersion")?;
         return Ok(Verdict::Says(reply));
     }
     judge_past_head(alloc, store, shelf, request, target)
@@ -268,7 +268,7 @@ fn judge_query<S: Shelf>(
 {
     let names = row.registration.names.as_slice();
     if asks_unnamed(names, query) {
-        return saying(alloc, 400, b"wrong ConfigurationName");
+        return Reply::saying(alloc, 400, b"wrong ConfigurationName");
     }
     if store.is_spent() {
         return Ok(plain(alloc, 500));

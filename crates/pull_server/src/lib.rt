@@ -3,7 +3,8 @@
 //! `specs/Table.antt` is the answer table: its rows in order, of which the first that applies gives the reply and says whether
 //! the rows of the store change. A layer above may rely on this: `answer` gives the reply of the table, or 500 where the count of
 //! faults of the disk or of the shelf rose; a registration and a report are acknowledged only once every image of the disk stands
-//! for the rows after them; and a crash at any moment leaves the rows before the request, or those after it.
+//! for the rows after them; and a crash at any moment leaves the rows before the request, or those after a change that the table
+//! makes.
 #![tactic(auto)]
 
 mod acting;

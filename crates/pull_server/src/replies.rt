@@ -1,9 +1,10 @@
 //! Replies.
 ghost use Rattle.std.specs.Prelude.{◌≡◌, ◌++◌, [], IfOk, OnOk, codes};
 ghost use Rattle.std.specs.Fmt.{decimal};
+ghost use Rattle.http_frames.specs.Replies.{saying};
 ghost use Rattle.pull_messages.specs.declared.error.MessageError.TheVariants as errors;
 ghost use Rattle.pull_server.specs.Messages.{fault_text};
-ghost use Rattle.pull_server.specs.Replies.{content_reply, header, message_reply, plain, saying};
+ghost use Rattle.pull_server.specs.Replies.{content_reply, header, message_reply, plain};
 
 use http_frames::{Header, Reply};
 use mof_values::{Bytes, Items, Memory};
@@ -22,22 +23,12 @@ pub fn plain(alloc: Global, code: u16) -> Reply
     }
 }
 
-pub fn saying(alloc: Global, code: u16, body: &[u8]) -> Result<Reply, Memory>
-    ensures { IfOk result (λ reply. reply ≡ saying code body.now) }
-{
-    Ok(Reply {
-        code,
-        headers: Items::of(Vec::new(alloc)),
-        body: Bytes::of(body.to_vec(alloc)?),
-    })
-}
-
 /// That the target goes wrong at this place.
 pub fn bad_target(alloc: Global, at: usize) -> Result<Reply, Memory>
     ensures { IfOk result (λ reply. reply ≡ saying 400 (codes "target " ++ decimal at)) }
 {
     let text = format!(in alloc; "target {at}")?;
-    saying(alloc, 400, text.as_bytes())
+    Reply::saying(alloc, 400, text.as_bytes())
 }
 
 /// That the body is no message of its kind.
@@ -46,7 +37,7 @@ pub fn bad_message(alloc: Global, error: MessageError) -> Result<Reply, Memory>
     ensures memory { error ≡ errors.Memory → OnOk result ⊥ }
 {
     match error {
-        MessageError::Json => saying(alloc, 400, b"json"),
+        MessageError::Json => Reply::saying(alloc, 400, b"json"),
         MessageError::Missing(field) => naming(alloc, "missing ", field.name()),
         MessageError::Wrong(field) => naming(alloc, "wrong ", field.name()),
         MessageError::Memory => Err(Memory),
@@ -58,7 +49,7 @@ fn naming(alloc: Global, fault: &str, name: &str) -> Result<Reply, Memory>
 {
     let mut text = fault.as_bytes().to_vec(alloc)?;
     text.extend_from_slice(name.as_bytes())?;
-    saying(alloc, 400, &text)
+    Reply::saying(alloc, 400, &text)
 }
 
 /// A message.

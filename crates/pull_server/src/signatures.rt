@@ -2,7 +2,7 @@
 ghost use Rattle.std.specs.Prelude.{◌≡◌, ◌≤◌, IfOk, Some, codes, length, take};
 ghost use Rattle.std.specs.Option.{option_copied};
 ghost use Rattle.dsc_outside.specs.Causes.{HasCauseOf};
-ghost use Rattle.pull_outside.specs.Shelf.{Contents};
+ghost use Rattle.pull_server.specs.Asked.{Over};
 ghost use Rattle.pull_server.specs.Signed.{after_front, is_signed, most_keys, single};
 
 use http_frames::{Header, Request, count_named, first_named};
@@ -19,7 +19,7 @@ pub fn is_signed<S: Shelf>(
     shelf: &mut S,
     request: &Request,
 ) -> Result<bool, ShelfError>
-    ensures signed { IfOk result (λ yes. (contents : Contents) → S.holds shelf.old ≡ Some contents → yes ≡ is_signed contents.keys request.now) }
+    ensures signed { IfOk result (λ yes. Over (S.holds shelf.old) (λ contents. yes ≡ is_signed contents.keys request.now)) }
     ensures same { S.holds shelf.new ≡ S.holds shelf.old }
     ensures cause { HasCauseOf ShelfError.Failed (S.faults shelf.old) (S.faults shelf.new) result }
 {
@@ -57,7 +57,7 @@ fn after_shared(value: &[u8]) -> Option<&[u8]>
 
 // The keys of the shelf that count: up to the first that is not there, and 64 at most.
 fn read_keys<S: Shelf>(alloc: Global, shelf: &mut S) -> Result<Vec<Bytes>, ShelfError>
-    ensures keys { IfOk result (λ keys. (contents : Contents) → S.holds shelf.old ≡ Some contents → keys.items ≡ take most_keys contents.keys) }
+    ensures keys { IfOk result (λ keys. Over (S.holds shelf.old) (λ contents. keys.items ≡ take most_keys contents.keys)) }
     ensures few { IfOk result (λ keys. length keys.items ≤ most_keys) }
     ensures same { S.holds shelf.new ≡ S.holds shelf.old }
     ensures cause { HasCauseOf ShelfError.Failed (S.faults shelf.old) (S.faults shelf.new) result }

@@ -1,17 +1,16 @@
-use Rattle.std.proofs.Common.{rules, ◌≡◌, ◌⊎◌, ◌∙◌, sym, subst, true, None, Some, Ok, IsErr}
+use Rattle.std.proofs.Common.{rules, subst, IsErr}
 use Rattle.dsc_terms.specs.Counts.{Rose}
 use Rattle.pull_messages.specs.declared.target_kinds.Target.TheVariants.{Node, SendReport}
 use Rattle.pull_store.specs.declared.change.Change.TheVariants as changes
 use Rattle.pull_server.specs.declared.verdict.Verdict.{Verdict}
-use Rattle.pull_server.specs.declared.verdict.Verdict.TheVariants.{Says, Register, Report}
 use Rattle.pull_server.specs.Judging.{Judges}
-use Rattle.pull_server.proofs.Served.{kept_serves, registration_replies, report_replies, unserved, unserved_not_ok, wider}
+use Rattle.pull_server.proofs.Served.{kept_serves, registration_made, registration_replies, report_made, report_replies, unserved, unserved_not_ok, wider}
 use Rattle.pull_server.proofs.answers.answer.Goals as goal
 
 pub returns-in_err-reply-clause-serves : goal.returns-in_err-reply-clause-serves
 returns-in_err-reply-clause-serves g c =
     let fails : IsErr c.from_residual.result = search rules in
-    unserved_not_ok g.D.Disk c.args.request.now c.args.store.now c.args.disk.now c.from_residual.result fails (g.met.D.Disk.only_now c.args.disk.now) c.requires.ready
+    unserved_not_ok g.D.Disk c.args.request.now (g.S.Shelf.holds c.args.shelf.now) c.args.store.now c.args.disk.now c.from_residual.result fails (g.met.D.Disk.only_now c.args.disk.now) c.requires.ready
 
 pub returns-in-Says-clause-reply : goal.returns-in-Says-clause-reply
 returns-in-Says-clause-reply g c = λ contents told.
@@ -26,7 +25,7 @@ returns-in-Says-clause-reply g c = λ contents told.
 pub returns-in-Says-clause-serves : goal.returns-in-Says-clause-serves
 returns-in-Says-clause-serves g c =
     let judges = subst (λ (v : Verdict). Judges c.args.store.now c.args.request.now (g.S.Shelf.holds c.args.shelf.now) (Rose (g.S.Shelf.faults c.args.shelf.now) (g.S.Shelf.faults c.judge.new.shelf)) v) c.in-Says.is c.in_ok-reply.ensures.judges in
-    unserved g.D.Disk c.args.request.now c.args.store.now c.args.disk.now c.in-Says.reply (g.met.D.Disk.only_now c.args.disk.now) c.requires.ready
+    unserved g.D.Disk c.args.request.now (g.S.Shelf.holds c.args.shelf.now) c.args.store.now c.args.disk.now c.in-Says.reply (g.met.D.Disk.only_now c.args.disk.now) c.requires.ready
     (λ done change asks. cc (judges.judged.nothing done, judges.only change asks))
 
 pub returns-in-Register-clause-reply : goal.returns-in-Register-clause-reply
@@ -40,7 +39,9 @@ pub returns-in-Register-clause-serves : goal.returns-in-Register-clause-serves
 returns-in-Register-clause-serves g c =
     let judges = subst (λ (v : Verdict). Judges c.args.store.now c.args.request.now (g.S.Shelf.holds c.args.shelf.now) (Rose (g.S.Shelf.faults c.args.shelf.now) (g.S.Shelf.faults c.judge.new.shelf)) v) c.in-Register.is c.in_ok-reply.ensures.judges in
     kept_serves g.D.Disk c.args.request.now c.args.store.now c.args.disk.now judges.aim (Node c.in-Register.agent) (changes.Register c.in-Register.agent c.in-Register.registration)
-    judges.judged.0 judges.is_aim judges.judged.2.asks judges.only 204 c.keep_registration.result c.keep_registration.new.store c.keep_registration.new.disk c.keep_registration.ensures
+    judges.judged.0 judges.is_aim judges.judged.2.asks judges.only (g.S.Shelf.holds c.args.shelf.now)
+    (registration_made c.args.store.now c.args.request.now (g.S.Shelf.holds c.args.shelf.now) judges.aim c.in-Register.agent c.in-Register.registration judges.judged.0 judges.judged.2.asks judges.judged.2.passes)
+    204 c.keep_registration.result c.keep_registration.new.store c.keep_registration.new.disk c.keep_registration.ensures
 
 pub returns-in-Report-clause-reply : goal.returns-in-Report-clause-reply
 returns-in-Report-clause-reply g c =
@@ -53,4 +54,6 @@ pub returns-in-Report-clause-serves : goal.returns-in-Report-clause-serves
 returns-in-Report-clause-serves g c =
     let judges = subst (λ (v : Verdict). Judges c.args.store.now c.args.request.now (g.S.Shelf.holds c.args.shelf.now) (Rose (g.S.Shelf.faults c.args.shelf.now) (g.S.Shelf.faults c.judge.new.shelf)) v) c.in-Report.is c.in_ok-reply.ensures.judges in
     kept_serves g.D.Disk c.args.request.now c.args.store.now c.args.disk.now judges.aim (SendReport c.in-Report.agent) (changes.Report c.in-Report.agent c.in-Report.job c.in-Report.body.items)
-    judges.judged.0 judges.is_aim judges.judged.3.asks judges.only 200 c.keep_report.result c.keep_report.new.store c.keep_report.new.disk c.keep_report.ensures
+    judges.judged.0 judges.is_aim judges.judged.3.asks judges.only (g.S.Shelf.holds c.args.shelf.now)
+    (report_made c.args.store.now c.args.request.now (g.S.Shelf.holds c.args.shelf.now) judges.aim c.in-Report.agent c.in-Report.job c.in-Report.body.items judges.judged.0 judges.judged.3.asks judges.judged.3.passes)
+    200 c.keep_report.result c.keep_report.new.store c.keep_report.new.disk c.keep_report.ensures

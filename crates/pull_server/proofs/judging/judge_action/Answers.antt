@@ -1,4 +1,4 @@
-use Rattle.std.proofs.Common.{rules, ◌≡◌, ◌∙◌, ℕ, true, false, [], Some, None, Ok, Err, refl, sym, ap}
+use Rattle.std.proofs.Common.{rules, ◌≡◌, ◌∙◌, [], Some, None, Ok, refl}
 use Rattle.dsc_terms.specs.Counts.{Rose}
 use Rattle.pull_messages.specs.declared.target_kinds.Target.TheVariants.{Action}
 use Rattle.pull_messages.specs.Tables.{query_of}

@@ -1,4 +1,4 @@
-use Rattle.std.proofs.Common.{rules, ◌≡◌, ◌∙◌, ℕ, true, false, [], Some, None, Ok, Err, IfOk, refl, sym, ap}
+use Rattle.std.proofs.Common.{rules, ◌≡◌, ◌∙◌, [], Some, None, Ok, IfOk, refl, sym}
 use Rattle.dsc_terms.specs.Counts.{Rose}
 use Rattle.pull_messages.specs.declared.target_kinds.Target.TheVariants.{Content}
 use Rattle.pull_store.specs.Rows.{row_of}

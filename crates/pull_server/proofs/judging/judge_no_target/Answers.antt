@@ -1,4 +1,4 @@
-use Rattle.std.proofs.Common.{rules, ◌≡◌, ◌∙◌, ◌++◌, Err, refl, sym, true, false, [], codes}
+use Rattle.std.proofs.Common.{rules, ◌≡◌, ◌++◌, Err, refl, true, false, [], codes}
 use Rattle.std.specs.Fmt.{decimal}
 use Rattle.dsc_terms.specs.Counts.{Rose}
 use Rattle.pull_server.specs.Table.{is_known}

@@ -1,4 +1,4 @@
-use Rattle.std.proofs.Common.{rules, ◌≡◌, refl, sym, encode_utf8_all}
+use Rattle.std.proofs.Common.{◌≡◌, refl, sym, encode_utf8_all}
 use Rattle.pull_messages.specs.declared.target_kinds.Target.TheVariants.{Module}
 use Rattle.pull_outside.specs.Shelf.{package_of}
 use Rattle.pull_store.specs.Store.{is_spent}

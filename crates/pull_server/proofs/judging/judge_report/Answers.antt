@@ -1,12 +1,16 @@
-use Rattle.std.proofs.Common.{rules, ◌≡◌, ◌∙◌, ℕ, true, false, [], Some, None, Ok, Err, refl, sym, ap, is_none, List}
+use Rattle.std.proofs.Common.{rules, ◌≡◌, ◌∙◌, ℕ, false, [], None, Ok, refl, sym, ap, is_none, List}
 use Rattle.dsc_terms.specs.Counts.{Rose}
 use Rattle.pull_messages.specs.declared.target_kinds.Target.TheVariants.{SendReport}
 use Rattle.pull_messages.specs.Tables.{report_of}
 use Rattle.pull_store.specs.Rows.{row_of}
+use Rattle.pull_server.specs.Asked.{asked}
+use Rattle.pull_server.specs.Judging.{kept_outcome}
 use Rattle.pull_server.specs.Messages.{fault_text}
+use Rattle.pull_server.specs.Table.{outcome_of}
 use Rattle.pull_server.proofs.Judged.{refuses, asks_report, reported}
 use Rattle.pull_server.proofs.Rows.{no_row_to_report, bad_report, reports}
 use Rattle.pull_server.proofs.Said.{read_as, refused_as}
+use Rattle.pull_server.proofs.Shelves.{of_all}
 use Rattle.pull_server.proofs.judging.judge_report.Goals as goal
 
 pub returns-in_default-clause-judged : goal.returns-in_default-clause-judged
@@ -26,7 +30,9 @@ returns-in_ok-to_vec-in-Ok-clause-judged g c =
       same,
       record {
         asks = asks_report c.args.request.now c.args.agent c.in-Ok.report read ∙ ap (λ (l : List ℕ). reported c.args.agent c.in-Ok.report.job l) (sym same);
-        passes = λ shelf told. c.requires.past shelf ∙ reports c.args.store.now shelf c.args.request.now c.args.agent c.in-Ok.report has read;
+        passes = of_all
+            (λ contents. outcome_of (asked c.args.store.now contents c.args.request.now (Ok (SendReport c.args.agent))) ≡ kept_outcome (asked c.args.store.now contents c.args.request.now (Ok (SendReport c.args.agent))))
+            (g.S.Shelf.holds c.args.shelf.now) (λ contents. c.requires.past contents ∙ reports c.args.store.now contents c.args.request.now c.args.agent c.in-Ok.report has read);
       },
     )
 
