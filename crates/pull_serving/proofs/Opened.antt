@@ -26,8 +26,8 @@ opened_run d count before mid after old new out out_after status opened last is 
       is_opened = is;
       later = later;
       run = run;
-      any_moment = then_on d.moment d.left_since before mid after (λ (image : List ℕ). From KeepsRows (d.images before) image ⊎ Visits first run.turns image) (Visits first run.turns)
-          (weaker d.moment d.left_since before mid (From KeepsRows (d.images before)) (λ (image : List ℕ). From KeepsRows (d.images before) image ⊎ Visits first run.turns image) opening (λ c here. inl here))
+      any_moment = then_on d.moment d.left_since before mid after (λ (image : List ℕ). From KeepsRows (d.images before) image ⊎ Visits old.shelf first run.turns image) (Visits old.shelf first run.turns)
+          (weaker d.moment d.left_since before mid (From KeepsRows (d.images before)) (λ (image : List ℕ). From KeepsRows (d.images before) image ⊎ Visits old.shelf first run.turns image) opening (λ c here. inl here))
           run.any_moment (λ c here. inr here);
       shelf = same;
     }

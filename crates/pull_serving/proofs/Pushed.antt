@@ -60,41 +60,41 @@ lines_push n (u ∷ ts) t =
     ∙ ap (λ (m : ℕ). (line n u.end ++ lines (suc n) ts) ++ line m t.end) (omega arith)
 
 -- whatever was received, the rows may stay
-pub may_stay : (r : Received) (rows : List Row) → MayLeave r rows rows
-may_stay (received.Request request) rows = inl refl
-may_stay (received.Refused e) rows = refl
-may_stay (received.Torn at) rows = refl
-may_stay received.ReadFault rows = refl
-may_stay received.Memory rows = refl
+pub may_stay : (shelf : Option Contents) (r : Received) (store : StoreTerm) → MayLeave shelf r store store.rows
+may_stay shelf (received.Request request) store = inl refl
+may_stay shelf (received.Refused e) store = refl
+may_stay shelf (received.Torn at) store = refl
+may_stay shelf received.ReadFault store = refl
+may_stay shelf received.Memory store = refl
 
-stays : (r : Received) (rows : List Row) (c : List ℕ) → StandsFor Stands (λ new. new ≡ rows) c → StandsFor Stands (MayLeave r rows) c
-stays r rows c s = record { value = s.value; stands = s.stands; has = subst (λ (new : List Row). MayLeave r rows new) (sym s.has) (may_stay r rows) }
+stays : (shelf : Option Contents) (r : Received) (store : StoreTerm) (c : List ℕ) → StandsFor Stands (λ rows. rows ≡ store.rows) c → StandsFor Stands (MayLeave shelf r store) c
+stays shelf r store c s = record { value = s.value; stands = s.stands; has = subst (λ (rows : List Row). MayLeave shelf r store rows) (sym s.has) (may_stay shelf r store) }
 
 visits_earlier : (shelf : Option Contents) (first : State) (ts : List Turn) (mid : State) (t : Turn) (c : List ℕ) → Runs shelf first ts mid → t.before ≡ mid
-    → Visits first ts c → Visits first (ts ++ t ∷ []) c
-visits_earlier shelf first [] mid t c runs before stands = inl (stays t.received t.before.store.rows c (subst (λ (s : State). StandsFor Stands (λ rows. rows ≡ s.store.rows) c) (sym runs ∙ sym before) stands))
+    → Visits shelf first ts c → Visits shelf first (ts ++ t ∷ []) c
+visits_earlier shelf first [] mid t c runs before stands = inl (stays shelf t.received t.before.store c (subst (λ (s : State). StandsFor Stands (λ rows. rows ≡ s.store.rows) c) (sym runs ∙ sym before) stands))
 visits_earlier shelf first (u ∷ ts) mid t c runs before (inl here) = inl here
 visits_earlier shelf first (u ∷ ts) mid t c runs before (inr later) = inr (visits_earlier shelf u.after ts mid t c runs.3 before later)
 
-visits_last : (first : State) (ts : List Turn) (t : Turn) (c : List ℕ) → StandsFor Stands (MayLeave t.received t.before.store.rows) c → Visits first (ts ++ t ∷ []) c
-visits_last first [] t c stands = inl stands
-visits_last first (u ∷ ts) t c stands = inr (visits_last u.after ts t c stands)
+visits_last : (shelf : Option Contents) (first : State) (ts : List Turn) (t : Turn) (c : List ℕ) → StandsFor Stands (MayLeave shelf t.received t.before.store) c → Visits shelf first (ts ++ t ∷ []) c
+visits_last shelf first [] t c stands = inl stands
+visits_last shelf first (u ∷ ts) t c stands = inr (visits_last shelf u.after ts t c stands)
 
 lasts_push : {D : Type 0} (d : Ghosts D) (mid new : D) (shelf : Option Contents) (first half : State) (ts : List Turn) (t : Turn) → Runs shelf first ts half → t.before ≡ half
-    → Lasts (d.moment mid) (d.left_since mid) ts → StandsAtAnyMoment d mid new Stands (MayLeave t.received t.before.store.rows) → t.after.moment ≡ d.moment new
+    → Lasts shelf (d.moment mid) (d.left_since mid) ts → StandsAtAnyMoment d mid new Stands (MayLeave shelf t.received t.before.store) → t.after.moment ≡ d.moment new
     → (is_spent t.after.store ≡ false → (c : List ℕ) → d.left_since new t.after.moment c → StandsFor Stands (λ rows. rows ≡ t.after.store.rows) c)
-    → Lasts (d.moment new) (d.left_since new) (ts ++ t ∷ [])
+    → Lasts shelf (d.moment new) (d.left_since new) (ts ++ t ∷ [])
 lasts_push d mid new shelf first half [] t runs before lasts run ends stands = (omega (arith, ends), stands, tt)
 lasts_push d mid new shelf first half (u ∷ ts) t runs before lasts run ends stands = (
   omega (arith, lasts.0, run.later),
-  (λ unspent c here. ⊎_elim (λ past. visits_earlier shelf u.after ts half t c runs.3 before (lasts.1 unspent c past)) (λ now. visits_last u.after ts t c now) (run.before u.after.moment c lasts.0 here)),
+  (λ unspent c here. ⊎_elim (λ past. visits_earlier shelf u.after ts half t c runs.3 before (lasts.1 unspent c past)) (λ now. visits_last shelf u.after ts t c now) (run.before u.after.moment c lasts.0 here)),
   lasts_push d mid new shelf u.after half ts t runs.3 before lasts.2 run ends stands,
 )
 
-passes_push : {D : Type 0} (d : Ghosts D) (old mid new : D) (ts : List Turn) (t : Turn) → Passes d old ts mid → t.after ≡ state d new t.after.store t.after.shelf_faults → IsReady d new t.after.store
-    → StandsAtAnyMoment d mid new Stands (MayLeave t.received t.before.store.rows) → Passes d old (ts ++ t ∷ []) new
-passes_push d old mid new [] t passes is ready run = (new, is, ready, subst (λ x. StandsAtAnyMoment d x new Stands (MayLeave t.received t.before.store.rows)) passes run, refl)
-passes_push d old mid new (u ∷ ts) t passes is ready run = (passes.0, passes.1, passes.2, passes.3, passes_push d passes.0 mid new ts t passes.4 is ready run)
+passes_push : {D : Type 0} (d : Ghosts D) (shelf : Option Contents) (old mid new : D) (ts : List Turn) (t : Turn) → Passes d shelf old ts mid → t.after ≡ state d new t.after.store t.after.shelf_faults → IsReady d new t.after.store
+    → StandsAtAnyMoment d mid new Stands (MayLeave shelf t.received t.before.store) → Passes d shelf old (ts ++ t ∷ []) new
+passes_push d shelf old mid new [] t passes is ready run = (new, is, ready, subst (λ x. StandsAtAnyMoment d x new Stands (MayLeave shelf t.received t.before.store)) passes run, refl)
+passes_push d shelf old mid new (u ∷ ts) t passes is ready run = (passes.0, passes.1, passes.2, passes.3, passes_push d shelf passes.0 mid new ts t passes.4 is ready run)
 
 took_none : (coming : Option (List Known)) → Took coming coming []
 took_none None = refl
@@ -116,7 +116,7 @@ run_start d disk store shelf shelf_faults door Printed now kept printed = record
   none_out = refl;
   printed = printed;
   passes = refl;
-  any_moment = started d.moment d.left_since disk (Visits (state d disk store shelf_faults) []) (λ c here. kept_stands d disk store kept c (now c here));
+  any_moment = started d.moment d.left_since disk (Visits shelf (state d disk store shelf_faults) []) (λ c here. kept_stands d disk store kept c (now c here));
   lasts = tt;
 }
 
@@ -125,20 +125,20 @@ pub run_push : {D : Type 0} (d : Ghosts D) (old mid new : D) (shelf now : Option
     → IsRun d old mid shelf first half door door1 Before → IsStep d mid new now half last door1 door2 end → now ≡ shelf
     → ((ts : List Turn) (t : Turn) → Before ts → t.end ≡ end → After (ts ++ t ∷ []))
     → IsRun d old new shelf first last door door2 After
-run_push d old mid new shelf now first half last door door1 door2 end Before After run step same printed =
-    let is = subst (λ (s : Option Contents). IsTurn s step.turn) same step.is_turn in
+run_push d old mid new shelf now first half last door door1 door2 end Before After run stepped same printed =
+    let step = subst (λ (s : Option Contents). IsStep d mid new s half last door1 door2 end) same stepped in
     let turns = run.turns ++ step.turn ∷ [] in
     record {
       turns = turns;
-      runs = subst (λ (s : State). Runs shelf first turns s) step.leaves (runs_push shelf first run.turns half step.turn run.runs step.starts step.fresh is);
+      runs = subst (λ (s : State). Runs shelf first turns s) step.leaves (runs_push shelf first run.turns half step.turn run.runs step.starts step.fresh step.is_turn);
       took = took_push door.coming door1.coming door2.coming run.turns step.turn run.took step.took;
       gave = gave_push door.back door1.back door2.back run.turns step.turn run.gave step.gave;
       none_out = step.none_out ∙ run.none_out;
       printed = printed run.turns step.turn run.printed step.ends;
-      passes = passes_push d old mid new run.turns step.turn run.passes step.is_state step.ready step.any_moment;
-      any_moment = then_on d.moment d.left_since old mid new (Visits first turns) (StandsFor Stands (MayLeave step.turn.received step.turn.before.store.rows))
-          (weaker d.moment d.left_since old mid (Visits first run.turns) (Visits first turns) run.any_moment (λ c here. visits_earlier shelf first run.turns half step.turn c run.runs step.starts here))
-          step.any_moment (λ c here. visits_last first run.turns step.turn c here);
+      passes = passes_push d shelf old mid new run.turns step.turn run.passes step.is_state step.ready step.any_moment;
+      any_moment = then_on d.moment d.left_since old mid new (Visits shelf first turns) (StandsFor Stands (MayLeave shelf step.turn.received step.turn.before.store))
+          (weaker d.moment d.left_since old mid (Visits shelf first run.turns) (Visits shelf first turns) run.any_moment (λ c here. visits_earlier shelf first run.turns half step.turn c run.runs step.starts here))
+          step.any_moment (λ c here. visits_last shelf first run.turns step.turn c here);
       lasts = lasts_push d mid new shelf first half run.turns step.turn run.runs step.starts run.lasts step.any_moment step.ends_now step.stands;
     }
 

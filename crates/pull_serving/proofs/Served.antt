@@ -46,7 +46,7 @@ module _ {D : Type 0} (d : Ghosts D) (before : D) (shelf : Option Contents) (cam
     acknowledges reply broken mid ends.WriteFault sent known = tt
     acknowledges reply broken mid ends.Memory sent known = tt
 
-    pub served_request : (reply : Reply) (broken : Bool) (mid : ℕ) (end : ConnectionEnd) → came.faults ≤ mid → broken ≡ (not (is_spent store) && is_spent new) → Serves d request store before (Ok reply) new now
+    pub served_request : (reply : Reply) (broken : Bool) (mid : ℕ) (end : ConnectionEnd) → came.faults ≤ mid → broken ≡ (not (is_spent store) && is_spent new) → Serves d request shelf store before (Ok reply) new now
         → ((contents : Contents) → shelf ≡ Some contents → Replies store contents request (Rose (d.faults before) (d.faults now) ⊎ Rose shelf_faults shelf_faults_after) reply new.rows)
         → (reply.code ≡ 500 → (Rose (d.faults before) (d.faults now) ⊎ Rose shelf_faults shelf_faults_after) ⊎ (is_spent store ≡ true))
         → IsSentEnd came.held went.held reply mid went.faults broken end → shelf_faults ≤ shelf_faults_after → came.faults ≤ went.faults
@@ -77,7 +77,7 @@ module _ {D : Type 0} (d : Ghosts D) (before : D) (shelf : Option Contents) (cam
         }
 
     -- memory was refused for the reply
-    pub served_without_memory : (result : Result Reply Memory) → IsErr result → Serves d request store before result new now → went.held ≡ came.held
+    pub served_without_memory : (result : Result Reply Memory) → IsErr result → Serves d request shelf store before result new now → went.held ≡ came.held
         → shelf_faults ≤ shelf_faults_after → came.faults ≤ went.faults → IsServed d before now shelf came went old_state new_state ends.Memory
     served_without_memory (Ok reply) fails serves silent shelf_later conn_later = absurd (cc fails)
     served_without_memory (Err e) fails serves silent shelf_later conn_later = record {
@@ -103,10 +103,10 @@ module _ {D : Type 0} (d : Ghosts D) (before : D) (shelf : Option Contents) (cam
     abbrev here : State
     here = state d before store shelf_faults
 
-    stays : (r : Received) → IsKept d before store → StandsAtAnyMoment d before before Stands (MayLeave r store.rows)
-    stays r kept = started d.moment d.left_since before (StandsFor Stands (MayLeave r store.rows)) (λ c left.
+    stays : (r : Received) → IsKept d before store → StandsAtAnyMoment d before before Stands (MayLeave shelf r store)
+    stays r kept = started d.moment d.left_since before (StandsFor Stands (MayLeave shelf r store)) (λ c left.
         let s = kept_stands d before store kept c (only_now c left) in
-        record { value = s.value; stands = s.stands; has = subst (λ rows. MayLeave r store.rows rows) (sym s.has) (may_stay r store.rows) })
+        record { value = s.value; stands = s.stands; has = subst (λ rows. MayLeave shelf r store rows) (sym s.has) (may_stay shelf r store) })
 
     same : (r : Received) → Leaves r here here
     same (received.Request request) = tt
@@ -133,7 +133,7 @@ module _ {D : Type 0} (d : Ghosts D) (before : D) (shelf : Option Contents) (cam
       received = r;
       turn = record {
         heard = heard;
-        rows = may_stay r store.rows;
+        rows = may_stay shelf r store;
         leaves = same r;
         end = is;
         spent = λ fresh over. never (is_spent store) over fresh;

@@ -1,9 +1,9 @@
 -- What the server prints: a line for each connection, and one for a refusal.
-use Rattle.std.specs.Prelude.{◌≡◌, ◌⊎◌, ℕ, ◌≤◌, ◌<◌, suc, true, false, List, [], ◌∷◌, ◌++◌, length, codes, Option}
+use Rattle.std.specs.Prelude.{◌≡◌, ℕ, ◌≤◌, ◌<◌, suc, true, false, List, [], ◌∷◌, ◌++◌, length, codes, Option}
 use Rattle.std.specs.Io.KnownBytes.{Appends}
 use Rattle.std.specs.Fmt.{decimal}
 use Rattle.dsc_terms.specs.Counts.{Rose}
-use Rattle.pull_exchange.specs.Exchange.{AppendsPart}
+use Rattle.pull_exchange.specs.Exchange.{AppendsPart, Writes}
 use Rattle.pull_serving.specs.declared.connection.ConnectionEnd.{ConnectionEnd}
 use Rattle.pull_serving.specs.declared.connection.ConnectionEnd.TheVariants as ends
 use Rattle.pull_serving.specs.declared.status.ServeStatus.{ServeStatus}
@@ -49,15 +49,11 @@ pub record Output : Type 0 where
 abbrev pub output_of : Option (List ℕ) → ℕ → Output
 output_of held faults = record { held = held; faults = faults }
 
--- the whole text was written, or the output failed and a part from its front was
-abbrev pub Writes : Output → Output → List ℕ → Type 0
-Writes old new text = Appends old.held new.held text ⊎ (Rose old.faults new.faults × AppendsPart old.held new.held text)
-
 -- the lines of the turns were written whole, and then the line of the refusal
 pub record Refuses (old new : Output) (turns : List Turn) (status : ServeStatus) : Type 0 where
   pub mid : Option (List ℕ)
   pub lines : Appends old.held mid (lines 1 turns)
-  pub refusal : Writes (output_of mid old.faults) new (refusal_line status)
+  pub refusal : Writes mid new.held (refusal_line status) old.faults new.faults
 
 -- the line of the last turn could not be written whole, but a part from its front
 pub record IsCutOff (old new : Option (List ℕ)) (turns : List Turn) : Type 0 where

@@ -11,7 +11,7 @@ use Rattle.pull_outside.specs.Door.{Known}
 use Rattle.pull_outside.specs.Shelf.{Contents}
 use Rattle.pull_exchange.specs.declared.exchange.Received.{Received}
 use Rattle.pull_exchange.specs.declared.exchange.Received.TheVariants as received
-use Rattle.pull_exchange.specs.Exchange.{AppendsPart, IsReceived, IsRefusal, refusal_of}
+use Rattle.pull_exchange.specs.Exchange.{AppendsPart, IsReceived, IsRefusal, Writes, refusal_of}
 use Rattle.pull_store.specs.declared.row.Row.{Row}
 use Rattle.pull_store.specs.Stands.{Stands}
 use Rattle.pull_store.specs.Store.{StoreTerm, IsKept, Untouched, is_spent}
@@ -77,10 +77,6 @@ IsReply shelf t received.Memory reply = ⊥
 abbrev pub WroteNothing : Turn → Type 0
 WroteNothing t = t.went.held ≡ t.came.held
 
--- the whole reply was written, or the connection failed and a part from its front was
-abbrev pub WroteWhat : Turn → Reply → Type 0
-WroteWhat t reply = Appends t.came.held t.went.held (answer_text reply) ⊎ (ConnectionRose t × AppendsPart t.came.held t.went.held (answer_text reply))
-
 -- the reply was written whole
 pub record IsAnswered (shelf : Option Contents) (t : Turn) (code : ℕ) : Type 0 where
   pub reply : Reply
@@ -94,7 +90,7 @@ pub record IsBroken (shelf : Option Contents) (t : Turn) : Type 0 where
   pub spent : is_spent t.after.store ≡ true
   pub rose : DiskRose t
   pub is_reply : IsReply shelf t t.received (plain 500)
-  pub written : WroteWhat t (plain 500)
+  pub written : Writes t.came.held t.went.held (answer_text (plain 500)) t.came.faults t.went.faults
 
 -- the connection failed, and a part from the front of the reply was written
 pub record IsCut (shelf : Option Contents) (t : Turn) : Type 0 where
@@ -124,12 +120,12 @@ IsEnd shelf t ends.Memory = WroteNothing t × (IsStoreSame t ⊎ IsUnsent shelf 
 -- ---- the turn
 
 -- the rows that what was received may leave
-abbrev pub MayLeave : Received → List Row → List Row → Type 0
-MayLeave (received.Request request) old new = LeavesRows request old new
-MayLeave (received.Refused e) old new = new ≡ old
-MayLeave (received.Torn at) old new = new ≡ old
-MayLeave received.ReadFault old new = new ≡ old
-MayLeave received.Memory old new = new ≡ old
+abbrev pub MayLeave : Option Contents → Received → StoreTerm → List Row → Type 0
+MayLeave shelf (received.Request request) store rows = LeavesRows store shelf request rows
+MayLeave shelf (received.Refused e) store rows = rows ≡ store.rows
+MayLeave shelf (received.Torn at) store rows = rows ≡ store.rows
+MayLeave shelf received.ReadFault store rows = rows ≡ store.rows
+MayLeave shelf received.Memory store rows = rows ≡ store.rows
 
 -- what is no request leaves all as it was
 abbrev pub Leaves : Received → State → State → Type 0
@@ -146,7 +142,7 @@ ShowsFault end = (end ≡ ends.DiskFault) ⊎ (end ≡ ends.Memory)
 -- the connection was served over what the shelf holds
 pub record IsTurn (shelf : Option Contents) (t : Turn) : Type 0 where
   pub heard : IfSome t.came.left (λ bytes. IsReceived bytes t.received)
-  pub rows : MayLeave t.received t.before.store.rows t.after.store.rows
+  pub rows : MayLeave shelf t.received t.before.store t.after.store.rows
   pub leaves : Leaves t.received t.before t.after
   pub end : IsEnd shelf t t.end
   pub spent : is_spent t.before.store ≡ false → is_spent t.after.store ≡ true → DiskRose t × ShowsFault t.end
@@ -171,6 +167,6 @@ Rests received.Memory store untouched = untouched
 pub record IsServed {D : Type 0} (d : Ghosts D) (before now : D) (shelf : Option Contents) (came went : Known) (old new : State) (end : ConnectionEnd) : Type 0 where
   pub received : Received
   pub turn : IsTurn shelf (record { came = came; went = went; received = received; before = old; after = new; end = end })
-  pub any_moment : IsKept d before old.store → StandsAtAnyMoment d before now Stands (MayLeave received old.store.rows)
+  pub any_moment : IsKept d before old.store → StandsAtAnyMoment d before now Stands (MayLeave shelf received old.store)
   pub acknowledged : Acknowledges d received old.store now new.store end
   pub rests : Rests received old.store (Untouched old.store new.store before now)

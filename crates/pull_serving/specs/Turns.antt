@@ -32,22 +32,22 @@ Gave None new turns = new ≡ None
 Gave (Some known) new turns = new ≡ Some (known ++ map went turns)
 
 -- the image stands for the rows that were there first, or for rows that one of the turns may leave
-abbrev pub Visits : State → List Turn → List ℕ → Type 0
-Visits first [] image = StandsFor Stands (λ rows. rows ≡ first.store.rows) image
-Visits first (t ∷ ts) image = StandsFor Stands (MayLeave t.received t.before.store.rows) image ⊎ Visits t.after ts image
+abbrev pub Visits : Option Contents → State → List Turn → List ℕ → Type 0
+Visits shelf first [] image = StandsFor Stands (λ rows. rows ≡ first.store.rows) image
+Visits shelf first (t ∷ ts) image = StandsFor Stands (MayLeave shelf t.received t.before.store) image ⊎ Visits shelf t.after ts image
 
 -- from the end of each turn on, unless the disk failed in it, every image stands for the rows that it left, or for rows that a later one may leave
-abbrev pub Lasts : ℕ → (ℕ → List ℕ → Type 0) → List Turn → Type 0
-Lasts now since [] = ⊤
-Lasts now since (t ∷ ts) =
-    (t.after.moment ≤ now) × (is_spent t.after.store ≡ false → (image : List ℕ) → since t.after.moment image → Visits t.after ts image) × Lasts now since ts
+abbrev pub Lasts : Option Contents → ℕ → (ℕ → List ℕ → Type 0) → List Turn → Type 0
+Lasts shelf now since [] = ⊤
+Lasts shelf now since (t ∷ ts) =
+    (t.after.moment ≤ now) × (is_spent t.after.store ≡ false → (image : List ℕ) → since t.after.moment image → Visits shelf t.after ts image) × Lasts shelf now since ts
 
 -- the disk went with the turns from one to the next, and at each moment of a turn left rows that the turn may leave
-abbrev pub Passes : {D : Type 0} → Ghosts D → D → List Turn → D → Type 0
-Passes {D = D} d old [] new = new ≡ old
-Passes {D = D} d old (t ∷ ts) new =
+abbrev pub Passes : {D : Type 0} → Ghosts D → Option Contents → D → List Turn → D → Type 0
+Passes {D = D} d shelf old [] new = new ≡ old
+Passes {D = D} d shelf old (t ∷ ts) new =
     (mid : D) × (t.after ≡ state d mid t.after.store t.after.shelf_faults) × IsReady d mid t.after.store
-    × StandsAtAnyMoment d old mid Stands (MayLeave t.received t.before.store.rows) × Passes d mid ts new
+    × StandsAtAnyMoment d old mid Stands (MayLeave shelf t.received t.before.store) × Passes d shelf mid ts new
 
 -- what is known of the door: the connections that are still to come, those that were handed back, and how many were given and not handed back
 pub record Doorway : Type 0 where
@@ -69,7 +69,7 @@ pub record IsStep {D : Type 0} (d : Ghosts D) (old new : D) (shelf : Option Cont
   pub took : TakesFirst door.coming door_after.coming turn.came
   pub gave : GetsBack door.back door_after.back turn.went
   pub none_out : door_after.out ≡ door.out
-  pub any_moment : StandsAtAnyMoment d old new Stands (MayLeave turn.received turn.before.store.rows)
+  pub any_moment : StandsAtAnyMoment d old new Stands (MayLeave shelf turn.received turn.before.store)
   pub is_state : turn.after ≡ state d new turn.after.store turn.after.shelf_faults
   pub ready : IsReady d new turn.after.store
   pub ends_now : turn.after.moment ≡ d.moment new
@@ -83,6 +83,6 @@ pub record IsRun {D : Type 0} (d : Ghosts D) (old new : D) (shelf : Option Conte
   pub gave : Gave door.back door_after.back turns
   pub none_out : door_after.out ≡ door.out
   pub printed : Printed turns
-  pub passes : Passes d old turns new
-  pub any_moment : AtAnyMoment d old new (Visits first turns)
-  pub lasts : Lasts (d.moment new) (d.left_since new) turns
+  pub passes : Passes d shelf old turns new
+  pub any_moment : AtAnyMoment d old new (Visits shelf first turns)
+  pub lasts : Lasts shelf (d.moment new) (d.left_since new) turns

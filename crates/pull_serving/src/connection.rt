@@ -38,7 +38,7 @@ pub enum ConnectionEnd {
 /// Reads one request, answers it, and writes the answer.
 ///
 /// What is no request leaves store, disk and shelf as they were. A crash at any moment leaves the rows before the request, or those
-/// after the change that it asks for.
+/// after the change that the table makes.
 pub fn serve_connection<X: Source + Sink, D: Disk, S: Shelf>(
     alloc: Global,
     conn: &mut X,

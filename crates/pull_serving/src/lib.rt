@@ -4,7 +4,7 @@
 //! connections as its words say, over one store, and prints a line for each. A layer above may rely on this: each connection is
 //! answered over what the one before it left, and nothing but its answer is written to it; a registration or a report that was
 //! acknowledged is on the disk from then on; and a crash at any moment leaves the rows before a connection, or those after the
-//! change that it asks for.
+//! change that the table makes.
 #![tactic(auto)]
 
 mod connection;

@@ -2,7 +2,8 @@
 ghost use Rattle.std.specs.Prelude.{◌≡◌, ◌≤◌, ◌+◌, ◌++◌, length};
 ghost use Rattle.std.specs.Fmt.{decimal};
 ghost use Rattle.arrayvec.specs.ArrayString.{array_string_len};
-ghost use Rattle.pull_serving.specs.Printing.{Writes, end_text, line, output_of, refusal_line};
+ghost use Rattle.pull_exchange.specs.Exchange.{Writes};
+ghost use Rattle.pull_serving.specs.Printing.{end_text, line, refusal_line};
 
 use crate::connection::ConnectionEnd;
 use crate::status::ServeStatus;
@@ -59,7 +60,7 @@ fn push_number(text: &mut Line, number: u64)
 /// Prints the line of a refusal, which stays the status where the output fails.
 pub fn refuse<K: Sink>(output: &mut K, status: ServeStatus) -> ServeStatus
     ensures status { result ≡ status }
-    ensures writes { Writes (output_of (K.held output.old) (K.faults output.old)) (output_of (K.held output.new) (K.faults output.new)) (refusal_line status) }
+    ensures writes { Writes (K.held output.old) (K.held output.new) (refusal_line status) (K.faults output.old) (K.faults output.new) }
     ensures count { K.faults output.old ≤ K.faults output.new }
 {
     let _ = write_all(output, refusal_line(status).as_str().as_bytes());

@@ -5,7 +5,7 @@ ghost use Rattle.pull_serving.specs.Serving.{Service, around_of};
 ghost use Rattle.pull_serving.specs.Turns.{doorway};
 
 use crate::printing::refuse;
-use crate::status::ServeStatus;
+use crate::status::{ServeStatus, status_of};
 use crate::turns::serve_turns;
 use dsc_outside::{Disk, Sink};
 use pull_outside::{Door, Shelf};
@@ -45,6 +45,6 @@ pub fn serve<G: Door, S: Shelf, D: Disk, K: Sink>(
             disk,
             output,
         ),
-        Err(error) => refuse(output, ServeStatus::from(error)),
+        Err(error) => refuse(output, status_of(error)),
     }
 }

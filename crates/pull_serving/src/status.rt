@@ -36,19 +36,17 @@ impl ServeStatus {
     }
 }
 
-impl From<PullError> for ServeStatus {
-    ghost from_gives = { λ error status. status ≡ status_of error };
-
-    // An opening answers nothing else than these three.
-    fn from(error: PullError) -> Self {
-        match error {
-            PullError::NotAStore { at } => ServeStatus::NotAStore { at },
-            PullError::Memory => ServeStatus::Memory,
-            PullError::Disk
-            | PullError::Spent
-            | PullError::Agents
-            | PullError::NoAgent
-            | PullError::Full { .. } => ServeStatus::DiskFault,
-        }
+/// How a store that does not open ends the run; an opening answers `NotAStore`, `Memory` and `Disk` alone.
+pub fn status_of(error: PullError) -> ServeStatus
+    ensures { result ≡ status_of error }
+{
+    match error {
+        PullError::NotAStore { at } => ServeStatus::NotAStore { at },
+        PullError::Memory => ServeStatus::Memory,
+        PullError::Disk
+        | PullError::Spent
+        | PullError::Agents
+        | PullError::NoAgent
+        | PullError::Full { .. } => ServeStatus::DiskFault,
     }
 }

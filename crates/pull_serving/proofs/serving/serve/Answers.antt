@@ -1,8 +1,9 @@
 use Rattle.std.proofs.Common.{◌∙◌, refl, sym, ap, subst, map, string_bytes, Result, Err}
+use Rattle.pull_exchange.specs.Exchange.{Writes}
 use Rattle.serve_words.specs.declared.words.ServeWords.{ServeWords}
 use Rattle.serve_words.specs.declared.words.WordsError.{WordsError}
 use Rattle.pull_serving.specs.declared.status.ServeStatus.{ServeStatus}
-use Rattle.pull_serving.specs.Printing.{Writes, output_of, refusal_line}
+use Rattle.pull_serving.specs.Printing.{output_of, refusal_line}
 use Rattle.pull_serving.specs.Serving.{Service, around_of, no_memory, ran, refused, unopened}
 use Rattle.pull_serving.specs.Turns.{doorway}
 use Rattle.pull_serving.proofs.Opened.{opened_run}
@@ -39,6 +40,6 @@ returns g c =
     let here = around_of (doorway (g.G.Door.coming c.args.door.now) (g.G.Door.back c.args.door.now) (g.G.Door.out c.args.door.now)) (g.G.Door.faults c.args.door.now) (g.S.Shelf.holds c.args.shelf.now) (g.S.Shelf.faults c.args.shelf.now) in
     let old = output_of (g.K.Ends.held c.args.output.now) (g.K.Ends.faults c.args.output.now) in
     let new = output_of (g.K.Ends.held c.refuse-in-Err.new.output) (g.K.Ends.faults c.refuse-in-Err.new.output) in
-    subst (λ (s : ServeStatus). Service g.D.Disk words c.args.disk.now c.open_pull.new.disk here here old new s) (sym (c.refuse-in-Err.ensures.status ∙ c.from.ensures))
+    subst (λ (s : ServeStatus). Service g.D.Disk words c.args.disk.now c.open_pull.new.disk here here old new s) (sym (c.refuse-in-Err.ensures.status ∙ c.status_of.ensures))
     (unopened c.in-Ok.values c.in-Err.error c.in-Ok.ensures.taken c.in-Err.ensures.cause c.open_pull.ensures.any_moment refl
-    (subst (λ (s : ServeStatus). Writes old new (refusal_line s)) c.from.ensures c.refuse-in-Err.ensures.writes))
+    (subst (λ (s : ServeStatus). Writes old.held new.held (refusal_line s) old.faults new.faults) c.status_of.ensures c.refuse-in-Err.ensures.writes))

@@ -63,7 +63,7 @@ returns-then-is_spent-clause-run g c =
     (λ ts t so_far same.
     let more = prints_more old.held (g.K.Ends.held c.loop-number.output) mid.held c.loop-number.number c.in-Ok.end c.as_bytes.result.now is c.in-Ok-write_all.ensures.ok ts t so_far same in
     subst (λ (s : ServeStatus). Printed c.args.count last (g.G.Door.faults c.args.door.now) (g.G.Door.faults c.serve_next.new.door) old new s (ts ++ t ∷ [])) (sym c.refuse-then-is_spent.ensures.status)
-    (omega (arith, more.0, c.loop-number-test.true), spent, record { mid = mid.held; lines = more.1; refusal = writes_earlier mid.held old.faults mid.faults new (refusal_line statuses.DiskFault) (omega (arith, c.loop-number.invariant.output, c.write_all.ensures.cause.later)) c.refuse-then-is_spent.ensures.writes }))
+    (omega (arith, more.0, c.loop-number-test.true), spent, record { mid = mid.held; lines = more.1; refusal = writes_earlier mid.held new.held (refusal_line statuses.DiskFault) old.faults mid.faults new.faults (omega (arith, c.loop-number.invariant.output, c.write_all.ensures.cause.later)) c.refuse-then-is_spent.ensures.writes }))
 
 pub loop-number-preserved : goal.loop-number-preserved
 loop-number-preserved g c =
