@@ -1,0 +1,10 @@
+pub mod AcceptedParts
+pub mod AddedPackages
+pub mod AskedNames
+pub mod Exits
+pub mod GoingOn
+pub mod ListRows
+pub mod ListedParts
+pub mod PackageRows
+pub mod PartRows
+pub mod PullRows

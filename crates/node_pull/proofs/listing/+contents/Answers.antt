@@ -1,0 +1,24 @@
+use Rattle.std.proofs.lemmas.List.{take_rest}
+use Rattle.pull_client.specs.declared.error.PeerError.TheVariants.{Memory}
+use Rattle.node_pull.proofs.Exits.{out_of}
+use Rattle.node_pull.proofs.PartRows.{at_end, at_error, at_part, at_short, first_name}
+use Rattle.node_pull.proofs.listing.+contents.Goals as goal
+
+pub returns-in_default : goal.returns-in_default
+returns-in_default g t c = at_end c.args.server.now c.args.agent c.args.held.now c.args.names.now c.args.fetches.now c.args.earlier.items _ c.in_default.len_below
+
+pub returns-in-Err : goal.returns-in-Err
+returns-in-Err g t c =
+    at_error c.args.server.now c.args.agent c.args.held.now c.args.names.now c.args.fetches.now c.args.earlier.items _ _ c.name-item.result c.in-Err.error
+    (first_name c.args.names.now c.name-item.result c.in-len1-up.len_at_least c.name-item.is) c.in-Err.ensures
+
+pub returns-in_err-push : goal.returns-in_err-push
+returns-in_err-push g t c = rw (out_of Memory c.from_residual.result c.from_residual.ensures.1)
+    (at_short c.args.server.now c.args.agent c.args.held.now c.args.names.now c.args.fetches.now c.args.earlier.items _ _ c.name-item.result c.in-Ok.part
+    (first_name c.args.names.now c.name-item.result c.in-len1-up.len_at_least c.name-item.is) c.in-Ok.ensures)
+
+pub returns : goal.returns
+returns g t c =
+    at_part c.args.server.now c.args.agent c.args.held.now c.args.names.now _ c.args.fetches.now c.later_answers.result.now c.args.earlier.items c.push.new.self.items _ _ _
+    c.name-item.result c.in-Ok.part _ (first_name c.args.names.now c.name-item.result c.in-len1-up.len_at_least c.name-item.is) (take_rest c.args.names.now 1) c.later_answers.ensures c.in_ok-push.ensures.items
+    c.in-Ok.ensures c.contents.ensures

@@ -1,0 +1,25 @@
+use Rattle.node_state.specs.declared.error.StageError.TheVariants as stages
+use Rattle.node_pull.specs.declared.error.PullError.TheVariants.{Memory}
+use Rattle.node_pull.specs.Pulling.{not_staged}
+use Rattle.node_pull.proofs.Exits.{out_of}
+use Rattle.node_pull.proofs.PullRows.{pulled_short, pulled_whole}
+use Rattle.node_pull.proofs.pulling.brought.Goals as goal
+
+pub returns-in-Err-clause-pulled : goal.returns-in-Err-clause-pulled
+returns-in-Err-clause-pulled g c = λ before listed. rw c.staging_error.ensures (not_staged before _ _ c.args.parts.items c.in-Err.error listed c.in-Err.ensures.refused)
+
+pub returns-in_err-modules-clause-pulled : goal.returns-in_err-modules-clause-pulled
+returns-in_err-modules-clause-pulled g c = λ before listed.
+    rw (out_of Memory c.from_residual.result c.from_residual.ensures.1) (not_staged before _ _ c.args.parts.items stages.Memory listed tt)
+
+pub returns-in-Ok-packages-clause-pulled : goal.returns-in-Ok-packages-clause-pulled
+returns-in-Ok-packages-clause-pulled g c = λ before listed.
+    pulled_whole g.M.Machine.packages g.M.Resources.faults c.args.meta.now c.args.server.now c.args.agent c.args.held.now before _ _ c.args.machine.now _ c.args.parts.items c.parts.result.now
+    c.in-Ok.staged c.in_ok-modules.modules.items c.deref.result.now c.brought_of.result c.in-Ok.ensures.staged c.parts.ensures c.deref.ensures.value listed c.in-Ok.ensures.fits
+    c.in_ok-modules.ensures c.in-Ok-packages.ensures.packages c.brought_of.ensures
+
+pub returns-in-Err-packages-clause-pulled : goal.returns-in-Err-packages-clause-pulled
+returns-in-Err-packages-clause-pulled g c = λ before listed.
+    pulled_short g.M.Machine.packages g.M.Resources.faults c.args.meta.now c.args.server.now c.args.agent c.args.held.now before _ _ c.args.machine.now _ c.args.parts.items c.parts.result.now
+    c.in-Ok.staged c.in_ok-modules.modules.items c.deref.result.now c.in-Err-packages.error c.in-Ok.ensures.staged c.parts.ensures c.deref.ensures.value listed c.in-Ok.ensures.fits
+    c.in_ok-modules.ensures c.in-Err-packages.ensures.packages

@@ -1,0 +1,22 @@
+-- Laws of the definitions.
+use Rattle.std.specs.Prelude.{ℕ, List, Option, Result, Ok}
+use Rattle.meta_config.specs.declared.server.Server.{Server}
+use Rattle.dsc_outside.specs.declared.entries.Package.{Package}
+use Rattle.node_pull.specs.declared.error.PullError.{PullError}
+use Rattle.node_pull.specs.declared.modules.Module.{Module}
+use Rattle.node_pull.specs.Packages.{AddsAccepted, HasAll, Packages}
+use Rattle.node_pull.specs.Views.{LinkView}
+
+-- each package that a machine has after a pull and not before is of one of the modules, and was accepted
+abbrev pub PackagesAreAccepted : {S : Type 0} → (S → Option (List Package)) → (S → ℕ) → Type 0
+PackagesAreAccepted {S} packages faults =
+    (server : Server) (modules : List Module) (before after : LinkView) (old new : S) (result : Result (Unit {0}) PullError)
+    → Packages packages faults server modules before after old new result
+    → AddsAccepted modules after (packages old) (packages new)
+
+-- and where they all came, the machine has that of each module
+abbrev pub PackagesAreThere : {S : Type 0} → (S → Option (List Package)) → (S → ℕ) → Type 0
+PackagesAreThere {S} packages faults =
+    (server : Server) (modules : List Module) (before after : LinkView) (old new : S)
+    → Packages packages faults server modules before after old new (Ok tt)
+    → HasAll modules (packages new)

@@ -1,0 +1,11 @@
+pub mod Contents
+pub mod Errors
+pub mod Laws
+pub mod Listing
+pub mod Marks
+pub mod Names
+pub mod Packages
+pub mod Pulling
+pub mod Reporting
+pub mod Registering
+pub mod Views

@@ -1,0 +1,82 @@
+//! The names of configurations that a node registers, and that it asks for.
+ghost use Rattle.std.specs.Prelude.{◌≡◌, ◌<◌, ◌++◌, All, IfOk, filter, length, map, not};
+ghost use Rattle.meta_config.specs.Parts.{IsOrderOfParts};
+ghost use Rattle.node_state.specs.Metas.{IsNodeMeta};
+ghost use Rattle.node_pull.specs.Names.{AreAsked, AreNamesAt, is_among, registered_names};
+
+use depend_order::OrderError;
+use meta_config::{Meta, Partial, parts_order};
+use mof_values::{Memory, Text};
+use std::alloc::{AllocError, Global};
+
+/// The names that a node registers: its ConfigurationNames, then each name of a partial configuration that is not among them.
+pub(crate) fn registered_names(alloc: Global, meta: &Meta) -> Result<Vec<Text>, AllocError>
+    ensures { IfOk result (λ names. names.items ≡ registered_names meta.now) }
+{
+    let own = meta.names.as_slice();
+    let mut names = copies(alloc, own)?;
+    let mut left = meta.partials.as_slice();
+    while let [partial, rest @ ..] = left {
+        if !is_among(own, &partial.name) {
+            names.push(copy_of(&partial.name)?)?;
+        }
+        left = rest;
+    }
+    Ok(names)
+}
+
+fn is_among(names: &[Text], name: &Text) -> bool
+    ensures { result ≡ is_among names.now name.now }
+{
+    names.iter().any(|other| *name == *other)
+}
+
+/// The names that a node asks for: those of its partial configurations, in their order, or, where none is declared, its
+/// ConfigurationNames.
+pub(crate) fn names_asked(alloc: Global, meta: &Meta) -> Result<Vec<Text>, Memory>
+    requires { IsNodeMeta meta.now }
+    ensures { IfOk result (λ names. AreAsked meta.now names.items) }
+{
+    let partials = meta.partials.as_slice();
+    if partials.is_empty() {
+        return Ok(copies(alloc, meta.names.as_slice())?);
+    }
+    let order = order_of(alloc, meta)?;
+    Ok(names_at(alloc, partials, &order)?)
+}
+
+// The order of the partial configurations, which have one.
+fn order_of(alloc: Global, meta: &Meta) -> Result<Vec<u32>, Memory>
+    requires { IsNodeMeta meta.now }
+    ensures { IfOk result (λ order. IsOrderOfParts meta.now order.items) }
+{
+    match parts_order(alloc, meta) {
+        Ok(order) => Ok(order),
+        Err(OrderError::Memory) => Err(Memory),
+        Err(OrderError::Cycle(_)) => unreachable!(),
+    }
+}
+
+// The names of the partial configurations at these places.
+fn names_at(alloc: Global, partials: &[Partial], places: &[u32]) -> Result<Vec<Text>, AllocError>
+    requires { All (λ place. place < length partials.now) places.now }
+    ensures { IfOk result (λ names. AreNamesAt partials.now places.now names.items) }
+{
+    let mut names = Vec::new(alloc);
+    for place in places {
+        names.push(copy_of(&partials[*place as usize].name)?)?;
+    }
+    Ok(names)
+}
+
+fn copies(alloc: Global, texts: &[Text]) -> Result<Vec<Text>, AllocError>
+    ensures { IfOk result (λ copies. copies.items ≡ texts.now) }
+{
+    texts.to_vec(alloc)
+}
+
+pub(crate) fn copy_of(name: &Text) -> Result<Text, AllocError>
+    ensures { IfOk result (λ copy. copy ≡ name.now) }
+{
+    name.clone()
+}

@@ -1,0 +1,5 @@
+mod made;
+mod packages;
+mod pulling;
+mod pulls;
+mod registering;
