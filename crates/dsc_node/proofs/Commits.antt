@@ -1,19 +1,33 @@
 -- How the record of a start goes on: from the opening, by a commit, by one call after another, to an end.
-use Rattle.std.proofs.Common.{◌≡◌, ◌⊎◌, inl, inr, ℕ, ◌≤◌, List, [], ◌∷◌, ◌++◌, ◌∙◌, refl, sym, ap, subst, append-nil, append_assoc, arith, Option, Some, None, Result, Ok, Err, true, false}
+use Rattle.std.proofs.Common.{◌≡◌, ◌⊎◌, inl, inr, ℕ, ◌≤◌, List, [], ◌∷◌, ◌++◌, ◌∙◌, refl, sym, subst, append-nil, append_assoc, arith, Option, Some, None, Result, Ok, Err, Bool, true, false}
 use Rattle.dsc_outside.specs.declared.disk.Disk.{Ghosts}
 use Rattle.dsc_outside.proofs.Moments.{then_on, weaker}
 use Rattle.gate_log.specs.Standing.{AllStand, Any, StandsAtAnyMoment, StandsFor, StoodFor}
 use Rattle.node_state.specs.declared.node.Node.{Node}
 use Rattle.node_state.specs.declared.event.Event.{Event}
+use Rattle.node_state.specs.declared.event.Event.TheVariants as events
 use Rattle.node_state.specs.Table.{IsWithin, Step, Steps}
-use Rattle.node_state.specs.Table.{after as after_of}
 use Rattle.node_store.specs.declared.error.StoreError.{StoreError}
 use Rattle.node_store.specs.declared.error.StoreError.TheVariants as errors
 use Rattle.node_store.specs.Stands.{BeforeOrAfter, Stands}
 use Rattle.node_store.specs.Store.{Committed, IsKept, StoreTerm, TakesMemory}
 use Rattle.dsc_node.specs.Path.{Carries, CommitGoes, Ended, EndsStart, IsOnTheWay, Passes, SoFar, disk_counts}
-use Rattle.dsc_node.specs.Work.{IsCause, RefusedAfter, broken_by}
+use Rattle.dsc_node.specs.Commits.{IsCause, RefusedAfter, broken_by}
 use Rattle.dsc_node.proofs.Way.{kept_stands, stands_map, steps-append, steps-push, way_grows, way_steps}
+
+-- what takes memory where room was reserved takes it where none was
+takes_unreserved : (reserved : Bool) (event : Event) → TakesMemory reserved event → TakesMemory false event
+takes_unreserved reserved (events.Init agent) takes = takes
+takes_unreserved reserved (events.SetMeta meta) takes = takes
+takes_unreserved reserved events.Registered takes = takes
+takes_unreserved reserved (events.Stage staged) takes = takes
+takes_unreserved reserved (events.Promote report) takes = refl
+takes_unreserved reserved (events.Note report) takes = refl
+takes_unreserved reserved (events.AskReboot report) takes = refl
+takes_unreserved reserved events.Boot takes = takes
+takes_unreserved reserved (events.Sent job) takes = takes
+takes_unreserved reserved (events.Remove stage) takes = takes
+takes_unreserved reserved events.Restore takes = takes
 
 true-false : true ≡ false → ⊥
 true-false is = cc is
@@ -109,7 +123,7 @@ module _ {D : Type 0} (d : Ghosts D) (begin : D) (from : Node) where
       count = omega (arith, far.count, count);
     }
     stopped counts_now (errors.NotAllowed why) (unspent, is, still) = refused_still (errors.NotAllowed why) still.disk refl is
-    stopped counts_now errors.Memory (tried, takes, still) = refused_still errors.Memory still.disk refl tried.allowed
+    stopped counts_now errors.Memory (tried, takes, still) = refused_still errors.Memory still.disk refl (tried.allowed, takes_unreserved before.reserved event takes)
     stopped counts_now errors.Spent (spent, still) = absurd (true-false (sym spent ∙ kept.unspent))
     stopped counts_now (errors.NotAStore at) none = absurd none
 

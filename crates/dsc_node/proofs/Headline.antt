@@ -1,5 +1,5 @@
 -- The headline of a start, row by row of its table.
-use Rattle.std.proofs.Common.{◌≡◌, ◌≢◌, ◌⊎◌, inl, inr, ⊎_elim, ℕ, ◌<◌, ◌^◌, ◌-◌, ◌==◌, ◌&&◌, ltb, Bool, true, false, cond, List, [], ◌∷◌, ◌++◌, Option, Some, None, is_some, refl, sym, ap, subst, ◌∙◌, arith, append-nil, eq-eqb, lt-ltb}
+use Rattle.std.proofs.Common.{◌≡◌, ◌≢◌, ◌⊎◌, inl, inr, ⊎_elim, ℕ, ◌<◌, ◌^◌, ◌-◌, ◌==◌, ◌&&◌, Bool, true, cond, List, [], ◌∷◌, ◌++◌, Option, Some, None, Result, Ok, Err, is_some, refl, sym, ap, subst, ◌∙◌, arith, eq-eqb, lt-ltb}
 use Rattle.dsc_outside.specs.declared.disk.Disk as disks
 use Rattle.dsc_outside.specs.declared.host.Host as hosts
 use Rattle.dsc_outside.specs.declared.clock.Clock as clocks
@@ -22,51 +22,28 @@ use Rattle.node_store.specs.declared.error.StoreError.{StoreError}
 use Rattle.node_store.specs.declared.error.StoreError.TheVariants as errors
 use Rattle.dsc_node.specs.declared.command.Command.{Command}
 use Rattle.dsc_node.specs.declared.command.Task.{Task}
-use Rattle.dsc_node.specs.declared.command.Task.TheVariants.{Init, Meta, Push, Consistency, Boot, Get, Restore, Remove, Reports}
 use Rattle.dsc_node.specs.declared.status.Status.{Status}
-use Rattle.dsc_node.specs.Commands.{first_of, is_run}
-use Rattle.dsc_node.specs.Headline.{AreTold, Headline, HoldTogether, IsComplete, IsCurrent, IsFaultless, IsPrinted, IsRun, Keeps, kinds_of}
+use Rattle.dsc_node.specs.declared.status.Status.TheVariants as statuses
+use Rattle.node_pull.specs.Views.{LinkView}
+use Rattle.dsc_node.specs.Bringing.{events_of}
+use Rattle.dsc_node.specs.Commits.{RefusedAfter, all_of}
+use Rattle.dsc_node.specs.Endings.{Answers}
+use Rattle.dsc_node.specs.Headline.{AreTold, Headline, HoldTogether, IsComplete, IsCurrent, IsFaultless, IsPrinted, IsRun, Keeps, kinds_of, machine_of}
 use Rattle.dsc_node.specs.Path.{disk_counts}
-use Rattle.dsc_node.specs.Runs.{Ran, Reported, Run, end_line, event_of}
-use Rattle.dsc_node.specs.Start.{Opened, Outside, known}
-use Rattle.dsc_node.specs.Work.{Answers, Finish, RefusedAfter, StartTable, all_of, clock_failed, finished, first_refused, no_run, not_allowed, report_kept, report_refused, settled, unended, unready, waiting}
+use Rattle.dsc_node.specs.Runs.{Ran, Reported, Run, end_line, event_of, status_after}
+use Rattle.dsc_node.specs.Sending.{EndsAfterSending, Sends, Tried, tried_text}
+use Rattle.dsc_node.specs.Start.{Opened, Outside}
+use Rattle.dsc_node.specs.Work.{Beside, Finish, Known, StartTable, clock_failed, finished, first_refused, known, no_run, not_allowed, not_brought, report_kept, report_refused, settled, unended, unready, waiting}
+use Rattle.dsc_node.proofs.Broken.{work_unbroken}
+use Rattle.dsc_node.proofs.Firsts.{brings, first_job, first_keeps, first_meta, is_first}
 use Rattle.dsc_node.proofs.HeadlineRuns.{faultless_compliant, host_ran, pending_chosen, repaired, together, told}
-use Rattle.dsc_node.proofs.Nodes.{are_sound, first_stages, parts_there, steps_sound}
-use Rattle.dsc_node.proofs.Reports.{first_keeps, first_refused_keeps, noted_keeps, refused_run_keeps}
-use Rattle.dsc_node.proofs.WorkEvents.{work_stages}
+use Rattle.dsc_node.proofs.Nodes.{are_sound, parts_there, steps_sound}
+use Rattle.dsc_node.proofs.Reports.{first_refused_keeps, noted_keeps, refused_run_keeps, sent_keeps}
+use Rattle.dsc_node.proofs.Sends.{sends_leave, sends_less, steps_same}
+use Rattle.dsc_node.proofs.Way.{steps-push}
+use Rattle.dsc_node.proofs.WorkEvents.{work_adds, work_stages}
 
 -- ---- nodes
-
--- events lead to one node
-steps_same : (old new other : Node) (work : List Event) → Steps old work new → Steps old work other → new ≡ other
-steps_same old new other [] is also = is ∙ sym also
-steps_same old new other (event ∷ work) (mid, step, more) (between, also, rest) =
-    steps_same mid new other work more (subst (λ (n : Node). Steps n work other) (also.is ∙ sym step.is) rest)
-
--- the last of them is a step
-last_step : (old new : Node) (work : List Event) (event : Event) → Steps old (work ++ event ∷ []) new → (mid : Node) × Steps old work mid × Step mid event new
-last_step old new [] event (next, step, is) = (old, refl, subst (λ (n : Node). Step old event n) (sym is) step)
-last_step old new (e ∷ work) event (next, step, more) =
-    let rest = last_step next new work event more in
-    (rest.0, (next, step, rest.1), rest.2)
-
--- the first events leave the next job
-boot_job : (node mid : Node) (b : Bool) → Steps node (cond b (events.Boot ∷ []) []) mid → mid.next_job ≡ node.next_job
-boot_job node mid true (next, step, is) = ap (λ (n : Node). n.next_job) (is ∙ step.is)
-boot_job node mid false is = ap (λ (n : Node). n.next_job) is
-
-first_job : (node mid : Node) (task : Task) → Steps node (first_of node task) mid → mid.next_job ≡ node.next_job
-first_job node mid (Init agent) (next, step, is) = ap (λ (n : Node). n.next_job) (is ∙ step.is)
-first_job node mid (Meta meta) (next, step, is) = ap (λ (n : Node). n.next_job) (is ∙ step.is)
-first_job node mid (Push staged) (next, step, is) = ap (λ (n : Node). n.next_job) (is ∙ step.is)
-first_job node mid Consistency is = ap (λ (n : Node). n.next_job) is
-first_job node mid Boot steps = boot_job node mid node.reboot steps
-first_job node mid Get is = ap (λ (n : Node). n.next_job) is
-first_job node mid Restore (next, step, is) = ap (λ (n : Node). n.next_job) (is ∙ step.is)
-first_job node mid (Remove slots.Pending) (next, step, is) = ap (λ (n : Node). n.next_job) (is ∙ step.is)
-first_job node mid (Remove slots.Current) (next, step, is) = ap (λ (n : Node). n.next_job) (is ∙ step.is)
-first_job node mid (Remove slots.Previous) (next, step, is) = ap (λ (n : Node). n.next_job) (is ∙ step.is)
-first_job node mid Reports is = ap (λ (n : Node). n.next_job) is
 
 agent_some : (agent : Option ℕ) → (agent ≡ None → ⊥) → is_some agent ≡ true
 agent_some None some = absurd (some refl)
@@ -85,143 +62,173 @@ promotion_allowed node report parts sound pending job below =
     let agent = agent_some node.agent (λ none. some_none parts node.pending pending (sound.bare none).pending) in
     rw (agent, ap (λ (o : Option (List Part)). is_some o) pending, next_is node.next_job report.job job below) refl
 
--- and before a run they leave the meta-configuration
-first_meta : (node mid : Node) (task : Task) → is_run task ≡ true → Steps node (first_of node task) mid → mid.meta ≡ node.meta
-first_meta node mid (Init agent) runs steps = absurd (cc runs)
-first_meta node mid (Meta meta) runs steps = absurd (cc runs)
-first_meta node mid (Push staged) runs (next, step, is) = ap (λ (n : Node). n.meta) (is ∙ step.is)
-first_meta node mid Consistency runs is = ap (λ (n : Node). n.meta) is
-first_meta node mid Get runs steps = absurd (cc runs)
-first_meta node mid Restore runs (next, step, is) = ap (λ (n : Node). n.meta) (is ∙ step.is)
-first_meta node mid (Remove stage) runs steps = absurd (cc runs)
-first_meta node mid Reports runs steps = absurd (cc runs)
-first_meta node mid Boot runs steps = boot_meta node.reboot steps where
-  boot_meta : (b : Bool) → Steps node (cond b (events.Boot ∷ []) []) mid → mid.meta ≡ node.meta
-  boot_meta true (next, step, is) = ap (λ (n : Node). n.meta) (is ∙ step.is)
-  boot_meta false is = ap (λ (n : Node). n.meta) is
-
 -- ---- the table
 
 module _ {D H C : Type 0} (d : disks.Ghosts D) (host : hosts.Ghosts H) (clock : clocks.Ghosts C) (succeeds : RepairSucceeds) (contained : FaultsAreContained) (law : CompliantHold)
-    (begin now : D) (from : Node) (sound : Sound from) (before after : Kinds H) where
-  record Facts (run : Option Run) (status : Status) (lines : List ℕ) (committed : List Event) (broken : Option Event) : Type 0 where
-    h4 : IsRun host run before after
+    (begin now : D) (from : Node) (sound : Sound from) where
+  abbrev over : Known D (Kinds H) C
+  over = known d (kinds_of host) (machine_of host) clock
+
+  record Facts (ready after : Kinds H) (status : Status) (lines : List ℕ) (run : Option Run) (committed : List Event) (broken : Option Event) : Type 0 where
+    h4 : IsRun host run ready after
     h5 : AreTold from run after (all_of committed broken) status lines
-    h6 : IsComplete host d begin now from run before after committed
-    h7 : HoldTogether host run before after
+    h6 : IsComplete host d begin now from run ready after committed
+    h7 : HoldTogether host run ready after
 
-  idle : (status : Status) (lines : List ℕ) (committed : List Event) (broken : Option Event) → after ≡ before → ((report : Report) → Keeps (all_of committed broken) report → ⊥)
-      → Facts None status lines committed broken
-  idle status lines committed broken same none = record { h4 = same; h5 = none; h6 = tt; h7 = tt }
+  module _ (status : Status) (lines : List ℕ) where
+    idle : (ready after : Kinds H) (committed : List Event) (broken : Option Event) → after ≡ ready → ((report : Report) → Keeps (all_of committed broken) report → ⊥)
+        → Facts ready after status lines None committed broken
+    idle ready after committed broken same none = record { h4 = same; h5 = none; h6 = tt; h7 = tt }
 
-  module _ (work : List Event) (node : Node) (stopped : Bool) (readings left : Option (List (Option ℕ))) (start : ℕ) (steps : Steps from work node)
-      (job : node.next_job ≡ from.next_job) (meta : node.meta ≡ from.meta) (none : (report : Report) → Keeps work report → ⊥) where
-    complete : (run : Run) (committed : List Event) → Ran (kinds_of host) run before after → (IsFaultless host d begin now from run before after → (n : Node) → Steps from committed n → IsCurrent run n)
-        → IsComplete host d begin now from (Some run) before after committed
-    complete run committed ran promoted = record { repaired = repaired host before after run ran contained; promoted = promoted }
+    module _ (ready after : Kinds H) (work : List Event) (node : Node) (stopped : Bool) (readings left : Option (List (Option ℕ))) (start : ℕ) (asked heard : LinkView) (steps : Steps from work node)
+        (job : node.next_job ≡ from.next_job) (meta : node.meta ≡ from.meta) (none : (report : Report) → Keeps work report → ⊥) where
+      complete : (run : Run) (committed : List Event) → Ran (kinds_of host) run ready after → (IsFaultless host d begin now from run ready after → (n : Node) → Steps from committed n → IsCurrent run n)
+          → IsComplete host d begin now from (Some run) ready after committed
+      complete run committed ran promoted = record { repaired = repaired host ready after run ran contained; promoted = promoted }
 
-    module _ (run : Run) (report : Report) (reported : Reported (kinds_of host) node stopped readings start run report before after) (f : IsFaultless host d begin now from run before after) where
-      no_missed : report.missed ≡ 0
-      no_missed = reported.is.missed ∙ faultless_compliant host before after run reported.ran d begin now from succeeds f
+      module _ (run : Run) (report : Report) (reported : Reported (kinds_of host) node stopped readings start run report ready after) (f : IsFaultless host d begin now from run ready after) where
+        no_missed : report.missed ≡ 0
+        no_missed = reported.is.missed ∙ faultless_compliant host ready after run reported.ran d begin now from succeeds f
 
-      pending : node.pending ≡ Some run.choice.parts
-      pending = (pending_chosen stopped node run.choice reported.chosen f.pending).1
+        pending : node.pending ≡ Some run.choice.parts
+        pending = (pending_chosen stopped node run.choice reported.chosen f.pending).1
 
-      is_promotion : event_of run.end run.choice.pending report ≡ events.Promote report
-      is_promotion =
-          ap (λ (e : RunEnd). event_of e run.choice.pending report) f.is_finished.finished
-          ∙ ap (λ (b : Bool). cond (b && (report.missed == 0)) (events.Promote report) (events.Note report)) f.pending
-          ∙ ap (λ (n : ℕ). cond (n == 0) (events.Promote report) (events.Note report)) no_missed
+        is_promotion : event_of run.end run.choice.pending report ≡ events.Promote report
+        is_promotion =
+            ap (λ (e : RunEnd). event_of e run.choice.pending report) f.is_finished.finished
+            ∙ ap (λ (b : Bool). cond (b && (report.missed == 0)) (events.Promote report) (events.Note report)) f.pending
+            ∙ ap (λ (n : ℕ). cond (n == 0) (events.Promote report) (events.Note report)) no_missed
 
-      -- a promotion is not refused where the disk does not fail
-      not_refused : (error : StoreError) (committed : List Event) (broken : Option Event)
-          → RefusedAfter from (disk_counts d begin now) work (event_of run.end run.choice.pending report) error committed broken → error ≢ errors.Memory → ⊥
-      not_refused errors.Disk committed broken refused memory = f.disk refused.cause.1
-      not_refused errors.Memory committed broken refused memory = memory refl
-      not_refused errors.Spent committed broken refused memory = refused.cause
-      not_refused (errors.NotAStore at) committed broken refused memory = refused.cause
-      not_refused (errors.NotAllowed why) committed broken refused memory =
-          let same = steps_same from refused.node node work refused.steps steps in
-          let allowed = promotion_allowed node report run.choice.parts (steps_sound from node work steps sound) pending reported.is.job (subst (λ (n : ℕ). n < 2 ^ 64 - 1) (sym job) f.job) in
-          let is_why : refusal node (events.Promote report) ≡ Some why =
-          subst (λ (e : Event). refusal node e ≡ Some why) is_promotion (subst (λ (n : Node). refusal n (event_of run.end run.choice.pending report) ≡ Some why) same refused.cause) in
-          some_none why (refusal node (events.Promote report)) is_why allowed
+        -- a promotion is not refused where the disk does not fail
+        not_refused : (error : StoreError) (committed : List Event) (broken : Option Event)
+            → RefusedAfter from (disk_counts d begin now) work (event_of run.end run.choice.pending report) error committed broken → error ≢ errors.Memory → ⊥
+        not_refused errors.Disk committed broken refused memory = f.disk refused.cause.1
+        not_refused errors.Memory committed broken refused memory = memory refl
+        not_refused errors.Spent committed broken refused memory = refused.cause
+        not_refused (errors.NotAStore at) committed broken refused memory = refused.cause
+        not_refused (errors.NotAllowed why) committed broken refused memory =
+            let same = steps_same from refused.node node work refused.steps steps in
+            let allowed = promotion_allowed node report run.choice.parts (steps_sound from node work steps sound) pending reported.is.job (subst (λ (n : ℕ). n < 2 ^ 64 - 1) (sym job) f.job) in
+            let is_why : refusal node (events.Promote report) ≡ Some why =
+            subst (λ (e : Event). refusal node e ≡ Some why) is_promotion (subst (λ (n : Node). refusal n (event_of run.end run.choice.pending report) ≡ Some why) same refused.cause) in
+            some_none why (refusal node (events.Promote report)) is_why allowed
 
-      -- after it the parts are Current
-      is_current : (n : Node) → Steps from (work ++ event_of run.end run.choice.pending report ∷ []) n → IsCurrent run n
-      is_current n all =
-          let last = last_step from n work (event_of run.end run.choice.pending report) all in
-          let same = steps_same from last.0 node work last.1 steps in
-          let is : n ≡ after_of node (events.Promote report) =
-          last.2.is ∙ ap (λ (m : Node). after_of m (event_of run.end run.choice.pending report)) same ∙ ap (λ (e : Event). after_of node e) is_promotion in
-          record { current = ap (λ (m : Node). m.current) is ∙ pending; pending = ap (λ (m : Node). m.pending) is }
+        -- after it the parts are Current, and sending reports leaves them so
+        is_current : (noted : Node) (tried : Result (List Tried) StoreError) (committed : List Event) (broken : Option Event) → Step node (event_of run.end run.choice.pending report) noted
+            → Sends from (disk_counts d begin now) (work ++ event_of run.end run.choice.pending report ∷ []) noted asked heard tried committed broken
+            → (n : Node) → Steps from committed n → IsCurrent run n
+        is_current noted tried committed broken step sends n all =
+            let event = event_of run.end run.choice.pending report in
+            let first = steps-push from node noted work event steps step in
+            let is : noted ≡ after_of node (events.Promote report) = step.is ∙ ap (λ (e : Event). after_of node e) is_promotion in
+            record {
+              current =
+                  sends_leave (λ m. m.current) (λ m reports. refl) from (disk_counts d begin now) (work ++ event ∷ []) noted asked heard tried committed broken sends first n all
+                  ∙ ap (λ (m : Node). m.current) is ∙ pending;
+              pending =
+                  sends_leave (λ m. m.pending) (λ m reports. refl) from (disk_counts d begin now) (work ++ event ∷ []) noted asked heard tried committed broken sends first n all
+                  ∙ ap (λ (m : Node). m.pending) is;
+            }
 
-    finish_facts : (run : Option Run) (status : Status) (lines : List ℕ) (committed : List Event) (broken : Option Event)
-        → Finish (kinds_of host) from (disk_counts d begin now) work node stopped readings left start before after run status lines committed broken → Facts run status lines committed broken
-    finish_facts _ _ _ _ _ (no_run status lines is same taken answers) = idle status lines work None same none
-    finish_facts _ _ _ _ _ (unready status lines same taken ends) = idle status lines work None same none
-    finish_facts _ _ _ _ _ (unended run status lines u taken silent) = record {
-      h4 = host_ran host before after run u.ran;
-      h5 = record {
-        report = λ report k. absurd (none report k);
-        success = λ report k. absurd (none report k);
-        compliant = λ report k. absurd (none report k);
-        printed = inl silent;
-      };
-      h6 = complete run work u.ran (λ f. absurd (finished_in_memory run.end f.is_finished.finished u.ended));
-      h7 = together host before after law run u.ran;
-    } where
-      finished_in_memory : (end : RunEnd) → end ≡ ends.Finished → end ≡ ends.Memory → ⊥
-      finished_in_memory end is memory = cc (is, memory)
-    finish_facts _ _ _ _ _ (report_refused run report error text lines status committed broken reported took refused memory is_text answers) = record {
-      h4 = host_ran host before after run reported.ran;
-      h5 = told host before after from node job meta stopped readings start run report (all_of committed broken) status lines reported
-          (λ kept k. refused_run_keeps kept from (disk_counts d begin now) work run report error committed broken (none kept) refused k)
-          (printed answers);
-      h6 = complete run committed reported.ran (λ f. absurd (not_refused run report reported f error committed broken refused memory));
-      h7 = together host before after law run reported.ran;
-    } where
-      printed : {wanted : Status} → Answers wanted text status lines → IsPrinted run (calls_of after) status lines
-      printed (inl e) = inr (text, is_text, inl e.1)
-      printed (inr e) = inl e
-    finish_facts _ _ _ _ _ (report_kept run report text lines status reported took is_text answers) = record {
-      h4 = host_ran host before after run reported.ran;
-      h5 = told host before after from node job meta stopped readings start run report (work ++ event_of run.end run.choice.pending report ∷ []) status lines reported
-          (λ kept k. noted_keeps kept work run report (none kept) k)
-          (printed answers);
-      h6 = complete run (work ++ event_of run.end run.choice.pending report ∷ []) reported.ran (λ f. is_current run report reported f);
-      h7 = together host before after law run reported.ran;
-    } where
-      printed : {wanted : Status} → Answers wanted (text ++ end_line run.end run.choice.pending report.missed) status lines → IsPrinted run (calls_of after) status lines
-      printed (inl e) = inr (text, is_text, inr (e.1 ∙ ap (λ (n : ℕ). text ++ end_line run.end run.choice.pending n) reported.is.missed))
-      printed (inr e) = inl e
+      finish_facts : (run : Option Run) (committed : List Event) (broken : Option Event)
+          → Finish over from (disk_counts d begin now) work node stopped readings left start asked heard ready after status lines run committed broken → Facts ready after status lines run committed broken
+      finish_facts _ _ _ (no_run tried committed broken is same taken sends ends) =
+          idle ready after committed broken same
+          (λ report k. none report (sends_less (λ w. Keeps w report) (sent_keeps report) from (disk_counts d begin now) work node asked heard tried committed broken sends k))
+      finish_facts _ _ _ (unready same taken unasked ends) = idle ready after work None same none
+      finish_facts _ _ _ (unended run u taken unasked silent) = record {
+        h4 = host_ran host ready after run u.ran;
+        h5 = record {
+          report = λ report k. absurd (none report k);
+          success = λ report k. absurd (none report k);
+          compliant = λ report k. absurd (none report k);
+          printed = inl silent;
+        };
+        h6 = complete run work u.ran (λ f. absurd (finished_in_memory run.end f.is_finished.finished u.ended));
+        h7 = together host ready after law run u.ran;
+      } where
+        finished_in_memory : (end : RunEnd) → end ≡ ends.Finished → end ≡ ends.Memory → ⊥
+        finished_in_memory end is memory = cc (is, memory)
+      finish_facts _ _ _ (report_refused run report error text committed broken reported took unasked refused memory is_text answers) = record {
+        h4 = host_ran host ready after run reported.ran;
+        h5 = told host ready after from node job meta stopped readings start run report (all_of committed broken) status lines reported
+            (λ kept k. refused_run_keeps kept from (disk_counts d begin now) work run report error committed broken (none kept) refused k)
+            (printed answers);
+        h6 = complete run committed reported.ran (λ f. absurd (not_refused run report reported f error committed broken refused memory));
+        h7 = together host ready after law run reported.ran;
+      } where
+        printed : {wanted : Status} → Answers wanted text status lines → IsPrinted run (calls_of after) status lines
+        printed (inl e) = inr (text, is_text, inl e.1)
+        printed (inr e) = inl e
+      finish_facts _ _ _ (report_kept run report text noted tried committed broken reported took is_text step sends ended) = record {
+        h4 = host_ran host ready after run reported.ran;
+        h5 = told host ready after from node job meta stopped readings start run report (all_of committed broken) status lines reported
+            (λ kept k. noted_keeps kept work run report (none kept)
+            (sends_less (λ w. Keeps w kept) (sent_keeps kept) from (disk_counts d begin now) (work ++ event_of run.end run.choice.pending report ∷ []) noted asked heard tried committed broken sends k))
+            (printed (status_after node.meta.reboot_if_needed run.end report.missed) tried ended);
+        h6 = complete run committed reported.ran (λ f. is_current run report reported f noted tried committed broken step sends);
+        h7 = together host ready after law run reported.ran;
+      } where
+        alone : (wanted : Status) → Answers wanted text status lines → IsPrinted run (calls_of after) status lines
+        alone wanted (inl e) = inr (text, is_text, inl e.1)
+        alone wanted (inr e) = inl e
 
-  work_facts : (task : Task) (first last : C) (run : Option Run) (status : Status) (lines : List ℕ) (committed : List Event) (broken : Option Event)
-      → StartTable (kinds_of host) clock task from (disk_counts d begin now) [] from before after first last run status lines committed broken → Facts run status lines committed broken
-  work_facts task first last _ _ _ _ _ (not_allowed why status lines is quiet ends) = idle status lines [] None quiet.machine (λ report k. k)
-  work_facts task first last _ _ _ _ _ (waiting status lines allowed is quiet ends) = idle status lines [] None quiet.machine (λ report k. k)
-  work_facts task first last _ _ _ _ _ (clock_failed status lines allowed other gave took rose same ends) = idle status lines [] None same (λ report k. k)
-  work_facts task first last _ _ _ _ _ (first_refused event error status lines committed broken allowed one reads same refused ends) =
-      idle status lines committed broken same (λ report k. first_refused_keeps report from from task (disk_counts d begin now) event error committed broken one refused k)
-  work_facts task first last _ _ _ _ _ (settled status lines allowed ends quiet answers) = idle status lines (first_of from task) None quiet.machine (λ report k. first_keeps report from task k)
-  work_facts task first last _ _ _ _ _ (finished mid start readings run status lines committed broken allowed other gave took steps f) =
-      finish_facts (first_of from task) mid _ readings _ start steps (first_job from mid task steps) (first_meta from mid task other steps) (λ report k. first_keeps report from task k) run status lines committed broken f
+        printed : (wanted : Status) (tried : Result (List Tried) StoreError) → EndsAfterSending wanted text (end_line run.end run.choice.pending report.missed) tried status lines
+            → IsPrinted run (calls_of after) status lines
+        printed wanted (Ok some) (inl e) = inr (text, is_text, inr (some, e.1 ∙ ap (λ (n : ℕ). text ++ end_line run.end run.choice.pending n ++ tried_text some) reported.is.missed))
+        printed wanted (Ok some) (inr e) = inl e
+        printed wanted (Err errors.Memory) e = inl e
+        printed wanted (Err errors.Disk) e = alone statuses.DiskFault e
+        printed wanted (Err errors.Spent) e = alone statuses.DiskFault e
+        printed wanted (Err (errors.NotAStore at)) e = alone (statuses.NotAStore at) e
+        printed wanted (Err (errors.NotAllowed why)) e = alone (statuses.NotAllowed why) e
+
+    work_facts : (task : Task) (before after : Beside (Kinds H) C) (ready : Kinds H) (run : Option Run) (committed : List Event) (broken : Option Event)
+        → StartTable over task from (disk_counts d begin now) [] from before after status lines ready run committed broken → Facts ready after.machine status lines run committed broken
+    work_facts task before after _ _ _ _ (not_allowed why is same ends) = idle before.machine after.machine [] None (ap (λ (b : Beside (Kinds H) C). b.machine) same) (λ report k. k)
+    work_facts task before after _ _ _ _ (waiting allowed is same ends) = idle before.machine after.machine [] None (ap (λ (b : Beside (Kinds H) C). b.machine) same) (λ report k. k)
+    work_facts task before after _ _ _ _ (clock_failed allowed other gave took rose same link ends) = idle before.machine after.machine [] None same (λ report k. k)
+    work_facts task before after _ _ _ _ (not_brought start error allowed reads brought ends) = idle after.machine after.machine [] None refl (λ report k. k)
+    work_facts task before after _ _ _ _ (first_refused start event error committed broken allowed reads brought refused ends) =
+        idle after.machine after.machine committed broken refl
+        (λ report k. first_refused_keeps report from (disk_counts d begin now) event error committed broken
+        (first_keeps report (Some event) from task (is_first (kinds_of host) (machine_of host) from start before.link after.link before.machine after.machine (Some event) task brought)) refused k)
+    work_facts task before after _ _ _ _ (settled start first allowed ends reads brought answers) =
+        idle after.machine after.machine (events_of first) None refl
+        (λ report k. first_keeps report first from task (is_first (kinds_of host) (machine_of host) from start before.link after.link before.machine after.machine first task brought) k)
+    work_facts task before after _ _ _ _ (finished start readings heard ready first mid run committed broken allowed other gave took brought steps f) =
+        let is = is_first (kinds_of host) (machine_of host) from start before.link heard before.machine ready first task brought in
+        finish_facts ready after.machine (events_of first) mid _ readings _ start heard after.link steps (first_job from mid first steps task is) (first_meta from mid first steps task other is)
+        (λ report k. first_keeps report first from task is k) run committed broken f
 
 pub headline : {D H C : Type 0} (d : disks.Ghosts D) (host : hosts.Ghosts H) (clock : clocks.Ghosts C) → RepairSucceeds → FaultsAreContained → CompliantHold → (command : Command) (before after : Outside D (Kinds H) C)
-    (status : Status) (lines : List ℕ) (o : Opened (known d (kinds_of host) clock) command before after status lines)
-    → Headline d host command before after status lines o.from o.run o.ended.committed o.ended.broken
+    (status : Status) (lines : List ℕ) (o : Opened (known d (kinds_of host) (machine_of host) clock) command before after status lines)
+    → Headline d host command before after status lines o.from o.ready o.run o.ended.committed o.ended.broken
 headline d host clock succeeds contained law command before after status lines o =
     let all = all_of o.ended.committed o.ended.broken in
-    let facts = work_facts d host clock succeeds contained law before.disk after.disk o.from o.sound before.machine after.machine o.task before.clock after.clock o.run status lines o.ended.committed o.ended.broken o.ended.table in
+    let facts = work_facts d host clock succeeds contained law before.disk after.disk o.from o.sound status lines o.task before.beside after.beside o.ready o.run o.ended.committed o.ended.broken o.ended.table in
     record {
-      h1 = record { moments = o.ended.passes; left = o.ended.left };
+      h1 = record {
+        moments = o.ended.passes;
+        left = o.ended.left;
+        unbroken =
+            work_unbroken (known d (kinds_of host) (machine_of host) clock) o.task o.from (disk_counts d before.disk after.disk) [] o.from before.beside after.beside status lines o.ready o.run o.ended.committed o.ended.broken o.ended.table;
+      };
       h2 = are_sound d before.disk o.from all o.sound;
       h3 = λ node part way slot.
           ⊎_elim (λ there. inl there)
-          (λ staged. inr (first_stages part o.from command o.task o.is_task
-          (work_stages part (kinds_of host) clock o.task o.from (disk_counts d before.disk after.disk) o.from before.machine after.machine before.clock after.clock o.run status lines o.ended.committed o.ended.broken o.ended.table staged)))
+          (λ staged.
+          let s = work_stages part (known d (kinds_of host) (machine_of host) clock) o.task o.from (disk_counts d before.disk after.disk) o.from before.beside after.beside status lines o.ready o.run o.ended.committed o.ended.broken o.ended.table staged in
+          brings d before.disk (kinds_of host) (machine_of host) o.from s.start before.beside.link s.heard after.beside.link s.later before.beside.machine s.ready part s.first s.stages command o.task o.is_task s.brought)
           (parts_there d before.disk o.from all node part way slot);
-      h4 = facts.h4;
+      h4 = record {
+        packages = o.leaves.packages;
+        added =
+            work_adds (known d (kinds_of host) (machine_of host) clock) o.task o.from (disk_counts d before.disk after.disk) [] o.from before.beside after.beside status lines o.ready o.run o.ended.committed o.ended.broken o.ended.table;
+        untested = o.leaves.kept;
+        later = o.leaves.later;
+        runs = facts.h4;
+      };
       h5 = facts.h5;
       h6 = facts.h6;
       h7 = facts.h7;

@@ -1,5 +1,5 @@
 -- The reports that a start keeps.
-use Rattle.std.proofs.Common.{◌≡◌, ◌⊎◌, inl, inr, ⊎_elim, ℕ, ◌==◌, ◌&&◌, cond, Bool, true, false, List, [], ◌∷◌, ◌++◌, Option, sym, subst}
+use Rattle.std.proofs.Common.{◌≡◌, ◌⊎◌, inl, inr, ⊎_elim, ℕ, ◌==◌, ◌&&◌, cond, Bool, true, false, List, [], ◌∷◌, ◌++◌, Option, subst}
 use Rattle.lcm_core.specs.declared.modes.RunEnd.{RunEnd}
 use Rattle.lcm_core.specs.declared.modes.RunEnd.TheVariants as ends
 use Rattle.report_log.specs.declared.report.Report.{Report}
@@ -8,12 +8,9 @@ use Rattle.node_state.specs.declared.event.Event.{Event}
 use Rattle.node_state.specs.declared.event.Event.TheVariants as events
 use Rattle.node_store.specs.declared.error.StoreError.{StoreError}
 use Rattle.node_store.specs.declared.error.StoreError.TheVariants as errors
-use Rattle.dsc_node.specs.declared.command.Task.{Task}
-use Rattle.dsc_node.specs.declared.command.Task.TheVariants.{Init, Meta, Push, Consistency, Boot, Get, Restore, Remove, Reports}
-use Rattle.dsc_node.specs.Commands.{first_of}
 use Rattle.dsc_node.specs.Headline.{Keeps, KeepsReport}
 use Rattle.dsc_node.specs.Runs.{Run, event_of}
-use Rattle.dsc_node.specs.Work.{RefusedAfter, all_of, broken_by}
+use Rattle.dsc_node.specs.Commits.{RefusedAfter, all_of, broken_by}
 
 module _ (report : Report) where
   keeps-append : (xs ys : List Event) → Keeps (xs ++ ys) report → Keeps xs report ⊎ Keeps ys report
@@ -45,31 +42,6 @@ module _ (report : Report) where
   run_keeps ends.Finished pending kept is = one_keeps (pending && (kept.missed == 0)) kept is
   run_keeps ends.Memory pending kept is = is
 
-  boot_keeps : (b : Bool) → Keeps (cond b (events.Boot ∷ []) []) report → ⊥
-  boot_keeps true (inl is) = is
-  boot_keeps true (inr k) = k
-  boot_keeps false k = k
-
-  -- the first events keep no report
-  pub first_keeps : (node : Node) (task : Task) → Keeps (first_of node task) report → ⊥
-  first_keeps node (Init agent) (inl is) = is
-  first_keeps node (Init agent) (inr k) = k
-  first_keeps node (Meta meta) (inl is) = is
-  first_keeps node (Meta meta) (inr k) = k
-  first_keeps node (Push staged) (inl is) = is
-  first_keeps node (Push staged) (inr k) = k
-  first_keeps node Consistency k = k
-  first_keeps node Boot k = boot_keeps node.reboot k
-  first_keeps node Get k = k
-  first_keeps node Restore (inl is) = is
-  first_keeps node Restore (inr k) = k
-  first_keeps node (Remove stage) (inl is) = is
-  first_keeps node (Remove stage) (inr k) = k
-  first_keeps node Reports k = k
-
-  none_before : (node : Node) (task : Task) (event : Event) → first_of node task ≡ event ∷ [] → KeepsReport event report → ⊥
-  none_before node task event one is = first_keeps node task (subst (λ (w : List Event). Keeps w report) (sym one) (inl is))
-
   -- the event of a run keeps the run's report
   pub noted_keeps : (work : List Event) (run : Run) (kept : Report) → (Keeps work report → ⊥) → Keeps (work ++ event_of run.end run.choice.pending kept ∷ []) report → report ≡ kept
   noted_keeps work run kept none k =
@@ -83,7 +55,14 @@ module _ (report : Report) where
   refused_run_keeps from counts work run kept error committed broken none refused k =
       ⊎_elim (λ a. absurd (none a)) (λ b. run_keeps run.end run.choice.pending kept b) (refused_keeps from counts work (event_of run.end run.choice.pending kept) error committed broken refused k)
 
-  pub first_refused_keeps : (from node : Node) (task : Task) (counts : ℕ × ℕ) (event : Event) (error : StoreError) (committed : List Event) (broken : Option Event) → first_of node task ≡ event ∷ []
+  pub first_refused_keeps : (from : Node) (counts : ℕ × ℕ) (event : Event) (error : StoreError) (committed : List Event) (broken : Option Event) → (Keeps (event ∷ []) report → ⊥)
       → RefusedAfter from counts [] event error committed broken → Keeps (all_of committed broken) report → ⊥
-  first_refused_keeps from node task counts event error committed broken one refused k =
-      ⊎_elim (λ none. none) (none_before node task event one) (refused_keeps from counts [] event error committed broken refused k)
+  first_refused_keeps from counts event error committed broken none refused k =
+      ⊎_elim (λ nothing. nothing) (λ is. none (inl is)) (refused_keeps from counts [] event error committed broken refused k)
+
+  -- a mark that a report was sent keeps none
+  pub sent_keeps : (work : List Event) (job : ℕ) → Keeps (work ++ events.Sent job ∷ []) report → Keeps work report
+  sent_keeps work job k = ⊎_elim (λ a. a) none (keeps-append work (events.Sent job ∷ []) k) where
+    none : Keeps (events.Sent job ∷ []) report → Keeps work report
+    none (inl is) = absurd is
+    none (inr more) = absurd more

@@ -1,6 +1,6 @@
 -- The report of a run that is over.
-use Rattle.std.proofs.Common.{◌≡◌, ◌≢◌, inl, ℕ, ◌≤◌, List, length, map, Option, Some, None, refl, sym, ap, subst, ◌∙◌, arith}
-use Rattle.std.specs.Prelude.{All, Bool, true, false, IfSome}
+use Rattle.std.proofs.Common.{◌≡◌, ◌≢◌, inl, ℕ, ◌≤◌, List, map, Option, Some, None, refl, sym, ap, subst, ◌∙◌, arith}
+use Rattle.std.specs.Prelude.{Bool, true, false, IfSome}
 use Rattle.std.proofs.lemmas.List.{length-map}
 use Rattle.std.proofs.lemmas.List.Elements.{All-map}
 use Rattle.dsc_terms.specs.Counts.{RoseBy}
@@ -28,9 +28,11 @@ use Rattle.report_log.specs.Sizes.{Fits, FrameInSize, PartsInSize, ReportInSize}
 use Rattle.node_state.specs.declared.node.Node.{Node}
 use Rattle.node_state.specs.Lists.{AreNamed, IsStaged}
 use Rattle.node_state.specs.Sound.{Sound}
+use Rattle.node_pull.specs.Marks.{mark_of}
+use Rattle.dsc_node.specs.Commands.{is_pull}
 use Rattle.dsc_node.specs.Ran.{EndsAs, IsWholeOrNone}
 use Rattle.dsc_node.specs.Readings.{Gave, end_of}
-use Rattle.dsc_node.specs.Runs.{Choice, Ran, Reported, Run, chosen_among, chosen_current, chosen_of, frame_of, is_pull, mark_of}
+use Rattle.dsc_node.specs.Runs.{Choice, Ran, Reported, Run, chosen_among, chosen_current, chosen_of, frame_of}
 use Rattle.dsc_node.proofs.HeadlineRuns.{no_choice, some_choice, whole_of}
 
 -- ---- what is run was staged

@@ -5,7 +5,7 @@ use Rattle.hex.specs.Hex.{encode_upper}
 use Rattle.shared_key.specs.Checksum.{checksum_of}
 use Rattle.dsc_node.specs.declared.status.Status.{Status}
 use Rattle.dsc_node.specs.declared.status.Status.TheVariants as statuses
-use Rattle.dsc_node.specs.Work.{Answers, Ends}
+use Rattle.dsc_node.specs.Endings.{Answers, Ends}
 
 -- a checksum is its digest in hexadecimal digits
 pub checksum_is : (digest : List ℕ) → encode_upper digest ≡ checksum_of digest

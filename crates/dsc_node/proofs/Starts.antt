@@ -1,5 +1,5 @@
 -- A whole start, and what a next one may begin with.
-use Rattle.std.proofs.Common.{◌≡◌, inl, inr, ℕ, ◌≤◌, List, [], Option, subst, sym}
+use Rattle.std.proofs.Common.{ℕ, ◌≤◌, List, subst}
 use Rattle.dsc_outside.specs.declared.disk.Disk as disks
 use Rattle.gate_log.specs.Standing.{AllStand, Any, StandsAtAnyMoment, StoodFor}
 use Rattle.node_state.specs.declared.node.Node.{Node}
@@ -7,8 +7,9 @@ use Rattle.node_store.specs.Stands.{Stands}
 use Rattle.dsc_node.specs.declared.command.Command.{Command}
 use Rattle.dsc_node.specs.declared.status.Status.{Status}
 use Rattle.dsc_node.specs.Path.{IsOnTheWay}
-use Rattle.dsc_node.specs.Start.{Known, Outside, Start, opened, refused, unopened}
-use Rattle.dsc_node.specs.Work.{all_of}
+use Rattle.dsc_node.specs.Commits.{all_of}
+use Rattle.dsc_node.specs.Start.{Outside, Start, opened, refused, unopened}
+use Rattle.dsc_node.specs.Work.{Known}
 use Rattle.dsc_node.proofs.Way.{stands_map}
 
 -- what holds at any moment holds at the end
@@ -20,11 +21,11 @@ at_the_end d old now P counts moments = λ c there. moments.each c (counts (d.mo
 pub begins_again : {D S C : Type 0} (o : Known D S C) (command : Command) (before after : Outside D S C) (status : Status) (lines : List ℕ)
     → ((t : ℕ) (c : List ℕ) → t ≤ o.disk.moment after.disk → o.disk.images after.disk c → o.disk.left_since after.disk t c)
     → Start o command before after status lines → AllStand o.disk before.disk Stands Any → AllStand o.disk after.disk Stands Any
-begins_again o command before after _ _ counts (refused error status lines unmerged same quiet ends) all =
-    λ c there. all c (subst (λ x. o.disk.images x c) same there)
-begins_again o command before after _ _ counts (unopened task error status lines is count cause quiet moments ends) all =
+begins_again o command before after status lines counts (refused error unmerged same ends) all =
+    λ c there. all c (subst (λ x. o.disk.images x.disk c) same there)
+begins_again o command before after status lines counts (unopened task error is count cause quiet moments ends) all =
     λ c there. stands_map (StoodFor o.disk before.disk Stands) Any (λ node stood. tt) c
     (at_the_end o.disk before.disk after.disk (StoodFor o.disk before.disk Stands) counts (moments all) c there)
-begins_again o command before after _ _ counts (opened status lines o_) all =
+begins_again o command before after status lines counts (opened o_) all =
     λ c there. stands_map (IsOnTheWay o.disk before.disk o_.from (all_of o_.ended.committed o_.ended.broken)) Any (λ node way. tt) c
     (at_the_end o.disk before.disk after.disk (IsOnTheWay o.disk before.disk o_.from (all_of o_.ended.committed o_.ended.broken)) counts (o_.ended.passes all) c there)

@@ -1,8 +1,6 @@
 -- The events of a start: which of them stage a part, and which keep a report.
-use Rattle.std.proofs.Common.{◌≡◌, ◌⊎◌, inl, inr, ⊎_elim, ℕ, ◌==◌, ◌&&◌, cond, Bool, true, false, List, [], ◌∷◌, ◌++◌, Option, Some, None, refl, sym, ap, subst, ◌∙◌}
-use Rattle.dsc_outside.specs.declared.clock.Clock as clocks
+use Rattle.std.proofs.Common.{◌≡◌, ◌⊎◌, inl, inr, ⊎_elim, ℕ, ◌==◌, ◌&&◌, cond, Bool, true, false, List, [], ◌∷◌, ◌++◌, Option, Some, Result, Ok, Err, refl, sym, subst}
 use Rattle.partial_merge.specs.declared.part.Part.{Part}
-use Rattle.resource_kinds.specs.declared.resources.Resources.{Ghosts}
 use Rattle.lcm_core.specs.declared.modes.RunEnd.{RunEnd}
 use Rattle.lcm_core.specs.declared.modes.RunEnd.TheVariants as ends
 use Rattle.report_log.specs.declared.report.Report.{Report}
@@ -14,9 +12,41 @@ use Rattle.node_store.specs.declared.error.StoreError.{StoreError}
 use Rattle.node_store.specs.declared.error.StoreError.TheVariants as errors
 use Rattle.dsc_node.specs.declared.command.Task.{Task}
 use Rattle.dsc_node.specs.declared.status.Status.{Status}
-use Rattle.dsc_node.specs.Commands.{first_of}
+use Rattle.node_pull.specs.declared.modules.Module.{Module}
+use Rattle.node_pull.specs.Packages.{AddsAccepted}
+use Rattle.node_pull.specs.Views.{GoesOn, LinkView}
+use Rattle.node_pull.proofs.AddedPackages.{adds_same}
+use Rattle.node_pull.proofs.GoingOn.{on_and_on, sends_goes_on, stays}
+use Rattle.dsc_node.specs.Bringing.{Brought, events_of}
+use Rattle.dsc_node.specs.Commits.{RefusedAfter, all_of, broken_by}
 use Rattle.dsc_node.specs.Runs.{Run, event_of}
-use Rattle.dsc_node.specs.Work.{Finish, RefusedAfter, StartTable, all_of, broken_by, clock_failed, finished, first_refused, no_run, not_allowed, report_kept, report_refused, settled, unended, unready, waiting}
+use Rattle.dsc_node.specs.Sending.{Sends, Tried, all_sent, no_memory, not_sent, sent, unmarked, unprinted}
+use Rattle.dsc_node.specs.Work.{Beside, Finish, Known, StartTable, clock_failed, finished, first_refused, no_run, not_allowed, not_brought, report_kept, report_refused, settled, unended, unready, waiting}
+use Rattle.dsc_node.proofs.Firsts.{brought_adds}
+use Rattle.dsc_node.proofs.Sends.{sends_less}
+
+-- the link tells what it told before, and more
+sends_on : (from : Node) (counts : ℕ × ℕ) (work : List Event) (node : Node) (asked heard : LinkView) (tried : Result (List Tried) StoreError) (committed : List Event) (broken : Option Event)
+    → Sends from counts work node asked heard tried committed broken → GoesOn asked heard
+sends_on from counts _ _ _ _ _ _ _ (all_sent work node view none) = stays view
+sends_on from counts _ _ _ _ _ _ _ (not_sent work node asked heard next error is sends other) = sends_goes_on next.server next.agent next.report asked heard _ sends
+sends_on from counts _ _ _ _ _ _ _ (no_memory work node asked heard next error is sends) = sends_goes_on next.server next.agent next.report asked heard _ sends
+sends_on from counts _ _ _ _ _ _ _ (unmarked work node asked heard next error committed broken is sends refused) = sends_goes_on next.server next.agent next.report asked heard _ sends
+sends_on from counts _ _ _ _ _ _ _ (unprinted work node marked_node asked heard next is sends step) = sends_goes_on next.server next.agent next.report asked heard _ sends
+sends_on from counts _ _ _ _ _ _ _ (sent work node marked_node asked mid heard next later committed broken is sends step rest) =
+    on_and_on asked mid heard (sends_goes_on next.server next.agent next.report asked mid _ sends) (sends_on from counts (work ++ events.Sent next.report.job ∷ []) marked_node mid heard later committed broken rest)
+
+finish_goes_on : {D S C : Type 0} (o : Known D S C) (from : Node) (counts : ℕ × ℕ) (work : List Event) (node : Node) (stopped : Bool) (readings left : Option (List (Option ℕ))) (start : ℕ)
+    (asked heard : LinkView) (before after : S) (status : Status) (lines : List ℕ) (run : Option Run) (committed : List Event) (broken : Option Event)
+    → Finish o from counts work node stopped readings left start asked heard before after status lines run committed broken → GoesOn asked heard
+finish_goes_on o from counts work node stopped readings left start asked heard before after status lines _ _ _ (no_run tried committed broken none idle taken sends ends) =
+    sends_on from counts work node asked heard tried committed broken sends
+finish_goes_on o from counts work node stopped readings left start asked heard before after status lines _ _ _ (unready idle taken unasked ends) = subst (λ (v : LinkView). GoesOn asked v) (sym unasked) (stays asked)
+finish_goes_on o from counts work node stopped readings left start asked heard before after status lines _ _ _ (unended run ran taken unasked ends) = subst (λ (v : LinkView). GoesOn asked v) (sym unasked) (stays asked)
+finish_goes_on o from counts work node stopped readings left start asked heard before after status lines _ _ _ (report_refused run report error text committed broken reported took unasked refused memory told answers) =
+    subst (λ (v : LinkView). GoesOn asked v) (sym unasked) (stays asked)
+finish_goes_on o from counts work node stopped readings left start asked heard before after status lines _ _ _ (report_kept run report text noted tried committed broken reported took told step sends ends) =
+    sends_on from counts (work ++ event_of run.end run.choice.pending report ∷ []) noted asked heard tried committed broken sends
 
 module _ (part : Part) where
   pub stages-append : (xs ys : List Event) → Stages (xs ++ ys) part → Stages xs part ⊎ Stages ys part
@@ -56,28 +86,77 @@ module _ (part : Part) where
   refused_stages from counts work event error committed broken refused s =
       broken_stages work event error (subst (λ (w : List Event). Stages (all_of w (broken_by event error)) part) refused.committed_is (subst (λ (b : Option Event). Stages (all_of committed b) part) refused.broken_is s))
 
-  finish_stages : {S : Type 0} (machine : Ghosts S) (from : Node) (counts : ℕ × ℕ) (work : List Event) (node : Node) (stopped : Bool) (readings left : Option (List (Option ℕ))) (start : ℕ)
-      (before after : S) (run : Option Run) (status : Status) (lines : List ℕ) (committed : List Event) (broken : Option Event)
-      → Finish machine from counts work node stopped readings left start before after run status lines committed broken → Stages (all_of committed broken) part → Stages work part
-  finish_stages machine from counts work node stopped readings left start before after _ _ _ _ _ (no_run status lines none idle taken answers) s = s
-  finish_stages machine from counts work node stopped readings left start before after _ _ _ _ _ (unready status lines idle taken ends) s = s
-  finish_stages machine from counts work node stopped readings left start before after _ _ _ _ _ (unended run status lines ran taken ends) s = s
-  finish_stages machine from counts work node stopped readings left start before after _ _ _ _ _ (report_refused run report error text lines status committed broken reported took refused memory told answers) s =
+  sent_stages : (work : List Event) (job : ℕ) → Stages (work ++ events.Sent job ∷ []) part → Stages work part
+  sent_stages work job s = ⊎_elim (λ a. a) none (stages-append work (events.Sent job ∷ []) s) where
+    none : Stages (events.Sent job ∷ []) part → Stages work part
+    none (inl is) = absurd is
+    none (inr s) = absurd s
+
+  finish_stages : {D S C : Type 0} (o : Known D S C) (from : Node) (counts : ℕ × ℕ) (work : List Event) (node : Node) (stopped : Bool) (readings left : Option (List (Option ℕ))) (start : ℕ)
+      (asked heard : LinkView) (before after : S) (status : Status) (lines : List ℕ) (run : Option Run) (committed : List Event) (broken : Option Event)
+      → Finish o from counts work node stopped readings left start asked heard before after status lines run committed broken → Stages (all_of committed broken) part → Stages work part
+  finish_stages o from counts work node stopped readings left start asked heard before after status lines _ _ _ (no_run tried committed broken none idle taken sends ends) s =
+      sends_less (λ w. Stages w part) sent_stages from counts work node asked heard tried committed broken sends s
+  finish_stages o from counts work node stopped readings left start asked heard before after status lines _ _ _ (unready idle taken unasked ends) s = s
+  finish_stages o from counts work node stopped readings left start asked heard before after status lines _ _ _ (unended run ran taken unasked ends) s = s
+  finish_stages o from counts work node stopped readings left start asked heard before after status lines _ _ _ (report_refused run report error text committed broken reported took unasked refused memory told answers) s =
       ⊎_elim (λ a. a) (λ is. absurd (run_stages run.end run.choice.pending report is)) (refused_stages from counts work (event_of run.end run.choice.pending report) error committed broken refused s)
-  finish_stages machine from counts work node stopped readings left start before after _ _ _ _ _ (report_kept run report text lines status reported took told answers) s =
-      ⊎_elim (λ a. a) (λ b. absurd (last b)) (stages-append work (event_of run.end run.choice.pending report ∷ []) s) where
+  finish_stages o from counts work node stopped readings left start asked heard before after status lines _ _ _ (report_kept run report text noted tried committed broken reported took told step sends ends) s =
+      ⊎_elim (λ a. a) (λ b. absurd (last b)) (stages-append work (event_of run.end run.choice.pending report ∷ [])
+      (sends_less (λ w. Stages w part) sent_stages from counts (work ++ event_of run.end run.choice.pending report ∷ []) noted asked heard tried committed broken sends s)) where
         last : Stages (event_of run.end run.choice.pending report ∷ []) part → ⊥
         last (inl is) = run_stages run.end run.choice.pending report is
         last (inr s) = s
 
-  pub work_stages : {S C : Type 0} (machine : Ghosts S) (clock : clocks.Ghosts C) (task : Task) (from : Node) (counts : ℕ × ℕ) (node : Node) (before after : S) (first last : C)
-      (run : Option Run) (status : Status) (lines : List ℕ) (committed : List Event) (broken : Option Event)
-      → StartTable machine clock task from counts [] node before after first last run status lines committed broken → Stages (all_of committed broken) part → Stages (first_of node task) part
-  work_stages machine clock task from counts node before after first last _ _ _ _ _ (not_allowed why status lines is idle ends) s = absurd s
-  work_stages machine clock task from counts node before after first last _ _ _ _ _ (waiting status lines none is idle ends) s = absurd s
-  work_stages machine clock task from counts node before after first last _ _ _ _ _ (clock_failed status lines allowed other gave took rose idle ends) s = absurd s
-  work_stages machine clock task from counts node before after first last _ _ _ _ _ (first_refused event error status lines committed broken allowed one reads idle refused ends) s =
-      ⊎_elim (λ none. absurd none) (λ is. subst (λ (w : List Event). Stages w part) (sym one) (inl is)) (refused_stages from counts [] event error committed broken refused s)
-  work_stages machine clock task from counts node before after first last _ _ _ _ _ (settled status lines allowed ends idle answers) s = s
-  work_stages machine clock task from counts node before after first last _ _ _ _ _ (finished mid start readings run status lines committed broken allowed other gave took steps f) s =
-      finish_stages machine from counts (first_of node task) mid _ readings _ start before after run status lines committed broken f s
+  -- a start stages what its task brought, and nothing else
+  pub record StagesBrought {D S C : Type 0} (o : Known D S C) (task : Task) (node : Node) (before after : Beside S C) : Type 0 where
+    pub start : ℕ
+    pub heard : LinkView
+    pub later : GoesOn heard after.link
+    pub ready : S
+    pub first : Option Event
+    pub brought : Brought o.resources o.machine node task start before.link heard before.machine ready (Ok first)
+    pub stages : Stages (events_of first) part
+
+  pub work_stages : {D S C : Type 0} (o : Known D S C) (task : Task) (from : Node) (counts : ℕ × ℕ) (node : Node) (before after : Beside S C) (status : Status) (lines : List ℕ)
+      (ready : S) (run : Option Run) (committed : List Event) (broken : Option Event)
+      → StartTable o task from counts [] node before after status lines ready run committed broken → Stages (all_of committed broken) part → StagesBrought o task node before after
+  work_stages o task from counts node before after status lines _ _ _ _ (not_allowed why is idle ends) s = absurd s
+  work_stages o task from counts node before after status lines _ _ _ _ (waiting none is idle ends) s = absurd s
+  work_stages o task from counts node before after status lines _ _ _ _ (clock_failed allowed reads gave took rose machine link ends) s = absurd s
+  work_stages o task from counts node before after status lines _ _ _ _ (not_brought start error allowed reads brought ends) s = absurd s
+  work_stages o task from counts node before after status lines _ _ _ _ (first_refused start event error committed broken allowed reads brought refused ends) s =
+      ⊎_elim (λ none. absurd none)
+      (λ is. record { start = start; heard = after.link; later = stays after.link; ready = after.machine; first = Some event; brought = brought; stages = inl is })
+      (refused_stages from counts [] event error committed broken refused s)
+  work_stages o task from counts node before after status lines _ _ _ _ (settled start first allowed ends reads brought answers) s =
+      record { start = start; heard = after.link; later = stays after.link; ready = after.machine; first = first; brought = brought; stages = s }
+  work_stages o task from counts node before after status lines _ _ _ _ (finished start readings heard ready first mid run committed broken allowed other gave took brought steps f) s =
+      record {
+        start = start;
+        heard = heard;
+        later = finish_goes_on o from counts (events_of first) mid _ readings _ start heard after.link ready after.machine status lines run committed broken f;
+        ready = ready;
+        first = first;
+        brought = brought;
+        stages = finish_stages o from counts (events_of first) mid _ readings _ start heard after.link ready after.machine status lines run committed broken f s;
+      }
+
+-- before the run packages are added alone, each accepted
+pub work_adds : {D S C : Type 0} (o : Known D S C) (task : Task) (from : Node) (counts : ℕ × ℕ) (work : List Event) (node : Node) (before after : Beside S C) (status : Status) (lines : List ℕ)
+    (ready : S) (run : Option Run) (committed : List Event) (broken : Option Event)
+    → StartTable o task from counts work node before after status lines ready run committed broken
+    → (modules : List Module) × AddsAccepted modules after.link (o.machine.packages before.machine) (o.machine.packages ready)
+work_adds o task from counts work node before after status lines _ _ _ _ (not_allowed why is idle ends) = ([], adds_same [] after.link (o.machine.packages before.machine) (o.machine.packages before.machine) refl)
+work_adds o task from counts work node before after status lines _ _ _ _ (waiting none is idle ends) = ([], adds_same [] after.link (o.machine.packages before.machine) (o.machine.packages before.machine) refl)
+work_adds o task from counts work node before after status lines _ _ _ _ (clock_failed allowed reads gave took rose machine link ends) =
+    ([], adds_same [] after.link (o.machine.packages before.machine) (o.machine.packages before.machine) refl)
+work_adds o task from counts work node before after status lines _ _ _ _ (not_brought start error allowed reads brought ends) =
+    brought_adds o.resources o.machine node start before.link after.link after.link (stays after.link) before.machine after.machine (Err error) task brought
+work_adds o task from counts work node before after status lines _ _ _ _ (first_refused start event error committed broken allowed reads brought refused ends) =
+    brought_adds o.resources o.machine node start before.link after.link after.link (stays after.link) before.machine after.machine (Ok (Some event)) task brought
+work_adds o task from counts work node before after status lines _ _ _ _ (settled start first allowed ends reads brought answers) =
+    brought_adds o.resources o.machine node start before.link after.link after.link (stays after.link) before.machine after.machine (Ok first) task brought
+work_adds o task from counts work node before after status lines _ _ _ _ (finished start readings heard ready first mid run committed broken allowed other gave took brought steps f) =
+    brought_adds o.resources o.machine node start before.link heard after.link
+    (finish_goes_on o from counts (work ++ events_of first) mid _ readings _ start heard after.link ready after.machine status lines run committed broken f) before.machine ready (Ok first) task brought

@@ -1,18 +1,21 @@
 -- What a start promises of the machine and of its store, over the kinds of resources of a host: the headline, fact by fact.
-use Rattle.std.specs.Prelude.{◌≡◌, ◌⊎◌, ℕ, ◌<◌, ◌-◌, ◌^◌, true, List, [], ◌∷◌, ◌++◌, length, Option, Some, None, ⊤}
+use Rattle.std.specs.Prelude.{◌≡◌, ◌⊎◌, ℕ, ◌<◌, ◌≤◌, ◌-◌, ◌^◌, true, List, [], ◌∷◌, ◌++◌, length, Option, Some, None, ⊤}
 use Rattle.dsc_terms.specs.Counts.{Rose}
 use Rattle.dsc_outside.specs.declared.disk.Disk as disks
 use Rattle.dsc_outside.specs.declared.host.Host as hosts
 use Rattle.dsc_outside.specs.Host.{HostState}
 use Rattle.gate_log.specs.Standing.{AllStand, StoodFor}
+use Rattle.meta_config.specs.declared.server.Server.{Server}
 use Rattle.partial_merge.specs.declared.part.Part.{Part}
 use Rattle.partial_merge.specs.Parts.{unnamed_part}
 use Rattle.resource_kinds.specs.declared.kinds.Kinds.{Kinds}
 use Rattle.resource_kinds.specs.declared.entry.Entry.{Entry}
+use Rattle.resource_kinds.specs.declared.machine.Machine as machines
 use Rattle.resource_kinds.specs.declared.resources.Resources as resources
 use Rattle.resource_kinds.specs.Apart.{Apart}
 use Rattle.resource_kinds.specs.Documents.{AllHold}
 use Rattle.resource_kinds.specs.Kinds.{calls_of, host_of, spare_of}
+use Rattle.resource_kinds.specs.Packages.{ChangesPackages, packages_of}
 use Rattle.resource_kinds.specs.Trace.{Compliant, EndsInReboot, Succeeded, missed_count}
 use Rattle.resource_kinds.specs.True.{TellsEntry, TellsTrue}
 use Rattle.lcm_core.specs.declared.modes.RunEnd.TheVariants as ends
@@ -29,16 +32,22 @@ use Rattle.node_state.specs.Sound.{Sound}
 use Rattle.node_state.specs.Table.{Steps}
 use Rattle.node_store.specs.Stands.{Stands}
 use Rattle.dsc_node.specs.declared.command.Command.{Command}
-use Rattle.dsc_node.specs.declared.command.Command.TheVariants.{Init, Push, Consistency, Boot}
+use Rattle.dsc_node.specs.declared.command.Command.TheVariants.{Pull, Push}
 use Rattle.dsc_node.specs.declared.status.Status.{Status}
 use Rattle.dsc_node.specs.declared.status.Status.TheVariants as statuses
+use Rattle.node_pull.specs.declared.modules.Module.{Module}
+use Rattle.node_pull.specs.Contents.{WasAccepted}
+use Rattle.node_pull.specs.Packages.{AddsAccepted}
+use Rattle.node_pull.specs.Views.{LinkView}
+use Rattle.dsc_node.specs.Commits.{all_of}
 use Rattle.dsc_node.specs.Lines.{IsRunText}
 use Rattle.dsc_node.specs.Path.{IsOnTheWay, Passes}
 use Rattle.dsc_node.specs.Runs.{Ran, Run, end_line, frame_of}
-use Rattle.dsc_node.specs.Start.{Known, Outside, Opened}
-use Rattle.dsc_node.specs.Work.{all_of}
+use Rattle.dsc_node.specs.Sending.{Tried, tried_text}
+use Rattle.dsc_node.specs.Start.{Opened, Outside}
+use Rattle.dsc_node.specs.Work.{Known}
 
--- the kinds of resources over a host, as a machine
+-- the kinds of resources over a host, as what is run, and as a machine that keeps packages
 abbrev pub kinds_of : {H : Type 0} → hosts.Ghosts H → resources.Ghosts (Kinds H)
 kinds_of host = record {
   kept = calls_of;
@@ -48,13 +57,24 @@ kinds_of host = record {
   still = λ before after. host.told (host_of before) ≡ host.told (host_of after);
 }
 
+abbrev pub machine_of : {H : Type 0} → hosts.Ghosts H → machines.Ghosts (Kinds H)
+machine_of host = record {
+  packages = λ kinds. packages_of (host.told (host_of kinds));
+  packages_changed = λ before after. ChangesPackages (host.told (host_of before)) (host.told (host_of after));
+}
+
 -- ---- 1: a state after a prefix of the steps
 
 -- Every image at any moment stands for a node for which an image at the begin stood, or for the node after a prefix of the work; and
 -- every image at the end for the node after what was committed, or, where a commit answered Disk, after that event too.
-pub record IsAfterPrefix {D : Type 0} (d : disks.Ghosts D) (begin now : D) (from : Node) (committed : List Event) (broken : Option Event) : Type 0 where
+abbrev pub EndsBroken : Status → Type 0
+EndsBroken status = (status ≡ statuses.DiskFault) ⊎ (status ≡ statuses.Memory)
+
+pub record IsAfterPrefix {D : Type 0} (d : disks.Ghosts D) (begin now : D) (from : Node) (status : Status) (committed : List Event) (broken : Option Event) : Type 0 where
   pub moments : Passes d begin now from (all_of committed broken)
   pub left : AllStand d now Stands (λ end. Steps from committed end ⊎ Steps from (all_of committed broken) end)
+  -- a commit answered Disk only where the disk's count rose, and then the start ends with a fault of the disk, or for memory
+  pub unbroken : (broken ≡ None) ⊎ (Rose (d.faults begin) (d.faults now) × EndsBroken status)
 
 -- ---- 2: whole
 
@@ -62,19 +82,30 @@ pub record IsAfterPrefix {D : Type 0} (d : disks.Ghosts D) (begin now : D) (from
 abbrev pub AreSound : {D : Type 0} → disks.Ghosts D → D → Node → List Event → Type 0
 AreSound d begin from work = (node : Node) → IsOnTheWay d begin from work node → Sound node
 
--- ---- 3: as pushed
+-- ---- 3: as announced or pushed
 
 -- the part stood in the node that was found, or in one for which an image at the begin stood
 abbrev pub WasThere : {D : Type 0} → disks.Ghosts D → D → Node → Part → Type 0
 WasThere d begin from part = IsSlot from part ⊎ ((node : Node) × StoodFor d begin Stands node × IsSlot node part)
 
-abbrev pub IsPushed : Command → Part → Type 0
-IsPushed (Push bytes) part = part ≡ unnamed_part bytes
-IsPushed _ part = ⊥
+-- the node's server was asked for the part in this start, and gave it under the digest that was announced for it
+pub record WasPulled (node : Node) (asked heard : LinkView) (part : Part) : Type 0 where
+  pub server : Server
+  pub is_server : node.meta.server ≡ Some server
+  pub agent : ℕ
+  pub is_agent : node.agent ≡ Some agent
+  pub accepted : WasAccepted server agent asked heard part
 
--- each part of such a node was there, or is the pushed one
-abbrev pub AreAsPushed : {D : Type 0} → disks.Ghosts D → D → Command → Node → List Event → Type 0
-AreAsPushed d begin command from work = (node : Node) (part : Part) → IsOnTheWay d begin from work node → IsSlot node part → WasThere d begin from part ⊎ IsPushed command part
+-- the part is the pushed one, or was pulled
+abbrev pub IsBrought : Command → Node → LinkView → LinkView → Part → Type 0
+IsBrought (Push bytes) node asked heard part = part ≡ unnamed_part bytes
+IsBrought Pull node asked heard part = WasPulled node asked heard part
+IsBrought _ node asked heard part = ⊥
+
+-- each part of such a node was there, or was brought
+abbrev pub AreAsBrought : {D : Type 0} → disks.Ghosts D → D → Command → LinkView → LinkView → Node → List Event → Type 0
+AreAsBrought d begin command asked heard from work =
+    (node : Node) (part : Part) → IsOnTheWay d begin from work node → IsSlot node part → WasThere d begin from part ⊎ IsBrought command from asked heard part
 
 -- ---- 4: each Set
 
@@ -89,6 +120,15 @@ abbrev pub IsRun : {H : Type 0} → hosts.Ghosts H → Option Run → Kinds H �
 IsRun host None before after = after ≡ before
 IsRun host (Some run) before after = HasTrace host run before after
 
+-- before the run nothing but the host's packages changed: packages of modules were added, each accepted under the digest that was announced
+-- for it; no resource was tested or set, and the host's count did not fall
+pub record RunsAfterPackages {H : Type 0} (host : hosts.Ghosts H) (run : Option Run) (heard : LinkView) (before ready after : Kinds H) : Type 0 where
+  pub packages : ChangesPackages (host.told (host_of before)) (host.told (host_of ready))
+  pub added : (modules : List Module) × AddsAccepted modules heard (packages_of (host.told (host_of before))) (packages_of (host.told (host_of ready)))
+  pub untested : calls_of ready ≡ calls_of before
+  pub later : host.faults (host_of before) ≤ host.faults (host_of ready)
+  pub runs : IsRun host run ready after
+
 -- ---- 5: a compliant report
 
 abbrev pub KeepsReport : Event → Report → Type 0
@@ -102,12 +142,13 @@ abbrev pub Keeps : List Event → Report → Type 0
 Keeps [] report = ⊥
 Keeps (event ∷ events) report = KeepsReport event report ⊎ Keeps events report
 
--- the text of the trace, alone or with the line of the event that keeps its report; nothing where memory was refused
+-- the text of the trace, alone or with the line of the event that keeps its report and those of the reports that were tried; nothing where
+-- memory was refused
 abbrev pub IsPrinted : Run → List Entry → Status → List ℕ → Type 0
 IsPrinted run trace status lines =
     ((status ≡ statuses.Memory) × (lines ≡ []))
     ⊎ ((text : List ℕ) × IsRunText run.document trace text
-    × ((lines ≡ text) ⊎ (lines ≡ text ++ end_line run.end run.choice.pending (missed_count run.document trace))))
+    × ((lines ≡ text) ⊎ ((tried : List Tried) × (lines ≡ text ++ end_line run.end run.choice.pending (missed_count run.document trace) ++ tried_text tried))))
 
 -- A report that is kept is that of the trace. It says success exactly where the trace does not end with a reboot and each resource's last
 -- Test answered yes.
@@ -168,17 +209,17 @@ HoldTogether host (Some run) before after =
 -- ---- the headline
 
 pub record Headline {D H C : Type 0} (d : disks.Ghosts D) (host : hosts.Ghosts H) (command : Command) (before after : Outside D (Kinds H) C)
-    (status : Status) (lines : List ℕ) (from : Node) (run : Option Run) (committed : List Event) (broken : Option Event) : Type 0 where
-  pub h1 : IsAfterPrefix d before.disk after.disk from committed broken
+    (status : Status) (lines : List ℕ) (from : Node) (ready : Kinds H) (run : Option Run) (committed : List Event) (broken : Option Event) : Type 0 where
+  pub h1 : IsAfterPrefix d before.disk after.disk from status committed broken
   pub h2 : AreSound d before.disk from (all_of committed broken)
-  pub h3 : AreAsPushed d before.disk command from (all_of committed broken)
-  pub h4 : IsRun host run before.machine after.machine
-  pub h5 : AreTold from run after.machine (all_of committed broken) status lines
-  pub h6 : IsComplete host d before.disk after.disk from run before.machine after.machine committed
-  pub h7 : HoldTogether host run before.machine after.machine
+  pub h3 : AreAsBrought d before.disk command before.beside.link after.beside.link from (all_of committed broken)
+  pub h4 : RunsAfterPackages host run after.beside.link before.beside.machine ready after.beside.machine
+  pub h5 : AreTold from run after.beside.machine (all_of committed broken) status lines
+  pub h6 : IsComplete host d before.disk after.disk from run ready after.beside.machine committed
+  pub h7 : HoldTogether host run ready after.beside.machine
 
 -- of each start that opened its store
 abbrev pub HasHeadline : {D H C : Type 0} → Known D (Kinds H) C → hosts.Ghosts H → Command → Outside D (Kinds H) C → Outside D (Kinds H) C → Status → List ℕ → Type 0
 HasHeadline o host command before after status lines =
     (opened : Opened o command before after status lines)
-    → Headline o.disk host command before after status lines opened.from opened.run opened.ended.committed opened.ended.broken
+    → Headline o.disk host command before after status lines opened.from opened.ready opened.run opened.ended.committed opened.ended.broken

@@ -1,4 +1,7 @@
+pub mod Bringing
 pub mod Commands
+pub mod Commits
+pub mod Endings
 pub mod Headline
 pub mod Lines
 pub mod Path
@@ -7,6 +10,7 @@ pub mod Ran
 pub mod Readings
 pub mod Running
 pub mod Runs
+pub mod Sending
 pub mod Shown
 pub mod Start
 pub mod Status

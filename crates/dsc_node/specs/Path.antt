@@ -1,23 +1,29 @@
 -- How far a start has come, and what a crash at any moment of it leaves. Nothing here is about bytes.
-use Rattle.std.specs.Prelude.{◌≡◌, ◌≢◌, ◌⊎◌, ℕ, ◌≤◌, List, [], ◌∷◌, ◌++◌, Option, None, IfSome, Result, Ok, Err}
+use Rattle.std.specs.Prelude.{◌≡◌, ◌≢◌, ◌⊎◌, ℕ, ◌≤◌, true, List, [], ◌∷◌, ◌++◌, Option, Some, None, IfSome, Result, Ok, Err, codes}
 use Rattle.dsc_outside.specs.declared.disk.Disk.{Ghosts}
 use Rattle.gate_log.specs.Standing.{AllStand, Any, StandsAtAnyMoment, StoodFor}
 use Rattle.node_state.specs.declared.node.Node.{Node}
 use Rattle.node_state.specs.declared.event.Event.{Event}
-use Rattle.node_state.specs.Table.{Steps, refusal}
+use Rattle.node_state.specs.Table.{Step, Steps, refusal}
 use Rattle.node_store.specs.declared.error.StoreError.{StoreError}
 use Rattle.node_store.specs.Stands.{Stands}
 use Rattle.node_store.specs.declared.error.StoreError.TheVariants as errors
-use Rattle.node_store.specs.Store.{StoreTerm, IsKept}
+use Rattle.node_store.specs.Store.{StoreTerm}
 use Rattle.resource_kinds.specs.declared.entry.Entry.{Entry}
+use Rattle.node_pull.specs.declared.error.PullError.{PullError}
+use Rattle.node_pull.specs.Views.{LinkView}
 use Rattle.dsc_node.specs.declared.status.Status.{Status}
 use Rattle.dsc_node.specs.declared.status.Status.TheVariants as statuses
 use Rattle.dsc_node.specs.declared.command.Task.{Task}
 use Rattle.dsc_node.specs.declared.running.Over.{Over}
-use Rattle.dsc_node.specs.Commands.{first_of}
 use Rattle.dsc_node.specs.Lines.{overlap_line, run_lines}
-use Rattle.dsc_node.specs.Runs.{end_line, event_of, status_after}
-use Rattle.dsc_node.specs.Work.{Answers, Ends, RefusedAfter, all_of, settled_text, status_of}
+use Rattle.dsc_node.specs.Runs.{Run, end_line, event_of, status_after}
+use Rattle.dsc_node.specs.Bringing.{Asked, events_of, status_of_pull}
+use Rattle.dsc_node.specs.Commands.{IsAllowed, is_run}
+use Rattle.dsc_node.specs.Commits.{RefusedAfter, all_of}
+use Rattle.dsc_node.specs.Endings.{Answers, Ends, status_of}
+use Rattle.dsc_node.specs.Sending.{EndsAfterSending, Sends, Tried}
+use Rattle.dsc_node.specs.Work.{Beside, Known, LeavesEntries, ReadsBefore, StartTable, settled_text}
 
 -- the node after a prefix of this work
 pub record AfterPrefix (from : Node) (work : List Event) (node : Node) : Type 0 where
@@ -72,22 +78,32 @@ abbrev pub CommitGoes : {T D : Type 0} → Ghosts D → D → D → StoreTerm �
 CommitGoes d old now before event (Ok v) after = Carries d old now before after (event ∷ [])
 CommitGoes d old now before event (Err error) after = EndsStart d old now before (λ from counts work committed broken. RefusedAfter from counts work event error committed broken)
 
--- the first events, one or none
-abbrev pub FirstGoes : {T D : Type 0} → Ghosts D → D → D → StoreTerm → List Event → Result T StoreError → StoreTerm → Type 0
-FirstGoes d old now before events (Ok v) after = Carries d old now before after events
-FirstGoes d old now before events (Err error) after =
-    EndsStart d old now before (λ from counts work committed broken. (event : Event) × (events ≡ event ∷ []) × RefusedAfter from counts work event error committed broken)
+-- the first event, if there is one
+abbrev pub FirstGoes : {T D : Type 0} → Ghosts D → D → D → StoreTerm → Option Event → Result T StoreError → StoreTerm → Type 0
+FirstGoes d old now before first (Ok v) after = Carries d old now before after (events_of first)
+FirstGoes d old now before first (Err error) after =
+    EndsStart d old now before (λ from counts work committed broken. (event : Event) × (first ≡ Some event) × RefusedAfter from counts work event error committed broken)
 
--- these events, one or none, were committed and this text is printed, or the event was refused
-abbrev pub SettlesBy : {D : Type 0} → Ghosts D → D → D → StoreTerm → List Event → List ℕ → Status → List ℕ → Type 0
-SettlesBy d old now before events text status lines =
-    (EndsStart d old now before (λ from counts work committed broken. (committed ≡ work ++ events) × (broken ≡ None)) × Answers statuses.Done text status lines)
+-- What a task that comes to no run brought was committed, and this text is printed; or its event was refused; or nothing was brought.
+abbrev pub SettlesBy : {D : Type 0} → Ghosts D → D → D → StoreTerm → Result (Option Event) PullError → List ℕ → Status → List ℕ → Type 0
+SettlesBy d old now before (Err error) text status lines =
+    EndsStart d old now before (λ from counts work committed broken. (committed ≡ work) × (broken ≡ None)) × Ends (status_of_pull error) [] status lines
+SettlesBy d old now before (Ok first) text status lines =
+    (EndsStart d old now before (λ from counts work committed broken. (committed ≡ work ++ events_of first) × (broken ≡ None)) × Answers statuses.Done text status lines)
     ⊎ ((error : StoreError) × Ends (status_of error) [] status lines
-    × EndsStart d old now before (λ from counts work committed broken. (event : Event) × (events ≡ event ∷ []) × RefusedAfter from counts work event error committed broken))
+    × EndsStart d old now before (λ from counts work committed broken. (event : Event) × (first ≡ Some event) × RefusedAfter from counts work event error committed broken))
 
--- so did a task that comes to no run
-abbrev pub SettleGoes : {D : Type 0} → Ghosts D → D → D → StoreTerm → Task → Status → List ℕ → Type 0
-SettleGoes d old now before task status lines = SettlesBy d old now before (first_of before.node task) (settled_text task before.node) status lines
+-- so did a task
+pub record SettleGoes {D : Type 0} (d : Ghosts D) (old now : D) (before : StoreTerm) (task : Task) (start : ℕ) (asked heard : LinkView) (status : Status) (lines : List ℕ) : Type 0 where
+  pub first : Result (Option Event) PullError
+  pub brought : Asked before.node task start asked heard first
+  pub settles : SettlesBy d old now before first (settled_text task before.node) status lines
+
+-- the reports of the store's node were sent
+abbrev pub SendsOn : {D : Type 0} → Ghosts D → D → D → StoreTerm → LinkView → LinkView → Result (List Tried) StoreError → Type 0
+SendsOn d old now before asked heard tried = EndsStart d old now before (λ from counts work committed broken. Sends from counts work before.node asked heard tried committed broken)
+
+-- ---- the report of a run
 
 -- the event that keeps the report of the run
 abbrev pub event_to_keep : Over → Event
@@ -97,19 +113,55 @@ event_to_keep over = event_of over.end over.pending over.report
 abbrev pub text_of : Over → List Entry → List ℕ
 text_of over trace = run_lines over.document trace ++ overlap_line over.overlap
 
--- the report was kept
-pub record IsKeptSo {D : Type 0} (d : Ghosts D) (old now : D) (before after : StoreTerm) (over : Over) (trace : List Entry) (status : Status) (lines : List ℕ) : Type 0 where
-  pub carries : Carries d old now before after (event_to_keep over ∷ [])
-  pub kept : IsKept d now after
-  pub answers : Answers (status_after before.node.meta.reboot_if_needed over.end over.report.missed)
-      (text_of over trace ++ end_line over.end over.pending over.report.missed) status lines
+-- the report was kept, and what was to be sent was sent
+pub record IsKeptSo (from : Node) (counts : ℕ × ℕ) (work : List Event) (node : Node) (over : Over) (trace : List Entry) (asked heard : LinkView)
+    (status : Status) (lines : List ℕ) (committed : List Event) (broken : Option Event) : Type 0 where
+  pub noted : Node
+  pub step : Step node (event_to_keep over) noted
+  pub tried : Result (List Tried) StoreError
+  pub sends : Sends from counts (work ++ event_to_keep over ∷ []) noted asked heard tried committed broken
+  pub ends : EndsAfterSending (status_after node.meta.reboot_if_needed over.end over.report.missed) (text_of over trace) (end_line over.end over.pending over.report.missed) tried status lines
 
 -- its event was refused, and not for memory
-pub record IsRefusedSo {D : Type 0} (d : Ghosts D) (old now : D) (before : StoreTerm) (over : Over) (trace : List Entry) (status : Status) (lines : List ℕ) : Type 0 where
+pub record IsRefusedSo (from : Node) (counts : ℕ × ℕ) (work : List Event) (over : Over) (trace : List Entry) (asked heard : LinkView)
+    (status : Status) (lines : List ℕ) (committed : List Event) (broken : Option Event) : Type 0 where
   pub error : StoreError
   pub memory : error ≢ errors.Memory
-  pub ends : EndsStart d old now before (λ from counts work committed broken. RefusedAfter from counts work (event_to_keep over) error committed broken)
+  pub refused : RefusedAfter from counts work (event_to_keep over) error committed broken
+  pub unasked : heard ≡ asked
   pub answers : Answers (status_of error) (text_of over trace) status lines
 
-abbrev pub KeepGoes : {D : Type 0} → Ghosts D → D → D → StoreTerm → StoreTerm → Over → List Entry → Status → List ℕ → Type 0
-KeepGoes d old now before after over trace status lines = IsKeptSo d old now before after over trace status lines ⊎ IsRefusedSo d old now before over trace status lines
+abbrev pub KeepGoes : {D : Type 0} → Ghosts D → D → D → StoreTerm → Over → List Entry → LinkView → LinkView → Status → List ℕ → Type 0
+KeepGoes d old now before over trace asked heard status lines = EndsStart d old now before (λ from counts work committed broken.
+    IsKeptSo from counts work before.node over trace asked heard status lines committed broken
+    ⊎ IsRefusedSo from counts work over trace asked heard status lines committed broken)
+
+-- ---- a whole start
+
+-- nothing was run, and what was to be sent was sent
+pub record IsNothingSo (from : Node) (counts : ℕ × ℕ) (work : List Event) (node : Node) (asked heard : LinkView)
+    (status : Status) (lines : List ℕ) (committed : List Event) (broken : Option Event) : Type 0 where
+  pub tried : Result (List Tried) StoreError
+  pub sends : Sends from counts work node asked heard tried committed broken
+  pub ends : EndsAfterSending statuses.Done [] (codes "end nothing\n") tried status lines
+
+abbrev pub NothingGoes : {D : Type 0} → Ghosts D → D → D → StoreTerm → LinkView → LinkView → Status → List ℕ → Type 0
+NothingGoes d old now before asked heard status lines = EndsStart d old now before (λ from counts work committed broken.
+    IsNothingSo from counts work before.node asked heard status lines committed broken)
+
+-- a start of an opened store, on this machine before its run
+pub record OpenedGoes {D S C : Type 0} (o : Known D S C) (task : Task) (old now : D) (store : StoreTerm) (before after : Beside S C) (status : Status) (lines : List ℕ) : Type 0 where
+  pub ready : S
+  pub run : Option Run
+  pub leaves : LeavesEntries o before.machine ready
+  pub ends : EndsStart o.disk old now store (λ from counts work committed broken.
+      StartTable o task from counts work store.node before after status lines ready run committed broken)
+
+-- of a task that comes to a run, after the clock was read
+pub record RunGoes {D S C : Type 0} (o : Known D S C) (task : Task) (start : ℕ) (old now : D) (store : StoreTerm) (before after : Beside S C) (status : Status) (lines : List ℕ) : Type 0 where
+  pub ready : S
+  pub run : Option Run
+  pub leaves : LeavesEntries o before.machine ready
+  pub ends : EndsStart o.disk old now store (λ from counts work committed broken.
+      (unread : C) → IsAllowed store.node task → is_run task ≡ true → ReadsBefore o.clock true start unread before.clock
+      → StartTable o task from counts work store.node (record before { clock = unread }) after status lines ready run committed broken)

@@ -15,7 +15,8 @@ use Rattle.dsc_node.specs.declared.running.Ready.{Ready}
 use Rattle.dsc_node.specs.declared.running.RunStep.{RunStep}
 use Rattle.dsc_node.specs.declared.running.RunStep.TheVariants as steps
 use Rattle.dsc_node.specs.Readings.{Took}
-use Rattle.dsc_node.specs.Runs.{Reported, Run, Unended, chosen_of, mark_of}
+use Rattle.node_pull.specs.Marks.{mark_of}
+use Rattle.dsc_node.specs.Runs.{Reported, Run, Unended, chosen_of}
 
 -- whether resources of the document overlap was found
 pub record IsFound (document : Document) (overlap : Bool) : Type 0 where

@@ -5,12 +5,9 @@ use Rattle.dsc_document.specs.declared.document.Document.{Document}
 use Rattle.depend_order.specs.Documents.{IsOrderOfDocument}
 use Rattle.meta_config.specs.declared.modes.ConfigMode.{ConfigMode}
 use Rattle.meta_config.specs.declared.modes.ConfigMode.TheVariants.{ApplyOnly, ApplyAndMonitor, ApplyAndAutoCorrect}
-use Rattle.meta_config.specs.declared.modes.RefreshMode.{RefreshMode}
-use Rattle.meta_config.specs.declared.modes.RefreshMode.TheVariants as refreshes
 use Rattle.partial_merge.specs.declared.part.Part.{Part}
 use Rattle.partial_merge.specs.Merged.{Merged}
 use Rattle.resource_kinds.specs.declared.resources.Resources.{Ghosts}
-use Rattle.resource_kinds.specs.declared.entry.Entry.{Entry}
 use Rattle.resource_kinds.specs.Trace.{Chain, host_failures}
 use Rattle.lcm_core.specs.declared.modes.RunEnd.{RunEnd}
 use Rattle.lcm_core.specs.declared.modes.RunEnd.TheVariants as ends
@@ -18,7 +15,6 @@ use Rattle.lcm_core.specs.declared.modes.RunMode.{RunMode}
 use Rattle.lcm_core.specs.declared.modes.RunMode.TheVariants.{Monitor, Repair}
 use Rattle.lcm_core.specs.Legal.{Legal}
 use Rattle.report_log.specs.declared.report.Frame.{Frame}
-use Rattle.report_log.specs.declared.report.PartMark.{PartMark}
 use Rattle.report_log.specs.declared.report.Report.{Report}
 use Rattle.report_log.specs.Report.{IsReport}
 use Rattle.report_log.specs.Sizes.{ReportInSize}
@@ -27,6 +23,8 @@ use Rattle.node_state.specs.declared.event.Event.{Event}
 use Rattle.node_state.specs.declared.event.Event.TheVariants as events
 use Rattle.dsc_node.specs.declared.status.Status.{Status}
 use Rattle.dsc_node.specs.declared.status.Status.TheVariants as statuses
+use Rattle.node_pull.specs.Marks.{mark_of}
+use Rattle.dsc_node.specs.Commands.{is_pull}
 use Rattle.dsc_node.specs.Ran.{EndsAs, IsWholeOrNone}
 use Rattle.dsc_node.specs.Readings.{Gave, end_of}
 
@@ -75,14 +73,6 @@ pub record Ran {S : Type 0} (machine : Ghosts S) (run : Run) (before after : S) 
   pub failures : RoseBy (host_failures (machine.kept after)) (machine.faults before) (machine.faults after)
 
 -- ---- its report
-
-abbrev pub is_pull : RefreshMode → Bool
-is_pull refreshes.Push = false
-is_pull refreshes.Pull = true
-is_pull refreshes.Disabled = false
-
-abbrev pub mark_of : Part → PartMark
-mark_of part = record { name = part.name; digest = part.digest }
 
 abbrev pub frame_of : Node → Choice → ℕ → ℕ → Frame
 frame_of node choice start end = record {

@@ -1,10 +1,11 @@
 //! Where a task is allowed.
 ghost use Rattle.std.specs.Prelude.{◌≡◌};
 ghost use Rattle.node_state.specs.Table.{check};
-ghost use Rattle.dsc_node.specs.Commands.{declares_partials, is_disabled, is_run, stops, waits, why_no_agent, why_no_run, why_not};
+ghost use Rattle.dsc_node.specs.Commands.{declares_partials, has_names, has_source, is_disabled, is_one, is_pull, is_run, reads_clock, stops, waits, why_no_agent, why_no_pull, why_no_run, why_not};
 
 use crate::command::Task;
 use meta_config::{AfterReboot, RefreshMode};
+use mof_values::Text;
 use node_state::{Node, Why};
 
 /// Why the node does not allow the task, where it does not: the first condition that fails.
@@ -14,6 +15,11 @@ pub(crate) fn why_not(node: &Node, task: &Task) -> Option<Why>
     match task {
         Task::Init(_) => check(node.agent.is_none(), Why::HasAgent, None),
         Task::Meta(_) | Task::Get | Task::Remove(_) | Task::Reports => why_no_agent(node, None),
+        Task::Register(_) => {
+            let served = node.meta.server.is_some();
+            why_no_agent(node, check(served, Why::NoServer, None))
+        }
+        Task::Pull => why_no_run(node, why_no_pull(node)),
         Task::Push(_) => {
             let whole = !declares_partials(node);
             why_no_run(node, check(whole, Why::PartsDeclared, None))
@@ -39,6 +45,16 @@ fn why_no_run(node: &Node, rest: Option<Why>) -> Option<Why>
     why_no_agent(node, check(enabled, Why::Disabled, rest))
 }
 
+// What a pull asks after these.
+fn why_no_pull(node: &Node) -> Option<Why>
+    ensures { result ≡ why_no_pull node.now }
+{
+    let named = check(has_names(node), Why::NoName, None);
+    let registered = check(node.registered, Why::NotRegistered, named);
+    let served = check(has_source(node), Why::NoServer, registered);
+    check(is_pull(node.meta.refresh), Why::NotPull, served)
+}
+
 fn check(holds: bool, why: Why, rest: Option<Why>) -> Option<Why>
     ensures { result ≡ check holds why rest }
 {
@@ -54,6 +70,36 @@ fn is_disabled(refresh: RefreshMode) -> bool
     }
 }
 
+/// Tells whether the refresh mode is Pull.
+pub(crate) fn is_pull(refresh: RefreshMode) -> bool
+    ensures { result ≡ is_pull refresh }
+{
+    match refresh {
+        RefreshMode::Pull => true,
+        RefreshMode::Push | RefreshMode::Disabled => false,
+    }
+}
+
+// There are names to ask the server for.
+fn has_names(node: &Node) -> bool
+    ensures { result ≡ has_names node.now }
+{
+    declares_partials(node) || is_one(node.meta.names.as_slice())
+}
+
+fn is_one(names: &[Text]) -> bool
+    ensures { result ≡ is_one names.now }
+{
+    matches!(names, [_])
+}
+
+// There is a server to pull from.
+fn has_source(node: &Node) -> bool
+    ensures { result ≡ has_source node.now }
+{
+    node.meta.server.is_some() && node.meta.pulls
+}
+
 fn declares_partials(node: &Node) -> bool
     ensures { result ≡ declares_partials node.now }
 {
@@ -65,9 +111,14 @@ pub(crate) fn waits(node: &Node, task: &Task) -> bool
     ensures { result ≡ waits node.now task.now }
 {
     match task {
-        Task::Push(_) | Task::Consistency | Task::Restore => node.reboot,
-        Task::Init(_) | Task::Meta(_) | Task::Boot | Task::Get | Task::Remove(_) | Task::Reports =>
-            false,
+        Task::Pull | Task::Push(_) | Task::Consistency | Task::Restore => node.reboot,
+        Task::Init(_)
+        | Task::Meta(_)
+        | Task::Register(_)
+        | Task::Boot
+        | Task::Get
+        | Task::Remove(_)
+        | Task::Reports => false,
     }
 }
 
@@ -76,8 +127,23 @@ pub(crate) fn is_run(task: &Task) -> bool
     ensures { result ≡ is_run task.now }
 {
     match task {
-        Task::Push(_) | Task::Consistency | Task::Boot | Task::Restore => true,
-        Task::Init(_) | Task::Meta(_) | Task::Get | Task::Remove(_) | Task::Reports => false,
+        Task::Pull | Task::Push(_) | Task::Consistency | Task::Boot | Task::Restore => true,
+        Task::Init(_)
+        | Task::Meta(_)
+        | Task::Register(_)
+        | Task::Get
+        | Task::Remove(_)
+        | Task::Reports => false,
+    }
+}
+
+/// Tells whether the task reads the clock.
+pub(crate) fn reads_clock(task: &Task) -> bool
+    ensures { result ≡ reads_clock task.now }
+{
+    match task {
+        Task::Register(_) => true,
+        _ => is_run(task),
     }
 }
 
@@ -92,6 +158,8 @@ pub(crate) fn stops(node: &Node, task: &Task) -> bool
         },
         Task::Init(_)
         | Task::Meta(_)
+        | Task::Register(_)
+        | Task::Pull
         | Task::Push(_)
         | Task::Consistency
         | Task::Get

@@ -1,10 +1,11 @@
 //! How a start ends, and what it prints.
-ghost use Rattle.std.specs.Prelude.{◌≡◌, ◌<◌, ◌++◌, [], All, IfOk, IsErr, length, string_bytes};
+ghost use Rattle.std.specs.Prelude.{◌≡◌, ◌<◌, ◌++◌, [], All, Err, IfOk, IsErr, List, ℕ, length, string_bytes};
 ghost use Rattle.resource_kinds.specs.Trace.{place_of};
 ghost use Rattle.lcm_core.specs.RunLaws.{EndsAtYes};
 ghost use Rattle.dsc_node.specs.Lines.{overlap_line, run_lines};
 ghost use Rattle.dsc_node.specs.Runs.{end_line, status_after};
-ghost use Rattle.dsc_node.specs.Work.{Answers, Ends, status_of, status_of_input};
+ghost use Rattle.dsc_node.specs.Endings.{Answers, Ends, status_of, status_of_input};
+ghost use Rattle.dsc_node.specs.Sending.{EndsAfterSending};
 
 use crate::lines::lines_of;
 use crate::status::{InputError, Status};
@@ -50,6 +51,16 @@ impl StartEnd {
         }
     }
 
+    /// An end that prints these texts, one after the other.
+    pub(crate) fn joining(alloc: Global, status: Status, first: &str, second: &str) -> StartEnd
+        ensures { Answers status (first.now ++ second.now) result.status (string_bytes result.lines) }
+    {
+        match joined(alloc, first, second) {
+            Ok(lines) => StartEnd { status, lines },
+            Err(AllocError) => StartEnd::silent(alloc, Status::Memory),
+        }
+    }
+
     /// An end that prints this text.
     pub(crate) fn printing(alloc: Global, status: Status, text: &str) -> StartEnd
         ensures { Answers status text.now result.status (string_bytes result.lines) }
@@ -61,22 +72,49 @@ impl StartEnd {
     }
 }
 
-/// The end of a start that ran: the run's lines, and this last one after them.
+fn joined(alloc: Global, first: &str, second: &str) -> Result<String, AllocError>
+    ensures { IfOk result (λ text. string_bytes text ≡ first.now ++ second.now) }
+{
+    let mut text = String::from_str(alloc, first)?;
+    text.push_str(second)?;
+    Ok(text)
+}
+
+/// The end of a start that ran: the run's lines, and these texts after them.
 pub(crate) fn after_run(
     alloc: Global,
     document: &Document,
     calls: &[Entry],
     overlap: bool,
     last: &str,
+    tried: &str,
     status: Status,
 ) -> StartEnd
     requires known { All (λ e. place_of e < length document.now.resources) calls.now }
     requires ends { EndsAtYes calls.now }
-    ensures { Answers status ((run_lines document.now calls.now ++ overlap_line overlap) ++ last.now) result.status (string_bytes result.lines) }
+    ensures { Answers status ((run_lines document.now calls.now ++ overlap_line overlap) ++ last.now ++ tried.now) result.status (string_bytes result.lines) }
 {
-    match run_text(alloc, document, calls, overlap, last) {
+    match run_text(alloc, document, calls, overlap, last, tried) {
         Ok(lines) => StartEnd { status, lines },
         Err(AllocError) => StartEnd::silent(alloc, Status::Memory),
+    }
+}
+
+/// The end of a start that ran, and whose report was kept, but in which a commit after that was refused.
+pub(crate) fn refused_after_run(
+    alloc: Global,
+    document: &Document,
+    calls: &[Entry],
+    overlap: bool,
+    error: StoreError,
+) -> StartEnd
+    requires known { All (λ e. place_of e < length document.now.resources) calls.now }
+    requires ends { EndsAtYes calls.now }
+    ensures { (wanted : Status) (end : List ℕ) → EndsAfterSending wanted (run_lines document.now calls.now ++ overlap_line overlap) end (Err error) result.status (string_bytes result.lines) }
+{
+    match error {
+        StoreError::Memory => StartEnd::silent(alloc, Status::Memory),
+        refusal => after_run(alloc, document, calls, overlap, "", "", status_of(refusal)),
     }
 }
 
@@ -86,14 +124,16 @@ fn run_text(
     calls: &[Entry],
     overlap: bool,
     last: &str,
+    tried: &str,
 ) -> Result<String, AllocError>
     requires known { All (λ e. place_of e < length document.now.resources) calls.now }
     requires ends { EndsAtYes calls.now }
-    ensures { IfOk result (λ lines. string_bytes lines ≡ (run_lines document.now calls.now ++ overlap_line overlap) ++ last.now) }
+    ensures { IfOk result (λ lines. string_bytes lines ≡ (run_lines document.now calls.now ++ overlap_line overlap) ++ last.now ++ tried.now) }
 {
     let good = count_succeeded(calls);
     let mut lines = lines_of(alloc, document, calls, good, overlap)?;
     lines.push_str(last)?;
+    lines.push_str(tried)?;
     Ok(lines)
 }
 

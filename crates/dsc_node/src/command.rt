@@ -1,6 +1,6 @@
 //! Commands.
 use meta_config::Meta;
-use mof_values::Bytes;
+use mof_values::{Bytes, Text};
 use node_state::{Stage, Staged};
 
 /// What a node is asked to do.
@@ -11,6 +11,12 @@ pub enum Command {
 
     /// Behave as this meta-configuration says; the server has not accepted the agent under it yet.
     Meta(Meta),
+
+    /// Register the agent at the pull server, under this name of its node.
+    Register(Text),
+
+    /// Bring what the pull server has for the node: make a new list of parts Pending, and apply it.
+    Pull,
 
     /// Make the document with these bytes Pending, and apply it.
     Push(Bytes),
@@ -39,6 +45,8 @@ pub enum Command {
 pub(crate) enum Task {
     Init(u128),
     Meta(Meta),
+    Register(Text),
+    Pull,
     Push(Staged),
     Consistency,
     Boot,

@@ -7,13 +7,18 @@
 
 mod allowing;
 mod answer;
+mod bringing;
 mod choosing;
 mod command;
+mod committing;
+mod finishing;
 mod lines;
 mod order;
 mod preparing;
 mod run;
 mod running;
+mod sending;
+mod settling;
 mod showing;
 mod starting;
 mod status;

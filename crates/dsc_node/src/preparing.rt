@@ -22,6 +22,8 @@ pub(crate) fn task_of(alloc: Global, command: Command) -> Result<Task, MergeErro
     match command {
         Command::Init(agent) => Ok(Task::Init(agent)),
         Command::Meta(meta) => Ok(Task::Meta(meta)),
+        Command::Register(name) => Ok(Task::Register(name)),
+        Command::Pull => Ok(Task::Pull),
         Command::Push(bytes) => match staged_document(alloc, bytes) {
             Ok(staged) => Ok(Task::Push(staged)),
             Err(error) => Err(error),

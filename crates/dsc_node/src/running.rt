@@ -1,24 +1,25 @@
 //! The run of a start and its report. Neither a store nor a disk is touched here.
-ghost use Rattle.std.specs.Prelude.{◌≡◌, ◌≤◌, ℕ, Bool, Option, Some, [], map, IfOk};
+ghost use Rattle.std.specs.Prelude.{◌≡◌, ◌≤◌, ℕ, Bool, Option, Some, [], IfOk};
 ghost use Rattle.dsc_outside.specs.Clock.{last_moment};
 ghost use Rattle.node_state.specs.Lists.{IsStaged};
 ghost use Rattle.node_state.specs.Sound.{Sound};
 ghost use Rattle.dsc_node.specs.Readings.{Gave, Took, end_of};
-ghost use Rattle.dsc_node.specs.Runs.{chosen_of, is_pull, mark_of};
+ghost use Rattle.dsc_node.specs.Runs.{chosen_of};
 ghost use Rattle.dsc_node.specs.Running.{IsReadyFor, IsRunStep};
 
+use crate::allowing::is_pull;
 use crate::choosing::{Chosen, chosen_of};
 use crate::run::run_merged;
 use dsc_document::Document;
 use dsc_outside::Clock;
 use lcm_core::{RunEnd, report_laws};
-use meta_config::RefreshMode;
-use mof_values::{Items, Memory, Text};
+use mof_values::{Items, Memory};
+use node_pull::marks_of;
 use node_state::Node;
 use partial_merge::{MergeError, OrderedDocument, Part, merge_ordered};
 use report_log::{Frame, PartMark, Report, ReportRoom, report_of, room_for};
 use resource_kinds::{Machine, overlaps};
-use std::alloc::{AllocError, Global};
+use std::alloc::Global;
 
 /// A run that is over, with its report.
 #[derive(Drop)]
@@ -110,25 +111,6 @@ fn only_memory(error: MergeError) -> Memory
     }
 }
 
-fn marks_of(alloc: Global, parts: &[Part]) -> Result<Vec<PartMark>, AllocError>
-    ensures { IfOk result (λ marks. marks.items ≡ map mark_of parts.now) }
-{
-    let mut marks = Vec::new(alloc);
-    for part in parts {
-        marks.push(PartMark {
-            name: copy_of(&part.name)?,
-            digest: part.digest,
-        })?;
-    }
-    Ok(marks)
-}
-
-fn copy_of(name: &Text) -> Result<Text, AllocError>
-    ensures { IfOk result (λ copy. copy ≡ name.now) }
-{
-    name.clone()
-}
-
 // The run of the document, and its report.
 fn run_ready<M: Machine, C: Clock>(
     alloc: Global,
@@ -179,15 +161,6 @@ fn run_ready<M: Machine, C: Clock>(
         end,
         report,
     })
-}
-
-fn is_pull(refresh: RefreshMode) -> bool
-    ensures { result ≡ is_pull refresh }
-{
-    match refresh {
-        RefreshMode::Pull => true,
-        RefreshMode::Push | RefreshMode::Disabled => false,
-    }
 }
 
 // A second reading, or the first where it failed or lies before it.

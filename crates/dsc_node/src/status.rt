@@ -5,6 +5,7 @@ ghost use Rattle.dsc_node.specs.Status.{number_of};
 use meta_config::MetaError;
 use mof_codec::MofError;
 use mof_values::Items;
+use node_pull::PeerFault;
 use node_state::Why;
 use partial_merge::MergeError;
 
@@ -53,8 +54,17 @@ pub enum Status {
     /// The clock's first reading failed.
     ClockFault,
 
+    /// The link to the pull server failed.
+    LinkFault,
+
+    /// A call on the host's packages failed.
+    HostFault,
+
     /// The disk holds no store of a node; `at` is the first byte at which it is none.
     NotAStore { at: u64 },
+
+    /// What the pull server gave is refused.
+    PeerRefused(PeerFault),
 
     /// The node does not allow the command, or the event that it came to.
     NotAllowed(Why),
@@ -79,8 +89,14 @@ impl Status {
             Status::NotCompliant { .. } => 1,
             Status::Usage { .. } => 2,
             Status::InputRefused(_) => 3,
-            Status::ReadFault | Status::WriteFault | Status::DiskFault | Status::ClockFault => 4,
+            Status::ReadFault
+            | Status::WriteFault
+            | Status::DiskFault
+            | Status::ClockFault
+            | Status::LinkFault
+            | Status::HostFault => 4,
             Status::NotAStore { .. } => 5,
+            Status::PeerRefused(_) => 6,
             Status::NotAllowed(_) => 7,
             Status::Memory => 8,
             Status::RebootWaiting => 9,

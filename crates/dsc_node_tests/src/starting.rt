@@ -3,7 +3,7 @@ ghost use Rattle.std.specs.Prelude.{IfOk};
 ghost use Rattle.dsc_node.specs.Commands.{IsTaken};
 
 use dsc_node::{Command, Status, start};
-use dsc_outside::{DiskStop, HostContents, MemoryClock, MemoryDisk, MemoryHost};
+use dsc_outside::{DiskStop, HostContents, MemoryClock, MemoryDisk, MemoryHost, MemoryLink};
 use mof_values::{Bytes, Memory};
 use resource_kinds::Kinds;
 use std::alloc::Global;
@@ -82,7 +82,8 @@ pub fn started(
     } else {
         MemoryClock::new(vec![in alloc; Some(1_000), Some(1_007)]?, failing)
     };
-    let end = start(alloc, command, &mut disk, &mut kinds, &mut clock);
+    let mut link = MemoryLink::new(Vec::new(alloc), Vec::new(alloc));
+    let end = start(alloc, command, &mut disk, &mut kinds, &mut link, &mut clock);
     let outcome = Outcome {
         status: end.status,
         lines: end.lines,

@@ -8,8 +8,8 @@ use Rattle.uuid.proofs.OnLiterals.{uuid_on_literals}
 use Rattle.node_state.specs.declared.event.Stage.{Stage}
 use Rattle.node_state.specs.declared.event.Stage.TheVariants.{Pending, Current, Previous}
 use Rattle.lcm_program.specs.declared.words.Command.{Command}
-use Rattle.lcm_program.specs.declared.words.Command.TheVariants.{Test, Check, Order, Canon, Checksum, Generate, Init, Meta, Push, Consistency, Boot, Get, Restore, Remove, Reports}
-use Rattle.lcm_program.specs.Words.{IsAgent, IsCount, IsForm, IsInRange, IsStage, IsUsage, agent_of}
+use Rattle.lcm_program.specs.declared.words.Command.TheVariants.{Test, Check, Order, Canon, Checksum, Generate, Init, Meta, Register, Pull, Push, Consistency, Boot, Get, Restore, Remove, Reports}
+use Rattle.lcm_program.specs.Words.{IsAgent, IsCount, IsForm, IsInRange, IsName, IsStage, IsUsage, agent_of}
 
 -- the first letter of a word, and that of the first word, which tells the commands that take another word from all others
 abbrev letter : List ℕ → ℕ
@@ -35,7 +35,12 @@ named_stage word Pending is = ap stage_of is
 named_stage word Current is = ap stage_of is
 named_stage word Previous is = ap stage_of is
 
--- the command that words in a form ask for
+-- the command, where it has a name with that name at no place of its own
+abbrev pub plain : Command → Command
+plain (Register name) = Register (record { ref_ptr = (0, 0); now = name.now })
+plain command = command
+
+-- the command that words in a form ask for, so
 asked : List (List ℕ) → Command
 asked words =
     let first = get_or words 0 [] in
@@ -45,17 +50,19 @@ asked words =
     if bytes_eq first (codes "canon") then Canon else
     if bytes_eq first (codes "checksum") then Checksum else
     if bytes_eq first (codes "meta") then Meta else
+    if bytes_eq first (codes "pull") then Pull else
     if bytes_eq first (codes "push") then Push else
     if bytes_eq first (codes "consistency") then Consistency else
     if bytes_eq first (codes "boot") then Boot else
     if bytes_eq first (codes "get") then Get else
     if bytes_eq first (codes "restore") then Restore else
     if bytes_eq first (codes "reports") then Reports else
+    if bytes_eq first (codes "register") then Register (record { ref_ptr = (0, 0); now = get_or words 1 [] }) else
     if bytes_eq first (codes "remove") then Remove (stage_of (get_or words 1 [])) else
     if bytes_eq first (codes "init") then Init (unwrap_or (agent_of (get_or words 1 [])) 0) else
     Generate (digits_value 10 (get_or words 1 []))
 
-form_asks : (command : Command) (words : List (List ℕ)) → IsForm command words → asked words ≡ command
+form_asks : (command : Command) (words : List (List ℕ)) → IsForm command words → asked words ≡ plain command
 unfolding asked
 form_asks Test words form = ap asked form
 form_asks Check words form = ap asked form
@@ -66,6 +73,8 @@ form_asks (Generate count) words (word, is, counted) =
     ap asked is ∙ ap (λ (n : ℕ). Generate n) (ap (digits_value 10) counted.0 ∙ digits_value-decimal (numerals_by_value _ tells_digits) count (omega (arith, counted.2)))
 form_asks (Init agent) words (word, is, named) = ap asked is ∙ ap (λ found. Init (unwrap_or found 0)) named
 form_asks Meta words form = ap asked form
+form_asks (Register name) words (is, named) = ap asked is
+form_asks Pull words form = ap asked form
 form_asks Push words form = ap asked form
 form_asks Consistency words form = ap asked form
 form_asks Boot words form = ap asked form
@@ -75,7 +84,7 @@ form_asks (Remove stage) words (word, is, named) = ap asked is ∙ ap (λ (s : S
 form_asks Reports words form = ap asked form
 
 -- the words ask for one command
-pub one_form : (a b : Command) (words : List (List ℕ)) → IsForm a words → IsForm b words → a ≡ b
+pub one_form : (a b : Command) (words : List (List ℕ)) → IsForm a words → IsForm b words → plain a ≡ plain b
 one_form a b words p q = sym (form_asks a words p) ∙ form_asks b words q
 
 pub in_range : (command : Command) (words : List (List ℕ)) → IsForm command words → IsInRange command
@@ -87,6 +96,8 @@ in_range Checksum words form = tt
 in_range (Generate count) words form = (form.2.1, form.2.2)
 in_range (Init agent) words form = tt
 in_range Meta words form = tt
+in_range (Register name) words form = tt
+in_range Pull words form = tt
 in_range Push words form = tt
 in_range Consistency words form = tt
 in_range Boot words form = tt
@@ -99,7 +110,7 @@ in_range Reports words form = tt
 
 -- the word of a command that takes another
 abbrev pub TakesWord : List ℕ → Type 0
-TakesWord first = (first ≡ codes "generate") ⊎ ((first ≡ codes "init") ⊎ (first ≡ codes "remove"))
+TakesWord first = (first ≡ codes "generate") ⊎ ((first ≡ codes "init") ⊎ ((first ≡ codes "remove") ⊎ (first ≡ codes "register")))
 
 -- any other form is a word alone
 form_parts : (command : Command) (first : List ℕ) (rest : List (List ℕ)) → IsForm command (first ∷ rest)
@@ -112,55 +123,74 @@ form_parts Checksum first rest form = inl (ap (take 1) form, ap (drop 1) form)
 form_parts (Generate count) first rest (word, is, counted) = inr (inl (ap (λ words. get_or words 0 []) is))
 form_parts (Init agent) first rest (word, is, named) = inr (inr (inl (ap (λ words. get_or words 0 []) is)))
 form_parts Meta first rest form = inl (ap (take 1) form, ap (drop 1) form)
+form_parts (Register name) first rest (is, named) = inr (inr (inr (inr (ap (λ words. get_or words 0 []) is))))
+form_parts Pull first rest form = inl (ap (take 1) form, ap (drop 1) form)
 form_parts Push first rest form = inl (ap (take 1) form, ap (drop 1) form)
 form_parts Consistency first rest form = inl (ap (take 1) form, ap (drop 1) form)
 form_parts Boot first rest form = inl (ap (take 1) form, ap (drop 1) form)
 form_parts Get first rest form = inl (ap (take 1) form, ap (drop 1) form)
 form_parts Restore first rest form = inl (ap (take 1) form, ap (drop 1) form)
-form_parts (Remove stage) first rest (word, is, named) = inr (inr (inr (ap (λ words. get_or words 0 []) is)))
+form_parts (Remove stage) first rest (word, is, named) = inr (inr (inr (inl (ap (λ words. get_or words 0 []) is))))
 form_parts Reports first rest form = inl (ap (take 1) form, ap (drop 1) form)
 
 -- a command whose word stands alone takes no other
 alone_takes_none : (command : Command) (first : List ℕ) → IsForm command (first ∷ []) → TakesWord first → ⊥
 alone_takes_none Test first form (inl is) = omega (arith, ap first_letter form, ap letter is)
 alone_takes_none Test first form (inr (inl is)) = omega (arith, ap first_letter form, ap letter is)
-alone_takes_none Test first form (inr (inr is)) = omega (arith, ap first_letter form, ap letter is)
+alone_takes_none Test first form (inr (inr (inl is))) = omega (arith, ap first_letter form, ap letter is)
+alone_takes_none Test first form (inr (inr (inr is))) = omega (arith, ap first_letter form, ap letter is)
 alone_takes_none Check first form (inl is) = omega (arith, ap first_letter form, ap letter is)
 alone_takes_none Check first form (inr (inl is)) = omega (arith, ap first_letter form, ap letter is)
-alone_takes_none Check first form (inr (inr is)) = omega (arith, ap first_letter form, ap letter is)
+alone_takes_none Check first form (inr (inr (inl is))) = omega (arith, ap first_letter form, ap letter is)
+alone_takes_none Check first form (inr (inr (inr is))) = omega (arith, ap first_letter form, ap letter is)
 alone_takes_none Order first form (inl is) = omega (arith, ap first_letter form, ap letter is)
 alone_takes_none Order first form (inr (inl is)) = omega (arith, ap first_letter form, ap letter is)
-alone_takes_none Order first form (inr (inr is)) = omega (arith, ap first_letter form, ap letter is)
+alone_takes_none Order first form (inr (inr (inl is))) = omega (arith, ap first_letter form, ap letter is)
+alone_takes_none Order first form (inr (inr (inr is))) = omega (arith, ap first_letter form, ap letter is)
 alone_takes_none Canon first form (inl is) = omega (arith, ap first_letter form, ap letter is)
 alone_takes_none Canon first form (inr (inl is)) = omega (arith, ap first_letter form, ap letter is)
-alone_takes_none Canon first form (inr (inr is)) = omega (arith, ap first_letter form, ap letter is)
+alone_takes_none Canon first form (inr (inr (inl is))) = omega (arith, ap first_letter form, ap letter is)
+alone_takes_none Canon first form (inr (inr (inr is))) = omega (arith, ap first_letter form, ap letter is)
 alone_takes_none Checksum first form (inl is) = omega (arith, ap first_letter form, ap letter is)
 alone_takes_none Checksum first form (inr (inl is)) = omega (arith, ap first_letter form, ap letter is)
-alone_takes_none Checksum first form (inr (inr is)) = omega (arith, ap first_letter form, ap letter is)
+alone_takes_none Checksum first form (inr (inr (inl is))) = omega (arith, ap first_letter form, ap letter is)
+alone_takes_none Checksum first form (inr (inr (inr is))) = omega (arith, ap first_letter form, ap letter is)
 alone_takes_none (Generate count) first (word, is, counted) takes = omega (arith, ap length is)
 alone_takes_none (Init agent) first (word, is, named) takes = omega (arith, ap length is)
 alone_takes_none Meta first form (inl is) = omega (arith, ap first_letter form, ap letter is)
 alone_takes_none Meta first form (inr (inl is)) = omega (arith, ap first_letter form, ap letter is)
-alone_takes_none Meta first form (inr (inr is)) = omega (arith, ap first_letter form, ap letter is)
+alone_takes_none Meta first form (inr (inr (inl is))) = omega (arith, ap first_letter form, ap letter is)
+alone_takes_none Meta first form (inr (inr (inr is))) = omega (arith, ap first_letter form, ap letter is)
+alone_takes_none (Register name) first (is, named) takes = omega (arith, ap length is)
+alone_takes_none Pull first form (inl is) = omega (arith, ap first_letter form, ap letter is)
+alone_takes_none Pull first form (inr (inl is)) = omega (arith, ap first_letter form, ap letter is)
+alone_takes_none Pull first form (inr (inr (inl is))) = omega (arith, ap first_letter form, ap letter is)
+alone_takes_none Pull first form (inr (inr (inr is))) = omega (arith, ap first_letter form, ap letter is)
 alone_takes_none Push first form (inl is) = omega (arith, ap first_letter form, ap letter is)
 alone_takes_none Push first form (inr (inl is)) = omega (arith, ap first_letter form, ap letter is)
-alone_takes_none Push first form (inr (inr is)) = omega (arith, ap first_letter form, ap letter is)
+alone_takes_none Push first form (inr (inr (inl is))) = omega (arith, ap first_letter form, ap letter is)
+alone_takes_none Push first form (inr (inr (inr is))) = omega (arith, ap first_letter form, ap letter is)
 alone_takes_none Consistency first form (inl is) = omega (arith, ap first_letter form, ap letter is)
 alone_takes_none Consistency first form (inr (inl is)) = omega (arith, ap first_letter form, ap letter is)
-alone_takes_none Consistency first form (inr (inr is)) = omega (arith, ap first_letter form, ap letter is)
+alone_takes_none Consistency first form (inr (inr (inl is))) = omega (arith, ap first_letter form, ap letter is)
+alone_takes_none Consistency first form (inr (inr (inr is))) = omega (arith, ap first_letter form, ap letter is)
 alone_takes_none Boot first form (inl is) = omega (arith, ap first_letter form, ap letter is)
 alone_takes_none Boot first form (inr (inl is)) = omega (arith, ap first_letter form, ap letter is)
-alone_takes_none Boot first form (inr (inr is)) = omega (arith, ap first_letter form, ap letter is)
+alone_takes_none Boot first form (inr (inr (inl is))) = omega (arith, ap first_letter form, ap letter is)
+alone_takes_none Boot first form (inr (inr (inr is))) = omega (arith, ap first_letter form, ap letter is)
 alone_takes_none Get first form (inl is) = omega (arith, ap first_length form, ap length is)
 alone_takes_none Get first form (inr (inl is)) = omega (arith, ap first_letter form, ap letter is)
-alone_takes_none Get first form (inr (inr is)) = omega (arith, ap first_letter form, ap letter is)
+alone_takes_none Get first form (inr (inr (inl is))) = omega (arith, ap first_letter form, ap letter is)
+alone_takes_none Get first form (inr (inr (inr is))) = omega (arith, ap first_letter form, ap letter is)
 alone_takes_none Restore first form (inl is) = omega (arith, ap first_letter form, ap letter is)
 alone_takes_none Restore first form (inr (inl is)) = omega (arith, ap first_letter form, ap letter is)
-alone_takes_none Restore first form (inr (inr is)) = omega (arith, ap first_length form, ap length is)
+alone_takes_none Restore first form (inr (inr (inl is))) = omega (arith, ap first_length form, ap length is)
+alone_takes_none Restore first form (inr (inr (inr is))) = omega (arith, ap first_length form, ap length is)
 alone_takes_none (Remove stage) first (word, is, named) takes = omega (arith, ap length is)
 alone_takes_none Reports first form (inl is) = omega (arith, ap first_letter form, ap letter is)
 alone_takes_none Reports first form (inr (inl is)) = omega (arith, ap first_letter form, ap letter is)
-alone_takes_none Reports first form (inr (inr is)) = omega (arith, ap first_length form, ap length is)
+alone_takes_none Reports first form (inr (inr (inl is))) = omega (arith, ap first_length form, ap length is)
+alone_takes_none Reports first form (inr (inr (inr is))) = omega (arith, ap first_length form, ap length is)
 
 some_word : (command : Command) (words : List (List ℕ)) → IsForm command words → 0 < length words
 some_word Test words form = omega (arith, ap length form)
@@ -171,6 +201,8 @@ some_word Checksum words form = omega (arith, ap length form)
 some_word (Generate count) words (word, is, counted) = omega (arith, ap length is)
 some_word (Init agent) words (word, is, named) = omega (arith, ap length is)
 some_word Meta words form = omega (arith, ap length form)
+some_word (Register name) words (is, named) = omega (arith, ap length is)
+some_word Pull words form = omega (arith, ap length form)
 some_word Push words form = omega (arith, ap length form)
 some_word Consistency words form = omega (arith, ap length form)
 some_word Boot words form = omega (arith, ap length form)
@@ -281,6 +313,8 @@ generate_form Checksum rest form = absurd (omega (arith, ap first_letter form))
 generate_form (Generate count) rest (word, is, counted) = (word, ap (drop 1) is, (count, counted))
 generate_form (Init agent) rest (word, is, named) = absurd (omega (arith, ap first_letter is))
 generate_form Meta rest form = absurd (omega (arith, ap first_letter form))
+generate_form (Register name) rest (is, named) = absurd (omega (arith, ap first_letter is))
+generate_form Pull rest form = absurd (omega (arith, ap first_letter form))
 generate_form Push rest form = absurd (omega (arith, ap first_letter form))
 generate_form Consistency rest form = absurd (omega (arith, ap first_letter form))
 generate_form Boot rest form = absurd (omega (arith, ap first_letter form))
@@ -305,6 +339,8 @@ init_form Checksum rest form = absurd (omega (arith, ap first_letter form))
 init_form (Generate count) rest (word, is, counted) = absurd (omega (arith, ap first_letter is))
 init_form (Init agent) rest (word, is, named) = (word, ap (drop 1) is, (agent, named))
 init_form Meta rest form = absurd (omega (arith, ap first_letter form))
+init_form (Register name) rest (is, named) = absurd (omega (arith, ap first_letter is))
+init_form Pull rest form = absurd (omega (arith, ap first_letter form))
 init_form Push rest form = absurd (omega (arith, ap first_letter form))
 init_form Consistency rest form = absurd (omega (arith, ap first_letter form))
 init_form Boot rest form = absurd (omega (arith, ap first_letter form))
@@ -336,6 +372,8 @@ remove_form Checksum rest form = absurd (omega (arith, ap first_letter form))
 remove_form (Generate count) rest (word, is, counted) = absurd (omega (arith, ap first_letter is))
 remove_form (Init agent) rest (word, is, named) = absurd (omega (arith, ap first_letter is))
 remove_form Meta rest form = absurd (omega (arith, ap first_letter form))
+remove_form (Register name) rest (is, named) = absurd (omega (arith, ap first_length is))
+remove_form Pull rest form = absurd (omega (arith, ap first_letter form))
 remove_form Push rest form = absurd (omega (arith, ap first_letter form))
 remove_form Consistency rest form = absurd (omega (arith, ap first_letter form))
 remove_form Boot rest form = absurd (omega (arith, ap first_letter form))
@@ -346,6 +384,29 @@ remove_form Reports rest form = absurd (omega (arith, ap first_length form))
 
 pub some_remove : (word : List ℕ) × (command : Command) × IsForm command (codes "remove" ∷ word ∷ [])
 some_remove = (codes "pending", Remove Pending, (codes "pending", refl, refl))
+
+pub register_form : (command : Command) (rest : List (List ℕ)) → IsForm command (codes "register" ∷ rest)
+    → (word : List ℕ) × (rest ≡ word ∷ []) × IsName word
+register_form Test rest form = absurd (omega (arith, ap first_letter form))
+register_form Check rest form = absurd (omega (arith, ap first_letter form))
+register_form Order rest form = absurd (omega (arith, ap first_letter form))
+register_form Canon rest form = absurd (omega (arith, ap first_letter form))
+register_form Checksum rest form = absurd (omega (arith, ap first_letter form))
+register_form (Generate count) rest (word, is, counted) = absurd (omega (arith, ap first_letter is))
+register_form (Init agent) rest (word, is, named) = absurd (omega (arith, ap first_letter is))
+register_form Meta rest form = absurd (omega (arith, ap first_letter form))
+register_form (Register name) rest (is, named) = (name.now, ap (drop 1) is, named)
+register_form Pull rest form = absurd (omega (arith, ap first_letter form))
+register_form Push rest form = absurd (omega (arith, ap first_letter form))
+register_form Consistency rest form = absurd (omega (arith, ap first_letter form))
+register_form Boot rest form = absurd (omega (arith, ap first_letter form))
+register_form Get rest form = absurd (omega (arith, ap first_letter form))
+register_form Restore rest form = absurd (omega (arith, ap first_length form))
+register_form (Remove stage) rest (word, is, named) = absurd (omega (arith, ap first_length is))
+register_form Reports rest form = absurd (omega (arith, ap first_length form))
+
+pub some_register : (word : List ℕ) × (command : Command) × IsForm command (codes "register" ∷ word ∷ [])
+some_register = (codes "n", Register (record { ref_ptr = (0, 0); now = codes "n" }), (refl, (omega arith, omega arith)))
 
 -- words as the bytes of the texts that were handed over
 module _ {X : Type 0} (f : X → List ℕ) where

@@ -1,6 +1,5 @@
 -- What is known of an input that was read, and of one that was not.
-use Rattle.std.proofs.Common.{◌≡◌, ◌≢◌, ◌∙◌, ◌⊎◌, inl, inr, ◌<◌, ◌≤◌, ℕ, List, [], ◌∷◌, Option, Some, None, Ok, Err, length, refl, sym, ap, subst, arith, length-append}
-use Rattle.std.specs.Prelude.{IfSome}
+use Rattle.std.proofs.Common.{◌≡◌, ◌≢◌, ◌∙◌, ◌⊎◌, inl, inr, ◌<◌, ℕ, List, [], ◌∷◌, Option, Some, None, Ok, Err, length, refl, sym, ap, subst, arith, length-append}
 use Rattle.std.specs.Io.KnownBytes.{Consumes}
 use Rattle.mof_values.specs.declared.instance.Instance.{Instance}
 use Rattle.mof_syntax.specs.declared.mof_error.MofError.{MofError}

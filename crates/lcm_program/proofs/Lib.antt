@@ -1,3 +1,4 @@
+pub mod Checksums
 pub mod Counts
 pub mod Forms
 pub mod GeneratedRuns
@@ -6,4 +7,5 @@ pub mod Inputs
 pub mod Readings
 pub mod Results
 pub mod Monitoring
+pub mod OneRow
 pub mod Tools

@@ -1,5 +1,5 @@
 -- Each input is read in one way, and allows the status that came of it.
-use Rattle.std.proofs.Common.{◌≡◌, ◌∙◌, ℕ, ◌<◌, ◌≤◌, List, [], ◌∷◌, Option, Some, None, Result, Ok, Err, length, refl, sym, ap, subst, arith}
+use Rattle.std.proofs.Common.{◌≡◌, ◌∙◌, ℕ, ◌≤◌, List, [], ◌∷◌, Option, Some, None, Result, Ok, Err, length, refl, sym, ap, subst, arith}
 use Rattle.std.specs.Prelude.{IfSome, ⊤}
 use Rattle.std.specs.List.{AllZip}
 use Rattle.dsc_terms.specs.Counts.{Rose}
@@ -15,7 +15,7 @@ use Rattle.dsc_node.specs.declared.status.InputError.TheVariants.{TooLong, Mof, 
 use Rattle.dsc_node.specs.declared.status.Status.{Status}
 use Rattle.dsc_node.specs.declared.status.Status.TheVariants.{InputRefused, ReadFault, Memory}
 use Rattle.lcm_program.specs.Answers.{Allows, EachAllows, UsesInput}
-use Rattle.lcm_program.specs.Input.{IsInput, IsNoDocument, Reading, ReadsBytes, ReadsDocument, ReadsInstances, input_limit, parts_of}
+use Rattle.lcm_program.specs.Input.{IsInput, Reading, ReadsBytes, ReadsDocument, ReadsInstances, input_limit, parts_of}
 use Rattle.lcm_program.specs.Tool.{Shows}
 
 -- two answers are both values, or the same error

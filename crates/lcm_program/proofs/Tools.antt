@@ -1,5 +1,5 @@
 -- How a tool ends, from what was read and what was printed.
-use Rattle.std.proofs.Common.{◌≡◌, ◌⊎◌, inl, inr, ℕ, List, Option, Result, Ok, Err, refl, sym, subst}
+use Rattle.std.proofs.Common.{◌≡◌, inl, inr, ℕ, List, Option, Result, Ok, Err, sym, subst}
 use Rattle.std.specs.Prelude.{IfErr, IfOk}
 use Rattle.dsc_node.specs.declared.status.Status.{Status}
 use Rattle.dsc_node.specs.declared.status.Status.TheVariants.{Done, InputRefused, ReadFault, WriteFault, Memory}
@@ -15,7 +15,6 @@ use Rattle.lcm_program.specs.Generate.{Generated, GenerateEnds, IsGeneratedText}
 use Rattle.lcm_program.specs.Input.{IsInput, IsRefused, IsUnread, Reading}
 use Rattle.lcm_program.specs.Objects.{IsUntouched, Known, Objects}
 use Rattle.lcm_program.specs.Printed.{Prints}
-use Rattle.lcm_program.specs.Refusal.{status_of}
 use Rattle.lcm_program.specs.Tool.{RanTool, ToolEnds}
 use Rattle.lcm_program.specs.Words.{IsUsage}
 use Rattle.lcm_program.proofs.Readings.{Decides, each_failed, each_memory, each_refused, each_used}

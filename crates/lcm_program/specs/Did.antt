@@ -5,7 +5,7 @@ use Rattle.dsc_node.specs.declared.status.Status.{Status}
 use Rattle.dsc_node.specs.declared.status.Status.TheVariants.{Usage, Memory}
 use Rattle.lcm_program.specs.declared.refusal.Refusal.TheVariants as refusals
 use Rattle.lcm_program.specs.declared.words.Command.{Command}
-use Rattle.lcm_program.specs.declared.words.Command.TheVariants.{Test, Check, Order, Canon, Checksum, Generate, Init, Meta, Push, Consistency, Boot, Get, Restore, Remove, Reports}
+use Rattle.lcm_program.specs.declared.words.Command.TheVariants.{Test, Check, Order, Canon, Checksum, Generate, Init, Meta, Register, Pull, Push, Consistency, Boot, Get, Restore, Remove, Reports}
 use Rattle.lcm_program.specs.Canon.{AnswersCanon}
 use Rattle.lcm_program.specs.Check.{AnswersCheck}
 use Rattle.lcm_program.specs.Checksum.{Checksummed}
@@ -13,7 +13,7 @@ use Rattle.lcm_program.specs.Generate.{Generated}
 use Rattle.lcm_program.specs.Objects.{IsUntouched, Known, Objects}
 use Rattle.lcm_program.specs.Order.{AnswersOrder}
 use Rattle.lcm_program.specs.Printed.{PrintsRefusal}
-use Rattle.lcm_program.specs.Started.{Configured, Pushed, Started}
+use Rattle.lcm_program.specs.Started.{Configured, Pushed, Registered, Started}
 use Rattle.lcm_program.specs.Test.{Tested}
 use Rattle.lcm_program.specs.Tool.{RanTool}
 use Rattle.lcm_program.specs.Words.{IsUsage}
@@ -28,6 +28,8 @@ Did o Checksum status before after = Checksummed o status before after
 Did o (Generate count) status before after = Generated count o status before after
 Did o (Init agent) status before after = Started (commands.Init agent) o status before after
 Did o Meta status before after = Configured o status before after
+Did o (Register name) status before after = Registered name.now o status before after
+Did o Pull status before after = Started commands.Pull o status before after
 Did o Push status before after = Pushed o status before after
 Did o Consistency status before after = Started commands.Consistency o status before after
 Did o Boot status before after = Started commands.Boot o status before after

@@ -1,5 +1,5 @@
 -- The command `generate`: the repair of a document that is made of a number, on an empty machine.
-use Rattle.std.specs.Prelude.{◌≡◌, ℕ, ◌-◌, Bool, true, false, List, ◌++◌, length, Option, Some, codes, count_by, get_or}
+use Rattle.std.specs.Prelude.{◌≡◌, ℕ, ◌-◌, Bool, true, false, List, ◌++◌, length, Some, codes, count_by, get_or}
 use Rattle.std.specs.Fmt.{decimal}
 use Rattle.dsc_outside.specs.Host.{HostState, empty_host}
 use Rattle.dsc_document.specs.declared.document.Document.{Document}

@@ -2,7 +2,6 @@
 use Rattle.std.specs.Prelude.{◌≡◌, ◌≢◌, ℕ, ◌<◌, ◌≤◌, List, [], ◌∷◌, length, Option, Result, Ok, Err, IfSome, ⊤}
 use Rattle.dsc_terms.specs.Counts.{Rose}
 use Rattle.mof_values.specs.declared.instance.Instance.{Instance}
-use Rattle.mof_syntax.specs.declared.mof_error.MofError.{MofError}
 use Rattle.mof_syntax.specs.Limits.{document_limit}
 use Rattle.mof_syntax.specs.Refusals as syntax
 use Rattle.dsc_document.specs.declared.document.Document.{Document}

@@ -7,8 +7,10 @@ pub mod Did
 pub mod Endings
 pub mod Generate
 pub mod Input
+pub mod InputWords
 pub mod Objects
 pub mod Order
+pub mod PeerWords
 pub mod Printed
 pub mod Refusal
 pub mod Started

@@ -1,5 +1,6 @@
 -- The commands that start the node.
-use Rattle.std.specs.Prelude.{◌≡◌, ◌≤◌, ℕ, List, Ok}
+use Rattle.std.specs.Prelude.{◌≡◌, ◌⊎◌, ◌≤◌, ℕ, List, Ok}
+use Rattle.std.specs.Str.{chars}
 use Rattle.dsc_outside.specs.declared.ends.Ends as ends
 use Rattle.dsc_outside.specs.declared.disk.Disk as disks
 use Rattle.dsc_outside.specs.declared.host.Host as hosts
@@ -7,14 +8,15 @@ use Rattle.dsc_outside.specs.declared.clock.Clock as clocks
 use Rattle.gate_log.specs.Standing.{AllStand, Any}
 use Rattle.node_store.specs.Stands.{Stands}
 use Rattle.resource_kinds.specs.declared.kinds.Kinds.{Kinds}
+use Rattle.node_pull.specs.Views.{view_of}
 use Rattle.dsc_node.specs.declared.command.Command.{Command}
 use Rattle.dsc_node.specs.declared.command.Command.TheVariants as commands
 use Rattle.dsc_node.specs.declared.status.Status.{Status}
-use Rattle.dsc_node.specs.Headline.{HasHeadline, kinds_of}
-use Rattle.dsc_node.specs.Start as starts
+use Rattle.dsc_node.specs.Headline.{HasHeadline, kinds_of, machine_of}
 use Rattle.dsc_node.specs.Start.{Outside, Start, outside}
+use Rattle.dsc_node.specs.Work as starts
 use Rattle.lcm_program.specs.declared.input.Unread.{Unread}
-use Rattle.lcm_program.specs.Endings.{StartEnds, UnreadEnds}
+use Rattle.lcm_program.specs.Endings.{EndsSilent, StartEnds, UnreadEnds}
 use Rattle.lcm_program.specs.Input.{IsInput, IsUnread, Reading, ReadsBytes, ReadsMeta, input_limit}
 use Rattle.lcm_program.specs.Objects.{Known, Objects}
 
@@ -24,10 +26,10 @@ pub record IsStart {K D H C : Type 0} (sink : ends.Ghosts K) (disk : disks.Ghost
     (command : Command) (status : Status) (old new : K) (before after : Outside D (Kinds H) C) : Type 0 where
   pub ended : Status
   pub lines : List ℕ
-  pub start : Start (starts.known disk (kinds_of host) clock) command before after ended lines
-  pub headline : HasHeadline (starts.known disk (kinds_of host) clock) host command before after ended lines
+  pub start : Start (starts.known disk (kinds_of host) (machine_of host) clock) command before after ended lines
+  pub headline : HasHeadline (starts.known disk (kinds_of host) (machine_of host) clock) host command before after ended lines
   pub again : AllStand disk before.disk Stands Any → AllStand disk after.disk Stands Any
-  pub later : clock.faults before.clock ≤ clock.faults after.clock
+  pub later : clock.faults before.beside.clock ≤ clock.faults after.beside.clock
   pub prints : StartEnds sink ended lines status old new
 
 -- A start with what the whole input is read as; an input that was not read is refused, and nothing else was touched.
@@ -50,24 +52,33 @@ abbrev pub MetaEnds : {S K D H C : Type 0} → ends.Ghosts S → ends.Ghosts K �
 MetaEnds source sink disk host clock status input input_after old new before after =
     InputEnds ReadsMeta commands.Meta source sink disk host clock status input input_after old new before after
 
+-- A start with the registration under this name; or memory was refused for the name, and nothing was touched.
+abbrev pub RegisterEnds : {K D H C : Type 0} → ends.Ghosts K → disks.Ghosts D → hosts.Ghosts H → clocks.Ghosts C → List ℕ → Status → K → K → Outside D (Kinds H) C → Outside D (Kinds H) C → Type 0
+RegisterEnds sink disk host clock name status old new before after =
+    IsStart sink disk host clock (commands.Register (chars name)) status old new before after ⊎ (EndsSilent status old new × (after ≡ before))
+
 -- ---- the rows of the table
 
--- what a start works with of a command's objects
-abbrev pub outside_of : {S K D H L C : Type 0} → Objects S K D H L C → Outside D (Kinds H) C
-outside_of objects = outside objects.disk objects.kinds objects.clock
+-- what a start works with of a command's objects; of its link, what that shows
+abbrev pub outside_of : {S K D H L C : Type 0} → Known S K D H L C → Objects S K D H L C → Outside D (Kinds H) C
+outside_of o objects = outside objects.disk objects.kinds (view_of o.link objects.link) objects.clock
 
 -- a command without an input
 pub record Started {S K D H L C : Type 0} (command : Command) (o : Known S K D H L C) (status : Status) (before after : Objects S K D H L C) : Type 0 where
   pub input : after.input ≡ before.input
-  pub link : after.link ≡ before.link
-  pub start : IsStart o.sink o.disk o.host o.clock command status before.output after.output (outside_of before) (outside_of after)
+  pub start : IsStart o.sink o.disk o.host o.clock command status before.output after.output (outside_of o before) (outside_of o after)
+
+-- `register`
+pub record Registered {S K D H L C : Type 0} (name : List ℕ) (o : Known S K D H L C) (status : Status) (before after : Objects S K D H L C) : Type 0 where
+  pub input : after.input ≡ before.input
+  pub ends : RegisterEnds o.sink o.disk o.host o.clock name status before.output after.output (outside_of o before) (outside_of o after)
 
 -- `meta`
-pub record Configured {S K D H L C : Type 0} (o : Known S K D H L C) (status : Status) (before after : Objects S K D H L C) : Type 0 where
-  pub link : after.link ≡ before.link
-  pub ends : MetaEnds o.source o.sink o.disk o.host o.clock status before.input after.input before.output after.output (outside_of before) (outside_of after)
+abbrev pub Configured : {S K D H L C : Type 0} → Known S K D H L C → Status → Objects S K D H L C → Objects S K D H L C → Type 0
+Configured o status before after =
+    MetaEnds o.source o.sink o.disk o.host o.clock status before.input after.input before.output after.output (outside_of o before) (outside_of o after)
 
 -- `push`
-pub record Pushed {S K D H L C : Type 0} (o : Known S K D H L C) (status : Status) (before after : Objects S K D H L C) : Type 0 where
-  pub link : after.link ≡ before.link
-  pub ends : PushEnds o.source o.sink o.disk o.host o.clock status before.input after.input before.output after.output (outside_of before) (outside_of after)
+abbrev pub Pushed : {S K D H L C : Type 0} → Known S K D H L C → Status → Objects S K D H L C → Objects S K D H L C → Type 0
+Pushed o status before after =
+    PushEnds o.source o.sink o.disk o.host o.clock status before.input after.input before.output after.output (outside_of o before) (outside_of o after)

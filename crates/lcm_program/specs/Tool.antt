@@ -1,7 +1,6 @@
 -- Tools: commands that print a text made from the input, and change nothing else.
-use Rattle.std.specs.Prelude.{◌≡◌, ℕ, List, Result, Ok, Err}
+use Rattle.std.specs.Prelude.{◌≡◌, ℕ, List, Ok, Err}
 use Rattle.dsc_terms.specs.Counts.{Rose}
-use Rattle.dsc_node.specs.declared.status.InputError.{InputError}
 use Rattle.dsc_node.specs.declared.status.Status.{Status}
 use Rattle.dsc_node.specs.declared.status.Status.TheVariants.{Done, InputRefused, ReadFault, WriteFault, Memory}
 use Rattle.lcm_program.specs.declared.refusal.Refusal.TheVariants as refusals

@@ -6,7 +6,7 @@ use Rattle.uuid.specs.Text.{parsed}
 use Rattle.node_state.specs.declared.event.Stage.{Stage}
 use Rattle.node_state.specs.declared.event.Stage.TheVariants.{Pending, Current, Previous}
 use Rattle.lcm_program.specs.declared.words.Command.{Command}
-use Rattle.lcm_program.specs.declared.words.Command.TheVariants.{Test, Check, Order, Canon, Checksum, Generate, Init, Meta, Push, Consistency, Boot, Get, Restore, Remove, Reports}
+use Rattle.lcm_program.specs.declared.words.Command.TheVariants.{Test, Check, Order, Canon, Checksum, Generate, Init, Meta, Register, Pull, Push, Consistency, Boot, Get, Restore, Remove, Reports}
 
 -- the most resources of a generated document
 abbrev pub generated_limit : ℕ
@@ -22,6 +22,14 @@ agent_of word = option_map (from_be_bytes w128) (parsed word)
 
 abbrev pub IsAgent : List ℕ → ℕ → Type 0
 IsAgent word agent = agent_of word ≡ Some agent
+
+-- the most bytes of a node's name
+abbrev pub name_limit : ℕ
+name_limit = 255
+
+-- the word can name a node
+abbrev pub IsName : List ℕ → Type 0
+IsName word = (0 < length word) × (length word ≤ name_limit)
 
 abbrev pub stage_name : Stage → List ℕ
 stage_name Pending = codes "pending"
@@ -42,6 +50,8 @@ IsForm Checksum words = words ≡ codes "checksum" ∷ []
 IsForm (Generate count) words = (word : List ℕ) × (words ≡ codes "generate" ∷ word ∷ []) × IsCount word count
 IsForm (Init agent) words = (word : List ℕ) × (words ≡ codes "init" ∷ word ∷ []) × IsAgent word agent
 IsForm Meta words = words ≡ codes "meta" ∷ []
+IsForm (Register name) words = (words ≡ codes "register" ∷ name.now ∷ []) × IsName name.now
+IsForm Pull words = words ≡ codes "pull" ∷ []
 IsForm Push words = words ≡ codes "push" ∷ []
 IsForm Consistency words = words ≡ codes "consistency" ∷ []
 IsForm Boot words = words ≡ codes "boot" ∷ []

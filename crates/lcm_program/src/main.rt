@@ -14,6 +14,7 @@ mod merge_words;
 mod meta_words;
 mod mof_words;
 mod order;
+mod peer_words;
 mod printing;
 mod program;
 mod refusal;
@@ -26,8 +27,8 @@ pub use canon::read_canonical;
 pub use check::read_count;
 pub use checksum::read_checksum;
 use command_line::{CommandLine, arguments};
+use dsc_network::TcpLink;
 use dsc_node::Status;
-use dsc_outside::Absent;
 use dsc_outside::real::{FileDisk, FolderHost, InSource, OutSink, SystemClock};
 pub use generate::repair_generated;
 pub use input::{Unread, read_bytes, read_document, read_instances, read_meta};
@@ -35,7 +36,7 @@ pub use order::read_order;
 pub use program::node;
 pub use refusal::Refusal;
 pub use resource_kinds::{Entry, Failure, Kinds, Resources, SetAnswer, TestAnswer};
-pub use starts::{push, set_meta, start_node};
+pub use starts::{push, register, set_meta, start_node};
 use std::alloc::AllocError;
 use std::process::ExitCode;
 pub use streams::{ReadError, read_all, write_all};
@@ -49,7 +50,7 @@ fn main(rt: HostRuntime) -> ExitCode {
     ExitCode::from(status.number())
 }
 
-// Makes the real objects and calls `node`. No command uses a link yet.
+// Makes the real objects, which touch nothing before their first call, and calls `node`.
 fn run_node(rt: &HostRuntime, line: &CommandLine) -> Status {
     let Ok(store) = String::from_str(rt.alloc(), line.store) else {
         return Status::Memory;
@@ -61,7 +62,7 @@ fn run_node(rt: &HostRuntime, line: &CommandLine) -> Status {
     let mut output = OutSink::new(rt);
     let mut kinds = Kinds::new(rt.alloc(), FolderHost::new(rt, host));
     let mut disk = FileDisk::new(rt, store);
-    let mut link = Absent::new();
+    let mut link = TcpLink::new(rt);
     let mut clock = SystemClock::new(rt);
     node(
         rt.alloc(),

@@ -3,7 +3,7 @@ ghost use Rattle.std.specs.Prelude.{◌≡◌, ◌++◌, codes, encode_utf8_all,
 ghost use Rattle.std.specs.List.{flat_map};
 ghost use Rattle.std.specs.Fmt.{decimal};
 ghost use Rattle.dsc_node.specs.Quoted.{quoted};
-ghost use Rattle.lcm_program.specs.Refusal.{merge_words, part_words, pair_words, place_words, repeated_words, rule_words, same_id_words, spot_words};
+ghost use Rattle.lcm_program.specs.InputWords.{merge_words, part_words, pair_words, place_words, repeated_words, rule_words, same_id_words, spot_words};
 
 use crate::mof_words::push_mof_error;
 use dsc_document::{DocError, Spot};

@@ -1,6 +1,6 @@
 //! The printed reasons for which an input declares no meta-configuration.
 ghost use Rattle.std.specs.Prelude.{◌≡◌, ◌++◌, OnOk, string_bytes};
-ghost use Rattle.lcm_program.specs.Refusal.{bad_value_words, limit_name, meta_words, unknown_part_words};
+ghost use Rattle.lcm_program.specs.InputWords.{bad_value_words, limit_name, meta_words, unknown_part_words};
 
 use crate::merge_words::{push_ident, push_pair, push_text};
 use crate::mof_words::push_mof_error;

@@ -1,7 +1,7 @@
 //! The words for why a text spells no instances.
 ghost use Rattle.std.specs.Prelude.{◌≡◌, ◌++◌, codes, OnOk, string_bytes};
 ghost use Rattle.std.specs.Fmt.{decimal};
-ghost use Rattle.lcm_program.specs.Refusal.{mof_words, form_name};
+ghost use Rattle.lcm_program.specs.InputWords.{mof_words, form_name};
 
 use mof_codec::{Form, MofError};
 use std::alloc::AllocError;

@@ -13,7 +13,7 @@ use crate::generate::repair_generated;
 use crate::order::read_order;
 use crate::printing::{print_answer, print_run, print_text, refuse};
 use crate::refusal::Refusal;
-use crate::starts::{push, set_meta, start_node};
+use crate::starts::{push, register, set_meta, start_node};
 use crate::test::read_and_monitor;
 use crate::words::{Command, UsageError, read_words};
 use dsc_node::{Command as StartCommand, Status};
@@ -66,7 +66,7 @@ fn do_command<S: Source, K: Sink, D: Disk, H: Host, L: Link, C: Clock>(
 ) -> Status
     requires fresh { calls_of kinds.old ≡ [] }
     requires range { IsInRange command }
-    ensures did { Did (known S.Ends K.Ends D.Disk H.Host L.Link C.Clock) command result
+    ensures did { Did (known S.Ends K.Ends D.Disk H.Host L.Link C.Clock) command.entry result
         (objects input.old output.old disk.old kinds.old link.old clock.old) (objects input.new output.new disk.new kinds.new link.new clock.new) }
 {
     match command {
@@ -84,20 +84,29 @@ fn do_command<S: Source, K: Sink, D: Disk, H: Host, L: Link, C: Clock>(
         },
         Command::Init { agent } => {
             let init = StartCommand::Init(agent);
-            start_node(alloc, init, output, disk, kinds, clock)
+            start_node(alloc, init, output, disk, kinds, link, clock)
         }
-        Command::Meta => set_meta(alloc, input, output, disk, kinds, clock),
-        Command::Push => push(alloc, input, output, disk, kinds, clock),
+        Command::Meta => set_meta(alloc, input, output, disk, kinds, link, clock),
+        Command::Register { name } => register(alloc, name, output, disk, kinds, link, clock),
+        Command::Pull => start_node(alloc, StartCommand::Pull, output, disk, kinds, link, clock),
+        Command::Push => push(alloc, input, output, disk, kinds, link, clock),
         Command::Consistency => {
-            start_node(alloc, StartCommand::Consistency, output, disk, kinds, clock)
+            let consistency = StartCommand::Consistency;
+            start_node(alloc, consistency, output, disk, kinds, link, clock)
         }
-        Command::Boot => start_node(alloc, StartCommand::Boot, output, disk, kinds, clock),
-        Command::Get => start_node(alloc, StartCommand::Get, output, disk, kinds, clock),
-        Command::Restore => start_node(alloc, StartCommand::Restore, output, disk, kinds, clock),
+        Command::Boot => start_node(alloc, StartCommand::Boot, output, disk, kinds, link, clock),
+        Command::Get => start_node(alloc, StartCommand::Get, output, disk, kinds, link, clock),
+        Command::Restore => {
+            let restore = StartCommand::Restore;
+            start_node(alloc, restore, output, disk, kinds, link, clock)
+        }
         Command::Remove { stage } => {
             let remove = StartCommand::Remove(stage);
-            start_node(alloc, remove, output, disk, kinds, clock)
+            start_node(alloc, remove, output, disk, kinds, link, clock)
         }
-        Command::Reports => start_node(alloc, StartCommand::Reports, output, disk, kinds, clock),
+        Command::Reports => {
+            let reports = StartCommand::Reports;
+            start_node(alloc, reports, output, disk, kinds, link, clock)
+        }
     }
 }

@@ -1,11 +1,14 @@
 //! Refusals and their lines.
 ghost use Rattle.std.specs.Prelude.{◌≡◌, ◌++◌, Some, None, codes, IfErr, IfOk, OnOk, string_bytes};
-ghost use Rattle.lcm_program.specs.Refusal.{status_of, reason_words, refusal_line, refusal_of, error_words, why_word};
+ghost use Rattle.lcm_program.specs.InputWords.{error_words};
+ghost use Rattle.lcm_program.specs.Refusal.{status_of, reason_words, refusal_line, refusal_of, why_word};
 
 use crate::merge_words::{push_merge_error, push_places};
 use crate::meta_words::push_meta_error;
 use crate::mof_words::push_mof_error;
+use crate::peer_words::push_peer_fault;
 use dsc_node::{InputError, Status};
+use node_pull::PeerFault;
 use node_state::Why;
 use std::alloc::{AllocError, Global};
 
@@ -26,8 +29,17 @@ pub enum Refusal {
     /// The clock's first reading failed.
     ClockFault,
 
+    /// The link to the pull server failed.
+    LinkFault,
+
+    /// A call on the host's packages failed.
+    HostFault,
+
     /// The disk holds no store of a node; `at` is the first byte at which it is none.
     NotAStore { at: u64 },
+
+    /// What the pull server gave is refused.
+    PeerRefused(PeerFault),
 
     /// The node does not allow the command, or the event that it came to.
     NotAllowed(Why),
@@ -48,7 +60,10 @@ impl Refusal {
             Status::ReadFault => Ok(Refusal::ReadFault),
             Status::DiskFault => Ok(Refusal::DiskFault),
             Status::ClockFault => Ok(Refusal::ClockFault),
+            Status::LinkFault => Ok(Refusal::LinkFault),
+            Status::HostFault => Ok(Refusal::HostFault),
             Status::NotAStore { at } => Ok(Refusal::NotAStore { at }),
+            Status::PeerRefused(fault) => Ok(Refusal::PeerRefused(fault)),
             Status::NotAllowed(why) => Ok(Refusal::NotAllowed(why)),
             Status::RebootWaiting => Ok(Refusal::RebootWaiting),
             Status::Done
@@ -69,7 +84,10 @@ impl Refusal {
             Refusal::ReadFault => Status::ReadFault,
             Refusal::DiskFault => Status::DiskFault,
             Refusal::ClockFault => Status::ClockFault,
+            Refusal::LinkFault => Status::LinkFault,
+            Refusal::HostFault => Status::HostFault,
             Refusal::NotAStore { at } => Status::NotAStore { at },
+            Refusal::PeerRefused(fault) => Status::PeerRefused(fault),
             Refusal::NotAllowed(why) => Status::NotAllowed(why),
             Refusal::RebootWaiting => Status::RebootWaiting,
         }
@@ -97,7 +115,13 @@ fn push_reason(out: &mut String, refusal: &Refusal) -> Result<(), AllocError>
         Refusal::ReadFault => out.push_str("ReadFault"),
         Refusal::DiskFault => out.push_str("DiskFault"),
         Refusal::ClockFault => out.push_str("ClockFault"),
+        Refusal::LinkFault => out.push_str("LinkFault"),
+        Refusal::HostFault => out.push_str("HostFault"),
         Refusal::NotAStore { at } => write!(out, "NotAStore {at}"),
+        Refusal::PeerRefused(fault) => {
+            out.push_str("PeerRefused ")?;
+            push_peer_fault(out, fault)
+        }
         Refusal::NotAllowed(why) => push_why(out, *why),
         Refusal::RebootWaiting => out.push_str("RebootWaiting"),
     }

@@ -1,48 +1,90 @@
 //! The commands that start the node.
-ghost use Rattle.std.specs.Prelude.{◌≡◌, []};
+ghost use Rattle.std.specs.Prelude.{◌≡◌, [], IfOk};
+ghost use Rattle.std.specs.Str.{chars};
 ghost use Rattle.resource_kinds.specs.Kinds.{calls_of};
+ghost use Rattle.node_pull.specs.Views.{view_of};
 ghost use Rattle.dsc_node.specs.Commands.{IsTaken};
 ghost use Rattle.dsc_node.specs.Start.{outside};
-ghost use Rattle.lcm_program.specs.Started.{IsStart, MetaEnds, PushEnds};
+ghost use Rattle.lcm_program.specs.Started.{IsStart, MetaEnds, PushEnds, RegisterEnds};
 
 use crate::input::{read_bytes, read_meta};
 use crate::printing::{print_start, print_unread};
 use dsc_node::{Command, Status, start};
-use dsc_outside::{Clock, Disk, Host, Sink, Source};
-use mof_values::Bytes;
+use dsc_outside::{Clock, Disk, Host, Link, Sink, Source};
+use mof_values::{Bytes, Text};
 use resource_kinds::Kinds;
-use std::alloc::Global;
+use std::alloc::{AllocError, Global};
 
 /// Starts the node with the command, and prints how that ended.
-pub fn start_node<K: Sink, D: Disk, H: Host, C: Clock>(
+pub fn start_node<K: Sink, D: Disk, H: Host, L: Link, C: Clock>(
     alloc: Global,
     command: Command,
     output: &mut K,
     disk: &mut D,
     kinds: &mut Kinds<H>,
+    link: &mut L,
     clock: &mut C,
 ) -> Status
     requires taken { IsTaken command }
     requires fresh { calls_of kinds.old ≡ [] }
     ensures { IsStart K.Ends D.Disk H.Host C.Clock command result output.old output.new
-        (outside disk.old kinds.old clock.old) (outside disk.new kinds.new clock.new) }
+        (outside disk.old kinds.old (view_of L.Link link.old) clock.old) (outside disk.new kinds.new (view_of L.Link link.new) clock.new) }
 {
-    print_start(alloc, output, start(alloc, command, disk, kinds, clock))
+    print_start(
+        alloc,
+        output,
+        start(alloc, command, disk, kinds, link, clock),
+    )
+}
+
+/// Starts the node with its registration under this name.
+pub fn register<K: Sink, D: Disk, H: Host, L: Link, C: Clock>(
+    alloc: Global,
+    name: &str,
+    output: &mut K,
+    disk: &mut D,
+    kinds: &mut Kinds<H>,
+    link: &mut L,
+    clock: &mut C,
+) -> Status
+    requires fresh { calls_of kinds.old ≡ [] }
+    ensures { RegisterEnds K.Ends D.Disk H.Host C.Clock name.now result output.old output.new
+        (outside disk.old kinds.old (view_of L.Link link.old) clock.old) (outside disk.new kinds.new (view_of L.Link link.new) clock.new) }
+{
+    match text_of(alloc, name) {
+        Ok(text) => start_node(
+            alloc,
+            Command::Register(text),
+            output,
+            disk,
+            kinds,
+            link,
+            clock,
+        ),
+        Err(AllocError) => Status::Memory,
+    }
+}
+
+fn text_of(alloc: Global, word: &str) -> Result<Text, AllocError>
+    ensures { IfOk result (λ text. text ≡ chars word.now) }
+{
+    Ok(Text::of(word.chars().collect(alloc)?))
 }
 
 /// Reads the input to its end, and starts the node with it as the document that is pushed; where it is not read nothing else is
 /// touched.
-pub fn push<S: Source, K: Sink, D: Disk, H: Host, C: Clock>(
+pub fn push<S: Source, K: Sink, D: Disk, H: Host, L: Link, C: Clock>(
     alloc: Global,
     input: &mut S,
     output: &mut K,
     disk: &mut D,
     kinds: &mut Kinds<H>,
+    link: &mut L,
     clock: &mut C,
 ) -> Status
     requires fresh { calls_of kinds.old ≡ [] }
     ensures { PushEnds S.Ends K.Ends D.Disk H.Host C.Clock result input.old input.new output.old output.new
-        (outside disk.old kinds.old clock.old) (outside disk.new kinds.new clock.new) }
+        (outside disk.old kinds.old (view_of L.Link link.old) clock.old) (outside disk.new kinds.new (view_of L.Link link.new) clock.new) }
 {
     match read_bytes(alloc, input) {
         Ok(bytes) => start_node(
@@ -51,6 +93,7 @@ pub fn push<S: Source, K: Sink, D: Disk, H: Host, C: Clock>(
             output,
             disk,
             kinds,
+            link,
             clock,
         ),
         Err(unread) => print_unread(alloc, output, unread),
@@ -59,20 +102,21 @@ pub fn push<S: Source, K: Sink, D: Disk, H: Host, C: Clock>(
 
 /// Reads the input to its end, and starts the node with the meta-configuration that it declares; where it is not read nothing else
 /// is touched.
-pub fn set_meta<S: Source, K: Sink, D: Disk, H: Host, C: Clock>(
+pub fn set_meta<S: Source, K: Sink, D: Disk, H: Host, L: Link, C: Clock>(
     alloc: Global,
     input: &mut S,
     output: &mut K,
     disk: &mut D,
     kinds: &mut Kinds<H>,
+    link: &mut L,
     clock: &mut C,
 ) -> Status
     requires fresh { calls_of kinds.old ≡ [] }
     ensures { MetaEnds S.Ends K.Ends D.Disk H.Host C.Clock result input.old input.new output.old output.new
-        (outside disk.old kinds.old clock.old) (outside disk.new kinds.new clock.new) }
+        (outside disk.old kinds.old (view_of L.Link link.old) clock.old) (outside disk.new kinds.new (view_of L.Link link.new) clock.new) }
 {
     match read_meta(alloc, input) {
-        Ok(meta) => start_node(alloc, Command::Meta(meta), output, disk, kinds, clock),
+        Ok(meta) => start_node(alloc, Command::Meta(meta), output, disk, kinds, link, clock),
         Err(unread) => print_unread(alloc, output, unread),
     }
 }

@@ -1,6 +1,6 @@
 //! The words of the command line.
-ghost use Rattle.std.specs.Prelude.{ℕ, [], ◌∷◌, IfOk, IfErr, IfSome, IfNone, codes, map, string_bytes};
-ghost use Rattle.lcm_program.specs.Words.{IsAgent, IsCount, IsForm, IsStage, IsUsage};
+ghost use Rattle.std.specs.Prelude.{◌↔◌, ℕ, [], ◌∷◌, IfOk, IfErr, IfSome, IfNone, IsTrue, codes, map, string_bytes};
+ghost use Rattle.lcm_program.specs.Words.{IsAgent, IsCount, IsForm, IsName, IsStage, IsUsage};
 
 use node_state::Stage;
 use uuid::Uuid;
@@ -8,9 +8,12 @@ use uuid::Uuid;
 /// The most resources of a generated document.
 const GENERATED_LIMIT: u32 = 4096;
 
+/// The most bytes of a node's name.
+const NAME_LIMIT: usize = 255;
+
 /// What the program is asked to do.
 #[derive(Clone, Copy, Debug, PartialEq, Eq)]
-pub enum Command {
+pub enum Command<'a> {
     /// Tests the document that the input is.
     Test,
 
@@ -34,6 +37,12 @@ pub enum Command {
 
     /// Has the node behave as the meta-configuration that the input is says.
     Meta,
+
+    /// Registers the agent at the pull server, under this name of its node, 1 to 255 bytes.
+    Register { name: &'a str },
+
+    /// Brings what the pull server has for the node, and brings the machine to it.
+    Pull,
 
     /// Keeps the document that the input is, and brings the machine to it.
     Push,
@@ -64,7 +73,7 @@ pub struct UsageError {
 }
 
 /// The command that the words ask for.
-pub fn read_words(words: &[String]) -> Result<Command, UsageError>
+pub fn read_words<'a>(words: &'a [String]) -> Result<Command<'a>, UsageError>
     ensures ok { IfOk result (λ command. IsForm command (map string_bytes words.now)) }
     ensures usage { IfErr result (λ error. IsUsage (map string_bytes words.now) error.word) }
 {
@@ -76,6 +85,9 @@ pub fn read_words(words: &[String]) -> Result<Command, UsageError>
     }
     if first.as_str() == "init" {
         return read_init(rest);
+    }
+    if first.as_str() == "register" {
+        return read_register(rest);
     }
     if first.as_str() == "remove" {
         return read_remove(rest);
@@ -90,7 +102,7 @@ pub fn read_words(words: &[String]) -> Result<Command, UsageError>
 }
 
 // The command that the word asks for alone.
-fn command_of(word: &str) -> Option<Command>
+fn command_of(word: &str) -> Option<Command<'static>>
     ensures some { IfSome result (λ command. IsForm command (word.now ∷ [])) }
     ensures none { IfNone result ((command : Command) → IsForm command (word.now ∷ []) → ⊥) }
 {
@@ -101,6 +113,7 @@ fn command_of(word: &str) -> Option<Command>
         "canon" => Some(Command::Canon),
         "checksum" => Some(Command::Checksum),
         "meta" => Some(Command::Meta),
+        "pull" => Some(Command::Pull),
         "push" => Some(Command::Push),
         "consistency" => Some(Command::Consistency),
         "boot" => Some(Command::Boot),
@@ -112,7 +125,7 @@ fn command_of(word: &str) -> Option<Command>
 }
 
 // What the words after `generate` ask for.
-fn read_generate(rest: &[String]) -> Result<Command, UsageError>
+fn read_generate(rest: &[String]) -> Result<Command<'static>, UsageError>
     ensures ok { IfOk result (λ command. IsForm command (codes "generate" ∷ map string_bytes rest.now)) }
     ensures usage { IfErr result (λ error. IsUsage (codes "generate" ∷ map string_bytes rest.now) error.word) }
 {
@@ -129,7 +142,7 @@ fn read_generate(rest: &[String]) -> Result<Command, UsageError>
 }
 
 // What the words after `init` ask for.
-fn read_init(rest: &[String]) -> Result<Command, UsageError>
+fn read_init(rest: &[String]) -> Result<Command<'static>, UsageError>
     ensures ok { IfOk result (λ command. IsForm command (codes "init" ∷ map string_bytes rest.now)) }
     ensures usage { IfErr result (λ error. IsUsage (codes "init" ∷ map string_bytes rest.now) error.word) }
 {
@@ -145,8 +158,26 @@ fn read_init(rest: &[String]) -> Result<Command, UsageError>
     }
 }
 
+// What the words after `register` ask for.
+fn read_register<'a>(rest: &'a [String]) -> Result<Command<'a>, UsageError>
+    ensures ok { IfOk result (λ command. IsForm command (codes "register" ∷ map string_bytes rest.now)) }
+    ensures usage { IfErr result (λ error. IsUsage (codes "register" ∷ map string_bytes rest.now) error.word) }
+{
+    let [word, more @ ..] = rest else {
+        return Err(UsageError { word: 1 });
+    };
+    let name = word.as_str();
+    if !is_name(name) {
+        return Err(UsageError { word: 1 });
+    }
+    match more {
+        [] => Ok(Command::Register { name }),
+        _ => Err(UsageError { word: 2 }),
+    }
+}
+
 // What the words after `remove` ask for.
-fn read_remove(rest: &[String]) -> Result<Command, UsageError>
+fn read_remove(rest: &[String]) -> Result<Command<'static>, UsageError>
     ensures ok { IfOk result (λ command. IsForm command (codes "remove" ∷ map string_bytes rest.now)) }
     ensures usage { IfErr result (λ error. IsUsage (codes "remove" ∷ map string_bytes rest.now) error.word) }
 {
@@ -160,6 +191,13 @@ fn read_remove(rest: &[String]) -> Result<Command, UsageError>
         [] => Ok(Command::Remove { stage }),
         _ => Err(UsageError { word: 2 }),
     }
+}
+
+// Tells whether the word can name a node.
+fn is_name(word: &str) -> bool
+    ensures { IsTrue result ↔ IsName word.now }
+{
+    !word.is_empty() && word.len() <= NAME_LIMIT
 }
 
 // The stage that the word names.

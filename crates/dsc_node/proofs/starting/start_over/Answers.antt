@@ -1,15 +1,15 @@
-use Rattle.std.proofs.Common.{◌≡◌, List, [], refl, ◌∙◌}
+use Rattle.std.proofs.Common.{[], refl, ◌∙◌}
 use Rattle.std.specs.Prelude.{string_bytes}
-use Rattle.dsc_node.specs.Start.{Start, known, opened, outside, refused, unopened}
+use Rattle.node_pull.specs.Views.{view_of}
+use Rattle.dsc_node.specs.Start.{Start, opened, outside, refused, unopened}
+use Rattle.dsc_node.specs.Work.{known}
 use Rattle.dsc_node.proofs.Commits.{opens}
 use Rattle.dsc_node.proofs.Nodes.{kept_sound}
 use Rattle.dsc_node.proofs.Starts.{begins_again}
 use Rattle.dsc_node.proofs.starting.start_over.Goals as goal
 
 pub returns-in-Err-clause-start : goal.returns-in-Err-clause-start
-returns-in-Err-clause-start g c =
-    refused c.in-Err.error c.silent.result.status (string_bytes c.silent.result.lines) c.in-Err.ensures.refused refl (record { machine = refl; clock = refl })
-    (c.silent.ensures.status ∙ c.status_of_input.ensures, c.silent.ensures.lines)
+returns-in-Err-clause-start g c = refused c.in-Err.error c.in-Err.ensures.refused refl (c.silent.ensures.status ∙ c.status_of_input.ensures, c.silent.ensures.lines)
 
 pub returns-in-Ok-open_store-clause-start : goal.returns-in-Ok-open_store-clause-start
 returns-in-Ok-open_store-clause-start g c =
@@ -17,14 +17,16 @@ returns-in-Ok-open_store-clause-start g c =
     let begin = c.args.disk.now in
     let store = c.in-Ok-open_store.store in
     let goes = c.opened.ensures.goes in
-    opened c.opened.result.status (string_bytes c.opened.result.lines) (record {
+    opened (record {
       task = c.in-Ok.task;
       is_task = c.in-Ok.ensures.ok;
       from = store.node;
-      run = goes.0;
+      ready = goes.ready;
+      run = goes.run;
       reads = c.in-Ok-open_store.ensures.found;
       sound = kept_sound d c.open_store.new.disk store c.in-Ok-open_store.ensures.kept;
-      ended = goes.1.on begin store.node [] (opens d begin store.node c.open_store.new.disk store refl c.in-Ok-open_store.ensures.any_moment c.in-Ok-open_store.ensures.count);
+      leaves = goes.leaves;
+      ended = goes.ends.on begin store.node [] (opens d begin store.node c.open_store.new.disk store refl c.in-Ok-open_store.ensures.any_moment c.in-Ok-open_store.ensures.count);
     })
 
 pub returns-in-Ok-open_store-clause-again : goal.returns-in-Ok-open_store-clause-again
@@ -35,21 +37,22 @@ returns-in-Ok-open_store-clause-again g c =
     let goes = c.opened.ensures.goes in
     let status = c.opened.result.status in
     let lines = string_bytes c.opened.result.lines in
-    let before = outside begin c.args.machine.now c.args.clock.now in
-    let after = outside c.opened.new.disk c.opened.new.machine c.opened.new.clock in
-    let start : Start (known d g.M.Resources g.C.Clock) c.args.command before after status lines = opened status lines (record {
+    let before = outside begin c.args.machine.now (view_of g.L.Link c.args.link.now) c.args.clock.now in
+    let after = outside c.opened.new.disk c.opened.new.machine (view_of g.L.Link c.opened.new.link) c.opened.new.clock in
+    let start : Start (known g.D.Disk g.M.Resources g.M.Machine g.C.Clock) c.args.command before after status lines = opened (record {
       task = c.in-Ok.task;
       is_task = c.in-Ok.ensures.ok;
       from = store.node;
-      run = goes.0;
+      ready = goes.ready;
+      run = goes.run;
       reads = c.in-Ok-open_store.ensures.found;
       sound = kept_sound d c.open_store.new.disk store c.in-Ok-open_store.ensures.kept;
-      ended = goes.1.on begin store.node [] (opens d begin store.node c.open_store.new.disk store refl c.in-Ok-open_store.ensures.any_moment c.in-Ok-open_store.ensures.count);
+      leaves = goes.leaves;
+      ended = goes.ends.on begin store.node [] (opens d begin store.node c.open_store.new.disk store refl c.in-Ok-open_store.ensures.any_moment c.in-Ok-open_store.ensures.count);
     }) in
-    begins_again (known d g.M.Resources g.C.Clock) c.args.command before after status lines (g.met.D.Disk.counts_now c.opened.new.disk) start
+    begins_again (known g.D.Disk g.M.Resources g.M.Machine g.C.Clock) c.args.command before after status lines (g.met.D.Disk.counts_now c.opened.new.disk) start
 
 pub returns-in-Err-open_store-clause-start : goal.returns-in-Err-open_store-clause-start
 returns-in-Err-open_store-clause-start g c =
-    unopened c.in-Ok.task c.in-Err-open_store.error c.silent-in-Err-open_store.result.status (string_bytes c.silent-in-Err-open_store.result.lines) c.in-Ok.ensures.ok
-    c.in-Err-open_store.ensures.count c.in-Err-open_store.ensures.cause (record { machine = refl; clock = refl }) c.in-Err-open_store.ensures.any_moment
+    unopened c.in-Ok.task c.in-Err-open_store.error c.in-Ok.ensures.ok c.in-Err-open_store.ensures.count c.in-Err-open_store.ensures.cause refl c.in-Err-open_store.ensures.any_moment
     (c.silent-in-Err-open_store.ensures.status ∙ c.status_of.ensures, c.silent-in-Err-open_store.ensures.lines)

@@ -2,7 +2,6 @@ use Rattle.std.proofs.Common.{◌≡◌, ◌∙◌, Some, ap, arith, refl, subst
 use Rattle.dsc_outside.specs.Host.{HostState, empty_host}
 use Rattle.dsc_outside.specs.ReliableHost.{told_by}
 use Rattle.depend_order.proofs.DocumentOrders.{order_below}
-use Rattle.lcm_core.specs.declared.modes.RunEnd.TheVariants.{Finished}
 use Rattle.lcm_core.specs.declared.modes.RunMode.TheVariants.{Repair}
 use Rattle.lcm_core.proofs.Successes.{legal_ends}
 use Rattle.lcm_core.proofs.Traces.{legal_places}

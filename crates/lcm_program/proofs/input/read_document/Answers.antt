@@ -1,5 +1,5 @@
 use Rattle.std.proofs.Common.{◌∙◌}
-use Rattle.lcm_program.proofs.Inputs.{merged_input, too_long_unread, unmerged_unread}
+use Rattle.lcm_program.proofs.Inputs.{merged_input, unmerged_unread}
 use Rattle.lcm_program.proofs.input.read_document.Goals as goal
 
 pub returns-in-Ok-merge-clause-ok : goal.returns-in-Ok-merge-clause-ok

@@ -1,4 +1,4 @@
-use Rattle.lcm_program.proofs.Inputs.{spelled_input, too_long_unspelled, unspelled_unread}
+use Rattle.lcm_program.proofs.Inputs.{unspelled_unread}
 use Rattle.lcm_program.proofs.input.read_instances.Goals as goal
 
 pub returns-clause-err : goal.returns-clause-err

@@ -1,6 +1,6 @@
 use Rattle.std.proofs.Common.{◌≡◌, ◌++◌, take, string_bytes}
 use Rattle.std.specs.List.{flat_map}
-use Rattle.lcm_program.specs.Refusal.{place_words}
+use Rattle.lcm_program.specs.InputWords.{place_words}
 use Rattle.lcm_program.proofs.merge_words.push_places.Given as goal
 
 abbrev pub invariant-loop-place : goal.invariant-loop-place

@@ -1,7 +1,7 @@
 use Rattle.std.proofs.Common.{List, ℕ, ◌++◌, ◌∙◌, ap, append_assoc, string_bytes}
 use Rattle.std.specs.Prelude.{codes}
 use Rattle.lcm_program.proofs.Results.{on_ok_weaker}
-use Rattle.lcm_program.specs.Refusal.{spot_words}
+use Rattle.lcm_program.specs.InputWords.{spot_words}
 use Rattle.lcm_program.proofs.merge_words.push_same_ids.Goals as goal
 
 pub returns : goal.returns

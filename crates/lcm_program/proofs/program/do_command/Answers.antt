@@ -1,4 +1,4 @@
-use Rattle.std.proofs.Common.{ℕ, List, refl, string_bytes}
+use Rattle.std.proofs.Common.{refl, string_bytes}
 use Rattle.lcm_program.specs.Canon.{AnswersCanon, IsCanonicalText}
 use Rattle.lcm_program.specs.Check.{AnswersCheck, IsCountLine}
 use Rattle.lcm_program.specs.Checksum.{IsChecksumLine, checksum_limit}
@@ -7,7 +7,7 @@ use Rattle.lcm_program.specs.Objects.{known, objects}
 use Rattle.lcm_program.specs.Order.{AnswersOrder, AreIdLines}
 use Rattle.lcm_program.proofs.Readings.{bytes_decide, document_decides, instances_decide, shown_decides}
 use Rattle.lcm_program.proofs.Monitoring.{tested}
-use Rattle.lcm_program.proofs.Tools.{generated, not_summed, ran_tool, summed}
+use Rattle.lcm_program.proofs.Tools.{not_summed, ran_tool}
 use Rattle.lcm_program.proofs.program.do_command.Goals as goal
 
 pub returns-in-Test : goal.returns-in-Test
@@ -67,28 +67,34 @@ returns-in-Err g c =
 -- starts
 
 pub returns-in-Init : goal.returns-in-Init
-returns-in-Init g c = record { did = rw c.in-Init.is (record { input = refl; link = refl; start = c.start_node.ensures }) }
+returns-in-Init g c = record { did = rw c.in-Init.is (record { input = refl; start = c.start_node.ensures }) }
 
 pub returns-in-Meta : goal.returns-in-Meta
-returns-in-Meta g c = record { did = rw c.in-Meta.is (record { link = refl; ends = c.set_meta.ensures }) }
+returns-in-Meta g c = record { did = rw c.in-Meta.is c.set_meta.ensures }
+
+pub returns-in-Register : goal.returns-in-Register
+returns-in-Register g c = record { did = rw c.in-Register.is (record { input = refl; ends = c.register.ensures }) }
+
+pub returns-in-Pull : goal.returns-in-Pull
+returns-in-Pull g c = record { did = rw c.in-Pull.is (record { input = refl; start = c.start_node-in-Pull.ensures }) }
 
 pub returns-in-Push : goal.returns-in-Push
-returns-in-Push g c = record { did = rw c.in-Push.is (record { link = refl; ends = c.push.ensures }) }
+returns-in-Push g c = record { did = rw c.in-Push.is c.push.ensures }
 
 pub returns-in-Consistency : goal.returns-in-Consistency
-returns-in-Consistency g c = record { did = rw c.in-Consistency.is (record { input = refl; link = refl; start = c.start_node-in-Consistency.ensures }) }
+returns-in-Consistency g c = record { did = rw c.in-Consistency.is (record { input = refl; start = c.start_node-in-Consistency.ensures }) }
 
 pub returns-in-Boot : goal.returns-in-Boot
-returns-in-Boot g c = record { did = rw c.in-Boot.is (record { input = refl; link = refl; start = c.start_node-in-Boot.ensures }) }
+returns-in-Boot g c = record { did = rw c.in-Boot.is (record { input = refl; start = c.start_node-in-Boot.ensures }) }
 
 pub returns-in-Get : goal.returns-in-Get
-returns-in-Get g c = record { did = rw c.in-Get.is (record { input = refl; link = refl; start = c.start_node-in-Get.ensures }) }
+returns-in-Get g c = record { did = rw c.in-Get.is (record { input = refl; start = c.start_node-in-Get.ensures }) }
 
 pub returns-in-Restore : goal.returns-in-Restore
-returns-in-Restore g c = record { did = rw c.in-Restore.is (record { input = refl; link = refl; start = c.start_node-in-Restore.ensures }) }
+returns-in-Restore g c = record { did = rw c.in-Restore.is (record { input = refl; start = c.start_node-in-Restore.ensures }) }
 
 pub returns-in-Remove : goal.returns-in-Remove
-returns-in-Remove g c = record { did = rw c.in-Remove.is (record { input = refl; link = refl; start = c.start_node-in-Remove.ensures }) }
+returns-in-Remove g c = record { did = rw c.in-Remove.is (record { input = refl; start = c.start_node-in-Remove.ensures }) }
 
 pub returns-in-Reports : goal.returns-in-Reports
-returns-in-Reports g c = record { did = rw c.in-Reports.is (record { input = refl; link = refl; start = c.start_node-in-Reports.ensures }) }
+returns-in-Reports g c = record { did = rw c.in-Reports.is (record { input = refl; start = c.start_node-in-Reports.ensures }) }

@@ -1,8 +1,7 @@
-use Rattle.std.proofs.Common.{refl, subst}
-use Rattle.lcm_program.specs.declared.words.Command.{Command}
-use Rattle.lcm_program.specs.Did.{Did}
+use Rattle.std.proofs.Common.{refl}
 use Rattle.lcm_program.specs.Objects.{known, objects}
-use Rattle.lcm_program.proofs.Forms.{in_range, one_form}
+use Rattle.lcm_program.proofs.Forms.{in_range}
+use Rattle.lcm_program.proofs.OneRow.{one_row}
 use Rattle.lcm_program.proofs.Tools.{did_nothing}
 use Rattle.lcm_program.proofs.program.node.Goals as goal
 
@@ -13,10 +12,10 @@ do_command-requires-clause-range g c = in_range c.in-Ok.command _ c.in-Ok.ensure
 
 pub returns-in-Ok-clause-did : goal.returns-in-Ok-clause-did
 returns-in-Ok-clause-did g c = λ command form.
-    subst (λ (x : Command). Did (known g.S.Ends g.K.Ends g.D.Disk g.H.Host g.L.Link g.C.Clock) x c.do_command.result
+    one_row (known g.S.Ends g.K.Ends g.D.Disk g.H.Host g.L.Link g.C.Clock) c.do_command.result
     (objects c.args.input.now c.args.output.now c.args.disk.now c.args.kinds.now c.args.link.now c.args.clock.now)
-    (objects c.do_command.new.input c.do_command.new.output c.do_command.new.disk c.do_command.new.kinds c.do_command.new.link c.do_command.new.clock))
-    (one_form c.in-Ok.command command _ c.in-Ok.ensures.ok form) c.do_command.ensures.did
+    (objects c.do_command.new.input c.do_command.new.output c.do_command.new.disk c.do_command.new.kinds c.do_command.new.link c.do_command.new.clock)
+    c.in-Ok.command command _ c.in-Ok.ensures.ok form c.do_command.ensures.did
 
 pub returns-in-Ok-clause-nothing : goal.returns-in-Ok-clause-nothing
 returns-in-Ok-clause-nothing g c = λ none. absurd (none c.in-Ok.command c.in-Ok.ensures.ok)

@@ -1,4 +1,4 @@
-use Rattle.std.proofs.Common.{◌≡◌, ◌-◌, ◌⊎◌, inl, inr, ℕ, List, IfOk, IfErr, codes, map, length, take, drop, string_bytes, sym, ◌∙◌, subst, true≢false, arith}
+use Rattle.std.proofs.Common.{◌-◌, inl, inr, ℕ, List, IfOk, IfErr, codes, map, length, take, drop, string_bytes, sym, ◌∙◌, subst, true≢false, arith}
 use Rattle.std.proofs.lemmas.List.{length-map}
 use Rattle.std.proofs.lemmas.Slice.Eq.{bytes_eq-Decides}
 use Rattle.lcm_program.specs.Words.{IsForm, IsUsage}
@@ -40,20 +40,36 @@ returns-then-eq-2-clause-usage c =
     (first_and_rest string_bytes c.args.words.now c.first-item.result (codes "init") c.in-len1-up.len_at_least c.first-item.is (sym init ∙ c.as_str-2.ensures.value))
     c.read_init.ensures.usage
 
--- they begin with `remove`
+-- they begin with `register`
 
 pub returns-then-eq-3-clause-ok : goal.returns-then-eq-3-clause-ok
 returns-then-eq-3-clause-ok c =
-    let remove = (bytes_eq-Decides c.as_str-3.result.now (codes "remove")).0 (sym c.if-eq-3.ensures) in
-    subst (λ (words : List (List ℕ)). IfOk c.read_remove.result (λ command. IsForm command words))
-    (first_and_rest string_bytes c.args.words.now c.first-item.result (codes "remove") c.in-len1-up.len_at_least c.first-item.is (sym remove ∙ c.as_str-3.ensures.value))
-    c.read_remove.ensures.ok
+    let register = (bytes_eq-Decides c.as_str-3.result.now (codes "register")).0 (sym c.if-eq-3.ensures) in
+    subst (λ (words : List (List ℕ)). IfOk c.read_register.result (λ command. IsForm command words))
+    (first_and_rest string_bytes c.args.words.now c.first-item.result (codes "register") c.in-len1-up.len_at_least c.first-item.is (sym register ∙ c.as_str-3.ensures.value))
+    c.read_register.ensures.ok
 
 pub returns-then-eq-3-clause-usage : goal.returns-then-eq-3-clause-usage
 returns-then-eq-3-clause-usage c =
-    let remove = (bytes_eq-Decides c.as_str-3.result.now (codes "remove")).0 (sym c.if-eq-3.ensures) in
+    let register = (bytes_eq-Decides c.as_str-3.result.now (codes "register")).0 (sym c.if-eq-3.ensures) in
+    subst (λ (words : List (List ℕ)). IfErr c.read_register.result (λ error. IsUsage words error.word))
+    (first_and_rest string_bytes c.args.words.now c.first-item.result (codes "register") c.in-len1-up.len_at_least c.first-item.is (sym register ∙ c.as_str-3.ensures.value))
+    c.read_register.ensures.usage
+
+-- they begin with `remove`
+
+pub returns-then-eq-4-clause-ok : goal.returns-then-eq-4-clause-ok
+returns-then-eq-4-clause-ok c =
+    let remove = (bytes_eq-Decides c.as_str-4.result.now (codes "remove")).0 (sym c.if-eq-4.ensures) in
+    subst (λ (words : List (List ℕ)). IfOk c.read_remove.result (λ command. IsForm command words))
+    (first_and_rest string_bytes c.args.words.now c.first-item.result (codes "remove") c.in-len1-up.len_at_least c.first-item.is (sym remove ∙ c.as_str-4.ensures.value))
+    c.read_remove.ensures.ok
+
+pub returns-then-eq-4-clause-usage : goal.returns-then-eq-4-clause-usage
+returns-then-eq-4-clause-usage c =
+    let remove = (bytes_eq-Decides c.as_str-4.result.now (codes "remove")).0 (sym c.if-eq-4.ensures) in
     subst (λ (words : List (List ℕ)). IfErr c.read_remove.result (λ error. IsUsage words error.word))
-    (first_and_rest string_bytes c.args.words.now c.first-item.result (codes "remove") c.in-len1-up.len_at_least c.first-item.is (sym remove ∙ c.as_str-3.ensures.value))
+    (first_and_rest string_bytes c.args.words.now c.first-item.result (codes "remove") c.in-len1-up.len_at_least c.first-item.is (sym remove ∙ c.as_str-4.ensures.value))
     c.read_remove.ensures.usage
 
 -- they begin with the word of no command
@@ -63,11 +79,13 @@ returns-in_default-command_of-clause-usage c =
     let word = c.deref.result.now in
     let generate = bytes_eq-Decides c.as_str.result.now (codes "generate") in
     let init = bytes_eq-Decides c.as_str-2.result.now (codes "init") in
-    let remove = bytes_eq-Decides c.as_str-3.result.now (codes "remove") in
+    let register = bytes_eq-Decides c.as_str-3.result.now (codes "register") in
+    let remove = bytes_eq-Decides c.as_str-4.result.now (codes "remove") in
     let other : TakesWord word → ⊥ = λ takes. elim takes [
       | inl is ↦ true≢false (sym (generate.1 (c.as_str.ensures.value ∙ sym c.deref.ensures ∙ is)) ∙ sym c.if-eq.ensures)
       | inr (inl is) ↦ true≢false (sym (init.1 (c.as_str-2.ensures.value ∙ sym c.deref.ensures ∙ is)) ∙ sym c.if-eq-2.ensures)
-      | inr (inr is) ↦ true≢false (sym (remove.1 (c.as_str-3.ensures.value ∙ sym c.deref.ensures ∙ is)) ∙ sym c.if-eq-3.ensures)
+      | inr (inr (inl is)) ↦ true≢false (sym (remove.1 (c.as_str-4.ensures.value ∙ sym c.deref.ensures ∙ is)) ∙ sym c.if-eq-4.ensures)
+      | inr (inr (inr is)) ↦ true≢false (sym (register.1 (c.as_str-3.ensures.value ∙ sym c.deref.ensures ∙ is)) ∙ sym c.if-eq-3.ensures)
     ] in
     subst (λ (words : List (List ℕ)). IsUsage words 0)
     (first_and_rest string_bytes c.args.words.now c.first-item.result word c.in-len1-up.len_at_least c.first-item.is c.deref.ensures)

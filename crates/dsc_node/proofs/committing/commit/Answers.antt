@@ -1,5 +1,5 @@
 use Rattle.dsc_node.proofs.Commits.{commit_goes}
-use Rattle.dsc_node.proofs.starting.commit.Goals as goal
+use Rattle.dsc_node.proofs.committing.commit.Goals as goal
 
 pub returns-clause-goes : goal.returns-clause-goes
 returns-clause-goes g c =

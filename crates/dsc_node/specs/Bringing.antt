@@ -1,0 +1,88 @@
+-- What a task brings before its run: at most one event, and what was asked of the server for it.
+use Rattle.std.specs.Prelude.{◌≡◌, ℕ, List, [], ◌∷◌, Option, Some, None, Result, Ok, Err}
+use Rattle.meta_config.specs.declared.server.Server.{Server}
+use Rattle.partial_merge.specs.declared.part.Part.{Part}
+use Rattle.resource_kinds.specs.declared.machine.Machine as machines
+use Rattle.resource_kinds.specs.declared.resources.Resources as resources
+use Rattle.node_state.specs.declared.list.Staged.{Staged}
+use Rattle.node_state.specs.declared.node.Node.{Node}
+use Rattle.node_state.specs.declared.event.Event.{Event}
+use Rattle.node_state.specs.declared.event.Event.TheVariants as events
+use Rattle.node_pull.specs.declared.error.PullError.{PullError}
+use Rattle.node_pull.specs.declared.error.PullError.TheVariants as pulls
+use Rattle.node_pull.specs.Pulling.{Pulled}
+use Rattle.node_pull.specs.Registering.{Registers}
+use Rattle.node_pull.specs.Views.{LinkView}
+use Rattle.dsc_node.specs.declared.command.Task.{Task}
+use Rattle.dsc_node.specs.declared.command.Task.TheVariants.{Pull, Register}
+use Rattle.dsc_node.specs.declared.status.Status.{Status}
+use Rattle.dsc_node.specs.declared.status.Status.TheVariants as statuses
+use Rattle.dsc_node.specs.Commands.{given_of}
+
+abbrev pub events_of : Option Event → List Event
+events_of None = []
+events_of (Some event) = event ∷ []
+
+-- the server did not give what it was asked for
+abbrev pub status_of_pull : PullError → Status
+status_of_pull pulls.Link = statuses.LinkFault
+status_of_pull pulls.Host = statuses.HostFault
+status_of_pull (pulls.Refused fault) = statuses.PeerRefused fault
+status_of_pull pulls.Memory = statuses.Memory
+
+-- ---- a registration
+
+-- an accepted one is an event
+abbrev pub registered_by : Result (Unit {0}) PullError → Result (Option Event) PullError
+registered_by (Ok done) = Ok (Some events.Registered)
+registered_by (Err error) = Err error
+
+-- the node's agent was to be registered at its server
+pub record IsRegistration (node : Node) (name : List ℕ) (start : ℕ) (asked heard : LinkView) (result : Result (Option Event) PullError) : Type 0 where
+  pub server : Server
+  pub is_server : node.meta.server ≡ Some server
+  pub agent : ℕ
+  pub is_agent : node.agent ≡ Some agent
+  pub answer : Result (Unit {0}) PullError
+  pub registers : Registers node.meta server agent name start asked heard answer
+  pub is : result ≡ registered_by answer
+
+-- ---- a pull
+
+-- the parts that a node holds: those of Pending, or else of Current
+abbrev pub held_among : Option (List Part) → Option (List Part) → List Part
+held_among (Some parts) current = parts
+held_among None (Some parts) = parts
+held_among None None = []
+
+abbrev pub held_of : Node → List Part
+held_of node = held_among node.pending node.current
+
+-- parts that are brought are staged
+abbrev pub staged_by : Result (Option Staged) PullError → Result (Option Event) PullError
+staged_by (Ok None) = Ok None
+staged_by (Ok (Some staged)) = Ok (Some (events.Stage staged))
+staged_by (Err error) = Err error
+
+-- the node's server was asked for the parts of its configurations, and for the packages that they name
+pub record IsPull {S : Type 0} (machine : machines.Ghosts S) (faults : S → ℕ) (node : Node) (asked heard : LinkView) (before after : S) (result : Result (Option Event) PullError) : Type 0 where
+  pub server : Server
+  pub is_server : node.meta.server ≡ Some server
+  pub agent : ℕ
+  pub is_agent : node.agent ≡ Some agent
+  pub answer : Result (Option Staged) PullError
+  pub pulled : Pulled machine.packages faults node.meta server agent (held_of node) asked heard before after answer
+  pub is : result ≡ staged_by answer
+
+-- ---- any task
+
+-- what a task brings that leaves the machine alone
+abbrev pub Asked : Node → Task → ℕ → LinkView → LinkView → Result (Option Event) PullError → Type 0
+Asked node (Register name) start asked heard result = IsRegistration node name start asked heard result
+Asked node Pull start asked heard result = ⊥
+Asked node task start asked heard result = (heard ≡ asked) × (result ≡ Ok (given_of node task))
+
+-- what the link and the machine were before, and what they are after it; a start of the task is the clock's first reading
+abbrev pub Brought : {S : Type 0} → resources.Ghosts S → machines.Ghosts S → Node → Task → ℕ → LinkView → LinkView → S → S → Result (Option Event) PullError → Type 0
+Brought resources machine node Pull start asked heard before after result = IsPull machine resources.faults node asked heard before after result
+Brought resources machine node task start asked heard before after result = (after ≡ before) × Asked node task start asked heard result

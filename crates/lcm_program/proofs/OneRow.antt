@@ -1,0 +1,36 @@
+-- Words ask for one row of the table of commands.
+use Rattle.std.proofs.Common.{◌≡◌, ℕ, List, refl, sym, subst}
+use Rattle.dsc_node.specs.declared.status.Status.{Status}
+use Rattle.lcm_program.specs.declared.words.Command.{Command}
+use Rattle.lcm_program.specs.declared.words.Command.TheVariants.{Test, Check, Order, Canon, Checksum, Generate, Init, Meta, Register, Pull, Push, Consistency, Boot, Get, Restore, Remove, Reports}
+use Rattle.lcm_program.specs.Did.{Did}
+use Rattle.lcm_program.specs.Objects.{Known, Objects}
+use Rattle.lcm_program.specs.Words.{IsForm}
+use Rattle.lcm_program.proofs.Forms.{one_form, plain}
+
+module _ {S K D H L C : Type 0} (o : Known S K D H L C) (status : Status) (before after : Objects S K D H L C) where
+  -- a row speaks of a command's name, and not of the place where that lies
+  same_row : (command : Command) → Did o (plain command) status before after ≡ Did o command status before after
+  same_row Test = refl
+  same_row Check = refl
+  same_row Order = refl
+  same_row Canon = refl
+  same_row Checksum = refl
+  same_row (Generate count) = refl
+  same_row (Init agent) = refl
+  same_row Meta = refl
+  same_row (Register name) = refl
+  same_row Pull = refl
+  same_row Push = refl
+  same_row Consistency = refl
+  same_row Boot = refl
+  same_row Get = refl
+  same_row Restore = refl
+  same_row (Remove stage) = refl
+  same_row Reports = refl
+
+  -- the rows of two commands for which the words ask are one
+  pub one_row : (a b : Command) (words : List (List ℕ)) → IsForm a words → IsForm b words → Did o a status before after → Did o b status before after
+  one_row a b words p q did =
+      subst (λ (X : Type 0). X) (same_row b)
+      (subst (λ (x : Command). Did o x status before after) (one_form a b words p q) (subst (λ (X : Type 0). X) (sym (same_row a)) did))
