@@ -15,6 +15,7 @@ import sys
 HEADER = 'instance of OMI_ConfigurationDocument{Version="2.0.0";};'
 LIMIT = 2_097_152  # the most bytes of a text
 SLOW = 3  # seconds that a text may take
+PUSHED = 10  # and a push, which writes and syncs a file for each resource
 
 folder = sys.argv[1]
 cases = open(os.path.join(folder, "cases"), "w")
@@ -90,7 +91,7 @@ def document_cases(name, depends, headers, words=("check", "order", "test")):
     for header in headers:
         text = document(ids, depends, header)
         for word in words:
-            case(f"{name}, the header at {header}", word, text, *lines[word])
+            case(f"{name}, the header at {header}", word, text, *lines[word], PUSHED if word == "push" else SLOW)
 
 
 def headers_of(count):
@@ -103,8 +104,8 @@ def documents():
         document_cases(f"{count} resources", [[] for _ in range(count)], [count], ("push",))
     for most in range(1, 13):
         for count in (40, 300):
-            behind = [list(range(r + 1, min(r + 1 + most, count))) for r in range(count)]
-            document_cases(f"{count} resources, each on {most} after it", behind, [count], ("check", "order"))
+            after = [list(range(r + 1, min(r + 1 + most, count))) for r in range(count)]
+            document_cases(f"{count} resources, each on {most} after it", after, [count], ("check", "order"))
             before = [list(range(max(0, r - most), r)) for r in range(count)]
             document_cases(f"{count} resources, each on {most} before it", before, [0], ("order", "test", "push"))
     count = 4096

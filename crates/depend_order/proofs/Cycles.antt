@@ -9,7 +9,7 @@ use Rattle.depend_order.specs.Cycle.{DependsOn, IsLeft, IsFirstLeft, IsWalk, IsC
 use Rattle.depend_order.specs.Laws.{AtMostOneCycle, NeverBoth, CyclesAreClosed}
 use Rattle.depend_order.proofs.Splits.{split_push, Contains-split}
 
--- behind the first, nothing stands twice either
+-- after the first, nothing stands twice either
 once_tail : (x : ℕ) (xs : List ℕ) → IsOnce (x ∷ xs) → IsOnce xs
 once_tail x xs once a r b p has = once (x ∷ a) r b (ap (λ (l : List ℕ). x ∷ l) p) (Contains-append_right (x ∷ []) a r has)
 

@@ -69,7 +69,7 @@ module _ (count : ℕ) (numbers : ℕ → List ℕ) where
     ]
   ]
 
-  -- an earliest-ready list behind which nothing is ready
+  -- an earliest-ready list after which nothing is ready
   record IsLongest (list : List ℕ) : Type 0 where
     earliest : IsEarliestReady count Depends list
     stuck : (r : ℕ) → IsReady count Depends list r → ⊥

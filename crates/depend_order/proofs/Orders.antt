@@ -43,7 +43,7 @@ module _ (count : ℕ) (depends : ℕ → ℕ → Type 0) where
         | inr more ↦ inr (more.0, λ i. sym same i ∷ more.1 i)
       ]
 
-  -- where nothing is ready behind a list, an earliest-ready list holds no other places
+  -- where nothing is ready after a list, an earliest-ready list holds no other places
   pub stopped : (list : List ℕ) → IsEarliestReady count depends list → ((r : ℕ) → IsReady count depends list r → ⊥)
       → (other : List ℕ) → IsEarliestReady count depends other → (r : ℕ) → Contains other r → Contains list r
   stopped list earliest stuck other also r has = elim (fronts [] list other earliest also) [

@@ -38,7 +38,7 @@ module _ {A : Type 0} where
   pub Contains-split : (a : List A) (x : A) (b : List A) → Contains (a ++ x ∷ b) x
   Contains-split a x b = Contains-append_right a (x ∷ b) x (0, omega arith, refl)
 
--- behind the first, which is not it, an element is still held
+-- after the first, which is not it, an element is still held
 pub split_more : (walk lead rest : List ℕ) (x : ℕ) → walk ≡ lead ++ rest → Contains rest x → (get_or rest 0 0 ≡ x → ⊥)
     → ((longer : List ℕ) × (walk ≡ longer ++ drop 1 rest)) × Contains (drop 1 rest) x
 split_more walk lead [] x p has ne = absurd (omega (arith, has.1))

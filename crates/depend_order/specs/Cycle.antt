@@ -33,7 +33,7 @@ pub record IsWalk (count : ℕ) (names : ℕ → ℕ → ℕ → Type 0) (walk :
   pub goes_on : (a : List ℕ) (r s : ℕ) (b : List ℕ) → walk ≡ a ++ r ∷ s ∷ b → IsFirstLeft count names r s
 
 -- a walk comes to no place twice until it comes to one of its places again:
--- the cycle is that place and what stands behind its first visit
+-- the cycle is that place and what stands after its first visit
 pub record IsCycle (count : ℕ) (names : ℕ → ℕ → ℕ → Type 0) (cycle : List ℕ) : Type 0 where
   pub lead : List ℕ
   pub first : ℕ

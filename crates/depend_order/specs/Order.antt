@@ -15,7 +15,7 @@ pub record IsNext (count : ℕ) (depends : ℕ → ℕ → Type 0) (list : List 
   pub ready : IsReady count depends list r
   pub least : (s : ℕ) → IsReady count depends list s → r ≤ s
 
--- at each position stands the least place that is ready behind the earlier ones
+-- at each position stands the least place that is ready after the earlier ones
 abbrev pub IsEarliestReady : ℕ → (ℕ → ℕ → Type 0) → List ℕ → Type 0
 IsEarliestReady count depends list =
     (a : List ℕ) (r : ℕ) (b : List ℕ) → list ≡ a ++ r ∷ b → IsNext count depends a r

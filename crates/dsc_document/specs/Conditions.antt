@@ -36,7 +36,7 @@ HoldsUnplaced places scalars = (alias : List ℕ) × Contains scalars (Alias ali
 abbrev pub IsHeaderAt : List Instance → ℕ → Type 0
 IsHeaderAt instances index = HasAt instances index (λ i. IsTrue (is_header i))
 
--- the first header at a place or behind it
+-- the first header at a place or after it
 pub record IsNextHeader (instances : List Instance) (from index : ℕ) : Type 0 where
   pub behind : from ≤ index
   pub header : IsHeaderAt instances index

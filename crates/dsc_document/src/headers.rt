@@ -33,7 +33,7 @@ pub fn check_one_header(instances: &[Instance], first: usize) -> Result<(), DocE
     }
 }
 
-// The place of the first header at `from` or behind it.
+// The place of the first header at `from` or after it.
 fn header_from(instances: &[Instance], from: usize) -> Option<usize>
     requires { from ≤ length instances.now }
     ensures { MatchOption result ((k : ℕ) → from ≤ k → IsHeaderAt instances.now k → ⊥) (IsNextHeader instances.now from) }

@@ -21,20 +21,27 @@ use Rattle.node_state.specs.Table.{Steps}
 use Rattle.node_state.specs.Table.{after as after_of}
 use Rattle.node_state.proofs.SoundSteps.{only_one}
 use Rattle.node_pull.specs.declared.error.PullError.{PullError}
+use Rattle.node_pull.specs.declared.error.PullError.TheVariants as pulls
+use Rattle.node_pull.specs.Errors.{error_of, staging_error}
 use Rattle.node_pull.specs.Contents.{IsHeldOrAccepted}
-use Rattle.node_pull.specs.declared.modules.Module.{Module}
-use Rattle.node_pull.specs.Packages.{AddsAccepted}
+use Rattle.node_pull.specs.Packages.{modules_of}
+use Rattle.node_pull.specs.Pulling as pulling
 use Rattle.node_pull.specs.Pulling.{Pulled}
-use Rattle.node_pull.specs.Views.{GoesOn, LinkView}
-use Rattle.node_pull.proofs.AddedPackages.{adds_on, adds_same, pulled_adds}
-use Rattle.node_pull.proofs.AcceptedParts.{accepted_later, pulled_accepted}
+use Rattle.node_pull.specs.Views.{Accepts, GoesOn, LinkView}
+use Rattle.node_pull.proofs.AddedPackages.{adds_on, packages_are_accepted, packages_are_there}
+use Rattle.node_pull.proofs.AcceptedParts.{pulled_accepted}
+use Rattle.node_pull.proofs.GoingOn.{on_and_on, packages_go_on}
+use Rattle.node_pull.proofs.Since.{since_then}
+use Rattle.pull_client.specs.Content.{GivesPart}
+use Rattle.pull_client.specs.Requests.{content_request}
 use Rattle.dsc_node.specs.declared.command.Command.{Command}
 use Rattle.dsc_node.specs.declared.command.Command.TheVariants as commands
+use Rattle.dsc_node.specs.declared.status.Status.{Status}
 use Rattle.dsc_node.specs.declared.command.Task.{Task}
 use Rattle.dsc_node.specs.declared.command.Task.TheVariants.{Init, Meta, Register, Pull, Push, Consistency, Boot, Get, Restore, Remove, Reports}
-use Rattle.dsc_node.specs.Bringing.{Brought, IsPull, events_of, held_among, held_of, registered_by, staged_by}
-use Rattle.dsc_node.specs.Commands.{IsTaskOf, boot_of, given_of, is_run}
-use Rattle.dsc_node.specs.Headline.{IsBrought, Keeps, KeepsReport, WasThere}
+use Rattle.dsc_node.specs.Bringing.{Brought, IsPull, events_of, held_among, held_of, registered_by, staged_by, status_of_pull}
+use Rattle.dsc_node.specs.Commands.{IsAllowed, IsTaskOf, boot_of, given_of, is_run}
+use Rattle.dsc_node.specs.Headline.{AddsPackages, IsBrought, IsPullFault, Keeps, KeepsReport, WasThere}
 
 -- ---- which event it is
 
@@ -191,7 +198,13 @@ module _ {D S : Type 0} (d : disks.Ghosts D) (begin : D) (runs_on : resources.Gh
       → WasThere d begin node part ⊎ IsBrought commands.Pull node asked end part
   held_or_accepted server is_server agent is_agent (inl held) = inl (inl (held_slot node.pending node.current node.previous part held))
   held_or_accepted server is_server agent is_agent (inr accepted) =
-      inr (record { server = server; is_server = is_server; agent = agent; is_agent = is_agent; accepted = accepted_later server agent asked heard end part accepted later })
+      inr (record {
+        server = server;
+        is_server = is_server;
+        agent = agent;
+        is_agent = is_agent;
+        accepted = since_then (Accepts server (content_request server agent part.name) (GivesPart part.name) part) asked heard end accepted later;
+      })
 
   pull_brings : (answer : Result (Option Staged) PullError) (server : Server) → node.meta.server ≡ Some server → (agent : ℕ) → node.agent ≡ Some agent
       → Pulled machine.packages runs_on.faults node.meta server agent (held_of node) asked heard before after answer
@@ -235,26 +248,93 @@ module _ {D S : Type 0} (d : disks.Ghosts D) (begin : D) (runs_on : resources.Gh
 
 -- ---- packages
 
+pub fault_error : (error : PullError) → IsPullFault (status_of_pull error)
+fault_error pulls.Link = tt
+fault_error pulls.Host = tt
+fault_error (pulls.Refused fault) = tt
+fault_error pulls.Memory = tt
+
+-- what a pull came to
+module _ {S : Type 0} (runs_on : resources.Ghosts S) (machine : machines.Ghosts S) (node : Node) (end : LinkView) (status : Status) (allowed : IsAllowed node Pull) where
+  pulled_adds : (server : Server) → node.meta.server ≡ Some server → (agent : ℕ) → node.agent ≡ Some agent → (asked heard : LinkView) (before after : S) (answer : Result (Option Staged) PullError)
+      → GoesOn heard end → ((error : PullError) → answer ≡ Err error → IsPullFault status)
+      → Pulled machine.packages runs_on.faults node.meta server agent (held_of node) asked heard before after answer
+      → AddsPackages commands.Pull node asked end status (machine.packages before) (machine.packages after)
+  pulled_adds server is_server agent is_agent _ _ _ _ _ later fault (pulling.not_listed asked heard state error listed) = inl (inr (fault (error_of error) refl), refl)
+  pulled_adds server is_server agent is_agent _ _ _ _ _ later fault (pulling.not_staged asked heard state parts error listed unfit) = inl (inr (fault (staging_error error) refl), refl)
+  pulled_adds server is_server agent is_agent _ _ _ _ _ later fault (pulling.no_package asked listing heard before after staged document error listed fitting merged came) = inr (record {
+    allowed = allowed;
+    server = server;
+    is_server = is_server;
+    agent = agent;
+    is_agent = is_agent;
+    staged = staged;
+    listing = listing;
+    listed = listed;
+    fitting = fitting;
+    document = document;
+    merged = merged;
+    on = on_and_on listing heard end (packages_go_on came) later;
+    added =
+        adds_on server (modules_of document) listing heard end (machine.packages before) (machine.packages after) later
+        (packages_are_accepted machine.packages runs_on.faults server (modules_of document) listing heard before after (Err error) came);
+    there = λ fine. absurd (fine (fault error refl));
+  })
+  pulled_adds server is_server agent is_agent _ _ _ _ _ later fault (pulling.brought asked listing heard before after staged document brings listed fitting merged came is) = inr (record {
+    allowed = allowed;
+    server = server;
+    is_server = is_server;
+    agent = agent;
+    is_agent = is_agent;
+    staged = staged;
+    listing = listing;
+    listed = listed;
+    fitting = fitting;
+    document = document;
+    merged = merged;
+    on = on_and_on listing heard end (packages_go_on came) later;
+    added =
+        adds_on server (modules_of document) listing heard end (machine.packages before) (machine.packages after) later
+        (packages_are_accepted machine.packages runs_on.faults server (modules_of document) listing heard before after (Ok tt) came);
+    there = λ fine. packages_are_there machine.packages runs_on.faults server (modules_of document) listing heard before after came;
+  })
+
 module _ {S : Type 0} (runs_on : resources.Ghosts S) (machine : machines.Ghosts S) (node : Node) (start : ℕ) (asked heard end : LinkView) (later : GoesOn heard end) (before after : S)
-    (result : Result (Option Event) PullError) where
-  abbrev pub Adds : Type 0
-  Adds = (modules : List Module) × AddsAccepted modules end (machine.packages before) (machine.packages after)
+    (result : Result (Option Event) PullError) (status : Status) (fault : (error : PullError) → result ≡ Err error → IsPullFault status) where
+  abbrev pub Adds : Command → Type 0
+  Adds command = AddsPackages command node asked end status (machine.packages before) (machine.packages after)
 
-  none_added : after ≡ before → Adds
-  none_added same = ([], adds_same [] end (machine.packages before) (machine.packages after) (ap machine.packages same))
+  pull_adds : IsAllowed node Pull → IsPull machine runs_on.faults node asked heard before after result → Adds commands.Pull
+  pull_adds allowed p =
+      pulled_adds runs_on machine node end status allowed p.server p.is_server p.agent p.is_agent asked heard before after p.answer later
+      (λ error is. fault error (p.is ∙ ap staged_by is)) p.pulled
 
-  -- those that a task brings were accepted
-  pub brought_adds : (task : Task) → Brought runs_on machine node task start asked heard before after result → (modules : List Module) × AddsAccepted modules end (machine.packages before) (machine.packages after)
-  brought_adds (Init agent) b = none_added b.0
-  brought_adds (Meta meta) b = none_added b.0
-  brought_adds (Register name) b = none_added b.0
-  brought_adds Pull b =
-      let adds = pulled_adds b.pulled in
-      (adds.0, adds_on adds.0 heard end (machine.packages before) (machine.packages after) later adds.1)
-  brought_adds (Push staged) b = none_added b.0
-  brought_adds Consistency b = none_added b.0
-  brought_adds Boot b = none_added b.0
-  brought_adds Get b = none_added b.0
-  brought_adds Restore b = none_added b.0
-  brought_adds (Remove stage) b = none_added b.0
-  brought_adds Reports b = none_added b.0
+  as_task : (task other : Task) → task ≡ other → Brought runs_on machine node task start asked heard before after result → Brought runs_on machine node other start asked heard before after result
+  as_task task other is b = subst (λ (t : Task). Brought runs_on machine node t start asked heard before after result) is b
+
+  same : after ≡ before → machine.packages after ≡ machine.packages before
+  same is = ap machine.packages is
+
+  -- what a command adds before its run
+  pub command_adds : (command : Command) (task : Task) → IsTaskOf command task → IsAllowed node task → Brought runs_on machine node task start asked heard before after result → Adds command
+  command_adds (commands.Init agent) task is allowed b = same (as_task task (Init agent) is b).0
+  command_adds (commands.Meta meta) task is allowed b = same (as_task task (Meta meta) is b).0
+  command_adds (commands.Register name) task is allowed b = same (as_task task (Register name) is b).0
+  command_adds commands.Pull task is allowed b = pull_adds (subst (IsAllowed node) is allowed) (as_task task Pull is b)
+  command_adds (commands.Push bytes) (Push staged) is allowed b = same b.0
+  command_adds (commands.Push bytes) (Init agent) is allowed b = absurd is
+  command_adds (commands.Push bytes) (Meta meta) is allowed b = absurd is
+  command_adds (commands.Push bytes) (Register name) is allowed b = absurd is
+  command_adds (commands.Push bytes) Pull is allowed b = absurd is
+  command_adds (commands.Push bytes) Consistency is allowed b = absurd is
+  command_adds (commands.Push bytes) Boot is allowed b = absurd is
+  command_adds (commands.Push bytes) Get is allowed b = absurd is
+  command_adds (commands.Push bytes) Restore is allowed b = absurd is
+  command_adds (commands.Push bytes) (Remove stage) is allowed b = absurd is
+  command_adds (commands.Push bytes) Reports is allowed b = absurd is
+  command_adds commands.Consistency task is allowed b = same (as_task task Consistency is b).0
+  command_adds commands.Boot task is allowed b = same (as_task task Boot is b).0
+  command_adds commands.Get task is allowed b = same (as_task task Get is b).0
+  command_adds commands.Restore task is allowed b = same (as_task task Restore is b).0
+  command_adds (commands.Remove stage) task is allowed b = same (as_task task (Remove stage) is b).0
+  command_adds commands.Reports task is allowed b = same (as_task task Reports is b).0

@@ -224,7 +224,7 @@ headline d host clock succeeds contained law command before after status lines o
       h4 = record {
         packages = o.leaves.packages;
         added =
-            work_adds (known d (kinds_of host) (machine_of host) clock) o.task o.from (disk_counts d before.disk after.disk) [] o.from before.beside after.beside status lines o.ready o.run o.ended.committed o.ended.broken o.ended.table;
+            work_adds (known d (kinds_of host) (machine_of host) clock) command o.task o.is_task o.from (disk_counts d before.disk after.disk) [] o.from before.beside after.beside status lines o.ready o.run o.ended.committed o.ended.broken o.ended.table;
         untested = o.leaves.kept;
         later = o.leaves.later;
         runs = facts.h4;

@@ -1,5 +1,7 @@
 -- The events of a start: which of them stage a part, and which keep a report.
-use Rattle.std.proofs.Common.{◌≡◌, ◌⊎◌, inl, inr, ⊎_elim, ℕ, ◌==◌, ◌&&◌, cond, Bool, true, false, List, [], ◌∷◌, ◌++◌, Option, Some, Result, Ok, Err, refl, sym, subst}
+use Rattle.std.proofs.lemmas.Option.{none-some}
+use Rattle.std.proofs.Common.{◌≡◌, ◌⊎◌, inl, inr, ⊎_elim, ℕ, ◌==◌, ◌&&◌, cond, Bool, true, false, List, [], ◌∷◌, ◌++◌, Option, Some, None, Result, Ok, Err, refl, sym, ap, subst, ◌∙◌}
+use Rattle.dsc_outside.specs.declared.entries.Package.{Package}
 use Rattle.partial_merge.specs.declared.part.Part.{Part}
 use Rattle.lcm_core.specs.declared.modes.RunEnd.{RunEnd}
 use Rattle.lcm_core.specs.declared.modes.RunEnd.TheVariants as ends
@@ -7,22 +9,27 @@ use Rattle.report_log.specs.declared.report.Report.{Report}
 use Rattle.node_state.specs.declared.node.Node.{Node}
 use Rattle.node_state.specs.declared.event.Event.{Event}
 use Rattle.node_state.specs.declared.event.Event.TheVariants as events
+use Rattle.node_state.specs.declared.event.Why.{Why}
 use Rattle.node_state.specs.Slots.{Stages, StagesPart}
 use Rattle.node_store.specs.declared.error.StoreError.{StoreError}
 use Rattle.node_store.specs.declared.error.StoreError.TheVariants as errors
+use Rattle.dsc_node.specs.declared.command.Command.{Command}
+use Rattle.dsc_node.specs.declared.command.Command.TheVariants as commands
 use Rattle.dsc_node.specs.declared.command.Task.{Task}
+use Rattle.dsc_node.specs.declared.command.Task.TheVariants.{Pull}
 use Rattle.dsc_node.specs.declared.status.Status.{Status}
-use Rattle.node_pull.specs.declared.modules.Module.{Module}
-use Rattle.node_pull.specs.Packages.{AddsAccepted}
+use Rattle.dsc_node.specs.declared.status.Status.TheVariants as statuses
 use Rattle.node_pull.specs.Views.{GoesOn, LinkView}
-use Rattle.node_pull.proofs.AddedPackages.{adds_same}
 use Rattle.node_pull.proofs.GoingOn.{on_and_on, sends_goes_on, stays}
-use Rattle.dsc_node.specs.Bringing.{Brought, events_of}
+use Rattle.dsc_node.specs.Bringing.{Brought, events_of, status_of_pull}
+use Rattle.dsc_node.specs.Commands.{IsAllowed, IsTaskOf, waits, why_not}
 use Rattle.dsc_node.specs.Commits.{RefusedAfter, all_of, broken_by}
 use Rattle.dsc_node.specs.Runs.{Run, event_of}
 use Rattle.dsc_node.specs.Sending.{Sends, Tried, all_sent, no_memory, not_sent, sent, unmarked, unprinted}
 use Rattle.dsc_node.specs.Work.{Beside, Finish, Known, StartTable, clock_failed, finished, first_refused, no_run, not_allowed, not_brought, report_kept, report_refused, settled, unended, unready, waiting}
-use Rattle.dsc_node.proofs.Firsts.{brought_adds}
+use Rattle.dsc_node.specs.Endings.{Ends}
+use Rattle.dsc_node.specs.Headline.{AddsPackages, IsPullFault, IsPullRefused}
+use Rattle.dsc_node.proofs.Firsts.{command_adds, fault_error}
 use Rattle.dsc_node.proofs.Sends.{sends_less}
 
 -- the link tells what it told before, and more
@@ -142,21 +149,52 @@ module _ (part : Part) where
         stages = finish_stages o from counts (events_of first) mid _ readings _ start heard after.link ready after.machine status lines run committed broken f s;
       }
 
--- before the run packages are added alone, each accepted
-pub work_adds : {D S C : Type 0} (o : Known D S C) (task : Task) (from : Node) (counts : ℕ × ℕ) (work : List Event) (node : Node) (before after : Beside S C) (status : Status) (lines : List ℕ)
-    (ready : S) (run : Option Run) (committed : List Event) (broken : Option Event)
+nothing_adds : {S : Type 0} (packages : S → Option (List Package)) (command : Command) (task : Task) → IsTaskOf command task → (node : Node) (asked heard : LinkView) (status : Status) (before ready : S)
+    → (task ≡ Pull → IsPullRefused node status) → ready ≡ before → AddsPackages command node asked heard status (packages before) (packages ready)
+nothing_adds packages (commands.Init agent) task is_task node asked heard status before ready refused is = ap packages is
+nothing_adds packages (commands.Meta meta) task is_task node asked heard status before ready refused is = ap packages is
+nothing_adds packages (commands.Register name) task is_task node asked heard status before ready refused is = ap packages is
+nothing_adds packages commands.Pull task is_task node asked heard status before ready refused is = inl (refused is_task, ap packages is)
+nothing_adds packages (commands.Push bytes) task is_task node asked heard status before ready refused is = ap packages is
+nothing_adds packages commands.Consistency task is_task node asked heard status before ready refused is = ap packages is
+nothing_adds packages commands.Boot task is_task node asked heard status before ready refused is = ap packages is
+nothing_adds packages commands.Get task is_task node asked heard status before ready refused is = ap packages is
+nothing_adds packages commands.Restore task is_task node asked heard status before ready refused is = ap packages is
+nothing_adds packages (commands.Remove stage) task is_task node asked heard status before ready refused is = ap packages is
+nothing_adds packages commands.Reports task is_task node asked heard status before ready refused is = ap packages is
+
+ends_fault : (wanted status : Status) (text lines : List ℕ) → IsPullFault wanted → Ends wanted text status lines → IsPullFault status
+ends_fault wanted status text lines fault ends = subst IsPullFault (sym ends.0) fault
+
+-- a task that is refused, or that waits, is not allowed
+not_of : (node : Node) (task : Task) (why : Why) → why_not node task ≡ Some why → IsAllowed node task → ⊥
+not_of node task why is allowed = absurd (none-some why (sym allowed.allowed ∙ is))
+
+not_ready : (node : Node) (task : Task) → waits node task ≡ true → IsAllowed node task → ⊥
+not_ready node task is allowed = absurd (cc (is, allowed.ready))
+
+as_pull : (node : Node) (task : Task) → task ≡ Pull → (IsAllowed node task → ⊥) → IsAllowed node Pull → ⊥
+as_pull node task is none = subst (λ (t : Task). IsAllowed node t → ⊥) is none
+
+-- what a start adds to a machine's packages before its run
+pub work_adds : {D S C : Type 0} (o : Known D S C) (command : Command) (task : Task) → IsTaskOf command task → (from : Node) (counts : ℕ × ℕ) (work : List Event) (node : Node)
+    (before after : Beside S C) (status : Status) (lines : List ℕ) (ready : S) (run : Option Run) (committed : List Event) (broken : Option Event)
     → StartTable o task from counts work node before after status lines ready run committed broken
-    → (modules : List Module) × AddsAccepted modules after.link (o.machine.packages before.machine) (o.machine.packages ready)
-work_adds o task from counts work node before after status lines _ _ _ _ (not_allowed why is idle ends) = ([], adds_same [] after.link (o.machine.packages before.machine) (o.machine.packages before.machine) refl)
-work_adds o task from counts work node before after status lines _ _ _ _ (waiting none is idle ends) = ([], adds_same [] after.link (o.machine.packages before.machine) (o.machine.packages before.machine) refl)
-work_adds o task from counts work node before after status lines _ _ _ _ (clock_failed allowed reads gave took rose machine link ends) =
-    ([], adds_same [] after.link (o.machine.packages before.machine) (o.machine.packages before.machine) refl)
-work_adds o task from counts work node before after status lines _ _ _ _ (not_brought start error allowed reads brought ends) =
-    brought_adds o.resources o.machine node start before.link after.link after.link (stays after.link) before.machine after.machine (Err error) task brought
-work_adds o task from counts work node before after status lines _ _ _ _ (first_refused start event error committed broken allowed reads brought refused ends) =
-    brought_adds o.resources o.machine node start before.link after.link after.link (stays after.link) before.machine after.machine (Ok (Some event)) task brought
-work_adds o task from counts work node before after status lines _ _ _ _ (settled start first allowed ends reads brought answers) =
-    brought_adds o.resources o.machine node start before.link after.link after.link (stays after.link) before.machine after.machine (Ok first) task brought
-work_adds o task from counts work node before after status lines _ _ _ _ (finished start readings heard ready first mid run committed broken allowed other gave took brought steps f) =
-    brought_adds o.resources o.machine node start before.link heard after.link
-    (finish_goes_on o from counts (work ++ events_of first) mid _ readings _ start heard after.link ready after.machine status lines run committed broken f) before.machine ready (Ok first) task brought
+    → AddsPackages command node before.link after.link status (o.machine.packages before.machine) (o.machine.packages ready)
+work_adds o command task is from counts work node before after status lines _ _ _ _ (not_allowed why why_is idle ends) =
+    nothing_adds o.machine.packages command task is node before.link after.link status before.machine before.machine (λ pull. inl (as_pull node task pull (not_of node task why why_is))) refl
+work_adds o command task is from counts work node before after status lines _ _ _ _ (waiting none waits_is idle ends) =
+    nothing_adds o.machine.packages command task is node before.link after.link status before.machine before.machine (λ pull. inl (as_pull node task pull (not_ready node task waits_is))) refl
+work_adds o command task is from counts work node before after status lines _ _ _ _ (clock_failed allowed reads gave took rose machine link ends) =
+    nothing_adds o.machine.packages command task is node before.link after.link status before.machine before.machine (λ pull. inr (ends_fault statuses.ClockFault status [] lines tt ends)) refl
+work_adds o command task is from counts work node before after status lines _ _ _ _ (not_brought start error allowed reads brought ends) =
+    command_adds o.resources o.machine node start before.link after.link after.link (stays after.link) before.machine after.machine (Err error) status
+    (λ other same. ends_fault (status_of_pull error) status [] lines (fault_error error) ends) command task is allowed brought
+work_adds o command task is from counts work node before after status lines _ _ _ _ (first_refused start event error committed broken allowed reads brought refused ends) =
+    command_adds o.resources o.machine node start before.link after.link after.link (stays after.link) before.machine after.machine (Ok (Some event)) status (λ other same. absurd (cc same)) command task is allowed brought
+work_adds o command task is from counts work node before after status lines _ _ _ _ (settled start first allowed ends reads brought answers) =
+    command_adds o.resources o.machine node start before.link after.link after.link (stays after.link) before.machine after.machine (Ok first) status (λ other same. absurd (cc same)) command task is allowed brought
+work_adds o command task is from counts work node before after status lines _ _ _ _ (finished start readings heard ready first mid run committed broken allowed other gave took brought steps f) =
+    command_adds o.resources o.machine node start before.link heard after.link
+    (finish_goes_on o from counts (work ++ events_of first) mid _ readings _ start heard after.link ready after.machine status lines run committed broken f) before.machine ready (Ok first) status
+    (λ other same. absurd (cc same)) command task is allowed brought

@@ -1,12 +1,15 @@
 -- What a start promises of the machine and of its store, over the kinds of resources of a host: the headline, fact by fact.
-use Rattle.std.specs.Prelude.{◌≡◌, ◌⊎◌, ℕ, ◌<◌, ◌≤◌, ◌-◌, ◌^◌, true, List, [], ◌∷◌, ◌++◌, length, Option, Some, None, ⊤}
+use Rattle.std.specs.Prelude.{◌≡◌, ◌⊎◌, ℕ, ◌<◌, ◌≤◌, ◌-◌, ◌^◌, true, List, [], ◌∷◌, ◌++◌, length, Option, Some, None, Result, Ok, ⊤}
 use Rattle.dsc_terms.specs.Counts.{Rose}
 use Rattle.dsc_outside.specs.declared.disk.Disk as disks
+use Rattle.dsc_outside.specs.declared.entries.Package.{Package}
 use Rattle.dsc_outside.specs.declared.host.Host as hosts
 use Rattle.dsc_outside.specs.Host.{HostState}
+use Rattle.dsc_document.specs.declared.document.Document.{Document}
 use Rattle.gate_log.specs.Standing.{AllStand, StoodFor}
 use Rattle.meta_config.specs.declared.server.Server.{Server}
 use Rattle.partial_merge.specs.declared.part.Part.{Part}
+use Rattle.partial_merge.specs.Merged.{Merged}
 use Rattle.partial_merge.specs.Parts.{unnamed_part}
 use Rattle.resource_kinds.specs.declared.kinds.Kinds.{Kinds}
 use Rattle.resource_kinds.specs.declared.entry.Entry.{Entry}
@@ -27,18 +30,24 @@ use Rattle.report_log.specs.Report.{IsReport}
 use Rattle.node_state.specs.declared.node.Node.{Node}
 use Rattle.node_state.specs.declared.event.Event.{Event}
 use Rattle.node_state.specs.declared.event.Event.TheVariants as events
+use Rattle.node_state.specs.declared.list.Staged.{Staged}
 use Rattle.node_state.specs.Slots.{IsSlot}
+use Rattle.node_state.specs.StagedParts.{parts_of}
+use Rattle.node_state.specs.Staging.{AreFitting}
 use Rattle.node_state.specs.Sound.{Sound}
 use Rattle.node_state.specs.Table.{Steps}
 use Rattle.node_store.specs.Stands.{Stands}
 use Rattle.dsc_node.specs.declared.command.Command.{Command}
 use Rattle.dsc_node.specs.declared.command.Command.TheVariants.{Pull, Push}
+use Rattle.dsc_node.specs.declared.command.Task.TheVariants as tasks
 use Rattle.dsc_node.specs.declared.status.Status.{Status}
 use Rattle.dsc_node.specs.declared.status.Status.TheVariants as statuses
-use Rattle.node_pull.specs.declared.modules.Module.{Module}
 use Rattle.node_pull.specs.Contents.{WasAccepted}
-use Rattle.node_pull.specs.Packages.{AddsAccepted}
-use Rattle.node_pull.specs.Views.{LinkView}
+use Rattle.node_pull.specs.Listing.{Listed}
+use Rattle.node_pull.specs.Packages.{AddsAccepted, HasAll, modules_of}
+use Rattle.node_pull.specs.Views.{GoesOn, LinkView}
+use Rattle.dsc_node.specs.Bringing.{held_of}
+use Rattle.dsc_node.specs.Commands.{IsAllowed}
 use Rattle.dsc_node.specs.Commits.{all_of}
 use Rattle.dsc_node.specs.Lines.{IsRunText}
 use Rattle.dsc_node.specs.Path.{IsOnTheWay, Passes}
@@ -120,11 +129,46 @@ abbrev pub IsRun : {H : Type 0} → hosts.Ghosts H → Option Run → Kinds H �
 IsRun host None before after = after ≡ before
 IsRun host (Some run) before after = HasTrace host run before after
 
--- before the run nothing but the host's packages changed: packages of modules were added, each accepted under the digest that was announced
--- for it; no resource was tested or set, and the host's count did not fall
-pub record RunsAfterPackages {H : Type 0} (host : hosts.Ghosts H) (run : Option Run) (heard : LinkView) (before ready after : Kinds H) : Type 0 where
+-- the ends of a pull that failed, or whose server's answer was refused; a later step may end as the last one
+abbrev pub IsPullFault : Status → Type 0
+IsPullFault statuses.ClockFault = ⊤
+IsPullFault statuses.LinkFault = ⊤
+IsPullFault statuses.HostFault = ⊤
+IsPullFault (statuses.PeerRefused fault) = ⊤
+IsPullFault statuses.Memory = ⊤
+IsPullFault _ = ⊥
+
+-- the node did not allow the pull, or it ended so
+abbrev pub IsPullRefused : Node → Status → Type 0
+IsPullRefused node status = (IsAllowed node tasks.Pull → ⊥) ⊎ IsPullFault status
+
+-- The node's server listed these parts, which fit its meta-configuration, and then for the modules that their document names it gave the
+-- packages that the host lacked. Unless the pull failed, the host then has the package of each of these modules.
+pub record PulledPackages (node : Node) (asked heard : LinkView) (status : Status) (before ready : Option (List Package)) : Type 0 where
+  pub allowed : IsAllowed node tasks.Pull
+  pub server : Server
+  pub is_server : node.meta.server ≡ Some server
+  pub agent : ℕ
+  pub is_agent : node.agent ≡ Some agent
+  pub staged : Staged
+  pub listing : LinkView
+  pub listed : Listed node.meta server agent (held_of node) asked listing (Ok (parts_of staged))
+  pub fitting : AreFitting node.meta (parts_of staged)
+  pub document : Document
+  pub merged : Merged (parts_of staged) document
+  pub on : GoesOn listing heard
+  pub added : AddsAccepted server (modules_of document) listing heard before ready
+  pub there : (IsPullFault status → ⊥) → HasAll (modules_of document) ready
+
+-- what a command adds to the host's packages before its run: nothing, or those of a pull
+abbrev pub AddsPackages : Command → Node → LinkView → LinkView → Status → Option (List Package) → Option (List Package) → Type 0
+AddsPackages Pull node asked heard status before ready = (IsPullRefused node status × (ready ≡ before)) ⊎ PulledPackages node asked heard status before ready
+AddsPackages _ node asked heard status before ready = ready ≡ before
+
+-- before the run nothing but the host's packages changed; no resource was tested or set, and the host's count did not fall
+pub record RunsAfterPackages {H : Type 0} (host : hosts.Ghosts H) (command : Command) (node : Node) (asked heard : LinkView) (status : Status) (run : Option Run) (before ready after : Kinds H) : Type 0 where
   pub packages : ChangesPackages (host.told (host_of before)) (host.told (host_of ready))
-  pub added : (modules : List Module) × AddsAccepted modules heard (packages_of (host.told (host_of before))) (packages_of (host.told (host_of ready)))
+  pub added : AddsPackages command node asked heard status (packages_of (host.told (host_of before))) (packages_of (host.told (host_of ready)))
   pub untested : calls_of ready ≡ calls_of before
   pub later : host.faults (host_of before) ≤ host.faults (host_of ready)
   pub runs : IsRun host run ready after
@@ -213,7 +257,7 @@ pub record Headline {D H C : Type 0} (d : disks.Ghosts D) (host : hosts.Ghosts H
   pub h1 : IsAfterPrefix d before.disk after.disk from status committed broken
   pub h2 : AreSound d before.disk from (all_of committed broken)
   pub h3 : AreAsBrought d before.disk command before.beside.link after.beside.link from (all_of committed broken)
-  pub h4 : RunsAfterPackages host run after.beside.link before.beside.machine ready after.beside.machine
+  pub h4 : RunsAfterPackages host command from before.beside.link after.beside.link status run before.beside.machine ready after.beside.machine
   pub h5 : AreTold from run after.beside.machine (all_of committed broken) status lines
   pub h6 : IsComplete host d before.disk after.disk from run ready after.beside.machine committed
   pub h7 : HoldTogether host run ready after.beside.machine

@@ -2,7 +2,7 @@
 ghost use Rattle.std.specs.Prelude.{IfOk};
 ghost use Rattle.dsc_node.specs.Commands.{IsTaken};
 
-use dsc_node::{Command, Status, start};
+use dsc_node::{Command, StartEnd, Status, start};
 use dsc_outside::{DiskStop, HostContents, MemoryClock, MemoryDisk, MemoryHost, MemoryLink};
 use mof_values::{Bytes, Memory};
 use resource_kinds::Kinds;
@@ -63,6 +63,22 @@ pub fn command_of(alloc: Global, word: &str, document: &str) -> Result<Command, 
     })
 }
 
+/// What a start runs over.
+#[derive(Drop)]
+struct Machine {
+    disk: MemoryDisk,
+    host: MemoryHost,
+    clock: MemoryClock,
+}
+
+/// What a start left of it, and how it ended.
+#[derive(Drop)]
+struct Ran {
+    end: StartEnd,
+    disk: MemoryDisk,
+    host: HostContents,
+}
+
 /// One start.
 pub fn started(
     alloc: Global,
@@ -71,27 +87,51 @@ pub fn started(
     document: &str,
     trouble: &Trouble<'_>,
 ) -> Result<(Outcome, Left), Memory> {
+    let clock = clock_of(alloc, trouble)?;
     let command = command_of(alloc, word, document)?;
-    let failing = trouble.disk.to_vec(alloc)?;
-    let mut disk = MemoryDisk::of(left.store, failing, trouble.stop)?;
-    let host = MemoryHost::of(left.host, Vec::new(alloc), None);
-    let mut kinds = Kinds::new(alloc, host);
-    let failing = trouble.clock.to_vec(alloc)?;
-    let mut clock = if trouble.is_set_back {
-        MemoryClock::new(vec![in alloc; Some(1_007), Some(1_000)]?, failing)
-    } else {
-        MemoryClock::new(vec![in alloc; Some(1_000), Some(1_007)]?, failing)
+    let machine = Machine {
+        disk: disk_of(alloc, left.store, trouble)?,
+        host: MemoryHost::of(left.host, Vec::new(alloc), None),
+        clock,
     };
+    outcome_of(ended(alloc, command, machine))
+}
+
+fn disk_of(alloc: Global, store: Vec<u8>, trouble: &Trouble<'_>) -> Result<MemoryDisk, Memory> {
+    MemoryDisk::of(store, trouble.disk.to_vec(alloc)?, trouble.stop)
+}
+
+fn clock_of(alloc: Global, trouble: &Trouble<'_>) -> Result<MemoryClock, Memory> {
+    let first = if trouble.is_set_back { 1_007 } else { 1_000 };
+    let readings = [Some(first), Some(2_007 - first)].to_vec(alloc)?;
+    Ok(MemoryClock::new(readings, trouble.clock.to_vec(alloc)?))
+}
+
+fn ended(alloc: Global, command: Command, machine: Machine) -> Ran
+    requires { IsTaken command }
+{
+    let mut disk = machine.disk;
+    let mut clock = machine.clock;
+    let mut kinds = Kinds::new(alloc, machine.host);
     let mut link = MemoryLink::new(Vec::new(alloc), Vec::new(alloc));
     let end = start(alloc, command, &mut disk, &mut kinds, &mut link, &mut clock);
-    let outcome = Outcome {
-        status: end.status,
-        lines: end.lines,
-        calls: disk.calls().len(),
-    };
-    let left = Left {
-        store: disk.after_stop()?,
+    Ran {
+        end,
+        disk,
         host: kinds.into_host().into_contents(),
+    }
+}
+
+fn outcome_of(ended: Ran) -> Result<(Outcome, Left), Memory> {
+    let calls = ended.disk.calls().len();
+    let left = Left {
+        store: ended.disk.after_stop()?,
+        host: ended.host,
+    };
+    let outcome = Outcome {
+        status: ended.end.status,
+        lines: ended.end.lines,
+        calls,
     };
     Ok((outcome, left))
 }

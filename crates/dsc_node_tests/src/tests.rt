@@ -1,3 +1,2 @@
-mod rows;
-mod sizes;
+mod clock;
 mod stops;

@@ -46,7 +46,7 @@ value_removed name vs = λ i key. gone key i
     gone : (key : List ℕ) → value_of (filter (λ v. not (bytes_eq v.name name)) vs) key ≡ update bytes_eq (value_of vs) name None key
     gone key = rw (bytes_swap name key) (named_filter (λ v. v.name) (λ v. v.value) (λ other. bytes_eq other name) vs key)
 
--- one more variable behind those of other names
+-- one more variable after those of other names
 value_pushed_at : (name value : List ℕ) (vs : List Variable) (key : List ℕ)
     → value_of (vs ++ record { name = name; value = value } ∷ []) key ≡ cond (bytes_eq name key) (cond (is_none (value_of vs key)) (Some value) (value_of vs key)) (value_of vs key)
 value_pushed_at name value [] key = refl

@@ -12,7 +12,7 @@ pub record Torn (at n : ℕ) (old new : List ℕ) : Type 0 where
   pub no_shorter : length old ≤ length new
   pub no_longer : length new ≤ max (length old) (at + n)
 
--- a cut that a crash may undo in part: any bytes behind it, up to the old end
+-- a cut that a crash may undo in part: any bytes after it, up to the old end
 pub record Cut (n : ℕ) (old new : List ℕ) : Type 0 where
   pub no_shorter : min n (length old) ≤ length new
   pub no_longer : length new ≤ length old

@@ -58,6 +58,6 @@ staging_place place = path_with_file_name place staging_name
 abbrev pub is_entry_name : List ℕ → Bool
 is_entry_name name = not (((bytes_eq name [] || bytes_eq name (codes ".")) || bytes_eq name (codes "..")) || is_staging_name name)
 
--- one of the names, each with a NUL behind it, is that of something in the folder
+-- one of the names, each with a NUL after it, is that of something in the folder
 abbrev pub has_entry_name : List ℕ → Bool
 has_entry_name names = list_any is_entry_name (slice_split (λ b. b == 0) names)

@@ -51,7 +51,7 @@ abbrev pub TellsVariable : {E : Type 0} → Option HostState → List ℕ → Re
 TellsVariable None name result old new = ⊤
 TellsVariable (Some host) name result old new = IfOk result (λ there. Shows (host.variable name) there old new)
 
--- the buffer of a look-up: its bytes stay, with a value behind them where one is there
+-- the buffer of a look-up: its bytes stay, with a value after them where one is there
 abbrev pub LeavesBuffer : {E : Type 0} → Result Bool E → List ℕ → List ℕ → Type 0
 LeavesBuffer (Ok true) old new = StartsWith new old
 LeavesBuffer (Ok false) old new = new ≡ old

@@ -12,7 +12,7 @@ use Rattle.dsc_outside.specs.declared.exchange.Outcome.TheVariants.{Answered, Fa
 abbrev pub answer_limit : ℕ
 answer_limit = 67108864
 
--- the error is this outcome; want of memory tells nothing of it
+-- the error is this outcome; lack of memory tells nothing of it
 abbrev pub IsFault : LinkError → Outcome → Type 0
 IsFault errors.Failed Failed = ⊤
 IsFault errors.Failed (Answered bytes) = ⊥
@@ -36,7 +36,7 @@ AddsExchange (Some before) after to request result old new =
     ((outcome : Outcome) × ComesTo result old new outcome × (after ≡ Some (before ++ record { peer = to; request = request; outcome = outcome } ∷ [])))
     ⊎ (IsErrOf result errors.Memory × (after ≡ Some before))
 
--- the buffer of an answer: its bytes stay, with the answer behind them where there is one
+-- the buffer of an answer: its bytes stay, with the answer after them where there is one
 abbrev pub LeavesAnswer : Result (Unit {0}) LinkError → List ℕ → List ℕ → Type 0
 LeavesAnswer (Ok done) old new = StartsWith new old × (length new < length old + answer_limit)
 LeavesAnswer (Err error) old new = new ≡ old

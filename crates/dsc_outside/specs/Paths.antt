@@ -12,7 +12,7 @@ pub data PathKind : Type 0 where
   -- neither of them, as a link
   Other : PathKind
 
--- the path, a `/`, and something behind it
+-- the path, a `/`, and something after it
 abbrev pub IsBelow : List ℕ → List ℕ → Type 0
 IsBelow path other = (rest : List ℕ) × (other ≡ path ++ 47 ∷ rest)
 

@@ -53,7 +53,7 @@ pub trait Disk {
 
     /// Cuts the disk to that length.
     ///
-    /// Until a sync a crash may leave any bytes behind the cut. A cut that fails may have done any part.
+    /// Until a sync a crash may leave any bytes after the cut. A cut that fails may have done any part.
     fn cut(&mut self, to: u64) -> Result<(), Failed>
         requires { IfSome (seen self.old) (λ held. to ≤ length held) }
         ensures cut { OnOk result (seen self.new ≡ option_map (take to) (seen self.old)) }

@@ -2,7 +2,7 @@
 use mof_values::Bytes;
 
 /// An entry of the machine's log.
-#[derive(Clone, Debug, Drop, PartialEq)]
+#[derive(Debug, Drop, PartialEq)]
 pub struct LogEntry {
     /// The UTF-8 of the folded id of the resource that wrote it.
     pub id: Bytes,
@@ -12,7 +12,7 @@ pub struct LogEntry {
 }
 
 /// A module package, kept unread.
-#[derive(Clone, Debug, Drop, PartialEq)]
+#[derive(Debug, Drop, PartialEq)]
 pub struct Package {
     /// The module's name, in UTF-8.
     pub name: Bytes,

@@ -3,7 +3,7 @@ use crate::Peer;
 use mof_values::Bytes;
 
 /// What came of a request.
-#[derive(Clone, Debug, Drop, PartialEq)]
+#[derive(Debug, Drop, PartialEq)]
 pub enum Outcome {
     /// All bytes that were answered.
     Answered(Bytes),
@@ -15,7 +15,7 @@ pub enum Outcome {
 }
 
 /// A request, the machine that it was sent to, and what came of it.
-#[derive(Clone, Debug, Drop, PartialEq)]
+#[derive(Debug, Drop, PartialEq)]
 pub struct Exchange {
     pub peer: Peer,
     pub request: Bytes,

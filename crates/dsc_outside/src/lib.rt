@@ -8,11 +8,10 @@
 //! `MemorySource`, `MemorySink`, `MemoryDisk`, `MemoryHost`, `MemoryLink` and `MemoryClock` are exact: they fail in the
 //! calls that they were told to fail in, the disk and the host also from their stop on, the link and the clock also
 //! where they have no answer or no moment to give, and in no other but where they find no memory for what they keep.
-//! `ReliableHost` fails in none, and `Absent` in each. The module `real` has standard input and output, a file as a
+//! `ReliableHost` fails in none. The module `real` has standard input and output, a file as a
 //! disk, the folder that stands for the machine, and the clock of the system; it is the edge that is trusted.
 #![tactic(auto)]
 
-mod absent;
 mod clock;
 mod disk;
 mod ends;
@@ -26,7 +25,6 @@ pub mod real;
 mod sink;
 mod source;
 
-pub use absent::Absent;
 pub use clock::{Clock, LAST_MOMENT};
 pub use disk::Disk;
 pub use ends::Ends;

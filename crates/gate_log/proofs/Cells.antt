@@ -66,7 +66,7 @@ module _ (shape : Shape) (second : Bool) (closed : ℕ) (bodies : List (List ℕ
   pub text_long : (d : List ℕ) → IsText shape second closed d bodies → closed + 1 ≤ length d
   text_long d t = bank_long shape second closed d bodies t.bank
 
-  -- a change before this bank, or behind its closed gate
+  -- a change before this bank, or after its closed gate
   pub torn_bank : (at n : ℕ) (d c : List ℕ) → IsBank shape second closed d bodies → Torn at n d c → (at + n ≤ begin shape second) ⊎ (closed + 1 ≤ at) → IsBank shape second closed c bodies
   torn_bank at n d c b torn beside = record {
     cells = record {

@@ -1,4 +1,4 @@
--- A text has one list of bodies, and a cut behind its closed gate keeps it.
+-- A text has one list of bodies, and a cut after its closed gate keeps it.
 use Rattle.std.proofs.Common.{◌≡◌, ◌≢◌, ℕ, Bool, true, false, ◌+◌, ◌≤◌, ◌<◌, ◌^◌, List, [], ◌∷◌, ◌++◌, length, take, drop, refl, sym, ◌∙◌, ap, subst, arith, append_assoc, Option, Some}
 use Rattle.std.specs.Prelude.{IfSome}
 use Rattle.std.specs.Int.{w32, to_be_bytes, from_be_bytes}
@@ -76,7 +76,7 @@ pub gives_one : (shape : Shape) (second : Bool) (closed : ℕ) (image : List ℕ
 gives_one shape second closed image found [] small t (fresh short) = none_short shape image second closed found t short
 gives_one shape second closed image found bodies small t (text also other bodies' long u) = texts_one shape image second also closed other found bodies small t u
 
--- what is cut behind the closed gate
+-- what is cut after the closed gate
 pub cut_text : (shape : Shape) (second : Bool) (closed : ℕ) (d c : List ℕ) (bodies : List (List ℕ)) → IsText shape second closed d bodies → Cut (closed + 1) d c → IsText shape second closed c bodies
 cut_text shape second closed d c bodies t cut =
     let past : 8 ≤ closed = omega (arith, t.bank.place, begin_past shape second) in

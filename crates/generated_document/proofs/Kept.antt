@@ -18,7 +18,7 @@ some_header : (n : ℕ) → All (λ i. is_header i ≡ false) (generated_instanc
 some_header zero none = both_ways true (none 0 generated_header (omega arith)) refl
 some_header (suc i) none = some_header i (All-tail (λ i. is_header i ≡ false) (generated_resource i) (generated_instances i) none)
 
--- a header stands behind all resources
+-- a header stands after all resources
 header_place : (n k : ℕ) → HasAt (generated_instances n) k (λ i. IsTrue (is_header i)) → k ≡ n
 header_place n k has =
     let found = some_of (slice_get (generated_instances n) k) (λ i. IsTrue (is_header i)) has in

@@ -1,4 +1,4 @@
--- A generated resource depends on one behind it, so that no walk along dependencies comes back.
+-- A generated resource depends on one after it, so that no walk along dependencies comes back.
 use Rattle.std.proofs.Common.{◌≡◌, ◌∙◌, ℕ, zero, suc, ◌/◌, ◌<◌, ◌≤◌, List, [], ◌∷◌, ◌++◌, length, Some, IsSomeAnd, slice_get, refl, sym, ap, subst, arith}
 use Rattle.std.proofs.lemmas.Option.{none-some, same_Some}
 use Rattle.mof_values.specs.Fold.{SameName, fold_case}
@@ -14,7 +14,7 @@ use Rattle.generated_document.specs.Generated.{generated_resource, id_of_number}
 use Rattle.generated_document.proofs.Decimals.{same_number}
 use Rattle.generated_document.proofs.Resources.{resources, stands_at}
 
--- where each step of a list leads further, its last place is behind its first
+-- where each step of a list leads further, its last place is after its first
 rises : (first : ℕ) (rest : List ℕ) (last : ℕ) → ((a : List ℕ) (r s : ℕ) (b : List ℕ) → first ∷ rest ++ last ∷ [] ≡ a ++ r ∷ s ∷ b → r < s) → first < last
 rises first [] last step = step [] first last [] refl
 rises first (next ∷ rest) last step =
@@ -34,7 +34,7 @@ lesser (suc i) zero name at = (i / 2, omega arith, sym (same_Some (id_of_number 
 lesser (suc i) (suc k) name at = absurd (none-some name at)
 
 module _ (document : Document) (n : ℕ) (few : n ≤ 4096) (are : document.resources ≡ resources 0 n) where
-  -- where a resource of one number depends on the one of another, the other stands behind
+  -- where a resource of one number depends on the one of another, the other stands after
   behind : (r q k : ℕ) → Names document r k q → r < q
   behind r q k names =
       let from = some_of (slice_get document.resources r) (λ resource. IsSomeAnd (slice_get resource.depends k) (λ name. Means document.resources name q)) names in

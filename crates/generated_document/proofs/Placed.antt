@@ -6,7 +6,7 @@ use Rattle.dsc_document.specs.Rules.{HasAt, alias_at, id_at}
 use Rattle.depend_order.proofs.Options.{some_of}
 use Rattle.generated_document.specs.Generated.{generated_header, generated_instances, generated_resource, id_of_number}
 
--- at a place stands the header, behind all resources, or the resource of the number that the place leaves
+-- at a place stands the header, after all resources, or the resource of the number that the place leaves
 abbrev pub StandsAt : ℕ → ℕ → Instance → Type 0
 StandsAt count place instance =
     ((instance ≡ generated_header) × (place ≡ count)) ⊎ ((i : ℕ) × (instance ≡ generated_resource i) × (i + place + 1 ≡ count))

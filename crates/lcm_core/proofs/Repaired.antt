@@ -73,7 +73,7 @@ set_blames a b wanted faults.HostFailed leaves = tt
 
 -- ---- along the trace
 
--- the states before and behind an entry
+-- the states before and after an entry
 pub true_split : (document : Document) (a b : HostState) (front : List Entry) (e : Entry) (rest : List Entry) → True document a (front ++ e ∷ rest) b
     → (x y : HostState) × IsTrueEntry x document e y × True document y rest b
 true_split document a b [] e rest chain = (a, chain.0, chain.1, chain.2)
@@ -84,7 +84,7 @@ blameless [] e rest spared = All-head (λ (x : Entry). place_of x ≡ place_of e
 blameless (f ∷ front) e rest spared =
     blameless front e rest (All-tail (λ (x : Entry). place_of x ≡ place_of e → EntryBlames x → ⊥) f (front ++ e ∷ rest) spared)
 
--- behind a Set that was done the resource holds, so its Test does not answer no
+-- after a Set that was done the resource holds, so its Test does not answer no
 never_no : (document : Document) (a b : HostState) (front : List Entry) (p : ℕ) (rest : List Entry) (wanted : Wanted) → SetMakesHold → wanted_at document p ≡ Some wanted
     → True document a (front ++ Set p sets.Done ∷ Tested p tests.No ∷ rest) b → ⊥
 never_no document a b front p rest wanted makes asks chain =

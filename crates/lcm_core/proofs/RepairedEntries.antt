@@ -18,7 +18,7 @@ use Rattle.lcm_core.specs.Whole.{BeginsWithSet, BeginsWithTest}
 
 -- ---- the last entry
 
--- behind this entry the resource has none
+-- after this entry the resource has none
 pub record IsLastOf (trace : List Entry) (r : ℕ) : Type 0 where
   pub front : List Entry
   pub entry : Entry

@@ -104,7 +104,7 @@ pub record IsReportable (document : Document) (trace : List Entry) : Type 0 wher
   pub memory : All (λ e. WantsMemory e → ⊥) trace
   pub settled : (r place : ℕ) → last_entry trace r ≡ Some (Set place sets.Done) → ⊥
 
--- so is each whole trace that does not end in a want of memory
+-- so is each whole trace that does not end in a lack of memory
 abbrev pub TracesAreReportable : Type 0
 TracesAreReportable =
     (document : Document) (mode : RunMode) (order : List ℕ) (trace : List Entry)

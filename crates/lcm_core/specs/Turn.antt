@@ -51,7 +51,7 @@ IsStop (Err stops.Memory) trace = EndsInMemory trace
 abbrev pub all_held : List Bool → List ℕ → Bool
 all_held held places = list_all (λ q. get_or held q false) places
 
--- the entries of a turn are behind those that were there, by steps from the one value to the other
+-- the entries of a turn are after those that were there, by steps from the one value to the other
 pub record TookTurn {S : Type 0} (kept : S → List Entry) (spare : S → ℕ) (does : S → Document → Entry → S → Type 0) (still : S → S → Type 0) (faults : S → ℕ)
     (document : Document) (r : ℕ) (before after : S) (result : Result Bool Stop) : Type 0 where
   pub turn : List Entry

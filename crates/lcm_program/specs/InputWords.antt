@@ -29,7 +29,7 @@ form_name forms.Qualifier = codes "qualifier"
 form_name forms.Character = codes "character"
 form_name forms.Real = codes "real"
 
--- the name of a text's refusal, and its values; want of memory has a status of its own, and is never told so
+-- the name of a text's refusal, and its values; lack of memory has a status of its own, and is never told so
 abbrev pub mof_words : MofError → List ℕ
 mof_words faults.TooLong = codes "TooLong"
 mof_words (faults.Text at) = codes "Text " ++ decimal at

@@ -73,7 +73,7 @@ once_at : (earlier : List Instance) (i : Instance) (b : Bool) → is_of classes.
 once_at earlier i true e none is = parts_apart (partial_name i.properties) earlier (position_none (is_partial_named (partial_name i.properties)) 0 earlier none)
 once_at earlier i false e none is = cc
 
--- the first instances of a list, and the place behind them
+-- the first instances of a list, and the place after them
 behind : (earlier rest : List Instance) (i : Instance) → earlier ++ i ∷ rest ≡ (earlier ++ i ∷ []) ++ rest
 behind earlier rest i = sym (append_assoc earlier (i ∷ []) rest)
 

@@ -128,7 +128,7 @@ ValueTexts (Many ss) = AllByRecursion ScalarText ss
 abbrev pub InstanceTexts : Instance → Type 0
 InstanceTexts i = AllByRecursion (λ (p : Property). ValueTexts p.value) i.properties
 
--- what holds of a value that is read, and the texts of the tokens behind it
+-- what holds of a value that is read, and the texts of the tokens after it
 record Has (P : Type 0) (rest : List Lexeme) : Type 0 where
   texts : P
   behind : AllByRecursion LexemeText rest

@@ -32,7 +32,7 @@ abbrev pub first_found : {X Y : Type 0} → (X → Option Y) → ℕ → List X 
 first_found f n [] = None
 first_found f n (x ∷ xs) = option_or (option_map (beside n) (f x)) (first_found f (n + 1) xs)
 
--- the first place behind another at which the test passes, beside that other
+-- the first place after another at which the test passes, beside that other
 abbrev pub second_from : (Instance → Bool) → List Instance → ℕ → Option (ℕ × ℕ)
 second_from test instances first =
     option_map (λ second. (first, second)) (position_from test (first + 1) (drop (first + 1) instances))

@@ -58,7 +58,7 @@ pub record SpellsUrl (text : List ℕ) (site : Site) : Type 0 where
 
 -- ---- the site of a URL
 
--- the number of at most 65535 that digits write behind those of n
+-- the number of at most 65535 that digits write after those of n
 abbrev pub number_after : ℕ → List ℕ → Option ℕ
 number_after n [] = Some n
 number_after n (c ∷ cs) =
@@ -69,7 +69,7 @@ abbrev pub port_of : List ℕ → Option ℕ
 port_of [] = None
 port_of (c ∷ cs) = if c == 48 then None else number_after 0 (c ∷ cs)
 
--- the port of what stands behind the host
+-- the port of what stands after the host
 abbrev pub port_behind : Bool → List ℕ → Option ℕ
 port_behind https [] = Some (default_port https)
 port_behind https (c ∷ cs) = if c == 58 then port_of cs else None
@@ -90,7 +90,7 @@ abbrev pub is_empty_text : List ℕ → Bool
 is_empty_text [] = true
 is_empty_text (c ∷ cs) = false
 
--- the site of a host, of what stands behind it, and of a path
+-- the site of a host, of what stands after it, and of a path
 abbrev pub site_at : Bool → List ℕ → List ℕ → List ℕ → Option Site
 site_at https host behind path =
     if is_empty_text host then None
@@ -98,12 +98,12 @@ site_at https host behind path =
     then option_map (λ port. record { https = https; peer = record { host = fold_case host; port = port }; prefix = without_slashes path }) (port_behind https behind)
     else None
 
--- the site of an authority, which is a host and what stands behind it, and of a path
+-- the site of an authority, which is a host and what stands after it, and of a path
 abbrev pub site_in : Bool → List ℕ → List ℕ → Option Site
 site_in https authority path =
     site_at https (take (prefix_len is_host_char authority) authority) (drop (prefix_len is_host_char authority) authority) path
 
--- the site of what stands behind the scheme
+-- the site of what stands after the scheme
 abbrev pub site_behind : Bool → List ℕ → Option Site
 site_behind https rest = site_in https (take (prefix_len is_in_name rest) rest) (drop (prefix_len is_in_name rest) rest)
 

@@ -77,7 +77,7 @@ fn place_from(class: Class, instances: &[Instance], from: u32) -> Option<u32>
     None
 }
 
-// The instances behind a place.
+// The instances after a place.
 fn behind(instances: &[Instance], place: u32) -> &[Instance]
     requires { place < length instances.now }
     ensures { result.now ≡ drop (place + 1) instances.now }

@@ -221,7 +221,7 @@ fn distinct(alloc: Global, texts: &[Text]) -> Result<Vec<Text>, AllocError>
     Ok(names)
 }
 
-// Puts a name behind those before, but where one of them is the same by fold.
+// Puts a name after those before, but where one of them is the same by fold.
 fn put_name(names: &mut Vec<Text>, name: &Text) -> Result<(), AllocError>
     ensures { OnOk result (names.new.items ≡ with_name names.old.items name.now) }
 {

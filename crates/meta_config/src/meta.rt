@@ -7,7 +7,7 @@ use mof_values::{Items, Text};
 use std::alloc::Global;
 
 /// How a node is to behave.
-#[derive(Clone, Debug, Drop, PartialEq)]
+#[derive(Debug, Drop, PartialEq)]
 pub struct Meta {
     pub mode: ConfigMode,
     pub refresh: RefreshMode,
@@ -39,7 +39,7 @@ pub struct Meta {
 }
 
 /// A partial configuration.
-#[derive(Clone, Debug, Drop, PartialEq)]
+#[derive(Debug, Drop, PartialEq)]
 pub struct Partial {
     pub name: Text,
 

@@ -3,7 +3,7 @@ use dsc_outside::Peer;
 use mof_values::Text;
 
 /// The pull server of a node.
-#[derive(Clone, Debug, Drop, PartialEq)]
+#[derive(Debug, Drop, PartialEq)]
 pub struct Server {
     pub https: bool,
 
@@ -18,7 +18,7 @@ pub struct Server {
 }
 
 /// What the URL of a server names: two URLs name one server where their sites are equal.
-#[derive(Clone, Debug, Drop, PartialEq)]
+#[derive(Debug, Drop, PartialEq)]
 pub struct Site {
     pub https: bool,
 

@@ -49,7 +49,7 @@ fn site_of(alloc: Global, text: &[char]) -> Result<Option<Site>, AllocError>
     }
 }
 
-// The site of what stands behind the scheme.
+// The site of what stands after the scheme.
 fn site_behind(alloc: Global, https: bool, rest: &[char]) -> Result<Option<Site>, AllocError>
     ensures { IfOk result (λ site. site ≡ site_behind https rest.now) }
 {
@@ -149,7 +149,7 @@ fn is_path_char(c: char) -> bool
     matches!(c, '!'..='~') && c != '?' && c != '#'
 }
 
-// The port of what stands behind the host.
+// The port of what stands after the host.
 fn port_behind(https: bool, chars: &[char]) -> Option<u16>
     ensures { result ≡ port_behind https chars.now }
 {

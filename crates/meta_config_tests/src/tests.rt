@@ -7,8 +7,8 @@ use depend_order::OrderError;
 use meta_config::*;
 use mof_values::Text;
 use rows::{
-    CANONICAL, DOWNLOAD, PARTIAL, SETTINGS, USUAL, WRITTEN, accepted, limits, orders, refused,
-    settings, site_rows, sizes,
+    ACCEPTED, CANONICAL, DOWNLOAD, LIMITS, ORDERS, PARTIAL, REFUSED, SETTING_ROWS, SETTINGS, SITES,
+    SIZES, USUAL, WRITTEN,
 };
 use std::alloc::{AllocError, Global};
 use std::test::Fail;
@@ -37,14 +37,26 @@ fn push_meta(line: &mut String, meta: &Meta) -> Result<(), AllocError> {
     Ok(())
 }
 
+fn push_pieces(line: &mut String, pieces: &[&str]) -> Result<(), AllocError> {
+    for piece in pieces {
+        line.push_str(piece)?;
+    }
+    Ok(())
+}
+
+// A switch, after a space.
+fn switch(on: bool) -> &'static str {
+    if on { " true" } else { " false" }
+}
+
 fn push_settings(line: &mut String, meta: &Meta) -> Result<(), AllocError> {
-    let (mode, refresh, after) = (meta.mode.name(), meta.refresh.name(), meta.after.name());
-    let (reboots, overwrites) = (meta.reboot_if_needed, meta.module_overwrite);
-    let (mode_mins, refresh_mins) = (meta.mode_mins, meta.refresh_mins);
-    write!(
+    push_pieces(line, &[meta.mode.name(), " ", meta.refresh.name()])?;
+    push_pieces(
         line,
-        "{mode} {refresh} {reboots} {after} {mode_mins} {refresh_mins} {overwrites}"
-    )
+        &[switch(meta.reboot_if_needed), " ", meta.after.name()],
+    )?;
+    write!(line, " {} {}", meta.mode_mins, meta.refresh_mins)?;
+    line.push_str(switch(meta.module_overwrite))
 }
 
 fn push_server(line: &mut String, server: &Server) -> Result<(), AllocError> {
@@ -66,27 +78,31 @@ fn push_partial(line: &mut String, partial: &Partial) -> Result<(), AllocError> 
     push_chars(line, partial.name.as_slice())?;
     push_list(line, " depends", partial.depends.as_slice())?;
     push_list(line, " exclusive", partial.exclusive.as_slice())?;
-    if let Some(mode) = partial.refresh {
-        line.push_str(" ")?;
-        line.push_str(mode.name())?;
+    push_refresh(line, partial.refresh)
+}
+
+fn push_refresh(line: &mut String, refresh: Option<RefreshMode>) -> Result<(), AllocError> {
+    match refresh {
+        Some(mode) => push_pieces(line, &[" ", mode.name()]),
+        None => Ok(()),
     }
-    Ok(())
 }
 
 fn push_list(line: &mut String, word: &str, texts: &[Text]) -> Result<(), AllocError> {
     line.push_str(if texts.is_empty() { "" } else { word })?;
     for text in texts {
-        line.push_str(" ")?;
-        push_chars(line, text.as_slice())?;
+        push_text(line, text)?;
     }
     Ok(())
 }
 
+fn push_text(line: &mut String, text: &Text) -> Result<(), AllocError> {
+    line.push_str(" ")?;
+    push_chars(line, text.as_slice())
+}
+
 fn push_chars(line: &mut String, chars: &[char]) -> Result<(), AllocError> {
-    for c in chars {
-        line.push(*c)?;
-    }
-    Ok(())
+    line.extend(chars.iter().copied())
 }
 
 // The word, the place or places, and the name of a fault.
@@ -157,9 +173,7 @@ fn fault_name<'a>(fault: &'a MetaError) -> &'a [char] {
 
 fn joined(alloc: Global, pieces: [&str; 3]) -> Result<String, AllocError> {
     let mut text = String::new(alloc);
-    for piece in pieces {
-        text.push_str(piece)?;
-    }
+    push_pieces(&mut text, &pieces)?;
     Ok(text)
 }
 
@@ -213,7 +227,8 @@ fn sized_text(
 
 fn push_numbers(text: &mut String, count: u32) -> Result<(), AllocError> {
     for number in 0..count {
-        write!(text, "{}\"n{number}\"", if number == 0 { "" } else { "," })?;
+        text.push_str(if number == 0 { "" } else { "," })?;
+        write!(text, "\"n{number}\"")?;
     }
     text.push_str("};};")
 }
@@ -235,9 +250,10 @@ fn is_written(alloc: Global, meta: &Meta) -> bool {
 }
 
 fn is_read(alloc: Global, bytes: &[u8], meta: &Meta) -> bool {
-    match read_meta(alloc, bytes) {
-        Ok(again) => again == *meta,
-        Err(_fault) => false,
+    let read = read_meta(alloc, bytes);
+    match &read {
+        Ok(again) => again == meta,
+        Err(_) => false,
     }
 }
 
@@ -301,8 +317,8 @@ fn sure(holds: bool) -> Result<(), Fail> {
 
 #[test]
 fn each_setting_is_read_or_refused(rt: HostRuntime) -> Result<(), Fail> {
-    for (text, want) in settings() {
-        sure(reads_as(rt.alloc(), [text, "", ""], [want, "", ""])?)?;
+    for (text, want) in SETTING_ROWS {
+        sure(reads_as(rt.alloc(), [*text, "", ""], [*want, "", ""])?)?;
     }
     Ok(())
 }
@@ -310,24 +326,24 @@ fn each_setting_is_read_or_refused(rt: HostRuntime) -> Result<(), Fail> {
 // Each row is a URL, and the URL that is written, or nothing where it is refused.
 #[test]
 fn each_url_is_read_or_refused(rt: HostRuntime) -> Result<(), Fail> {
-    for (text, want) in site_rows() {
-        sure(reads_as(rt.alloc(), [SETTINGS, text, ""], want)?)?;
+    for (text, want) in SITES {
+        sure(reads_as(rt.alloc(), [SETTINGS, *text, ""], *want)?)?;
     }
     Ok(())
 }
 
 #[test]
 fn managers_and_partial_configurations_are_read(rt: HostRuntime) -> Result<(), Fail> {
-    for (text, want) in accepted() {
-        sure(reads_as(rt.alloc(), [SETTINGS, text, ""], [USUAL, want, ""])?)?;
+    for (text, want) in ACCEPTED {
+        sure(reads_as(rt.alloc(), [SETTINGS, *text, ""], [USUAL, *want, ""])?)?;
     }
     Ok(())
 }
 
 #[test]
 fn managers_and_partial_configurations_are_refused(rt: HostRuntime) -> Result<(), Fail> {
-    for (text, want) in refused() {
-        sure(reads_as(rt.alloc(), [SETTINGS, text, ""], [want, "", ""])?)?;
+    for (text, want) in REFUSED {
+        sure(reads_as(rt.alloc(), [SETTINGS, *text, ""], [*want, "", ""])?)?;
     }
     Ok(())
 }
@@ -335,8 +351,8 @@ fn managers_and_partial_configurations_are_refused(rt: HostRuntime) -> Result<()
 // Sizes at each limit, and one above.
 #[test]
 fn each_limit_is_kept(rt: HostRuntime) -> Result<(), Fail> {
-    for (front, c, count, back, word) in limits() {
-        let text = long_text(rt.alloc(), front, c, count, back)?;
+    for (front, c, count, back, word) in LIMITS {
+        let text = long_text(rt.alloc(), front, *c, *count, back)?;
         sure(is_answered(rt.alloc(), &text, word))?;
     }
     Ok(())
@@ -345,8 +361,8 @@ fn each_limit_is_kept(rt: HostRuntime) -> Result<(), Fail> {
 // Numbers of names, of partial configurations, and of the resources that each of them claims.
 #[test]
 fn memory_lasts_for_each_size(rt: HostRuntime) -> Result<(), Fail> {
-    for (names, partials, resources, word) in sizes() {
-        let text = sized_text(rt.alloc(), names, partials, resources)?;
+    for (names, partials, resources, word) in SIZES {
+        let text = sized_text(rt.alloc(), *names, *partials, *resources)?;
         sure(is_answered(rt.alloc(), &text, word))?;
     }
     Ok(())
@@ -354,9 +370,9 @@ fn memory_lasts_for_each_size(rt: HostRuntime) -> Result<(), Fail> {
 
 #[test]
 fn partial_configurations_are_ordered(rt: HostRuntime) -> Result<(), Fail> {
-    for (rows, cycle, places) in orders() {
+    for (rows, cycle, places) in ORDERS {
         let text = parts_text(rt.alloc(), rows)?;
-        sure(is_ordered(rt.alloc(), &text, cycle, places))?;
+        sure(is_ordered(rt.alloc(), &text, *cycle, places))?;
     }
     Ok(())
 }

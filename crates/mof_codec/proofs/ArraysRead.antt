@@ -43,7 +43,7 @@ elements_start us s ts o = record { on = λ more rest e. array us ts rest s more
         let same = o.only x behind (elements_first behind more rest e) c in
         (more, f ∙ ap (λ (y : Scalar). y ∷ more) same.0, subst (λ (xs : List Lexeme). Elements xs more rest) same.1 e)
 
--- what goes on behind an element
+-- what goes on after an element
 
 data ElementsCase (vs : List Lexeme) (more : List Scalar) (rest : List Lexeme) : Type 0 where
   is_closing : vs ≡ RightBrace ∷ rest → more ≡ [] → ElementsCase vs more rest
@@ -157,7 +157,7 @@ module _ (cs : List ℕ) (done : List Scalar) (left : List ℕ) (so_far : ArrayS
       goes vs more m (is_element ws s others behind e c r g) = no_comma vs ws m e
 
   module _ (mid : List ℕ) (b : Begins (IsMark marks.Comma) left mid) where
-    -- the element behind the comma is in each array that the characters begin with
+    -- the element after the comma is in each array that the characters begin with
     abbrev FurtherElement : List Scalar → Type 0
     FurtherElement all = (ws : List Lexeme) × (s : Scalar) × (others : List Scalar) × (behind : List Lexeme) × Lexes mid ws × ConstantValue ws s behind × NoLiteral behind × (all ≡ done ++ s ∷ others)
 

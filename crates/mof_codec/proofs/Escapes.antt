@@ -43,7 +43,7 @@ scalar_from v small e = grind (arith, nat_tests)
 scalar_to : (v : ℕ) → IsScalar v → is_surrogate v ≡ false
 scalar_to v s = grind (arith, nat_tests)
 
--- behind an x
+-- after an x
 
 pub hex_escape_there : (cs behind rest : List ℕ) (first value c : ℕ) → BeginsWithDigit cs first behind → value ≡ (hex_tail 3 first behind).0 → rest ≡ (hex_tail 3 first behind).1
     → IsScalar value → c ≡ value → HexEscape cs c rest
@@ -72,7 +72,7 @@ hex_escape_absent cs behind first value b is_value other v rest h =
     tail_same : (x y : ℕ) (xs ys : List ℕ) → x ∷ xs ≡ y ∷ ys → xs ≡ ys
     tail_same x y xs ys e = cc
 
--- behind a backslash
+-- after a backslash
 
 pub escape_short : (cs rest : List ℕ) (c value : ℕ) → cs ≡ c ∷ rest → short_escape c ≡ Some value → Escape cs value rest
 escape_short cs rest c value e is = subst (λ (xs : List ℕ). Escape xs value rest) (sym e) (short c value rest is)

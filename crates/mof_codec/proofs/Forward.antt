@@ -337,7 +337,7 @@ module _ (E : List Event → Type 0) (acc : List Event) (ts : List Lexeme) (rest
   digit_on AfterComma z n d cs h s g = number_on (Ends E) AfterElement (events.Element ∷ acc) rest (λ f e. number_done E AfterElement (events.Element ∷ acc) f rest e s (r AfterElement (events.Element ∷ acc) g)) events.Element acc refl (d ∷ cs) n h
   digit_on p z n d cs h s g = absurd g
 
-  -- behind a sign
+  -- after a sign
   signed_on : (q : Place) (a : List Event) (n : ℕ) (cs : List ℕ) → Magnitude cs n rest → Stops is_next rest → Runs E rest halves.Gap q a → Runs E cs (halves.Integer numerals.Sign) q a
   signed_on q a n cs h s g =
       after_sign (Ends E) q a rest (λ f e. number_done E q a f rest e s g) cs

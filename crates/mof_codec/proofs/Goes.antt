@@ -22,7 +22,7 @@ IsKey k w = fold_case w ≡ letters k
 abbrev pub IsWordValue : List ℕ → Type 0
 IsWordValue w = IsKey keywords.True w ⊎ (IsKey keywords.False w ⊎ IsKey keywords.Null w)
 
--- a scalar's first token, and what goes on behind a literal and behind any other
+-- a scalar's first token, and what goes on after a literal and after any other
 abbrev pub ScalarGoes : Lexeme → Type 0 → Type 0 → Type 0
 ScalarGoes (Literal text) A B = A
 ScalarGoes (Number z) A B = B

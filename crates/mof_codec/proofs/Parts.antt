@@ -1,4 +1,4 @@
--- Parts behind separators, and parts one behind the other.
+-- Parts after separators, and parts one after the other.
 use Rattle.std.proofs.Common.{◌≡◌, ◌<◌, ℕ, List, [], ◌∷◌, ◌++◌, length, arith}
 use Rattle.std.specs.List.{AllByRecursion}
 use Rattle.mof_syntax.specs.Separators.{Separators}
@@ -22,7 +22,7 @@ pub lacks_behind : {A : Type 0} (Rule : List Lexeme → A → List Lexeme → Ty
     → Separators cs left → Lacks Rule Fits left → Lacks Rule Fits cs
 lacks_behind Rule Fits cs left s lacks us ts a n l r f = lacks us ts a n (skip_only cs left us s l) r f
 
--- the tokens behind the first
+-- the tokens after the first
 pub same_behind : (t u : Lexeme) (ts us : List Lexeme) → t ∷ ts ≡ u ∷ us → ts ≡ us
 same_behind t u ts us e = cc
 

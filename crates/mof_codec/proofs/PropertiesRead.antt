@@ -113,7 +113,7 @@ body_case vs more rest (value_initializer name ts behind r v ps i h) = at_proper
 apart_closing : (name : List ℕ) (ts us : List Lexeme) → Word name ∷ ts ≡ RightBrace ∷ us → ⊥
 apart_closing name ts us e = cc
 
--- the rest behind a property begins with a word or a brace
+-- the rest after a property begins with a word or a brace
 pub body_first : (vs : List Lexeme) (more : List Property) (rest : List Lexeme) → ValueInitializers vs more rest → NoLiteral vs
 body_first vs more rest (done r) = tt
 body_first vs more rest (value_initializer name ts behind r v ps i h) = tt

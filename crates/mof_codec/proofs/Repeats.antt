@@ -80,7 +80,7 @@ module _ (head part tail : List ℕ) (state : State) (counts : ℕ → Counts) (
       ∙ ap (λ (number : Option ℕ). chosen number (excess_in all all first_state no_counts)) all_integer
       ∙ ap (λ (part : Option ℕ). chosen None part) (all_excess ∙ e) ∙ only_part found
 
-  -- what begins behind all the parts is the first past its limit
+  -- what begins after all the parts is the first past its limit
   pub past_refused : excess_in all tail state (counts count) ≡ Some (length all - length tail) → refusal_in all ≡ Some (TooMany (length head + count * length part))
   past_refused e =
       found_is (Some (length all - length tail)) e

@@ -1,4 +1,4 @@
--- Tokens at the front of characters, behind separators.
+-- Tokens at the front of characters, after separators.
 use Rattle.std.proofs.Common.{◌≡◌, ℕ, List, [], ◌∷◌, None, refl, sym, ap, subst}
 use Rattle.mof_syntax.specs.Separators.{Separator, Separators, none, another}
 use Rattle.mof_syntax.specs.Tokens.{Lexeme, IsToken, Lexes, end, separator, token}
@@ -52,7 +52,7 @@ first_token cs left t ts s e l = token_first left t ts (no_separator left e) (sk
 pub first_of : (cs left : List ℕ) (us : List Lexeme) (t : Lexeme) (ts : List Lexeme) → Separators cs left → separator_rest left ≡ None → Lexes cs us → us ≡ t ∷ ts → (rest : List ℕ) × IsToken left t rest × Lexes rest ts
 first_of cs left us t ts s e l same = first_token cs left t ts s e (subst (λ (xs : List Lexeme). Lexes cs xs) same l)
 
--- what is behind is looked at in the same way
+-- what is after is looked at in the same way
 pub begins_as : (D E : List Lexeme → List Lexeme → Type 0) (cs rest : List ℕ) → ((us ts : List Lexeme) → D us ts → E us ts) → Begins D cs rest → Begins E cs rest
 begins_as D E cs rest f b = record {
   on = λ ts l. let x = b.on ts l in (x.0, x.1, f x.0 ts x.2);
@@ -65,7 +65,7 @@ begins_at D E cs rest f b = record {
   only = λ us l. let x = b.only us l in (x.0, x.1, f us x.0 x.1 x.2);
 }
 
--- one behind the other
+-- one after the other
 abbrev pub Joined : (List Lexeme → List Lexeme → Type 0) → (List Lexeme → List Lexeme → Type 0) → List Lexeme → List Lexeme → Type 0
 Joined D E us ts = (vs : List Lexeme) × D us vs × E vs ts
 

@@ -187,7 +187,7 @@ module _ (T : Lexeme → Type 0) (common : Common T) where
   unfolding begin
   begin_back p c cs a n h = gapped_back p (kind_of c) c cs a n (kind_says c) h
 
-  -- behind an identifier character that does not go on no name begins
+  -- after an identifier character that does not go on no name begins
   pub no_name : (p : Place) (c : ℕ) (cs : List ℕ) → is_next c ≡ false → AdmitsName T p (c ∷ cs)
   no_name p c cs stops allowed name rest is = absurd (first_clash c cs name rest is stops)
     where

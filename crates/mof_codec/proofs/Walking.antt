@@ -58,7 +58,7 @@ module _ (F : Half → Place → List Event → Type 0) where
   front_runs [] rest h p acc r = r
   front_runs (c ∷ cs) rest h p acc r = front_next (step h p c) cs rest acc (front_runs cs rest) r
 
-  -- what the machine takes behind a front it takes behind the start with the front before it, and no more
+  -- what the machine takes after a front it takes after the start with the front before it, and no more
   pub goes_on : (front rest : List ℕ) (b : Behind) → walked front ≡ Some b → RunsTo F rest b.half b.place b.begun → RunsTo F (front ++ rest) halves.Gap Start []
   goes_on front rest b is r = front_runs front rest halves.Gap Start [] (subst (λ (x : Option Behind). On (GoesOn rest) x) (sym is) r)
 

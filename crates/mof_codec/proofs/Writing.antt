@@ -16,7 +16,7 @@ use Rattle.mof_values.specs.declared.value.Scalar.{Scalar}
 use Rattle.mof_syntax.specs.Canonical.{canonical_scalar, canonical_elements}
 use Rattle.mof_codec.specs.Written.{Adds, further_element}
 
--- one piece behind another
+-- one piece after another
 
 pub adds_join : (before between after a b : List ℕ) → Adds before between a → Adds between after b → Adds before after (a ++ b)
 adds_join before between after a b e f = record {

@@ -121,7 +121,7 @@ gapped p k c = opened p k c
 unfoldable pub begin : Place → ℕ → Option State
 begin p c = gapped p (kind_of c) c
 
--- the character behind a token that ends with an identifier character
+-- the character after a token that ends with an identifier character
 abbrev pub ended : Place → ℕ → Option State
 ended p c = if is_next c then None else begin p c
 
@@ -166,7 +166,7 @@ digit_on (suc n) v p c =
     if digit_of 16 c then (if is_no_char (v * 16 + digit_value c) then None else go p (halves.Digits n (v * 16 + digit_value c)))
     else quoted p c
 
--- the state behind one more character
+-- the state after one more character
 abbrev pub step : Half → Place → ℕ → Option State
 step halves.Gap p c = begin p c
 step halves.Slash p c = if c == slash then go p halves.Line else if c == star then go p halves.Block else None

@@ -1,5 +1,5 @@
 -- What stands at the front of characters, said without a list of all their tokens. A rule of the grammar holds of
--- tokens, of what they stand for, and of the tokens behind.
+-- tokens, of what they stand for, and of the tokens after.
 use Rattle.std.specs.Prelude.{◌≡◌, List, ℕ}
 use Rattle.mof_syntax.specs.Tokens.{Lexeme, Lexes}
 use Rattle.mof_syntax.specs.Grammar.{NoLiteral}

@@ -18,7 +18,7 @@ use Rattle.mof_codec.specs.declared.values.marks.Mark.TheVariants as marks
 
 -- tokens
 
--- behind the character, where it comes first
+-- after the character, where it comes first
 abbrev pub behind_char : ℕ → List ℕ → Option (List ℕ)
 behind_char code [] = None
 behind_char code (c ∷ cs) = if c == code then Some cs else None
@@ -71,7 +71,7 @@ abbrev pub signed : Bool → ℕ → ℤ
 signed true n = neg_ℤ (pos n)
 signed false n = pos n
 
--- whether a minus comes first, and what is behind a sign
+-- whether a minus comes first, and what is after a sign
 abbrev pub is_negative : List ℕ → Bool
 is_negative [] = false
 is_negative (c ∷ cs) = c == minus_sign
@@ -84,7 +84,7 @@ behind_sign (c ∷ cs) = if c == minus_sign || c == plus_sign then cs else c ∷
 abbrev pub IsCapped : ℕ → ℕ → Type 0
 IsCapped n capped = (capped ≡ n) ⊎ ((2 ^ 64 ≤ n) × (2 ^ 64 ≤ capped))
 
--- behind separators stands a quote
+-- after separators stands a quote
 pub record BeginsQuote (cs behind : List ℕ) : Type 0 where
   pub left : List ℕ
   pub separators : Separators cs left
@@ -94,7 +94,7 @@ pub record BeginsQuote (cs behind : List ℕ) : Type 0 where
 abbrev pub NoLiteralFirst : List ℕ → Type 0
 NoLiteralFirst cs = (us : List Lexeme) → Lexes cs us → NoLiteral us
 
--- the characters behind a quote are a literal, whose text is added, and then the rest
+-- the characters after a quote are a literal, whose text is added, and then the rest
 abbrev pub AddsQuoted : List ℕ → List ℕ → List ℕ → List ℕ → Type 0
 AddsQuoted before cs after rest = (text : List ℕ) × Quoted cs text rest × (after ≡ before ++ text)
 
@@ -114,7 +114,7 @@ OnlyQuoteFirst cs = (text rest : List ℕ) → Quoted cs text rest → cs ≡ qu
 abbrev pub NoEscape : List ℕ → Type 0
 NoEscape cs = (value : ℕ) (rest : List ℕ) → Escape cs value rest → ⊥
 
--- behind the x of an escape: one to four digits of a character, and the rest
+-- after the x of an escape: one to four digits of a character, and the rest
 pub record HexEscape (cs : List ℕ) (value : ℕ) (rest : List ℕ) : Type 0 where
   pub digit : ℕ
   pub behind : List ℕ
@@ -128,7 +128,7 @@ NoHexEscape cs = (value : ℕ) (rest : List ℕ) → HexEscape cs value rest →
 
 -- arrays and properties
 
--- behind the opening brace: the elements, and the other
+-- after the opening brace: the elements, and the other
 abbrev pub IsArray : List Lexeme → List Scalar → List Lexeme → Type 0
 IsArray us elements ts = Initializer (LeftBrace ∷ us) (Many elements) ts
 

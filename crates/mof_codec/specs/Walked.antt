@@ -1,4 +1,4 @@
--- Where the machine is behind some characters.
+-- Where the machine is after some characters.
 use Rattle.std.specs.Prelude.{List, [], ◌∷◌, ℕ, Option, Some, None}
 use Rattle.mof_codec.specs.declared.machine.state.Place.{Place}
 use Rattle.mof_codec.specs.declared.machine.state.Place.TheVariants.{Start}
@@ -36,6 +36,6 @@ walk_from b (c ∷ cs) = walk_from (advance b c) cs
 abbrev pub start : Behind
 start = record { half = halves.Gap; place = Start; begun = [] }
 
--- behind these characters, where the machine takes them
+-- after these characters, where the machine takes them
 abbrev pub walked : List ℕ → Option Behind
 walked chars = walk_from (Some start) chars

@@ -15,7 +15,7 @@ use Rattle.mof_syntax.specs.Canonical.{canonical_scalar}
 pub record Adds (before after chars : List ℕ) : Type 0 where
   pub bytes : after ≡ before ++ encode_utf8_all chars
 
--- an element of an array behind the first
+-- an element of an array after the first
 abbrev pub further_element : Scalar → List ℕ
 further_element s = codes ", " ++ canonical_scalar s
 

@@ -19,7 +19,7 @@ letters count = replicate count 103
 abbrev pub Spelled : List ℕ → Type 0
 Spelled text = (instances : List Instance) × Spells text instances
 
--- a literal with 256 letters behind an escape of three digits
+-- a literal with 256 letters after an escape of three digits
 abbrev pub long_literal : List ℕ
 long_literal = given (codes "\"\\xD80" ++ letters 256 ++ codes "\"")
 

@@ -9,7 +9,7 @@ use Rattle.mof_values.specs.declared.value.Value.TheVariants.{One, Many}
 use Rattle.mof_syntax.specs.Tokens.{Lexeme, Word, AliasName, Literal, Number, LeftBrace, RightBrace, EqualsSign, Semicolon, Comma}
 use Rattle.mof_syntax.specs.Grammar.{StringValue, ConstantValue, Initializer, InstanceDeclarations, WideSpells}
 
--- tokens behind `instance of A`
+-- tokens after `instance of A`
 abbrev pub declared : List Lexeme → List Lexeme
 declared ts = Word (codes "instance") ∷ Word (codes "of") ∷ Word (codes "A") ∷ ts
 

@@ -145,7 +145,7 @@ refused_behind_utf16 bytes body marked order e (Ok chars) one is split m h = tt
 refused_behind_utf16 bytes body marked order e (Err error) one is split m h =
     RefusesBytes-from_body bytes body marked e error is split m (subst (λ (f : Encoding). RefusesBody f body marked error) (sym one) h)
 
--- UTF-8 with a mark is UTF-8 behind it
+-- UTF-8 with a mark is UTF-8 after it
 
 marked_body : (body chars : List ℕ) → IsBody Utf8 body chars → IsBody Utf8Marked body chars
 marked_body body chars b = record { scalars = b.scalars; spelled = b.spelled }

@@ -110,7 +110,7 @@ fault_from e body chars rest scalars split ends some =
       },
     )
 
--- the mark of the bytes, and what is behind it
+-- the mark of the bytes, and what is after it
 behind : (bytes : List ℕ) → (body : List ℕ) × (bytes ≡ mark_of (encoding_of bytes) ++ body)
 behind bytes = elim (test (starts_with nat_eq bytes (mark_of Utf8Marked))) [
   | inl so ↦ rw so (drop 3 bytes, (starts_is Decides-eqb bytes (mark_of Utf8Marked) _ refl).0 so)

@@ -182,7 +182,7 @@ NoToken-short [] h t rest i = absurd (none_begins t rest i)
     none_begins u r (word us name q e) = no_identifier name q e
     none_begins u r (integer us z q e s) = no_integer z q e
 
--- the steps behind the first character
+-- the steps after the first character
 
 pub some_behind : (lead L : Lead) (chars others : List ℕ) (f : Option (List ℕ)) (r : Option (Bor (List ℕ))) → lead ≡ L → option_copied r ≡ f
     → ((rest : List ℕ) → StandsBy L chars others rest → f ≡ Some rest) → ((rest : List ℕ) → f ≡ Some rest → StandsBy L chars others rest)

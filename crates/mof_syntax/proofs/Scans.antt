@@ -1,4 +1,4 @@
--- What the scanner computes is what stands behind the constructs of the definitions, and behind no other.
+-- What the scanner computes is what stands after the constructs of the definitions, and after no other.
 use Rattle.std.proofs.Common.{◌≡◌, ◌⊎◌, inl, inr, ◌≤◌, ◌+◌, ◌*◌, ℕ, zero, suc, Bool, true, false, cond, List, [], ◌∷◌, Option, Some, None, is_some, refl, sym, ap, subst, ◌∙◌, arith}
 use Rattle.std.specs.Prelude.{◌==◌, ◌&&◌, if◌then◌else◌}
 use Rattle.std.proofs.lemmas.Bool.Decides.{nat_tests}
@@ -202,7 +202,7 @@ run_stopped base cs rest e =
     let s = stops_stopped (after (digit_of base) cs) rest e in
     (taken (digit_of base) cs, subst (λ (r : List ℕ). Run (digit_of base) cs (taken (digit_of base) cs) r) s.0 (run_taken (digit_of base) cs), s.1)
 
--- behind digits that no b follows no binary integer ends
+-- after digits that no b follows no binary integer ends
 pub no_b : (base : ℕ) (cs ds rest : List ℕ) → base ≤ 10 → Run (digit_of base) cs ds rest → Stops is_next rest → behind_b (after (digit_of 2) cs) ≡ None
 no_b base cs ds [] small (stop r) s = refl
 no_b base cs ds (c ∷ cs') small (stop r) s = rw (two, none_b) refl

@@ -1,4 +1,4 @@
--- What is behind a construct is the end of the characters that it was read from.
+-- What is after a construct is the end of the characters that it was read from.
 use Rattle.std.proofs.Common.{◌≡◌, ◌<◌, ◌≤◌, ◌+◌, ◌-◌, ℕ, Bool, List, [], ◌∷◌, ◌++◌, length, drop, refl, sym, ap, ◌∙◌, append_assoc, length-append, arith}
 use Rattle.std.proofs.lemmas.List.{drop_at}
 use Rattle.mof_values.specs.Ident.{is_next}

@@ -135,7 +135,7 @@ mark_lexeme c = if c == left_brace then LeftBrace else if c == right_brace then 
 abbrev signed_value : ℕ → ℕ → ℤ
 signed_value c n = if c == minus_sign then neg_ℤ (pos n) else pos n
 
--- what a first character begins stands for, and what is behind
+-- what a first character begins stands for, and what is after
 abbrev NamedBy : Lead → ℕ → List ℕ → Lexeme → List ℕ → Type 0
 NamedBy leads.Mark c cs t rest = (mark_lexeme c ≡ t) × (cs ≡ rest)
 NamedBy leads.Quote c cs t rest = (text : List ℕ) × Quoted cs text rest × (Literal text ≡ t)

@@ -45,7 +45,7 @@ pub record BeginsExcessProperty (text : List ℕ) (at : ℕ) : Type 0 where
   pub begins : BeginsIdentifier text at
   pub letter : is_first (slice_index text at) ≡ true
 
--- the text before `at`, closed there behind one more element, has one more in its last array than it may have, and an
+-- the text before `at`, closed there after one more element, has one more in its last array than it may have, and an
 -- element begins there: neither a separator nor the brace that closes the array
 pub record BeginsExcessElement (text : List ℕ) (at : ℕ) : Type 0 where
   pub before : List Instance

@@ -1,4 +1,4 @@
--- What the steps of `decode_text` say of the bytes behind the mark.
+-- What the steps of `decode_text` say of the bytes after the mark.
 use Rattle.std.specs.Prelude.{◌≡◌, ℕ, ◌+◌, ◌<◌, true, List, ◌++◌, length, take, drop, ⊤}
 use Rattle.std.specs.Char.{IsScalar}
 use Rattle.std.specs.Str.{all_scalars}
@@ -19,7 +19,7 @@ pub record IsBodyFault (encoding : Encoding) (body : List ℕ) (at : ℕ) : Type
   pub within : at < length body
   pub no_char : StartsNoChar encoding (drop at body)
 
--- the body behind so many bytes is refused so
+-- the body after so many bytes is refused so
 abbrev pub RefusesBody : Encoding → List ℕ → ℕ → TextError → Type 0
 RefusesBody encoding body marked (TextFault at) = (n : ℕ) × (at ≡ marked + n) × IsBodyFault encoding body n
 RefusesBody encoding body marked Memory = ⊤

@@ -11,7 +11,7 @@ use Rattle.mof_syntax.specs.declared.encoding.Encoding.TheVariants.{Utf8, Utf8Ma
 use Rattle.mof_syntax.specs.declared.encoding.ByteOrder.{ByteOrder}
 use Rattle.mof_syntax.specs.declared.encoding.ByteOrder.TheVariants.{LittleEndian, BigEndian}
 
--- the bytes at the front that name the encoding. They are no character of the text; a U+FEFF behind them is one
+-- the bytes at the front that name the encoding. They are no character of the text; a U+FEFF after them is one
 abbrev pub mark_of : Encoding → List ℕ
 mark_of Utf8 = []
 mark_of Utf8Marked = 0xEF ∷ 0xBB ∷ 0xBF ∷ []

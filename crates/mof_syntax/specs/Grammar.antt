@@ -32,7 +32,7 @@ pub data ConstantValue : List Lexeme → Scalar → List Lexeme → Type 0 where
   null_value : (w : List ℕ) (rest : List Lexeme) → SameName w (codes "NULL") → ConstantValue (Word w ∷ rest) scalars.Null rest
   alias_identifier : (name : List ℕ) (rest : List Lexeme) → ConstantValue (AliasName name ∷ rest) (scalars.Alias name) rest
 
--- behind an element of an array: any number of further ones, and the brace
+-- after an element of an array: any number of further ones, and the brace
 pub data Elements : List Lexeme → List Scalar → List Lexeme → Type 0 where
   closing : (rest : List Lexeme) → Elements (RightBrace ∷ rest) [] rest
   element : (ts behind rest : List Lexeme) (s : Scalar) (ss : List Scalar) → ConstantValue ts s behind → Elements behind ss rest

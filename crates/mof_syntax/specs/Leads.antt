@@ -1,4 +1,4 @@
--- Which token a character begins, and what stands behind it: the steps of the walk.
+-- Which token a character begins, and what stands after it: the steps of the walk.
 use Rattle.std.specs.Prelude.{◌≡◌, ℕ, Bool, ◌||◌, ◌==◌, if◌then◌else◌, List}
 use Rattle.mof_syntax.specs.declared.lead.Lead.{Lead}
 use Rattle.mof_syntax.specs.declared.lead.Lead.TheVariants as leads
@@ -37,7 +37,7 @@ StandsIdentifier cs rest = (name : List ℕ) × Identifier cs name rest
 abbrev pub StandsMagnitude : List ℕ → List ℕ → Type 0
 StandsMagnitude cs rest = (n : ℕ) × Magnitude cs n rest × Stops is_next rest
 
--- of characters and the others behind the first: what the first begins is there, and then the rest
+-- of characters and the others after the first: what the first begins is there, and then the rest
 abbrev pub StandsBy : Lead → List ℕ → List ℕ → List ℕ → Type 0
 StandsBy leads.Mark cs others rest = others ≡ rest
 StandsBy leads.Quote cs others rest = StandsQuoted others rest

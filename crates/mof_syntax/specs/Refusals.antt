@@ -20,7 +20,7 @@ pub record Reads (bytes : List ℕ) (instances : List Instance) : Type 0 where
   pub spelled : Spells text instances
 
 -- an integer literal begins at `at`, is as long as the text up to `end` allows, and is out of range. It is the literal that
--- stands in the text as it is, also where the text ends behind it or it might still go on
+-- stands in the text as it is, also where the text ends after it or it might still go on
 pub record BeginsExcessNumber (text : List ℕ) (end at : ℕ) : Type 0 where
   pub begins : BeginsScalar text at
   pub to : ℕ

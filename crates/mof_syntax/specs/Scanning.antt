@@ -1,4 +1,4 @@
--- What the steps of the scanner compute: the characters behind a construct, where it stands. That they stand behind what
+-- What the steps of the scanner compute: the characters after a construct, where it stands. That they stand after what
 -- the definitions of separators and tokens say is proved of them in proofs/.
 use Rattle.std.specs.Prelude.{◌≡◌, ◌<◌, ℕ, zero, suc, ◌+◌, ◌*◌, Bool, true, not, ◌&&◌, ◌==◌, if◌then◌else◌, List, [], ◌∷◌, Option, Some, None, is_some}
 use Rattle.std.specs.Char.{digit_value}
@@ -21,7 +21,7 @@ is_in classes.Decimal c = digit_of 10 c
 is_in classes.Hexadecimal c = digit_of 16 c
 is_in classes.Line c = is_in_line c
 
--- behind the characters of the class
+-- after the characters of the class
 abbrev pub after : (ℕ → Bool) → List ℕ → List ℕ
 after p [] = []
 after p (c ∷ cs) = if p c then after p cs else c ∷ cs
@@ -43,7 +43,7 @@ abbrev pub identifier_rest : List ℕ → Option (List ℕ)
 identifier_rest [] = None
 identifier_rest (c ∷ cs) = if is_first c then Some (after is_next cs) else None
 
--- the value of an escape with at most so many more digits, and what is behind
+-- the value of an escape with at most so many more digits, and what is after
 abbrev pub hex_tail : ℕ → ℕ → List ℕ → ℕ × List ℕ
 hex_tail zero value cs = (value, cs)
 hex_tail (suc count) value [] = (value, [])
@@ -85,7 +85,7 @@ abbrev pub behind_x : List ℕ → Option (List ℕ)
 behind_x [] = None
 behind_x (c ∷ cs) = if digit_of 16 c then stopped (after (digit_of 16) cs) else None
 
--- behind a 0
+-- after a 0
 abbrev pub zero_rest : List ℕ → Option (List ℕ)
 zero_rest [] = Some []
 zero_rest (c ∷ cs) = if is_x c then behind_x cs else stopped (after (digit_of 8) (c ∷ cs))
@@ -101,12 +101,12 @@ either_rest None other = other
 abbrev pub magnitude_rest : List ℕ → Option (List ℕ)
 magnitude_rest cs = either_rest (binary_rest cs) (unmarked_rest cs)
 
--- the rest is behind such a construct, and is behind no other
+-- the rest is after such a construct, and is after no other
 pub record IsOnly (Stands : List ℕ → List ℕ → Type 0) (cs rest : List ℕ) : Type 0 where
   pub stands : Stands cs rest
   pub only : (other : List ℕ) → Stands cs other → other ≡ rest
 
--- the characters behind a quote are those of a literal up to and with the other, and then the rest
+-- the characters after a quote are those of a literal up to and with the other, and then the rest
 abbrev pub StandsQuoted : List ℕ → List ℕ → Type 0
 StandsQuoted cs rest = (text : List ℕ) × Quoted cs text rest
 

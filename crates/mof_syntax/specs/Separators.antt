@@ -2,7 +2,7 @@
 use Rattle.std.specs.Prelude.{◌≡◌, ℕ, true, false, ◌&&◌, ◌==◌, List, [], ◌∷◌}
 use Rattle.mof_syntax.specs.Characters.{line_feed, slash, star, is_blank}
 
--- the characters behind `//`, up to and without the next line feed or up to the end, and the rest
+-- the characters after `//`, up to and without the next line feed or up to the end, and the rest
 pub data LineComment : List ℕ → List ℕ → Type 0 where
   at_end : LineComment [] []
   at_feed : (rest : List ℕ) → LineComment (line_feed ∷ rest) (line_feed ∷ rest)
@@ -13,7 +13,7 @@ abbrev pub NoEnd : ℕ → List ℕ → Type 0
 NoEnd c [] = Unit {0}
 NoEnd c (d ∷ cs) = ((c == star) && (d == slash)) ≡ false
 
--- the characters behind `/*`, up to and with the next `*/`, and the rest
+-- the characters after `/*`, up to and with the next `*/`, and the rest
 pub data BlockComment : List ℕ → List ℕ → Type 0 where
   shut : (rest : List ℕ) → BlockComment (star ∷ slash ∷ rest) rest
   inside : (c : ℕ) (cs rest : List ℕ) → NoEnd c cs → BlockComment cs rest → BlockComment (c ∷ cs) rest

@@ -29,13 +29,13 @@ pub data HexDigits : ℕ → ℕ → List ℕ → ℕ → List ℕ → Type 0 wh
   digit : (count value d total : ℕ) (cs rest : List ℕ) → digit_of 16 d ≡ true
       → HexDigits count (value * 16 + digit_value d) cs total rest → HexDigits (suc count) value (d ∷ cs) total rest
 
--- the characters behind a backslash, what they stand for, and the rest; the x is in either case
+-- the characters after a backslash, what they stand for, and the rest; the x is in either case
 pub data Escape : List ℕ → ℕ → List ℕ → Type 0 where
   short : (e value : ℕ) (rest : List ℕ) → short_escape e ≡ Some value → Escape (e ∷ rest) value rest
   hexadecimal : (x d value : ℕ) (cs rest : List ℕ) → is_x x ≡ true → digit_of 16 d ≡ true
       → HexDigits 3 (digit_value d) cs value rest → is_surrogate value ≡ false → Escape (x ∷ d ∷ cs) value rest
 
--- the characters behind a quote up to and with the next that is not escaped, the text they stand for, and the rest
+-- the characters after a quote up to and with the next that is not escaped, the text they stand for, and the rest
 pub data Quoted : List ℕ → List ℕ → List ℕ → Type 0 where
   closed : (rest : List ℕ) → Quoted (quote ∷ rest) [] rest
   plain : (c : ℕ) (cs text rest : List ℕ) → (c == quote) ≡ false → (c == backslash) ≡ false → Quoted cs text rest

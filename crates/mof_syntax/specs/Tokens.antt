@@ -32,7 +32,7 @@ pub data IsToken : List ℕ → Lexeme → List ℕ → Type 0 where
   semicolon_mark : (rest : List ℕ) → IsToken (semicolon ∷ rest) Semicolon rest
   comma_mark : (rest : List ℕ) → IsToken (comma ∷ rest) Comma rest
 
--- the characters are these tokens, with any separators before, between and behind them
+-- the characters are these tokens, with any separators before, between and after them
 pub data Lexes : List ℕ → List Lexeme → Type 0 where
   end : Lexes [] []
   separator : (cs rest : List ℕ) (ts : List Lexeme) → Separator cs rest → Lexes rest ts → Lexes cs ts

@@ -17,7 +17,7 @@ pub(crate) enum ByteOrder {
     BigEndian,
 }
 
-/// The encoding, and the bytes behind its mark.
+/// The encoding, and the bytes after its mark.
 pub(crate) fn behind_mark(bytes: &[u8]) -> (Encoding, &[u8])
     ensures encoding { result.0 ≡ encoding_of bytes.now }
     ensures body { bytes.now ≡ mark_of result.0 ++ result.1.now }

@@ -18,7 +18,7 @@ pub(crate) enum Lead {
     Other,
 }
 
-/// The kind of the token that begins the characters, and what is behind it.
+/// The kind of the token that begins the characters, and what is after it.
 pub(crate) fn first_token(chars: &[char]) -> Option<(TokenKind, &[char])>
     ensures some { IfSome result (λ found. StandsToken chars.now found.0 found.1.now) }
     ensures none { IfNone result (NoToken chars.now) }
@@ -57,7 +57,7 @@ impl Lead {
     }
 }
 
-// Behind the token, of which the first character is known; `others` are those behind it.
+// Behind the token, of which the first character is known; `others` are those after it.
 fn behind<'a>(lead: Lead, chars: &'a [char], others: &'a [char]) -> Option<&'a [char]>
     ensures some { IfSome result (λ rest. OnlyBy lead chars.now others.now rest.now) }
     ensures none { IfNone result (NoneBy lead chars.now others.now) }

@@ -4,7 +4,7 @@ ghost use Rattle.mof_syntax.specs.Forms.{form_name};
 
 use std::fmt;
 
-/// Why bytes spell no instances. Places count characters behind the mark from 0, and in `Text` bytes with the mark.
+/// Why bytes spell no instances. Places count characters after the mark from 0, and in `Text` bytes with the mark.
 #[derive(Clone, Copy, Debug, PartialEq, Eq)]
 pub enum MofError {
     /// More bytes than a document may have.

@@ -1,4 +1,4 @@
-//! What is behind a construct in a slice of characters.
+//! What is after a construct in a slice of characters.
 ghost use Rattle.std.specs.Prelude.{◌≡◌, ◌<◌, IfSome, IfNone};
 ghost use Rattle.std.specs.Option.{option_copied};
 ghost use Rattle.mof_syntax.specs.Characters.{digit_of, Stops};
@@ -124,7 +124,7 @@ fn behind_b(chars: &[char]) -> Option<&[char]>
     }
 }
 
-// The digits of a base that no letter behind them marks.
+// The digits of a base that no letter after them marks.
 fn unmarked_rest(chars: &[char]) -> Option<&[char]>
     ensures { option_copied result ≡ unmarked_rest chars.now }
 {
@@ -188,7 +188,7 @@ fn hex_escape_rest(chars: &[char]) -> Option<&[char]>
     }
 }
 
-/// Up to three further digits behind the value of a first: the value with them, and what is behind.
+/// Up to three further digits after the value of a first: the value with them, and what is after.
 pub fn hex_tail(chars: &[char], first: u32) -> (u32, &[char])
     requires { first < 16 }
     ensures value { result.0 ≡ (hex_tail 3 first chars.now).0 }
@@ -208,7 +208,7 @@ pub fn hex_tail(chars: &[char], first: u32) -> (u32, &[char])
     }
 }
 
-/// The value of the digit that comes first, and what is behind.
+/// The value of the digit that comes first, and what is after.
 pub fn hex_digit(chars: &[char]) -> Option<(u32, &[char])>
     ensures some { IfSome result (λ found. BeginsWithDigit chars.now found.0 found.1.now) }
     ensures none { IfNone result (Stops (digit_of 16) chars.now) }

@@ -37,7 +37,7 @@ impl<'a> Tokens<'a> {
         Tokens { chars, place: 0 }
     }
 
-    /// How far the walk has come: behind the token that it gave last, and once it ended where it ended.
+    /// How far the walk has come: after the token that it gave last, and once it ended where it ended.
     pub fn place(&self) -> u32
         ensures { result ≡ self.now.place }
     {

@@ -7,7 +7,7 @@ use Rattle.mof_values.specs.declared.limits.TheConstants.{MAX_IDENTIFIER}
 abbrev pub is_first : ℕ → Bool
 is_first c = (nat_le 97 c && nat_le c 122) || (nat_le 65 c && nat_le c 90) || c == 95 || (nat_le 128 c && nat_le c 65519)
 
--- what may stand behind the first: these and digits
+-- what may stand after the first: these and digits
 abbrev pub is_next : ℕ → Bool
 is_next c = is_first c || (nat_le 48 c && nat_le c 57)
 

@@ -133,7 +133,7 @@ fn all_follow(chars: &[char]) -> bool
     chars.iter().all(|c| may_follow(*c))
 }
 
-/// Tells whether a character may stand behind the first of an identifier.
+/// Tells whether a character may stand after the first of an identifier.
 pub fn may_follow(c: char) -> bool
     ensures { result ≡ is_next c }
 {

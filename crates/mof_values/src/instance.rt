@@ -5,14 +5,14 @@ ghost use Rattle.mof_values.specs.Values.{text_named, value_named};
 use crate::{Ident, Items, Text, Value};
 
 /// A property of an instance.
-#[derive(Clone, Debug, Drop, PartialEq)]
+#[derive(Debug, Drop, PartialEq)]
 pub struct Property {
     pub name: Ident,
     pub value: Value,
 }
 
 /// An instance declaration (DSP0004, "Instance declaration").
-#[derive(Clone, Debug, Drop, PartialEq)]
+#[derive(Debug, Drop, PartialEq)]
 pub struct Instance {
     pub class: Ident,
     pub alias: Option<Ident>,

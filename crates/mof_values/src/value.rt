@@ -6,7 +6,7 @@ use crate::{Ident, Items, Text};
 use std::slice;
 
 /// A single value of the instance syntax.
-#[derive(Clone, Debug, Drop, PartialEq)]
+#[derive(Debug, Drop, PartialEq)]
 pub enum Scalar {
     Text(Text),
 
@@ -16,12 +16,12 @@ pub enum Scalar {
     Bool(bool),
     Null,
 
-    /// The name behind the `$`.
+    /// The name after the `$`.
     Alias(Ident),
 }
 
 /// What a property holds: a scalar, or an array of scalars.
-#[derive(Clone, Debug, Drop, PartialEq)]
+#[derive(Debug, Drop, PartialEq)]
 pub enum Value {
     One(Scalar),
     Many(Items<Scalar>),

@@ -1,128 +1,41 @@
 -- Each part that is brought is held or was accepted.
-use Rattle.std.proofs.Common.{◌≡◌, inl, inr, ℕ, suc, Bool, true, false, List, [], ◌∷◌, ◌++◌, length, Option, Some, None, Result, Ok, Err, refl, sym, ap, subst, ◌∙◌, arith, All, append_assoc, length-append}
-use Rattle.std.proofs.lemmas.List.{get_or_append_left}
+use Rattle.std.proofs.Common.{◌≡◌, inl, inr, ℕ, suc, Bool, true, false, List, [], ◌∷◌, Option, Some, None, Result, Ok, Err, sym, subst, arith, All}
 use Rattle.std.proofs.lemmas.Option.{none-some, same_Some}
-use Rattle.std.proofs.Math.Seq.{get_or-append_seam}
 use Rattle.std.specs.Bool.{⊤}
-use Rattle.std.specs.List.{AllByRecursion, Any, Contains}
+use Rattle.std.specs.List.{AllByRecursion, Contains}
 use Rattle.std.specs.Prelude.{IfOk, IfSome, bytes_eq, if◌then◌else◌}
 use Rattle.dsc_outside.specs.declared.entries.Package.{Package}
-use Rattle.dsc_outside.specs.declared.exchange.Exchange.{Exchange}
-use Rattle.http_frames.specs.declared.message.Reply.{Reply}
 use Rattle.meta_config.specs.declared.meta.Meta.{Meta}
 use Rattle.meta_config.specs.declared.server.Server.{Server}
 use Rattle.node_state.specs.declared.list.Staged.{Staged}
 use Rattle.node_state.specs.StagedParts.{parts_of}
 use Rattle.partial_merge.specs.declared.part.Part.{Part}
 use Rattle.pull_client.specs.declared.error.PeerError.{PeerError}
-use Rattle.pull_client.specs.Asks.{Exchanged}
 use Rattle.pull_client.specs.Content.{GivesPart}
-use Rattle.pull_client.specs.Heard.{Heard}
 use Rattle.pull_client.specs.Requests.{content_request}
 use Rattle.node_pull.specs.declared.error.PullError.{PullError}
 use Rattle.node_pull.specs.Contents as contents
-use Rattle.node_pull.specs.Contents.{AcceptsPart, Contents, IsHeldOrAccepted, PartFor, WasAccepted, before_others, kept_part, part_under}
+use Rattle.node_pull.specs.Contents.{Contents, IsHeldOrAccepted, PartFor, WasAccepted, before_others, kept_part, part_under}
 use Rattle.node_pull.specs.Listing as listing
 use Rattle.node_pull.specs.Listing.{Listed}
 use Rattle.node_pull.specs.Marks.{same_marks}
 use Rattle.node_pull.specs.Pulling as pulling
 use Rattle.node_pull.specs.Pulling.{Pulled, brought_of}
-use Rattle.node_pull.specs.Views.{AddsExchanges, AsksServer, GoesOn, LinkView}
+use Rattle.node_pull.specs.Views.{Accepts, AsksServer, GoesOn, LinkView, MadeSince}
 use Rattle.node_pull.proofs.GoingOn.{asks_goes_on, contents_go_on, packages_go_on, part_goes_on}
 use Rattle.node_pull.proofs.ListedParts.{all_of}
-
--- ---- some exchange
-
-any_last : {X : Type 0} (P : X → Type 0) (xs : List X) (x : X) → P x → Any P (xs ++ x ∷ [])
-any_last P xs x holds = (length xs, x, omega (arith, length-append xs (x ∷ [])), get_or-append_seam xs x [] x, holds)
-
-any_more : {X : Type 0} (P : X → Type 0) (xs ys : List X) → Any P xs → Any P (xs ++ ys)
-any_more P xs ys any =
-    (any.0, any.1, omega (arith, any.2, length-append xs ys), get_or_append_left xs ys any.1 any.0 any.2 ∙ any.3, any.4)
-
-any_later : {X : Type 0} (P : X → Type 0) (xs ys : List X) → Any P ys → Any P (xs ++ ys)
-any_later P [] ys any = any
-any_later P (x ∷ xs) ys any =
-    let later = any_later P xs ys any in
-    (suc later.0, later.1, omega (arith, later.2), later.3, later.4)
-
-any_one : {X : Type 0} (P : X → Type 0) (x : X) → P x → Any P (x ∷ [])
-any_one P x holds = (0, x, omega arith, refl, holds)
-
--- what an exchange that is told came to stays told
-pub still_any : (P : Exchange → Type 0) (before after : Option (List Exchange)) → AddsExchanges before after → IfSome before (Any P) → IfSome after (Any P)
-still_any P None after adds any = subst (λ (t : Option (List Exchange)). IfSome t (Any P)) (sym adds) tt
-still_any P (Some exchanges) after adds any = subst (λ (t : Option (List Exchange)). IfSome t (Any P)) (sym adds.1) (any_more P exchanges adds.0 any)
-
--- a request that was answered with a value stands among the exchanges that are told
-pub asked_any : {T : Type 0} (server : Server) (request : List ℕ) (Says : Reply → Result T PeerError → Type 0) (before after : LinkView) (value : T)
-    → AsksServer server request Says before after (Ok value) → IfSome after.told (Any (λ (e : Exchange). Heard Says e.outcome (Ok value)))
-asked_any {T} server request Says before after value asks = go before.told server.https refl refl
-  where
-    P : Exchange → Type 0
-    P e = Heard Says e.outcome (Ok value)
-
-    last : (exchanges : List Exchange) → Exchanged server.peer request Says exchanges after.told (Ok value) → IfSome after.told (Any P)
-    last exchanges (inl (outcome, heard, is)) =
-        subst (λ (t : Option (List Exchange)). IfSome t (Any P)) (sym is) (any_last P exchanges (record { peer = server.peer; request = request; outcome = outcome }) heard)
-    last exchanges (inr (none, is)) = absurd (cc none)
-
-    go : (told : Option (List Exchange)) (https : Bool) → before.told ≡ told → server.https ≡ https → IfSome after.told (Any P)
-    go told true is secure = absurd (cc (asks.unserved secure).0)
-    go None false is secure = subst (λ (t : Option (List Exchange)). IfSome t (Any P)) (sym (asks.untold is)) tt
-    go (Some exchanges) false is secure = last exchanges (asks.exchanged secure exchanges is)
+use Rattle.node_pull.proofs.Since.{asked_since, since_before, since_then}
 
 -- ---- what was accepted
 
 module _ (server : Server) (agent : ℕ) where
-  told_more : (told after : Option (List Exchange)) (exchanges : List Exchange) → told ≡ Some exchanges → AddsExchanges told after → (more : List Exchange) × (after ≡ Some (exchanges ++ more))
-  told_more None after exchanges is adds = absurd (none-some exchanges is)
-  told_more (Some before) after exchanges is adds = (adds.0, adds.1 ∙ ap (λ (list : List Exchange). Some (list ++ adds.0)) (same_Some before exchanges is))
-
-  -- it stays accepted
-  pub accepted_later : (before mid after : LinkView) (part : Part) → WasAccepted server agent before mid part → GoesOn mid after → WasAccepted server agent before after part
-  accepted_later before mid after part was on old is =
-      let found = was old is in
-      let more = told_more mid.told after.told (old ++ found.0) found.1 on.told in
-      (found.0 ++ more.0, more.1 ∙ ap Some (append_assoc old found.0 more.0), any_more (AcceptsPart server agent part) found.0 more.0 found.2)
-
-  -- and it was since any moment before
-  accepted_since : (before mid after : LinkView) (part : Part) → GoesOn before mid → WasAccepted server agent mid after part → WasAccepted server agent before after part
-  accepted_since before mid after part on was old is =
-      let more = told_more before.told mid.told old is on.told in
-      let found = was (old ++ more.0) more.1 in
-      (more.0 ++ found.0, found.1 ∙ ap Some (append_assoc old more.0 found.0), any_later (AcceptsPart server agent part) more.0 found.0 found.2)
-
-  -- a content that was given
-  asked_accepted : (name : List ℕ) (before after : LinkView) (part : Part) → part.name ≡ name → AsksServer server (content_request server agent name) (GivesPart name) before after (Ok part)
-      → WasAccepted server agent before after part
-  asked_accepted name before after part named asks old is = by server.https refl
-    where
-      since : Exchanged server.peer (content_request server agent name) (GivesPart name) old after.told (Ok part) → (new : List Exchange) × (after.told ≡ Some (old ++ new)) × Any (AcceptsPart server agent part) new
-      since (inl (outcome, heard, told)) = (
-        record { peer = server.peer; request = content_request server agent name; outcome = outcome } ∷ [],
-        told,
-        any_one (AcceptsPart server agent part) (record { peer = server.peer; request = content_request server agent name; outcome = outcome }) (record {
-          peer = refl;
-          request = ap (λ (n : List ℕ). content_request server agent n) (sym named);
-          answer = subst (λ (n : List ℕ). Heard (GivesPart n) outcome (Ok part)) (sym named) heard;
-        }),
-      )
-      since (inr (none, told)) = absurd (cc none)
-
-      by : (https : Bool) → server.https ≡ https → (new : List Exchange) × (after.told ≡ Some (old ++ new)) × Any (AcceptsPart server agent part) new
-      by true secure = absurd (cc (asks.unserved secure).0)
-      by false secure = since (asks.exchanged secure old is)
-
-  -- ---- parts
-
   accepted_on : (held : List Part) (before mid after : LinkView) (part : Part) → GoesOn mid after → IsHeldOrAccepted server agent held before mid part → IsHeldOrAccepted server agent held before after part
   accepted_on held before mid after part on (inl has) = inl has
-  accepted_on held before mid after part on (inr was) = inr (accepted_later before mid after part was on)
+  accepted_on held before mid after part on (inr was) = inr (since_then (Accepts server (content_request server agent part.name) (GivesPart part.name) part) before mid after was on)
 
   accepted_from : (held : List Part) (before mid after : LinkView) (part : Part) → GoesOn before mid → IsHeldOrAccepted server agent held mid after part → IsHeldOrAccepted server agent held before after part
   accepted_from held before mid after part on (inl has) = inl has
-  accepted_from held before mid after part on (inr was) = inr (accepted_since before mid after part on was)
+  accepted_from held before mid after part on (inr was) = inr (since_before (Accepts server (content_request server agent part.name) (GivesPart part.name) part) before mid after on was)
 
   all_on : (held : List Part) (before mid after : LinkView) (parts : List Part) → GoesOn mid after → AllByRecursion (IsHeldOrAccepted server agent held before mid) parts
       → AllByRecursion (IsHeldOrAccepted server agent held before after) parts
@@ -148,10 +61,17 @@ kept_held held name [] part is = absurd (none-some part is)
 kept_held held name (true ∷ fetches) part is = absurd (none-some part is)
 kept_held held name (false ∷ fetches) part is = under_held held name part is
 
+-- a content that was given
+asked_part : (server : Server) (agent : ℕ) (name : List ℕ) (before after : LinkView) (part : Part) → part.name ≡ name
+    → AsksServer server (content_request server agent name) (GivesPart name) before after (Ok part) → WasAccepted server agent before after part
+asked_part server agent name before after part named asks =
+    subst (λ (n : List ℕ). MadeSince (Accepts server (content_request server agent n) (GivesPart n) part) before after) (sym named)
+    (asked_since server (content_request server agent name) (GivesPart name) before after part asks)
+
 part_accepted : {server : Server} {agent : ℕ} {held : List Part} {name : List ℕ} {fetches : List Bool} {before after : LinkView} {part : Part}
     → PartFor server agent held name fetches before after (Ok part) → IsHeldOrAccepted server agent held before after part
 part_accepted {held = held} {name = name} {fetches = fetches} (contents.is_kept part view is) = inl (kept_held held name fetches part is)
-part_accepted {server = server} {agent = agent} {name = name} {part = part} (contents.is_fetched before after result none asks named) = inr (asked_accepted server agent name before after part named asks)
+part_accepted {server = server} {agent = agent} {name = name} {part = part} (contents.is_fetched before after result none asks named) = inr (asked_part server agent name before after part named asks)
 
 abbrev pub AllAccepted : Server → ℕ → List Part → LinkView → LinkView → Result (List Part) PeerError → Type 0
 AllAccepted server agent held before after (Ok parts) = AllByRecursion (IsHeldOrAccepted server agent held before after) parts

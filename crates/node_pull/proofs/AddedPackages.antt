@@ -7,22 +7,18 @@ use Rattle.std.specs.List.{Any, list_any}
 use Rattle.std.specs.Prelude.{IfSome, IsTrue, bytes_eq}
 use Rattle.dsc_outside.specs.Host.{has_package}
 use Rattle.dsc_outside.specs.declared.entries.Package.{Package}
-use Rattle.meta_config.specs.declared.meta.Meta.{Meta}
 use Rattle.meta_config.specs.declared.server.Server.{Server}
-use Rattle.node_state.specs.declared.list.Staged.{Staged}
-use Rattle.partial_merge.specs.declared.part.Part.{Part}
 use Rattle.resource_kinds.specs.Packages.{AddsPackage}
 use Rattle.pull_client.specs.Content.{GivesBody}
+use Rattle.pull_client.specs.Requests.{module_request}
 use Rattle.node_pull.specs.declared.error.PullError.{PullError}
 use Rattle.node_pull.specs.declared.modules.Module.{Module}
 use Rattle.node_pull.specs.Laws.{PackagesAreAccepted, PackagesAreThere}
 use Rattle.node_pull.specs.Packages as rows
-use Rattle.node_pull.specs.Packages.{AcceptsBody, Adds, AddsAccepted, AsksModule, Has, HasAll, IsPackageOf, OnePackage, Packages, SamePackages, WasAccepted, modules_of}
-use Rattle.node_pull.specs.Pulling as pulling
-use Rattle.node_pull.specs.Pulling.{Pulled}
-use Rattle.node_pull.specs.Views.{GoesOn, LinkView}
-use Rattle.node_pull.proofs.AcceptedParts.{asked_any, still_any}
-use Rattle.node_pull.proofs.GoingOn.{packages_go_on}
+use Rattle.node_pull.specs.Packages.{Adds, AddsAccepted, AreLacking, AsksModule, Has, HasAll, OnePackage, Packages, SamePackages, WasGiven}
+use Rattle.node_pull.specs.Views.{Accepts, GoesOn, LinkView, MadeSince}
+use Rattle.node_pull.proofs.GoingOn.{package_goes_on, packages_go_on}
+use Rattle.node_pull.proofs.Since.{asked_since, since_before, since_then}
 
 abbrev pub Told : Type 0
 Told = Option (List Package)
@@ -38,82 +34,121 @@ all_one P x is = All-push P [] x (all_none P) is
 all_also : {X : Type 0} (P Q : X → Type 0) (xs : List X) → ((x : X) → P x → Q x) → All P xs → All Q xs
 all_also P Q xs f all k d lt = f (get_or xs k d) (all k d lt)
 
-pub adds_same : (modules : List Module) (view : LinkView) (before after : Told) → after ≡ before → AddsAccepted modules view before after
-adds_same modules view None after is = is
-adds_same modules view (Some list) after is = ([], is ∙ ap Some (sym (append-nil list)), all_none (WasAccepted modules view))
+lacking_both : (there first rest : List Package) → AreLacking there first → AreLacking (there ++ first) rest → AreLacking there (first ++ rest)
+lacking_both there [] rest one other = subst (λ (l : List Package). AreLacking l rest) (append-nil there) other
+lacking_both there (found ∷ first) rest one other =
+    (one.0, lacking_both (there ++ found ∷ []) first rest one.1 (subst (λ (l : List Package). AreLacking l rest) (sym (append_assoc there (found ∷ []) first)) other))
 
-adds_both : (modules : List Module) (view : LinkView) (before mid after : Told) → AddsAccepted modules view before mid → AddsAccepted modules view mid after → AddsAccepted modules view before after
-adds_both modules view None mid after first second = subst (λ (t : Told). AddsAccepted modules view t after) first second
-adds_both modules view (Some list) mid after first second =
-    let rest = subst (λ (t : Told). AddsAccepted modules view t after) first.1 second in
-    (first.0 ++ rest.0, rest.1 ∙ ap Some (append_assoc list first.0 rest.0), All-append (WasAccepted modules view) first.0 rest.0 first.2 rest.2)
+-- the packages that are told lack that of the module
+abbrev pub Lacks : Module → Told → Type 0
+Lacks wanted told = IfSome told (λ list. false ≡ has_package list (encode_utf8_all wanted.name) (encode_utf8_all wanted.version))
 
-any_first : (P : Module → Type 0) (wanted : Module) (modules : List Module) → P wanted → Any P (wanted ∷ modules)
-any_first P wanted modules is = (0, wanted, omega arith, refl, is)
+module _ (server : Server) where
+  abbrev pub Given : List Module → LinkView → LinkView → Package → Type 0
+  Given modules before after found = Any (WasGiven server before after found) modules
 
-any_later : (P : Module → Type 0) (wanted : Module) (modules : List Module) → Any P modules → Any P (wanted ∷ modules)
-any_later P wanted modules any = (suc any.0, any.1, omega (arith, any.2), any.3, any.4)
+  pub adds_same : (modules : List Module) (before after : LinkView) (old new : Told) → new ≡ old → AddsAccepted server modules before after old new
+  adds_same modules before after None new is = is
+  adds_same modules before after (Some list) new is = ([], is ∙ ap Some (sym (append-nil list)), tt, all_none (Given modules before after))
 
-was_on : (modules : List Module) (before after : LinkView) → GoesOn before after → (found : Package) → WasAccepted modules before found → WasAccepted modules after found
-was_on modules before after on found was =
-    record { wanted = was.wanted; accepted = still_any (AcceptsBody found.bytes) before.told after.told on.told was.accepted }
+  adds_both : (modules : List Module) (before after : LinkView) (old mid new : Told) → AddsAccepted server modules before after old mid → AddsAccepted server modules before after mid new
+      → AddsAccepted server modules before after old new
+  adds_both modules before after None mid new first second = subst (λ (t : Told). AddsAccepted server modules before after t new) first second
+  adds_both modules before after (Some list) mid new first second =
+      let rest = subst (λ (t : Told). AddsAccepted server modules before after t new) first.1 second in (
+        first.0 ++ rest.0,
+        rest.1 ∙ ap Some (append_assoc list first.0 rest.0),
+        lacking_both list first.0 rest.0 first.2 rest.2,
+        All-append (Given modules before after) first.0 rest.0 first.3 rest.3,
+      )
 
-pub adds_on : (modules : List Module) (before after : LinkView) (old new : Told) → GoesOn before after → AddsAccepted modules before old new → AddsAccepted modules after old new
-adds_on modules before after None new on adds = adds
-adds_on modules before after (Some list) new on adds =
-    (adds.0, adds.1, all_also (WasAccepted modules before) (WasAccepted modules after) adds.0 (was_on modules before after on) adds.2)
+  -- packages that were given for some modules between two moments were given for others between others
+  adds_also : (modules others : List Module) (before after first last : LinkView) (old new : Told) → ((found : Package) → Given modules before after found → Given others first last found)
+      → AddsAccepted server modules before after old new → AddsAccepted server others first last old new
+  adds_also modules others before after first last None new also adds = adds
+  adds_also modules others before after first last (Some list) new also adds =
+      (adds.0, adds.1, adds.2, all_also (Given modules before after) (Given others first last) adds.0 also adds.3)
 
-was_later : (wanted : Module) (modules : List Module) (view : LinkView) (found : Package) → WasAccepted modules view found → WasAccepted (wanted ∷ modules) view found
-was_later wanted modules view found was = record { wanted = any_later (IsPackageOf found) wanted modules was.wanted; accepted = was.accepted }
+  any_also : (P Q : Module → Type 0) (modules : List Module) → ((wanted : Module) → P wanted → Q wanted) → Any P modules → Any Q modules
+  any_also P Q modules also any = (any.0, any.1, any.2, any.3, also any.1 any.4)
 
-adds_later : (wanted : Module) (modules : List Module) (view : LinkView) (old new : Told) → AddsAccepted modules view old new → AddsAccepted (wanted ∷ modules) view old new
-adds_later wanted modules view None new adds = adds
-adds_later wanted modules view (Some list) new adds =
-    (adds.0, adds.1, all_also (WasAccepted modules view) (WasAccepted (wanted ∷ modules) view) adds.0 (was_later wanted modules view) adds.2)
+  pub adds_on : (modules : List Module) (before mid after : LinkView) (old new : Told) → GoesOn mid after → AddsAccepted server modules before mid old new → AddsAccepted server modules before after old new
+  adds_on modules before mid after old new on =
+      adds_also modules modules before mid before after old new
+      (λ found. any_also (WasGiven server before mid found) (WasGiven server before after found) modules (λ wanted was. record {
+        name = was.name;
+        version = was.version;
+        accepted = since_then (Accepts server (module_request server wanted.name wanted.version) GivesBody found.bytes) before mid after was.accepted on;
+      }))
 
-adds_one : (wanted : Module) (modules : List Module) (view : LinkView) (old new : Told) (body : List ℕ) → IfSome view.told (Any (AcceptsBody body))
-    → AddsPackage old new (encode_utf8_all wanted.name) (encode_utf8_all wanted.version) body → AddsAccepted (wanted ∷ modules) view old new
-adds_one wanted modules view None new body accepted adds = adds
-adds_one wanted modules view (Some list) new body accepted adds =
-    let found : Package = record { name = encode_utf8_all wanted.name; version = encode_utf8_all wanted.version; bytes = body } in (
-      found ∷ [],
-      adds,
-      all_one (WasAccepted (wanted ∷ modules) view) found (record { wanted = any_first (IsPackageOf found) wanted modules (refl, refl); accepted = accepted }),
-    )
+  adds_from : (modules : List Module) (before mid after : LinkView) (old new : Told) → GoesOn before mid → AddsAccepted server modules mid after old new → AddsAccepted server modules before after old new
+  adds_from modules before mid after old new on =
+      adds_also modules modules mid after before after old new
+      (λ found. any_also (WasGiven server mid after found) (WasGiven server before after found) modules (λ wanted was. record {
+        name = was.name;
+        version = was.version;
+        accepted = since_before (Accepts server (module_request server wanted.name wanted.version) GivesBody found.bytes) before mid after on was.accepted;
+      }))
 
--- ---- what came was accepted
+  any_first : (P : Module → Type 0) (wanted : Module) (modules : List Module) → P wanted → Any P (wanted ∷ modules)
+  any_first P wanted modules is = (0, wanted, omega arith, refl, is)
+
+  any_later : (P : Module → Type 0) (wanted : Module) (modules : List Module) → Any P modules → Any P (wanted ∷ modules)
+  any_later P wanted modules any = (suc any.0, any.1, omega (arith, any.2), any.3, any.4)
+
+  adds_later : (wanted : Module) (modules : List Module) (before after : LinkView) (old new : Told) → AddsAccepted server modules before after old new
+      → AddsAccepted server (wanted ∷ modules) before after old new
+  adds_later wanted modules before after old new =
+      adds_also modules (wanted ∷ modules) before after before after old new (λ found. any_later (WasGiven server before after found) wanted modules)
+
+  adds_one : (wanted : Module) (modules : List Module) (before after : LinkView) (old new : Told) (body : List ℕ)
+      → MadeSince (Accepts server (module_request server wanted.name wanted.version) GivesBody body) before after → Lacks wanted old
+      → AddsPackage old new (encode_utf8_all wanted.name) (encode_utf8_all wanted.version) body → AddsAccepted server (wanted ∷ modules) before after old new
+  adds_one wanted modules before after None new body accepted lacks adds = adds
+  adds_one wanted modules before after (Some list) new body accepted lacks adds =
+      let found : Package = record { name = encode_utf8_all wanted.name; version = encode_utf8_all wanted.version; bytes = body } in (
+        found ∷ [],
+        adds,
+        (sym lacks, tt),
+        all_one (Given (wanted ∷ modules) before after) found
+            (any_first (WasGiven server before after found) wanted modules (record { name = refl; version = refl; accepted = accepted })),
+      )
+
+-- ---- what came was given
 
 module _ {S : Type 0} (packages : S → Option (List Package)) (faults : S → ℕ) (server : Server) where
-  added : (wanted : Module) (modules : List Module) (before after : LinkView) (old looked new : S) (body : List ℕ) → SamePackages packages old looked
-      → AsksModule server wanted before after (Ok body) → Adds packages wanted body looked new → AddsAccepted (wanted ∷ modules) after (packages old) (packages new)
-  added wanted modules before after old looked new body same asks adds =
-      subst (λ (t : Told). AddsAccepted (wanted ∷ modules) after t (packages new)) same
-      (adds_one wanted modules after (packages looked) (packages new) body (asked_any server _ GivesBody before after body asks) adds)
+  added : (wanted : Module) (modules : List Module) (before after : LinkView) (old looked new : S) (body : List ℕ) → Has packages old wanted false → SamePackages packages old looked
+      → AsksModule server wanted before after (Ok body) → Adds packages wanted body looked new → AddsAccepted server (wanted ∷ modules) before after (packages old) (packages new)
+  added wanted modules before after old looked new body has same asks adds =
+      subst (λ (t : Told). AddsAccepted server (wanted ∷ modules) before after t (packages new)) same
+      (adds_one server wanted modules before after (packages looked) (packages new) body
+      (asked_since server (module_request server wanted.name wanted.version) GivesBody before after body asks) (subst (Lacks wanted) (sym same) has) adds)
 
-  added_or_not : (wanted : Module) (modules : List Module) (before after : LinkView) (old looked new : S) (body : List ℕ) → SamePackages packages old looked
+  added_or_not : (wanted : Module) (modules : List Module) (before after : LinkView) (old looked new : S) (body : List ℕ) → Has packages old wanted false → SamePackages packages old looked
       → AsksModule server wanted before after (Ok body) → (SamePackages packages looked new ⊎ Adds packages wanted body looked new)
-      → AddsAccepted (wanted ∷ modules) after (packages old) (packages new)
-  added_or_not wanted modules before after old looked new body same asks (inl still) = adds_same (wanted ∷ modules) after (packages old) (packages new) (still ∙ same)
-  added_or_not wanted modules before after old looked new body same asks (inr adds) = added wanted modules before after old looked new body same asks adds
+      → AddsAccepted server (wanted ∷ modules) before after (packages old) (packages new)
+  added_or_not wanted modules before after old looked new body has same asks (inl still) = adds_same server (wanted ∷ modules) before after (packages old) (packages new) (still ∙ same)
+  added_or_not wanted modules before after old looked new body has same asks (inr adds) = added wanted modules before after old looked new body has same asks adds
 
   one_accepted : {before after : LinkView} {old new : S} {result : Result (Unit {0}) PullError} (wanted : Module) (modules : List Module)
-      → OnePackage packages faults server wanted before after old new result → AddsAccepted (wanted ∷ modules) after (packages old) (packages new)
-  one_accepted wanted modules (rows.is_there view old new has same) = adds_same (wanted ∷ modules) view (packages old) (packages new) same
-  one_accepted wanted modules (rows.is_added before after old looked new body has same asks adds) = added wanted modules before after old looked new body same asks adds
-  one_accepted wanted modules (rows.not_looked view old new rose same) = adds_same (wanted ∷ modules) view (packages old) (packages new) same
-  one_accepted wanted modules (rows.not_given before after old new error has same asks) = adds_same (wanted ∷ modules) after (packages old) (packages new) same
+      → OnePackage packages faults server wanted before after old new result → AddsAccepted server (wanted ∷ modules) before after (packages old) (packages new)
+  one_accepted wanted modules (rows.is_there view old new has same) = adds_same server (wanted ∷ modules) view view (packages old) (packages new) same
+  one_accepted wanted modules (rows.is_added before after old looked new body has same asks adds) = added wanted modules before after old looked new body has same asks adds
+  one_accepted wanted modules (rows.not_looked view old new rose same) = adds_same server (wanted ∷ modules) view view (packages old) (packages new) same
+  one_accepted wanted modules (rows.not_given before after old new error has same asks) = adds_same server (wanted ∷ modules) before after (packages old) (packages new) same
   one_accepted wanted modules (rows.not_added before after old looked new body has same asks rose whole) =
-      added_or_not wanted modules before after old looked new body same asks whole
-  one_accepted wanted modules (rows.no_memory view old new same) = adds_same (wanted ∷ modules) view (packages old) (packages new) same
+      added_or_not wanted modules before after old looked new body has same asks whole
+  one_accepted wanted modules (rows.no_memory view old new same) = adds_same server (wanted ∷ modules) view view (packages old) (packages new) same
   one_accepted wanted modules (rows.no_memory_to_add before after old looked new body has same asks whole) =
-      added_or_not wanted modules before after old looked new body same asks whole
+      added_or_not wanted modules before after old looked new body has same asks whole
 
 pub packages_are_accepted : {S : Type 0} (packages : S → Option (List Package)) (faults : S → ℕ) → PackagesAreAccepted packages faults
-packages_are_accepted packages faults server [] _ _ _ _ _ (rows.no_more view state) = adds_same [] view (packages state) (packages state) refl
+packages_are_accepted packages faults server [] _ _ _ _ _ (rows.no_more view state) = adds_same server [] view view (packages state) (packages state) refl
 packages_are_accepted packages faults server (_ ∷ _) _ _ _ _ _ (rows.one_more wanted modules before mid after old next new result one rest) =
-    adds_both (wanted ∷ modules) after (packages old) (packages next) (packages new)
-    (adds_on (wanted ∷ modules) mid after (packages old) (packages next) (packages_go_on rest) (one_accepted packages faults server wanted modules one))
-    (adds_later wanted modules after (packages next) (packages new) (packages_are_accepted packages faults server modules mid after next new result rest))
+    adds_both server (wanted ∷ modules) before after (packages old) (packages next) (packages new)
+    (adds_on server (wanted ∷ modules) before mid after (packages old) (packages next) (packages_go_on rest) (one_accepted packages faults server wanted modules one))
+    (adds_later server wanted modules before after (packages next) (packages new)
+    (adds_from server modules before mid after (packages next) (packages new) (package_goes_on one) (packages_are_accepted packages faults server modules mid after next new result rest)))
 packages_are_accepted packages faults server (_ ∷ _) _ _ _ _ _ (rows.ended wanted modules before after old new error one) =
     one_accepted packages faults server wanted modules one
 
@@ -144,9 +179,10 @@ has_last list name version bytes =
     itself : (name version : List ℕ) → IsTrue ((bytes_eq name name && bytes_eq version version) || false)
     itself name version = rw ((bytes_eq-Decides name name).1 refl, (bytes_eq-Decides version version).1 refl) refl
 
-has_on : (modules : List Module) (view : LinkView) (wanted : Module) (before after : Told) → AddsAccepted modules view before after → HasOne wanted before → HasOne wanted after
-has_on modules view wanted None after adds has = subst (HasOne wanted) (sym adds) tt
-has_on modules view wanted (Some list) after adds has =
+has_on : (server : Server) (modules : List Module) (first last : LinkView) (wanted : Module) (before after : Told) → AddsAccepted server modules first last before after
+    → HasOne wanted before → HasOne wanted after
+has_on server modules first last wanted None after adds has = subst (HasOne wanted) (sym adds) tt
+has_on server modules first last wanted (Some list) after adds has =
     subst (HasOne wanted) (sym adds.1) (still_has list adds.0 (encode_utf8_all wanted.name) (encode_utf8_all wanted.version) has)
 
 has_added : (wanted : Module) (body : List ℕ) (before after : Told) → AddsPackage before after (encode_utf8_all wanted.name) (encode_utf8_all wanted.version) body → HasOne wanted after
@@ -181,18 +217,5 @@ pub packages_are_there : {S : Type 0} (packages : S → Option (List Package)) (
 packages_are_there packages faults server [] _ _ _ _ (rows.no_more view state) = has_none (packages state)
 packages_are_there packages faults server (_ ∷ _) _ _ _ _ (rows.one_more wanted modules before mid after old next new result one rest) =
     with_one wanted modules (packages new)
-    (has_on modules after wanted (packages next) (packages new) (packages_are_accepted packages faults server modules mid after next new (Ok tt) rest) (one_there packages faults server wanted one))
+    (has_on server modules mid after wanted (packages next) (packages new) (packages_are_accepted packages faults server modules mid after next new (Ok tt) rest) (one_there packages faults server wanted one))
     (packages_are_there packages faults server modules mid after next new rest)
-
--- ---- a pull
-
--- what it brings to a machine's packages was accepted
-pub pulled_adds : {S : Type 0} {packages : S → Option (List Package)} {faults : S → ℕ} {meta : Meta} {server : Server} {agent : ℕ} {held : List Part} {before after : LinkView} {old new : S}
-    {result : Result (Option Staged) PullError}
-    → Pulled packages faults meta server agent held before after old new result → (modules : List Module) × AddsAccepted modules after (packages old) (packages new)
-pulled_adds {packages = packages} (pulling.not_listed before after state error listed) = ([], adds_same [] after (packages state) (packages state) refl)
-pulled_adds {packages = packages} (pulling.not_staged before after state parts error listed refused) = ([], adds_same [] after (packages state) (packages state) refl)
-pulled_adds {packages = packages} {faults = faults} {server = server} (pulling.no_package before mid after old new staged document error listed fitting merged came) =
-    (modules_of document, packages_are_accepted packages faults server (modules_of document) mid after old new (Err error) came)
-pulled_adds {packages = packages} {faults = faults} {server = server} (pulling.brought before mid after old new staged document brings listed fitting merged came is) =
-    (modules_of document, packages_are_accepted packages faults server (modules_of document) mid after old new (Ok tt) came)

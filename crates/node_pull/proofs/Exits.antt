@@ -1,4 +1,4 @@
--- Exits for want of memory.
+-- Exits for lack of memory.
 use Rattle.std.proofs.Common.{◌≡◌, Result, Ok, Err, ap}
 use Rattle.std.specs.Prelude.{IsErrAnd}
 

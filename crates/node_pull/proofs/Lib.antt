@@ -8,3 +8,4 @@ pub mod ListedParts
 pub mod PackageRows
 pub mod PartRows
 pub mod PullRows
+pub mod Since

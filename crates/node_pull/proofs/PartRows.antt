@@ -1,46 +1,13 @@
--- The part under one name, and the parts behind it.
+-- The part under one name, and the parts after it.
 use Rattle.std.proofs.Common.{◌≡◌, inl, inr, ℕ, ◌<◌, ◌≤◌, Bool, List, [], ◌∷◌, ◌++◌, length, get_or, drop, Result, Ok, Err, refl, sym, ap, subst, ◌∙◌, arith, append_assoc, append-nil}
-use Rattle.dsc_outside.specs.declared.exchange.Exchange.{Exchange}
-use Rattle.dsc_outside.specs.declared.exchange.Outcome.{Outcome}
 use Rattle.meta_config.specs.declared.server.Server.{Server}
 use Rattle.partial_merge.specs.declared.part.Part.{Part}
 use Rattle.pull_client.specs.declared.error.PeerError.{PeerError}
 use Rattle.pull_client.specs.declared.error.PeerError.TheVariants.{Memory}
-use Rattle.pull_client.specs.Asks.{Exchanged}
-use Rattle.pull_client.specs.Content.{GivesPart, IsPartOf, content_of}
-use Rattle.pull_client.specs.Heard.{Heard, accepted}
 use Rattle.node_pull.specs.Contents.{Contents, ContentsAfter, PartFor, after_earlier, before_others, later_answers, no_more, one_more, ended, no_memory}
-use Rattle.node_pull.specs.Views.{AsksServer, LinkView}
+use Rattle.node_pull.specs.Views.{LinkView}
 
--- ---- a part under the name that was asked
-
-of_content : (name : List ℕ) (content : Result (List ℕ) PeerError) (one other : Part) → other.name ≡ name → other.bytes ≡ one.bytes
-    → IsPartOf name content (Ok one) → IsPartOf name content (Ok other)
-of_content name (Ok content) one other named same is = (named, same ∙ is.1)
-of_content name (Err error) one other named same is = absurd (cc is)
-
-heard_as : (name : List ℕ) (outcome : Outcome) (one other : Part) → other.name ≡ name → other.bytes ≡ one.bytes
-    → Heard (GivesPart name) outcome (Ok one) → Heard (GivesPart name) outcome (Ok other)
-heard_as name outcome one other named same (accepted bytes reply result frame code says) =
-    accepted bytes reply (Ok other) frame code (of_content name (content_of reply) one other named same says)
-
--- a part of that name and the same bytes was given as well
-pub asks_as : (server : Server) (request name : List ℕ) (before after : LinkView) (one other : Part) → other.name ≡ name → other.bytes ≡ one.bytes
-    → AsksServer server request (GivesPart name) before after (Ok one) → AsksServer server request (GivesPart name) before after (Ok other)
-asks_as server request name before after one other named same asks = record {
-  unserved = λ https. absurd (cc (asks.unserved https).0);
-  served = λ http is. absurd (cc is);
-  untold = asks.untold;
-  exchanged = λ http earlier now. go earlier (asks.exchanged http earlier now);
-  later = asks.later;
-  link = λ is. absurd (cc is);
-}
-  where
-    go : (earlier : List Exchange) → Exchanged server.peer request (GivesPart name) earlier after.told (Ok one) → Exchanged server.peer request (GivesPart name) earlier after.told (Ok other)
-    go earlier (inl (outcome, heard, last)) = inl (outcome, heard_as name outcome one other named same heard, last)
-    go earlier (inr (none, last)) = absurd (cc none)
-
--- ---- the parts behind earlier ones
+-- ---- the parts after earlier ones
 
 module _ (server : Server) (agent : ℕ) (held : List Part) where
   pub after_none : (fetches : List Bool) (earlier : List Part) (view : LinkView) → ContentsAfter server agent held [] fetches earlier view view (Ok earlier)

@@ -1,14 +1,12 @@
 -- The parts under the names that were asked about: fetched, or as they are held.
-use Rattle.std.specs.Prelude.{◌≡◌, ◌⊎◌, ℕ, Bool, true, false, List, [], ◌∷◌, ◌++◌, Any, Contains, Option, Some, None, Result, Ok, Err, IfOk, bytes_eq, if◌then◌else◌}
-use Rattle.dsc_outside.specs.declared.exchange.Exchange.{Exchange}
+use Rattle.std.specs.Prelude.{◌≡◌, ◌⊎◌, ℕ, Bool, true, false, List, [], ◌∷◌, ◌++◌, Contains, Option, Some, None, Result, Ok, Err, IfOk, bytes_eq, if◌then◌else◌}
 use Rattle.meta_config.specs.declared.server.Server.{Server}
 use Rattle.partial_merge.specs.declared.part.Part.{Part}
 use Rattle.pull_client.specs.declared.error.PeerError.{PeerError}
 use Rattle.pull_client.specs.declared.error.PeerError.TheVariants.{Memory}
 use Rattle.pull_client.specs.Content.{GivesPart}
-use Rattle.pull_client.specs.Heard.{Heard}
 use Rattle.pull_client.specs.Requests.{content_request}
-use Rattle.node_pull.specs.Views.{AsksServer, LinkView}
+use Rattle.node_pull.specs.Views.{Accepts, AsksServer, LinkView, MadeSince}
 
 -- the first part that is held under the name
 abbrev pub part_under : List Part → List ℕ → Option Part
@@ -55,17 +53,9 @@ pub data Contents (server : Server) (agent : ℕ) (held : List Part) : List (Lis
 
 -- ---- what was accepted
 
--- the exchange asked the server for the content of the part's name, and was answered with the part, accepted under the digest that was
--- announced for it
-pub record AcceptsPart (server : Server) (agent : ℕ) (part : Part) (exchange : Exchange) : Type 0 where
-  pub peer : exchange.peer ≡ server.peer
-  pub request : exchange.request ≡ content_request server agent part.name
-  pub answer : Heard (GivesPart part.name) exchange.outcome (Ok part)
-
--- where the link tells its exchanges, so was one that was made since
+-- the server was asked since for the content of the part's name, and gave the part, accepted under the digest that was announced for it
 abbrev pub WasAccepted : Server → ℕ → LinkView → LinkView → Part → Type 0
-WasAccepted server agent before after part =
-    (old : List Exchange) → before.told ≡ Some old → (new : List Exchange) × (after.told ≡ Some (old ++ new)) × Any (AcceptsPart server agent part) new
+WasAccepted server agent before after part = MadeSince (Accepts server (content_request server agent part.name) (GivesPart part.name) part) before after
 
 -- the part is held, or was accepted since
 abbrev pub IsHeldOrAccepted : Server → ℕ → List Part → LinkView → LinkView → Part → Type 0
@@ -78,7 +68,7 @@ abbrev pub after_earlier : List Part → Result (List Part) PeerError → Result
 after_earlier earlier (Ok others) = Ok (earlier ++ others)
 after_earlier earlier (Err error) = Err error
 
--- the parts of these names, behind those of earlier ones
+-- the parts of these names, after those of earlier ones
 pub record ContentsAfter (server : Server) (agent : ℕ) (held : List Part) (names : List (List ℕ)) (fetches : List Bool) (earlier : List Part) (before after : LinkView)
     (result : Result (List Part) PeerError) : Type 0 where
   pub others : Result (List Part) PeerError

@@ -7,12 +7,12 @@ use Rattle.node_pull.specs.declared.modules.Module.{Module}
 use Rattle.node_pull.specs.Packages.{AddsAccepted, HasAll, Packages}
 use Rattle.node_pull.specs.Views.{LinkView}
 
--- each package that a machine has after a pull and not before is of one of the modules, and was accepted
+-- each package that a machine has after a pull and not before was given by the server for one of the modules
 abbrev pub PackagesAreAccepted : {S : Type 0} → (S → Option (List Package)) → (S → ℕ) → Type 0
 PackagesAreAccepted {S} packages faults =
     (server : Server) (modules : List Module) (before after : LinkView) (old new : S) (result : Result (Unit {0}) PullError)
     → Packages packages faults server modules before after old new result
-    → AddsAccepted modules after (packages old) (packages new)
+    → AddsAccepted server modules before after (packages old) (packages new)
 
 -- and where they all came, the machine has that of each module
 abbrev pub PackagesAreThere : {S : Type 0} → (S → Option (List Package)) → (S → ℕ) → Type 0

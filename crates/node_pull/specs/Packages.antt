@@ -1,10 +1,9 @@
 -- The packages of modules that a document's resources name, and how they come to a machine.
-use Rattle.std.specs.Prelude.{◌≡◌, ◌⊎◌, ℕ, Bool, true, false, not, ◌&&◌, List, [], ◌∷◌, ◌++◌, Option, Some, None, Result, Ok, Err, IfSome, IsTrue, All, Any, bytes_eq, codes, encode_utf8_all, filter_map, if◌then◌else◌}
+use Rattle.std.specs.Prelude.{◌≡◌, ◌⊎◌, ⊤, ℕ, Bool, true, false, not, ◌&&◌, List, [], ◌∷◌, ◌++◌, Option, Some, None, Result, Ok, Err, IfSome, IsTrue, All, Any, bytes_eq, codes, encode_utf8_all, filter_map, if◌then◌else◌}
 use Rattle.std.specs.List.{list_any}
 use Rattle.dsc_terms.specs.Counts.{Rose}
 use Rattle.dsc_outside.specs.Host.{has_package}
 use Rattle.dsc_outside.specs.declared.entries.Package.{Package}
-use Rattle.dsc_outside.specs.declared.exchange.Exchange.{Exchange}
 use Rattle.mof_values.specs.Fold.{same_name}
 use Rattle.mof_values.specs.Values.{text_named}
 use Rattle.dsc_document.specs.declared.document.Document.{Document}
@@ -14,13 +13,12 @@ use Rattle.meta_config.specs.Words.{is_name}
 use Rattle.resource_kinds.specs.Packages.{AddsPackage}
 use Rattle.pull_client.specs.declared.error.PeerError.{PeerError}
 use Rattle.pull_client.specs.Content.{GivesBody}
-use Rattle.pull_client.specs.Heard.{Heard}
 use Rattle.pull_client.specs.Requests.{module_request}
 use Rattle.node_pull.specs.declared.error.PullError.{PullError}
 use Rattle.node_pull.specs.declared.error.PullError.TheVariants.{Host, Memory}
 use Rattle.node_pull.specs.declared.modules.Module.{Module}
 use Rattle.node_pull.specs.Errors.{error_of}
-use Rattle.node_pull.specs.Views.{AsksServer, LinkView}
+use Rattle.node_pull.specs.Views.{Accepts, AsksServer, LinkView, MadeSince}
 
 -- ---- which packages
 
@@ -106,23 +104,24 @@ pub data Packages {S : Type 0} (packages : S → Option (List Package)) (faults 
 
 -- ---- what was accepted
 
--- the exchange was answered with this body, which was accepted under the digest that was announced for it
-abbrev pub AcceptsBody : List ℕ → Exchange → Type 0
-AcceptsBody body exchange = Heard GivesBody exchange.outcome (Ok body)
+-- the package is that of the module, and the server was asked for it since and gave its bytes, accepted under the digest that was announced
+-- for them
+pub record WasGiven (server : Server) (before after : LinkView) (found : Package) (wanted : Module) : Type 0 where
+  pub name : found.name ≡ encode_utf8_all wanted.name
+  pub version : found.version ≡ encode_utf8_all wanted.version
+  pub accepted : MadeSince (Accepts server (module_request server wanted.name wanted.version) GivesBody found.bytes) before after
 
--- the package is that of the module with this body
-abbrev pub IsPackageOf : Package → Module → Type 0
-IsPackageOf found wanted = (found.name ≡ encode_utf8_all wanted.name) × (found.version ≡ encode_utf8_all wanted.version)
+-- none of the packages was there before it was added
+abbrev pub AreLacking : List Package → List Package → Type 0
+AreLacking there [] = ⊤
+AreLacking there (found ∷ added) = (has_package there found.name found.version ≡ false) × AreLacking (there ++ found ∷ []) added
 
--- the package is of one of the modules, and one of the exchanges that the link tells was accepted with its body
-pub record WasAccepted (modules : List Module) (view : LinkView) (found : Package) : Type 0 where
-  pub wanted : Any (IsPackageOf found) modules
-  pub accepted : IfSome view.told (λ exchanges. Any (AcceptsBody found.bytes) exchanges)
-
--- where the packages are told, those that came stand behind those that were there, and each of them was accepted
-abbrev pub AddsAccepted : List Module → LinkView → Option (List Package) → Option (List Package) → Type 0
-AddsAccepted modules view None after = after ≡ None
-AddsAccepted modules view (Some before) after = (added : List Package) × (after ≡ Some (before ++ added)) × All (WasAccepted modules view) added
+-- where the packages are told, those that came stand after those that were there, none of them was there, and each was given for one of
+-- the modules
+abbrev pub AddsAccepted : Server → List Module → LinkView → LinkView → Option (List Package) → Option (List Package) → Type 0
+AddsAccepted server modules before after None packages = packages ≡ None
+AddsAccepted server modules before after (Some old) packages =
+    (added : List Package) × (packages ≡ Some (old ++ added)) × AreLacking old added × All (λ found. Any (WasGiven server before after found) modules) added
 
 -- where the packages are told, that of each module is there
 abbrev pub HasAll : List Module → Option (List Package) → Type 0

@@ -1,6 +1,5 @@
 //! The list of parts that a server's answers come to.
-ghost use Rattle.std.specs.Prelude.{◌≡◌, Bool, List, None, IfOk, option_copied};
-ghost use Rattle.partial_merge.specs.declared.part.Part.{Part};
+ghost use Rattle.std.specs.Prelude.{◌≡◌, IfOk, option_copied};
 ghost use Rattle.pull_client.specs.Content.{items_in};
 ghost use Rattle.node_state.specs.Lists.{AreNamed};
 ghost use Rattle.node_state.specs.Metas.{IsNodeMeta};
@@ -10,7 +9,7 @@ ghost use Rattle.node_pull.specs.Names.{CanAsk};
 ghost use Rattle.node_pull.specs.Views.{view_of};
 
 use crate::marks::marks_of;
-use crate::names::{copy_of, names_asked};
+use crate::names::names_asked;
 use dsc_outside::Link;
 use meta_config::{Meta, Server};
 use mof_values::Text;
@@ -50,7 +49,7 @@ pub(crate) fn listed<L: Link>(
     }
 }
 
-// The parts of these names, behind those of earlier ones.
+// The parts of these names, after those of earlier ones.
 fn contents<L: Link>(
     alloc: Global,
     link: &mut L,
@@ -97,7 +96,7 @@ fn part_for<L: Link>(
 {
     match kept_part(held, name, fetches) {
         Some(part) => Ok(part.copy()?),
-        None => fetched(alloc, link, server, agent, name),
+        None => fetch(alloc, link, server, agent, name),
     }
 }
 
@@ -131,35 +130,5 @@ fn later_answers(fetches: &[bool]) -> &[bool]
     match fetches {
         [_, rest @ ..] => rest,
         [] => fetches,
-    }
-}
-
-// The content of that name as a part, which has that name whatever the link tells.
-fn fetched<L: Link>(
-    alloc: Global,
-    link: &mut L,
-    server: &Server,
-    agent: u128,
-    name: &Text,
-) -> Result<Part, PeerError>
-    ensures { (held : List Part) (fetches : List Bool) → kept_part held name.now fetches ≡ None
-        → PartFor server.now agent held name.now fetches (view_of L.Link link.old) (view_of L.Link link.new) result }
-{
-    let name_of_part = copy_of(name)?;
-    match fetch(alloc, link, server, agent, name) {
-        Ok(part) => Ok(renamed(part, name_of_part)),
-        Err(error) => Err(error),
-    }
-}
-
-fn renamed(part: Part, name: Text) -> Part
-    ensures name { result.name ≡ name }
-    ensures bytes { result.bytes ≡ part.bytes }
-{
-    let digest = part.digest;
-    Part {
-        name,
-        digest,
-        bytes: part.bytes,
     }
 }

@@ -136,7 +136,7 @@ none_repeats {A} name_of items i j differ shares = go (slice_get items i) (slice
         let is_b : slice_index_or items j a ≡ b = get_or_from_slice_get items j b a at_j in
         differ i j a shares.0 within (subst (λ (x : List ℕ). SameName x (name_of (slice_index_or items j a))) (sym here ∙ ap name_of (sym is_a)) (subst (λ (y : List ℕ). SameName shares.1 y) (sym there ∙ ap name_of (sym is_b)) shares.5))
 
--- ---- a reason that wins leaves no document for those behind it
+-- ---- a reason that wins leaves no document for those after it
 
 module _ (parts : List Part) where
   two_names : (i j : ℕ) → IsFirstRepeat (part_name_at parts) i j → NamesDiffer parts → ⊥

@@ -19,7 +19,7 @@ use Rattle.partial_merge.specs.declared.error.MergeError.TheVariants as refusals
 use Rattle.partial_merge.specs.Parts.{AreJoined, AreParts, IsWhole, NamesDiffer, part_name_at}
 use Rattle.partial_merge.specs.Repeats.{IsFirstRepeat, IsFirstRepeatedId}
 
--- the bytes spell no instances and are refused so; never for want of memory
+-- the bytes spell no instances and are refused so; never for lack of memory
 pub record IsUnspelled (bytes : List ℕ) (refusal : MofError) : Type 0 where
   pub caused : refusal ≢ mof.Memory
   pub unspelled : (instances : List Instance) → Reads bytes instances → ⊥
@@ -34,7 +34,7 @@ IsFault bytes (Doc refusal) =
 abbrev pub HasFault : Part → PartFault → Type 0
 HasFault part fault = IsFault part.bytes fault
 
--- the refusal is a fault of a part, of which the fact holds, or want of memory
+-- the refusal is a fault of a part, of which the fact holds, or lack of memory
 abbrev pub IsPartFault : (ℕ → PartFault → Type 0) → MergeError → Type 0
 IsPartFault P (refusals.Part index fault) = P index fault
 IsPartFault P refusals.Memory = ⊤

@@ -26,7 +26,7 @@ pub fn key_at(text: &[u8], index: u32) -> Option<&[u8]>
     None
 }
 
-// The first line, without its end, and what stands behind it.
+// The first line, without its end, and what stands after it.
 fn split_line(text: &[u8]) -> (&[u8], &[u8])
     ensures keys { keys_in text.now ≡ with_line result.0.now (keys_in result.1.now) }
     ensures line { length result.0.now ≤ length text.now }

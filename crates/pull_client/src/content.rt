@@ -14,7 +14,8 @@ use std::alloc::AllocError;
 
 /// The part of that name that a reply is.
 pub fn part_in(name: &Text, reply: Reply) -> Result<Part, PeerError>
-    ensures { SaysOr (GivesPart name.now) reply result }
+    ensures says { SaysOr (GivesPart name.now) reply result }
+    ensures named { IfOk result (λ part. part.name ≡ name.now) }
 {
     match content_of(reply) {
         Ok(content) => Ok(part_of(copy(name)?, content.into_vec())),

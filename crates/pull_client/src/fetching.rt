@@ -1,5 +1,5 @@
 //! Contents of configurations and packages of modules.
-ghost use Rattle.std.specs.Prelude.{◌≡◌, true};
+ghost use Rattle.std.specs.Prelude.{◌≡◌, true, IfOk};
 ghost use Rattle.pull_client.specs.Asks.{Asks};
 ghost use Rattle.pull_client.specs.Content.{GivesBody, GivesPart, items_in};
 ghost use Rattle.pull_client.specs.Heard.{SaysOr};
@@ -25,6 +25,7 @@ pub fn fetch<L: Link>(
     name: &Text,
 ) -> Result<Part, PeerError>
     ensures asks { Asks server.now (content_request server.now agent name.now) (GivesPart name.now) (L.told link.old) (L.told link.new) (L.faults link.old) (L.faults link.new) result }
+    ensures named { IfOk result (λ part. part.name ≡ name.now) }
     ensures unsent { server.now.https ≡ true → link.new ≡ link.old }
 {
     if server.https {

@@ -122,7 +122,7 @@ pub fn send_reply<X: Sink>(alloc: Global, conn: &mut X, reply: &Reply) -> SendEn
     }
 }
 
-// The bytes of a body that is copied behind its head, so that both are one piece.
+// The bytes of a body that is copied after its head, so that both are one piece.
 const LONGEST_COPY: usize = 65_536;
 
 fn send_copy<X: Sink>(alloc: Global, conn: &mut X, reply: &Reply) -> SendEnd

@@ -18,14 +18,14 @@ use serde_json::{Value, json};
 use std::alloc::{AllocError, Global};
 
 /// What an agent shall do, as a whole and for each configuration.
-#[derive(Clone, Debug, Drop, PartialEq)]
+#[derive(Debug, Drop, PartialEq)]
 pub struct ActionAnswer {
     pub node: Text,
     pub details: Items<Detail>,
 }
 
 /// What an agent shall do about one configuration.
-#[derive(Clone, Debug, Drop, PartialEq)]
+#[derive(Debug, Drop, PartialEq)]
 pub struct Detail {
     pub name: Text,
     pub status: Text,

@@ -19,7 +19,7 @@ use serde_json::{Value, json};
 use std::alloc::{AllocError, Global};
 
 /// What an agent holds.
-#[derive(Clone, Debug, Drop, PartialEq)]
+#[derive(Debug, Drop, PartialEq)]
 pub struct ActionQuery {
     pub clients: Items<Client>,
 }

@@ -20,7 +20,7 @@ use serde_json::{Map, Value, put};
 use std::alloc::{AllocError, Global};
 
 /// What an agent did, and what it found. Times and the wish for a reboot are texts.
-#[derive(Clone, Debug, Drop, PartialEq)]
+#[derive(Debug, Drop, PartialEq)]
 pub struct ReportMessage {
     /// The 128 bits of the job's identifier.
     pub job: u128,

@@ -2,7 +2,7 @@
 use mof_values::Text;
 
 /// What a request is about.
-#[derive(Clone, Debug, Drop, PartialEq)]
+#[derive(Debug, Drop, PartialEq)]
 pub enum Target {
     /// The registration of an agent.
     Node(u128),

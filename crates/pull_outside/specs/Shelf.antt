@@ -43,7 +43,7 @@ Finds None result old new = ⊤
 Finds (Some item) (Ok there) old new = Gives item there old new
 Finds (Some item) (Err error) old new = ⊤
 
--- the buffer after a look: as it was, with the item behind it where there is one
+-- the buffer after a look: as it was, with the item after it where there is one
 abbrev pub Leaves : Result Bool ShelfError → List ℕ → List ℕ → Type 0
 Leaves (Ok true) old new = StartsWith new old × (length new ≤ length old + LONGEST_ITEM)
 Leaves (Ok false) old new = new ≡ old

@@ -3,7 +3,7 @@ use mof_values::Bytes;
 use pull_messages::Registration;
 
 /// A registration, or a report of a job.
-#[derive(Clone, Debug, Drop, PartialEq)]
+#[derive(Debug, Drop, PartialEq)]
 pub enum Change {
     Register {
         agent: u128,

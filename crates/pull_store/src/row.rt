@@ -10,7 +10,7 @@ pub struct StoredReport {
 }
 
 /// An agent with its last registration and its reports, the newest last: at most four, of different jobs.
-#[derive(Clone, Debug, Drop, PartialEq)]
+#[derive(Debug, Drop, PartialEq)]
 pub struct Row {
     pub agent: u128,
     pub registration: Registration,

@@ -95,7 +95,7 @@ fn add(rows: &mut Vec<Row>, row: Row)
     }
 }
 
-/// The rows in front of an agent's row, and those behind it.
+/// The rows in front of an agent's row, and those after it.
 #[tactic(auto, using(crate::proofs::Placing::around_row, crate::proofs::Placing::around_sound, crate::proofs::Placing::around_short))]
 pub fn around(rows: &[Row], agent: u128) -> (&[Row], &[Row])
     ensures parts { (row : Row) → row.agent ≡ agent → with_row row rows.now ≡ result.0.now ++ row ∷ result.1.now }

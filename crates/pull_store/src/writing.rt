@@ -33,7 +33,7 @@ pub fn append_body<D: Disk>(log: &mut Log, disk: &mut D, body: &[u8]) -> Result<
     }
 }
 
-/// Puts the bodies of the rows in front, of a row, and of the rows behind in place of all that the log has.
+/// Puts the bodies of the rows in front, of a row, and of the rows after in place of all that the log has.
 pub fn rewrite<D: Disk>(
     log: &mut Log,
     disk: &mut D,

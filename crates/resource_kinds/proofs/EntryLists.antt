@@ -55,7 +55,7 @@ entries-joined piece (next ∷ others) all =
     let rest = entries-joined next others (All-tail IsPiece piece (next ∷ others) all) in
     entries-append piece (joined (next ∷ others)) ∙ (λ i. first i ++ rest i)
 
--- what stands behind the first of joined pieces has the byte before each
+-- what stands after the first of joined pieces has the byte before each
 pub join-behind : (c : ℕ) (piece : List ℕ) (pieces : List (List ℕ)) → join_with_byte c (piece ∷ pieces) ≡ piece ++ flat_map (λ e. c ∷ e) pieces
 join-behind c piece [] = sym (append-nil piece)
 join-behind c piece (next ∷ others) = ap (λ (l : List ℕ). piece ++ c ∷ l) (join-behind c next others)
@@ -93,7 +93,7 @@ filter-cond : {A : Type 0} (p : A → Bool) (x : A) (b : Bool) (xs : List A) →
 filter-cond p x true xs = refl
 filter-cond p x false xs = refl
 
--- one filter behind another
+-- one filter after another
 pub filter-both : {A : Type 0} (p q r : A → Bool) → ((x : A) → (q x && p x) ≡ r x) → (xs : List A) → filter p (filter q xs) ≡ filter r xs
 filter-both p q r same [] = refl
 filter-both p q r same (x ∷ xs) =

@@ -34,7 +34,7 @@ unfolding lib.Utf8.encode
 put_filled [] name some = absurd (omega arith)
 put_filled (b ∷ bs) name some = append_assoc (b ∷ bs) (47 ∷ []) (encode_utf8_all name)
 
--- one more name is put behind the path of those before it
+-- one more name is put after the path of those before it
 joined_put : (names : List (List ℕ)) (name : List ℕ) → All (λ n. is_kept n ≡ true) names → put (joined_path names) name ≡ joined_path (names ++ name ∷ [])
 joined_put [] name kept = refl
 joined_put (one ∷ more) name kept =
@@ -44,7 +44,7 @@ joined_put (one ∷ more) name kept =
 
 -- ---- segments
 
--- one more name is put behind the path of the drive and the names so far
+-- one more name is put after the path of the drive and the names so far
 pub names_put : (path next : List ℕ) (first : List (List ℕ)) (before : List (Bor (List ℕ))) (name : Bor (List ℕ))
     → path ≡ joined_path (first ++ map (λ s. s.now) before) → All (λ n. is_kept n ≡ true) (first ++ map (λ s. s.now) before) → next ≡ put path name.now
     → next ≡ joined_path (first ++ map (λ s. s.now) (before ++ name ∷ []))

@@ -7,7 +7,7 @@ use Rattle.resource_kinds.specs.Paths.{drive_segments, kept_segments, segments}
 use Rattle.resource_kinds.proofs.EntryLists.{join-behind}
 use Rattle.resource_kinds.proofs.JoinedPaths.{kept_behind}
 
--- a drive, and the names behind it
+-- a drive, and the names after it
 pub drive_first : (drive : Option ℕ) (letter : ℕ) (rest : List ℕ) → drive ≡ Some letter → IfSome drive (λ c. c ≢ 46)
     → letter ∷ names_behind rest ≡ join_with_byte 47 (kept_segments (drive_segments drive ++ segments rest))
 drive_first drive letter rest is other =
@@ -23,7 +23,7 @@ from_dropped : (text : List ℕ) → drop 1 (from_name text) ≡ name_and_names 
 from_dropped [] = refl
 from_dropped (c ∷ cs) = refl
 
--- the first name, and those behind it
+-- the first name, and those after it
 pub name_first : (drive : Option ℕ) (rest left : List ℕ) → drive ≡ None → names_behind rest ≡ from_name left
     → name_and_names left ≡ join_with_byte 47 (kept_segments (drive_segments drive ++ segments rest))
 name_first drive rest left none is =

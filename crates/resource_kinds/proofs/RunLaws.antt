@@ -166,7 +166,7 @@ rest_keeps document before after (e ∷ es) r other apart asks none told whole h
     (All-head (IsWhole document) e es whole) told.1 holds in
     rest_keeps document told.0 after es r other apart asks parts.0 told.2 (All-tail (IsWhole document) e es whole) kept
 
--- the last entry of the resource is behind this one, or it is this one
+-- the last entry of the resource is after this one, or it is this one
 last_settles : (e : Entry) (es : List Entry) (r : ℕ) (last : Option Entry) → last_entry es r ≡ last → settles (option_or last (own_entry e r)) ≡ true
     → IsSettled es r ⊎ ((last_entry es r ≡ None) × (place_of e ≡ r) × (entry_settles e ≡ true))
 last_settles e es r None is settled = let own = own_settles (place_of e == r) e settled in inr (is, eqb-true (place_of e) r own.0, own.1)

@@ -49,7 +49,7 @@ each_once (entry ∷ others) = entry ∷ filter (λ other. not (bytes_eq entry o
 abbrev pub missing_entries : Option (List ℕ) → List ℕ → List (List ℕ)
 missing_entries old value = each_once (filter (λ entry. not (is_among (entries_of old) entry)) (wanted_entries value))
 
--- more entries behind a value; the empty value makes way for them
+-- more entries after a value; the empty value makes way for them
 abbrev pub appended : List ℕ → List (List ℕ) → List ℕ
 appended [] more = joined more
 appended (b ∷ bs) [] = b ∷ bs

@@ -1,4 +1,4 @@
--- What the Sets of a run leave behind: each makes its resource hold, and what holds of the resources apart from it stays.
+-- What the Sets of a run leave after: each makes its resource hold, and what holds of the resources apart from it stays.
 use Rattle.std.specs.Prelude.{◌≡◌, ℕ, ⊤, Bool, true, false, IsTrue, List, [], ◌∷◌, ◌++◌, Option, Some, None, All}
 use Rattle.dsc_outside.specs.Host.{HostState}
 use Rattle.dsc_document.specs.declared.document.Document.{Document}

@@ -1,4 +1,4 @@
--- Changes of the packages alone, one behind another.
+-- Changes of the packages alone, one after another.
 use Rattle.std.proofs.Common.{◌≡◌, Option, Some, None, refl, sym, ◌∙◌, ap, subst}
 use Rattle.dsc_outside.specs.Host.{HostState}
 use Rattle.resource_kinds.specs.Packages.{ChangesPackages}

@@ -16,7 +16,7 @@ behind names = flat_map (λ name. 47 ∷ name) names
 abbrev pub names_behind : List ℕ → List ℕ
 names_behind text = behind (kept_segments (segments text))
 
--- the first segment, whatever it is, and the names of the others behind it
+-- the first segment, whatever it is, and the names of the others after it
 abbrev pub first_and_names : List (List ℕ) → List ℕ
 first_and_names [] = []
 first_and_names (name ∷ others) = name ++ behind (kept_segments others)

@@ -28,7 +28,7 @@ is_parent segment = bytes_eq segment (codes "..")
 
 -- ---- forms
 
--- the end of the text, or a separator and what is behind it
+-- the end of the text, or a separator and what is after it
 abbrev pub ends_drive : List ℕ → Bool
 ends_drive [] = true
 ends_drive (c ∷ cs) = is_separator c
@@ -39,7 +39,7 @@ on_drive letter [] = None
 on_drive letter (colon ∷ rest) =
     if (is_ascii_alphabetic letter && colon == 58) && ends_drive rest then Some ((to_ascii_uppercase letter ∷ []) ∷ segments rest) else None
 
--- all segments of a path text: on a drive, or behind a first `/`
+-- all segments of a path text: on a drive, or after a first `/`
 abbrev pub rooted : List ℕ → Option (List (List ℕ))
 rooted [] = None
 rooted (c ∷ cs) = if c == 47 then Some (segments cs) else on_drive c cs
@@ -78,12 +78,12 @@ drive_segments (Some letter) = (letter ∷ []) ∷ []
 abbrev pub all_segments : PathText → List (List ℕ)
 all_segments parts = drive_segments parts.drive ++ segments parts.rest.now
 
--- a path that is not empty, with `/` behind it
+-- a path that is not empty, with `/` after it
 abbrev pub separated : List ℕ → List ℕ
 separated [] = []
 separated (b ∷ bs) = (b ∷ bs) ++ 47 ∷ []
 
--- one more name behind a path
+-- one more name after a path
 abbrev pub put : List ℕ → List ℕ → List ℕ
 put path name = separated path ++ encode_utf8_all name
 

@@ -109,7 +109,7 @@ entry_failures (Set place answer) = set_failures answer
 abbrev pub host_failures : List Entry → ℕ
 host_failures trace = sum_by entry_failures trace
 
--- the states along a trace: each entry is one step, and behind the last one nothing changes but what `still` allows
+-- the states along a trace: each entry is one step, and after the last one nothing changes but what `still` allows
 abbrev pub Chain : {S : Type 0} → (S → Document → Entry → S → Type 0) → (S → S → Type 0) → Document → S → List Entry → S → Type 0
 Chain does still document before [] after = still before after
 Chain {S} does still document before (e ∷ es) after = (mid : S) × does before document e mid × Chain does still document mid es after

@@ -43,7 +43,7 @@ pub fn lacks_entries(alloc: Global, old: Option<&[u8]>, value: &[u8]) -> Result<
     }
 }
 
-/// The variable's value with the missing entries behind its own.
+/// The variable's value with the missing entries after its own.
 pub fn with_entries(alloc: Global, old: Option<&[u8]>, value: &[u8]) -> Result<Vec<u8>, AllocError>
     ensures { IfOk result (λ v. Some v.items ≡ with_entries (option_copied old.entry) value.now) }
 {
@@ -124,7 +124,7 @@ fn each_once<'a>(alloc: Global, entries: &[&'a [u8]]) -> Result<Vec<&'a [u8]>, A
     Ok(once)
 }
 
-// A value with more entries behind its own; the empty one makes way for them.
+// A value with more entries after its own; the empty one makes way for them.
 fn appended(alloc: Global, value: &[u8], more: &[&[u8]]) -> Result<Vec<u8>, AllocError>
     ensures { IfOk result (λ v. v.items ≡ appended value.now (map (λ e. e.now) more.now)) }
 {
@@ -148,7 +148,7 @@ fn joined(alloc: Global, entries: &[&[u8]]) -> Result<Vec<u8>, AllocError>
     Ok(made)
 }
 
-// Each of the entries behind a `;`.
+// Each of the entries after a `;`.
 fn push_entries(made: &mut Vec<u8>, entries: &[&[u8]]) -> Result<(), AllocError>
     ensures { OnOk result (made.new.items ≡ made.old.items ++ flat_map (λ e. 59 ∷ e.now) entries.now) }
 {

@@ -60,7 +60,7 @@ pub enum SetAnswer {
 }
 
 /// One call of a run; `place` is the resource's place in the document, counted from 0.
-#[derive(Clone, Debug, Drop, PartialEq)]
+#[derive(Debug, Drop, PartialEq)]
 pub enum Entry {
     Tested { place: u32, answer: TestAnswer },
     Set { place: u32, answer: SetAnswer },

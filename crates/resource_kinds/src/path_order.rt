@@ -10,13 +10,13 @@ use crate::paths::{PathText, is_separator, rooted};
 /// What is left of the path that a text means: its names, with `/` between.
 #[derive(Clone, Copy)]
 pub enum PathRest<'a> {
-    /// A drive, and the names of these segments behind it.
+    /// A drive, and the names of these segments after it.
     Drive(char, &'a [char]),
 
     /// The names of these segments, with `/` before each.
     Names(&'a [char]),
 
-    /// What is left of a name, and the names behind it.
+    /// What is left of a name, and the names after it.
     Name(&'a [char]),
 }
 
@@ -64,7 +64,7 @@ pub fn skipped<'a>(text: &'a [char]) -> &'a [char]
     left
 }
 
-// What stands behind a first segment that is no name.
+// What stands after a first segment that is no name.
 fn passed<'a>(text: &'a [char]) -> Option<&'a [char]>
     ensures names { MatchOption result (names_behind text.now ≡ from_name text.now) (λ rest. names_behind text.now ≡ names_behind rest.now) }
     ensures shorter { IfSome result (λ rest. length rest.now < length text.now) }
@@ -77,7 +77,7 @@ fn passed<'a>(text: &'a [char]) -> Option<&'a [char]>
     }
 }
 
-// The next character, and what is left behind it.
+// The next character, and what is left after it.
 fn next<'a>(path: PathRest<'a>) -> Option<(char, PathRest<'a>)>
     ensures { MatchOption result (path_left path.entry ≡ []) (λ step. path_left path.entry ≡ step.0 ∷ path_left step.1) }
 {

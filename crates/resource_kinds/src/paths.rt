@@ -7,7 +7,7 @@ use crate::path_order::skipped;
 use mof_values::Text;
 use std::alloc::{AllocError, Global};
 
-/// What a path text begins with, and what is behind it: a drive, by its letter in upper case, or the first `/`.
+/// What a path text begins with, and what is after it: a drive, by its letter in upper case, or the first `/`.
 #[derive(Clone, Copy)]
 pub struct PathText<'a> {
     pub drive: Option<char>,
@@ -103,7 +103,7 @@ fn has_parent(rest: &[char]) -> bool
     rest.split(|c| is_separator(*c)).any(is_parent)
 }
 
-// The path of the names behind a root.
+// The path of the names after a root.
 fn path_behind(alloc: Global, parts: &PathText) -> Result<Option<String>, AllocError>
     requires { IfSome parts.now.drive (λ letter. letter ≢ 46) }
     ensures path { IfOk result (λ path. option_map string_bytes path ≡ option_map joined_path (names_of (all_segments parts.now))) }
@@ -144,7 +144,7 @@ fn begun(alloc: Global, drive: Option<char>) -> Result<String, AllocError>
     Ok(path)
 }
 
-// One more name behind the path.
+// One more name after the path.
 fn put(path: &mut String, name: &[char]) -> Result<(), AllocError>
     ensures { OnOk result (string_bytes path.new ≡ put (string_bytes path.old) name.now) }
 {

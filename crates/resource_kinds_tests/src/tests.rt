@@ -10,7 +10,7 @@ use dsc_outside::{HostContents, MemoryHost};
 use machines::{hold_the_same, host, machine};
 use resource_kinds::{Kinds, Resources, SetAnswer, TestAnswer};
 use rows::{SETS, SetRow, TESTS, TestRow};
-use std::alloc::Global;
+use std::alloc::{AllocError, Global};
 use std::test::Fail;
 
 fn test_word(answer: TestAnswer) -> &'static str {
@@ -35,9 +35,10 @@ fn set_word(answer: SetAnswer) -> &'static str {
 fn tested(alloc: Global, document: &Document, host: MemoryHost) -> &'static str {
     let mut kinds = Kinds::new(alloc, host);
     if document.resources.as_slice().is_empty() || kinds.reserve(1).is_err() {
-        return "memory";
+        "memory"
+    } else {
+        test_word(kinds.test(document, 0))
     }
-    test_word(kinds.test(document, 0))
 }
 
 // Tells whether a Set of the document's resource answers so and makes that of the machine.
@@ -50,18 +51,20 @@ fn is_set(
 ) -> bool {
     let mut kinds = Kinds::new(alloc, host);
     if document.resources.as_slice().is_empty() || kinds.reserve(1).is_err() {
-        return false;
+        false
+    } else {
+        set_word(kinds.set(document, 0)) == answer && hold_the_same(kinds.host().contents(), after)
     }
-    set_word(kinds.set(document, 0)) == answer && hold_the_same(kinds.host().contents(), after)
 }
 
 // Tells whether the document's resource is set, and then holds.
 fn lasts(alloc: Global, document: &Document, host: MemoryHost) -> bool {
     let mut kinds = Kinds::new(alloc, host);
     if document.resources.as_slice().is_empty() || kinds.reserve(2).is_err() {
-        return false;
+        false
+    } else {
+        set_word(kinds.set(document, 0)) == "done" && test_word(kinds.test(document, 0)) == "yes"
     }
-    set_word(kinds.set(document, 0)) == "done" && test_word(kinds.test(document, 0)) == "yes"
 }
 
 fn holds(is_so: bool, words: &str) -> Result<(), Fail> {
@@ -79,11 +82,15 @@ fn check_test(rt: &impl AllocGlobal, row: &TestRow) -> Result<(), Fail> {
 }
 
 fn check_set(rt: &impl AllocGlobal, row: &SetRow) -> Result<(), Fail> {
-    let (words, before, failing, answer, after) = *row;
-    let document = document(rt, words)?;
-    let after = machine(rt, after)?;
-    let host = host(rt, before, failing)?;
-    holds(is_set(rt.alloc(), &document, host, answer, &after), words)
+    let document = document(rt, row.0)?;
+    holds(is_set_as(rt, &document, row)?, row.0)
+}
+
+// Tells whether a Set of the document's resource answers as the row says, and makes that of the machine.
+fn is_set_as(rt: &impl AllocGlobal, document: &Document, row: &SetRow) -> Result<bool, Fail> {
+    let after = machine(rt, row.4)?;
+    let host = host(rt, row.1, row.2)?;
+    Ok(is_set(rt.alloc(), document, host, row.3, &after))
 }
 
 #[test]
@@ -105,18 +112,31 @@ fn a_set_makes_what_is_asked_for_or_tells_why_not(rt: HostRuntime) -> Result<(),
 // The word, and so many pieces with this between.
 fn sized(rt: &impl AllocGlobal, word: &str, between: char, count: usize) -> Result<String, Fail> {
     let mut made = format!(in rt.alloc(); "{word} p")?;
-    for piece in 0..count {
-        write!(made, "{between}{piece}")?;
-    }
+    push_pieces(&mut made, between, count)?;
     Ok(made)
 }
 
+fn push_pieces(line: &mut String, between: char, count: usize) -> Result<(), AllocError> {
+    for piece in 0..count {
+        write!(line, "{between}{piece}")?;
+    }
+    Ok(())
+}
+
+fn sized_document(
+    rt: &impl AllocGlobal,
+    word: &str,
+    between: char,
+    count: usize,
+) -> Result<Document, Fail> {
+    let words = sized(rt, word, between, count)?;
+    document(rt, &words)
+}
+
 fn check_size(rt: &impl AllocGlobal, word: &str, between: char, count: usize) -> Result<(), Fail> {
-    let document = document(rt, sized(rt, word, between, count)?.as_str())?;
-    holds(
-        lasts(rt.alloc(), &document, host(rt, "$p=0|1|x", &[])?),
-        word,
-    )
+    let document = sized_document(rt, word, between, count)?;
+    let host = host(rt, "$p=0;1;x", &[])?;
+    holds(lasts(rt.alloc(), &document, host), word)
 }
 
 const SIZES: &[usize] = &[0, 1, 2, 7, 63, 64, 65, 4096];
@@ -133,8 +153,8 @@ fn with_ample_memory_a_path_of_each_size_is_made(rt: HostRuntime) -> Result<(), 
 #[test]
 fn with_ample_memory_a_value_of_each_size_is_set(rt: HostRuntime) -> Result<(), Fail> {
     for count in SIZES {
-        check_size(&rt, "variable p", '|', *count)?;
-        check_size(&rt, "entry", '|', *count)?;
+        check_size(&rt, "variable p", ';', *count)?;
+        check_size(&rt, "entry", ';', *count)?;
     }
     Ok(())
 }
@@ -142,8 +162,8 @@ fn with_ample_memory_a_value_of_each_size_is_set(rt: HostRuntime) -> Result<(), 
 #[test]
 fn with_ample_memory_entries_of_each_number_are_set(rt: HostRuntime) -> Result<(), Fail> {
     for count in SIZES {
-        check_size(&rt, "entries p", '|', *count)?;
-        check_size(&rt, "no-entries p", '|', *count)?;
+        check_size(&rt, "entries p", ';', *count)?;
+        check_size(&rt, "no-entries p", ';', *count)?;
     }
     Ok(())
 }

@@ -24,7 +24,7 @@ IsBytes-take n bytes h i =
     length-take-most (suc n) [] = omega arith
     length-take-most (suc n) (x ∷ l) = omega (arith, length-take-most n l)
 
--- what stands behind a front of that length
+-- what stands after a front of that length
 pub behind : (p q r s : List ℕ) → length p ≡ length q → p ++ r ≡ q ++ s → (p ≡ q) × (r ≡ s)
 behind p q r s len e = (
   sym (take_at p r (length p) refl) ∙ ap (take (length p)) e ∙ take_at q s (length p) (sym len),

@@ -45,7 +45,7 @@ text_unique limit most x y r s range other e =
     let both = behind_front a b r s long.0 long.1 in
     (encodes_same x y both.0, both.1)
 
--- the bytes that were decoded are those behind the length
+-- the bytes that were decoded are those after the length
 pub text_read : (limit n : ℕ) (before behind front after : List ℕ) (result : Result (List ℕ) FieldError) → limit ≤ 65535 → n ≤ limit → Reads (bytes_of_number w16) (IsNumber w16) before behind (Ok n)
     → n ≤ length behind → front ≡ take n behind → after ≡ drop n behind → length front ≡ n
     → IfOk result (λ text. (all_scalars text ≡ true) × (encode_utf8_all text ≡ front)) → IfErr result (λ e. e ≡ Wrong → IsUtf8 front → ⊥)

@@ -11,7 +11,7 @@ use std::alloc::Global;
 
 /// What a host in memory holds. Of several entries of one path, and of several variables of one name, the first
 /// counts, and the others are as if they were not there.
-#[derive(Clone, Debug, Drop)]
+#[derive(Debug, Drop)]
 pub struct HostContents {
     /// What stands at the paths; a path with no entry has nothing. A folder has an entry of its own.
     pub paths: Vec<PathEntry>,

@@ -10,7 +10,7 @@ use mof_values::Bytes;
 use std::alloc::AllocError;
 
 /// What a disk was asked.
-#[derive(Clone, Debug, Drop, PartialEq)]
+#[derive(Debug, Drop, PartialEq)]
 pub enum DiskCall {
     Length,
 
@@ -37,7 +37,7 @@ pub enum CallOutcome {
 }
 
 /// A call of a disk in memory, and how it went.
-#[derive(Clone, Debug, Drop, PartialEq)]
+#[derive(Debug, Drop, PartialEq)]
 pub struct RecordedCall {
     pub call: DiskCall,
     pub outcome: CallOutcome,

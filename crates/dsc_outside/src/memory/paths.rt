@@ -12,7 +12,7 @@ use mof_values::Bytes;
 use std::alloc::{AllocError, Global};
 
 /// What stands at a path.
-#[derive(Clone, Debug, Drop, PartialEq)]
+#[derive(Debug, Drop, PartialEq)]
 pub enum Standing {
     File(Bytes),
     Folder,
@@ -22,7 +22,7 @@ pub enum Standing {
 }
 
 /// A path of a host in memory, and what stands there.
-#[derive(Clone, Debug, Drop, PartialEq)]
+#[derive(Debug, Drop, PartialEq)]
 pub struct PathEntry {
     /// In UTF-8.
     pub path: Bytes,
@@ -94,7 +94,7 @@ fn new_file(alloc: Global, bytes: &[u8]) -> Result<Standing, AllocError>
     Ok(Standing::File(Bytes::of(bytes.to_vec(alloc)?)))
 }
 
-// The folders above the path that are missing, and behind them the path itself.
+// The folders above the path that are missing, and after them the path itself.
 fn with_missing_above(
     alloc: Global,
     paths: &[PathEntry],

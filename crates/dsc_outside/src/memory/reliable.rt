@@ -13,7 +13,7 @@ use super::variable::{find_value, put_value, remove_value};
 use crate::{Host, HostError, PathState};
 use std::marker::Model;
 
-/// A host of given contents none of whose calls fails. Only want of memory keeps a call from its answer. A clause
+/// A host of given contents none of whose calls fails. Only lack of memory keeps a call from its answer. A clause
 /// sees it as its contents.
 #[derive(Drop)]
 pub struct ReliableHost {

@@ -9,7 +9,7 @@ use mof_values::Bytes;
 use std::alloc::{AllocError, Global};
 
 /// An environment variable.
-#[derive(Clone, Debug, Drop, PartialEq)]
+#[derive(Debug, Drop, PartialEq)]
 pub struct Variable {
     /// The UTF-8 of its folded name; who makes it folds it.
     pub name: Bytes,

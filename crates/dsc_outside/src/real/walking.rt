@@ -73,7 +73,7 @@ pub fn is_inhabited<R: Files>(rt: &R, place: &str) -> Result<bool, HostError> {
     }
 }
 
-// The names come whole, each with a NUL behind it.
+// The names come whole, each with a NUL after it.
 fn gives_entry_name<N: Read>(names: &mut N) -> Result<bool, Failed> {
     let mut buffer = [0; BUFFER_SIZE];
     for _ in 0..u64::MAX {

@@ -29,6 +29,13 @@ pub enum Answer<'a> {
 /// A call of a disk, and its answer.
 pub type DiskRow<'a> = (Ask<'a>, Answer<'a>);
 
+fn is_text(bytes: &[u8], want: &Answer<'_>) -> bool {
+    match want {
+        Answer::Bytes(text) => bytes == text.as_bytes(),
+        _ => false,
+    }
+}
+
 fn is_read<D: Disk>(
     alloc: Global,
     disk: &mut D,
@@ -37,11 +44,10 @@ fn is_read<D: Disk>(
     want: &Answer<'_>,
 ) -> Result<bool, AllocError> {
     let mut buffer = vec![in alloc; 0; room]?;
-    match (disk.read_at(at, &mut buffer), want) {
-        (Ok(count), Answer::Bytes(bytes)) => Ok(&buffer[..count] == bytes.as_bytes()),
-        (Err(Failed), Answer::Lost) => Ok(true),
-        _ => Ok(false),
-    }
+    Ok(match disk.read_at(at, &mut buffer) {
+        Ok(count) => is_text(&buffer[..count], want),
+        Err(Failed) => matches!(want, Answer::Lost),
+    })
 }
 
 fn is_change(outcome: Result<(), Failed>, want: &Answer<'_>) -> bool {

@@ -3,7 +3,7 @@ use super::host_calls::Answer::{Done, Empty, Failed, File, Folder, No, Nothing, 
 use super::host_calls::Call::{
     AddEntry, AddPackage, HasEntry, HasPackage, Make, Put, Remove, Same, Set, State, Unset, Value,
 };
-use super::host_calls::{Row, expect, expect_one_of};
+use super::host_calls::{Row, expect_of, expect_one_of};
 use super::scratch::make_folder;
 use super::watched_files::SystemCall::{
     Create, List, Look, MakeFolder, Mode, Open, Read, RemoveFolder, Rename, Sync, SyncFolder,
@@ -12,10 +12,10 @@ use super::watched_files::SystemCall::{
 use super::watched_files::{SystemCall, Watch, WatchedFiles};
 use dsc_outside::real::FolderHost;
 use std::alloc::{AllocError, Global};
-use std::fs;
 use std::io::ErrorKind;
 use std::rt::Files;
 use std::test::Fail;
+use std::{fs, io};
 
 // A call and its answer; the calls of the system that it makes; and what is found after it, where it failed before
 // its change, and where it was done.
@@ -120,11 +120,6 @@ fn folder_in(alloc: Global, scratch: &str) -> Result<String, AllocError> {
     format!(in alloc; "{scratch}/host")
 }
 
-fn make_before(rt: &HostRuntime, scratch: &str) -> Result<(), Fail> {
-    let folder = folder_in(rt.alloc(), scratch)?;
-    expect(rt.alloc(), &mut FolderHost::new(rt, folder), BEFORE)
-}
-
 // Expects these answers of a host in that folder.
 fn expect_in<F: Files + Drop>(
     alloc: Global,
@@ -132,7 +127,22 @@ fn expect_in<F: Files + Drop>(
     folder: String,
     rows: &[Row<'_>],
 ) -> Result<(), Fail> {
-    expect(alloc, &mut FolderHost::new(files, folder), rows)
+    expect_of(alloc, FolderHost::new(files, folder), rows)
+}
+
+// Expects of a host in that folder the first answers, or the second.
+fn expect_one_in<F: Files + Drop>(
+    alloc: Global,
+    files: F,
+    folder: String,
+    first: &[Row<'_>],
+    second: &[Row<'_>],
+) -> Result<(), Fail> {
+    expect_one_of(alloc, FolderHost::new(files, folder), first, second)
+}
+
+fn make_before(rt: &HostRuntime, scratch: &str) -> Result<(), Fail> {
+    expect_in(rt.alloc(), rt, folder_in(rt.alloc(), scratch)?, BEFORE)
 }
 
 fn expect_watched(
@@ -142,8 +152,7 @@ fn expect_watched(
     row: Row<'_>,
 ) -> Result<(), Fail> {
     let folder = folder_in(rt.alloc(), scratch)?;
-    let files = WatchedFiles { rt, watch };
-    expect_in(rt.alloc(), files, folder, &[row])
+    expect_in(rt.alloc(), WatchedFiles { rt, watch }, folder, &[row])
 }
 
 fn expect_after(
@@ -153,12 +162,17 @@ fn expect_after(
     done: &[Row<'_>],
 ) -> Result<(), Fail> {
     let folder = folder_in(rt.alloc(), scratch)?;
-    expect_one_of(rt.alloc(), &mut FolderHost::new(rt, folder), undone, done)
+    expect_one_in(rt.alloc(), rt, folder, undone, done)
+}
+
+// Tells whether something stands at that place in the folder.
+fn stands_in(rt: &HostRuntime, folder: &str, place: &str) -> io::Result<bool> {
+    let place = format!(in rt.alloc(); "{folder}/{place}")?;
+    fs::exists(rt, place.as_str())
 }
 
 fn expect_nothing_staged(rt: &HostRuntime, scratch: &str) -> Result<(), Fail> {
-    let place = format!(in rt.alloc(); "{scratch}/host/root/a/.nimchout-staged")?;
-    if fs::exists(rt, place.as_str())? {
+    if stands_in(rt, scratch, "host/root/a/.nimchout-staged")? {
         return Err(Fail::new("a file that was being written is left"));
     }
     Ok(())

@@ -29,7 +29,7 @@ pub enum Call<'a> {
 }
 
 /// What a call answers.
-#[derive(Clone, Copy, Debug, PartialEq, Eq)]
+#[derive(Clone, Copy, PartialEq, Eq)]
 pub enum Answer {
     Done,
     Yes,
@@ -79,7 +79,7 @@ fn seen(outcome: Result<PathState, HostError>) -> Answer {
     }
 }
 
-// Makes the call; a value goes behind what the buffer has.
+// Makes the call; a value goes after what the buffer has.
 fn make_call<H: Host>(host: &mut H, call: &Call<'_>, into: &mut Vec<u8>) -> Answer {
     match call {
         Call::State(path) => seen(host.path_state(path)),
@@ -106,19 +106,6 @@ fn appended<'a>(call: &Call<'a>, answer: Answer) -> &'a [u8] {
     }
 }
 
-// The path, name or id.
-fn subject<'a>(call: &Call<'a>) -> &'a str {
-    match call {
-        Call::State(path) | Call::Make(path) | Call::Remove(path) => path,
-        Call::Same(path, _) | Call::Put(path, _) => path,
-        Call::Value(name, _) | Call::Set(name, _) => name,
-        Call::Unset(name) => name,
-        Call::HasEntry(id, _) | Call::AddEntry(id, _) => id,
-        Call::HasPackage(name, _) | Call::AddPackage(name, _, _) => name,
-        Call::Wanting(id) => id,
-    }
-}
-
 fn is_answered<H: Host>(
     alloc: Global,
     host: &mut H,
@@ -130,40 +117,42 @@ fn is_answered<H: Host>(
     Ok(answer == wanted && buffer.strip_prefix(b">") == Some(appended(call, wanted)))
 }
 
-// Makes the calls, up to one that has not its answer, and answers whether all have theirs.
-fn are_answered<H: Host>(
+// The number of the first call that has not its answer, after which none is made.
+fn first_wrong<H: Host>(
     alloc: Global,
     host: &mut H,
     rows: &[Row<'_>],
-) -> Result<bool, AllocError> {
-    for (call, wanted) in rows {
+) -> Result<Option<usize>, AllocError> {
+    for (number, (call, wanted)) in rows.iter().enumerate() {
         if !is_answered(alloc, host, call, *wanted)? {
-            return Ok(false);
+            return Ok(Some(number));
         }
     }
-    Ok(true)
+    Ok(None)
 }
 
 /// Makes the calls, and expects of each its answer.
 pub fn expect<H: Host>(alloc: Global, host: &mut H, rows: &[Row<'_>]) -> Result<(), Fail> {
-    for (call, wanted) in rows {
-        if !is_answered(alloc, host, call, *wanted)? {
-            let name = subject(call);
-            return Err(Fail::new(format_args!("{name} is to be {wanted:?}")));
-        }
+    match first_wrong(alloc, host, rows)? {
+        Some(number) => Err(Fail::new(format_args!("call {number} is answered otherwise"))),
+        None => Ok(()),
     }
-    Ok(())
+}
+
+/// Makes the calls of a host that goes then, and expects of each its answer.
+pub fn expect_of<H: Host + Drop>(alloc: Global, mut host: H, rows: &[Row<'_>]) -> Result<(), Fail> {
+    expect(alloc, &mut host, rows)
 }
 
 /// Expects of all calls of the first rows, or of all of the second, their answers.
-pub fn expect_one_of<H: Host>(
+pub fn expect_one_of<H: Host + Drop>(
     alloc: Global,
-    host: &mut H,
+    mut host: H,
     first: &[Row<'_>],
     second: &[Row<'_>],
 ) -> Result<(), Fail> {
-    if are_answered(alloc, host, first)? {
-        return Ok(());
+    match first_wrong(alloc, &mut host, first)? {
+        Some(_) => expect(alloc, &mut host, second),
+        None => Ok(()),
     }
-    expect(alloc, host, second)
 }

@@ -1,3 +1,5 @@
+ghost use Rattle.dsc_outside.specs.MemoryClock.{AreReadings};
+
 use super::disk_calls::Answer::{Bytes, Done, Lost, Number};
 use super::disk_calls::Ask::{Cut, Length, Read, Sync, Write};
 use super::disk_calls::{Answer, Ask, DiskRow, is_answered};
@@ -8,8 +10,16 @@ use std::alloc::{AllocError, Global};
 use std::test::Fail;
 
 fn disk(alloc: Global, failing: &[u64], stop: Option<DiskStop>) -> Result<MemoryDisk, Memory> {
-    let failing = failing.to_vec(alloc)?;
-    MemoryDisk::of("abcdef".as_bytes().to_vec(alloc)?, failing, stop)
+    filled_disk(alloc, failing.to_vec(alloc)?, stop)
+}
+
+// A disk with six bytes.
+fn filled_disk(
+    alloc: Global,
+    failing: Vec<u64>,
+    stop: Option<DiskStop>,
+) -> Result<MemoryDisk, Memory> {
+    MemoryDisk::of(b"abcdef".to_vec(alloc)?, failing, stop)
 }
 
 // The first row that is answered otherwise.
@@ -153,14 +163,29 @@ fn a_stop_leaves_its_part(rt: HostRuntime) -> Result<(), Fail> {
     Ok(())
 }
 
+// A clock of which the third call fails.
+fn clock(alloc: Global, readings: Vec<Option<u64>>) -> Result<MemoryClock, AllocError>
+    requires { AreReadings readings.items }
+{
+    Ok(MemoryClock::new(readings, vec![in alloc; 2]?))
+}
+
+const READINGS: &[Result<u64, Failed>] = &[Ok(5), Err(Failed), Err(Failed), Ok(9), Err(Failed)];
+
+// The number of the first reading that is another than this.
+fn first_other(clock: &mut MemoryClock, wanted: &[Result<u64, Failed>]) -> Option<usize> {
+    for (number, reading) in wanted.iter().enumerate() {
+        if clock.now() != *reading {
+            return Some(number);
+        }
+    }
+    None
+}
+
 #[test]
 fn a_clock_gives_its_readings_in_order(rt: HostRuntime) -> Result<(), Fail> {
-    let alloc = rt.alloc();
-    let readings = vec![in alloc; Some(5), None, Some(7), Some(9)]?;
-    let mut clock = MemoryClock::new(readings, vec![in alloc; 2]?);
-    for want in [Ok(5), Err(Failed), Err(Failed), Ok(9), Err(Failed)] {
-        assert!(rt; clock.now() == want);
-    }
-    assert!(rt; !clock.short());
+    let readings = vec![in rt.alloc(); Some(5), None, Some(7), Some(9)]?;
+    let mut clock = clock(rt.alloc(), readings)?;
+    assert!(rt; first_other(&mut clock, READINGS) == None && !clock.short());
     Ok(())
 }

@@ -3,7 +3,7 @@ use super::host_calls::Call::{
     AddEntry, AddPackage, HasEntry, HasPackage, Make, Put, Remove, Same, Set, State, Unset, Value,
     Wanting,
 };
-use super::host_calls::{Row, expect};
+use super::host_calls::{Row, expect, expect_of};
 use dsc_outside::{
     Done as Part, HostContents, MemoryHost, PathEntry, ReliableHost, Standing, Stop,
 };
@@ -15,13 +15,18 @@ fn bytes(alloc: Global, text: &str) -> Result<Bytes, AllocError> {
     Ok(Bytes::of(text.as_bytes().to_vec(alloc)?))
 }
 
+fn put_link(alloc: Global, paths: &mut Vec<PathEntry>) -> Result<(), AllocError> {
+    let path = bytes(alloc, "link")?;
+    let stands = Standing::Other;
+    paths.push(PathEntry { path, stands })?;
+    Ok(())
+}
+
 // A link at `link`, and `[log]a` wants a reboot.
 fn linked(alloc: Global) -> Result<HostContents, AllocError> {
     let mut contents = HostContents::empty(alloc);
+    put_link(alloc, &mut contents.paths)?;
     contents.wanting.push(bytes(alloc, "[log]a")?)?;
-    let path = bytes(alloc, "link")?;
-    let stands = Standing::Other;
-    contents.paths.push(PathEntry { path, stands })?;
     Ok(contents)
 }
 
@@ -55,14 +60,20 @@ const ROWS: &[Row<'_>] = &[
     (Wanting("[log]b"), No),
 ];
 
+// Expects these answers, and that memory lasts.
+fn expect_with_memory(alloc: Global, host: &mut MemoryHost, rows: &[Row<'_>]) -> Result<(), Fail> {
+    expect(alloc, host, rows)?;
+    if host.short() {
+        return Err(Fail::new("out of memory"));
+    }
+    Ok(())
+}
+
 #[test]
 fn with_ample_memory_each_call_is_done(rt: HostRuntime) -> Result<(), Fail> {
-    let mut reliable = ReliableHost::of(linked(rt.alloc())?);
-    expect(rt.alloc(), &mut reliable, ROWS)?;
+    expect_of(rt.alloc(), ReliableHost::of(linked(rt.alloc())?), ROWS)?;
     let mut host = MemoryHost::of(linked(rt.alloc())?, Vec::new(rt.alloc()), None);
-    expect(rt.alloc(), &mut host, ROWS)?;
-    assert!(rt; !host.short());
-    Ok(())
+    expect_with_memory(rt.alloc(), &mut host, ROWS)
 }
 
 // Expects of a host that stops in its call 1 these answers, and others of one that starts with its contents again.
@@ -74,11 +85,8 @@ fn expect_stopped(alloc: Global, done: Part, looks: &[Row<'_>]) -> Result<(), Fa
     ];
     let stop = Some(Stop { call: 1, done });
     let mut host = MemoryHost::of(HostContents::empty(alloc), Vec::new(alloc), stop);
-    expect(alloc, &mut host, STOPPED)?;
-    if host.short() {
-        return Err(Fail::new("out of memory"));
-    }
-    expect(alloc, &mut ReliableHost::of(host.into_contents()), looks)
+    expect_with_memory(alloc, &mut host, STOPPED)?;
+    expect_of(alloc, ReliableHost::of(host.into_contents()), looks)
 }
 
 #[test]

@@ -5,6 +5,7 @@ use super::scratch::make_folder;
 use dsc_outside::Clock;
 use dsc_outside::real::{FileDisk, SystemClock};
 use std::alloc::{AllocError, Global};
+use std::fs::File;
 use std::rt::Files;
 use std::test::Fail;
 use std::{fs, io};
@@ -20,22 +21,24 @@ enum Before {
     Link,
 }
 
+// Makes a file, and a link to it.
+fn make_link(rt: &HostRuntime, to: &str, place: &str) -> io::Result<()> {
+    fs::write(rt, to, "kept")?;
+    rt.symlink(to, place)
+}
+
 fn prepare(rt: &HostRuntime, place: &str, before: Before) -> io::Result<()> {
     match before {
         Before::Nothing => Ok(()),
         Before::Bytes(bytes) => fs::write(rt, place, bytes),
         Before::Folder => fs::create_dir(rt, place),
-        Before::Link => {
-            let to = format!(in rt.alloc(); "{place}.to")?;
-            fs::write(rt, to.as_str(), "kept")?;
-            rt.symlink(to.as_str(), place)
-        }
+        Before::Link => make_link(rt, &format!(in rt.alloc(); "{place}.to")?, place),
     }
 }
 
-fn are_answered(
+fn are_answered<F: Files<File = File> + Drop>(
     alloc: Global,
-    disk: &mut FileDisk<&HostRuntime>,
+    disk: &mut FileDisk<F>,
     rows: &[DiskRow<'_>],
 ) -> Result<bool, AllocError> {
     for row in rows {
@@ -46,13 +49,18 @@ fn are_answered(
     Ok(true)
 }
 
-fn disk_at<'a>(rt: &'a HostRuntime, place: &str) -> Result<FileDisk<&'a HostRuntime>, AllocError> {
-    Ok(FileDisk::new(rt, String::from_str(rt.alloc(), place)?))
+fn disk_at<F: Files<File = File> + Drop>(
+    alloc: Global,
+    files: F,
+    place: &str,
+) -> Result<FileDisk<F>, AllocError> {
+    Ok(FileDisk::new(files, String::from_str(alloc, place)?))
 }
 
 // Expects these answers of a disk at that place.
 fn expect_at(rt: &HostRuntime, place: &str, rows: &[DiskRow<'_>]) -> Result<(), Fail> {
-    if are_answered(rt.alloc(), &mut disk_at(rt, place)?, rows)? {
+    let mut disk = disk_at(rt.alloc(), rt, place)?;
+    if are_answered(rt.alloc(), &mut disk, rows)? {
         return Ok(());
     }
     Err(Fail::new(format_args!("{place} answers otherwise")))
@@ -132,7 +140,7 @@ fn a_file_is_a_disk_and_nothing_else_is(rt: HostRuntime) -> Result<(), Fail> {
 
 // Expects that the first disk is touched at its first call, and that the place is no disk for another program from then on.
 fn expect_owned(rt: &HostRuntime, place: &str) -> Result<(), Fail> {
-    let mut first = disk_at(rt, place)?;
+    let mut first = disk_at(rt.alloc(), rt, place)?;
     if fs::exists(rt, place)? {
         return Err(Fail::new("a disk is touched before its first call"));
     }

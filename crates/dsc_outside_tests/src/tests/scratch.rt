@@ -2,12 +2,22 @@
 use std::rt::{Env, Files};
 use std::{env, fs, io};
 
+// Makes the folder of that number, where there is none yet.
+fn make_numbered<R: Files + AllocGlobal>(
+    rt: &R,
+    temporary: &str,
+    number: u32,
+) -> io::Result<Option<String>> {
+    let folder = format!(in rt.alloc(); "{temporary}/dsc_outside_{number}")?;
+    let made = fs::create_dir(rt, folder.as_str());
+    Ok(if made.is_ok() { Some(folder) } else { None })
+}
+
 /// Makes a new folder below the system's folder for temporary files.
 pub fn make_folder<R: Files + Env + AllocGlobal>(rt: &R) -> io::Result<String> {
     let temporary = env::temp_dir(rt)?.into_string();
     for number in 0..10_000u32 {
-        let folder = format!(in rt.alloc(); "{temporary}/dsc_outside_{number}")?;
-        if fs::create_dir(rt, folder.as_str()).is_ok() {
+        if let Some(folder) = make_numbered(rt, &temporary, number)? {
             return Ok(folder);
         }
     }

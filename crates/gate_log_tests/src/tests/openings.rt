@@ -1,7 +1,9 @@
 //! Files that are opened as stores.
-use super::stores::{add_two, bodies_of, holds, rewrite, with_memory};
+ghost use Rattle.std.specs.Prelude.{⊤};
+
+use super::stores::{add_two, bodies_of, holds, rewrite, small, with_memory};
 use dsc_outside::MemoryDisk;
-use gate_log::LogError;
+use gate_log::{LogError, Replay, TakeError, replay_log};
 use std::alloc::Global;
 use std::test::Fail;
 
@@ -88,5 +90,49 @@ fn fails_and_opens(alloc: Global) -> Result<bool, LogError> {
 #[test]
 fn a_sync_that_fails_fails_the_opening(rt: HostRuntime) -> Result<(), Fail> {
     assert!(rt; fails_and_opens(rt.alloc())?);
+    Ok(())
+}
+
+/// Takes this many bodies, and refuses the next.
+#[derive(Drop)]
+struct First {
+    left: u32,
+}
+
+impl Replay for First {
+    ghost took = { λ _ _. ⊤ };
+
+    ghost refused = { λ _ _ _. ⊤ };
+
+    fn take(&mut self, _body: &[u8]) -> Result<(), TakeError> {
+        match self.left.checked_sub(1) {
+            Some(left) => {
+                self.left = left;
+                Ok(())
+            }
+            None => Err(TakeError::Refused),
+        }
+    }
+}
+
+// Where an opening fails whose replay takes that many of two bodies of twenty bytes, and whether the file is as it was.
+fn refused_at(alloc: Global, left: u32) -> Result<(Option<u64>, bool), LogError> {
+    let mut disk = with_memory(MemoryDisk::new(Vec::new(alloc), Vec::new(alloc)))?;
+    add_two(alloc, &mut disk)?;
+    let bytes = with_memory(disk.after_stop())?;
+    let mut disk = with_memory(MemoryDisk::new(bytes.to_vec(alloc)?, Vec::new(alloc)))?;
+    let at = match replay_log(alloc, &mut disk, small(), &mut First { left }) {
+        Ok(_) => None,
+        Err(LogError::NotAStore { at }) => Some(at),
+        Err(error) => return Err(error),
+    };
+    Ok((at, with_memory(disk.after_stop())? == bytes))
+}
+
+#[test]
+fn a_body_that_is_refused_is_where_the_file_fails(rt: HostRuntime) -> Result<(), Fail> {
+    for (left, at) in [(0, Some(13)), (1, Some(38)), (2, None)] {
+        assert!(rt; refused_at(rt.alloc(), left)? == (at, true), "{left}");
+    }
     Ok(())
 }

@@ -74,7 +74,7 @@ fn frame(alloc: Global) -> Frame
     }
 }
 
-// The report of the run of a row, or none where the run ends for want of memory.
+// The report of the run of a row, or none where the run ends for lack of memory.
 fn reported(
     alloc: Global,
     document: &Document,

@@ -8,7 +8,7 @@ use mof_values::{Ident, Memory};
 use resource_kinds::{Entry, Failure, Resources, SetAnswer, TestAnswer};
 use std::alloc::{AllocError, Global};
 
-/// Answers of Tests and of Sets, each in order; behind the last come `yes` and `done`.
+/// Answers of Tests and of Sets, each in order; after the last come `yes` and `done`.
 #[derive(Drop)]
 pub struct Script {
     alloc: Global,
@@ -134,7 +134,7 @@ pub fn set_of(alloc: Global, word: &str) -> SetAnswer {
     }
 }
 
-// the failure of this name, or none where it is the word of want of memory
+// the failure of this name, or none where it is the word of lack of memory
 fn failure_of(alloc: Global, word: &str) -> Option<Failure> {
     match word {
         "NoSuchResource" => Some(Failure::NoSuchResource),

@@ -104,7 +104,7 @@ pub(crate) fn begin(place: Place, c: char) -> Option<State>
     }
 }
 
-/// The character behind a token that ends with an identifier character.
+/// The character after a token that ends with an identifier character.
 pub(crate) fn ended(place: Place, c: char) -> Option<State>
     ensures { result ≡ ended place c }
 {

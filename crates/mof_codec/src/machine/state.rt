@@ -1,6 +1,6 @@
 //! What the machine knows of the characters that it has read.
 
-/// What the rules expect, once the token that is half read is through. Each but `Start` is behind a token of a declaration.
+/// What the rules expect, once the token that is half read is through. Each but `Start` is after a token of a declaration.
 #[derive(Clone, Copy, Debug, PartialEq, Eq)]
 pub(crate) enum Place {
     /// Between declarations.
@@ -21,7 +21,7 @@ pub(crate) enum Place {
     /// Behind the alias of the declaration.
     AfterAlias,
 
-    /// Behind the brace of the declaration, or behind a property.
+    /// Behind the brace of the declaration, or after a property.
     Body,
 
     /// Behind the closing brace of the declaration.

@@ -10,7 +10,7 @@ use crate::machine::state::{Event, Half, Keyword, Numeral, Place, State};
 use crate::machine::words::{keyed, letter};
 use mof_values::{may_begin, may_follow};
 
-/// The state behind one more character, or none where no text goes on with it.
+/// The state after one more character, or none where no text goes on with it.
 pub(crate) fn step(state: State, c: char) -> Option<State>
     ensures { result ≡ step state.half state.place c }
 {

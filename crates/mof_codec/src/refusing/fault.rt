@@ -30,7 +30,7 @@ pub(crate) fn fault(chars: &[char]) -> Option<usize>
     Some(chars.len())
 }
 
-/// The state behind the characters, or none where no text begins with them.
+/// The state after the characters, or none where no text begins with them.
 pub(crate) fn state_behind(chars: &[char]) -> Option<State>
     ensures some { IfSome result (λ state. StandsBehind chars.now state) }
     ensures none { IfNone result (walked chars.now ≡ None) }

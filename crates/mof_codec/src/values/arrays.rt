@@ -11,7 +11,7 @@ use mof_syntax::MAX_ELEMENTS;
 use mof_values::{Items, Scalar, Value};
 use std::alloc::{AllocError, Global};
 
-/// A single value or an array within the limits, and what is behind.
+/// A single value or an array within the limits, and what is after.
 pub(crate) fn initializer(
     alloc: Global,
     chars: &[char],
@@ -31,7 +31,7 @@ pub(crate) fn initializer(
     Ok(Some((Value::One(scalar), rest)))
 }
 
-// The elements of an array, of which the brace was read, and what is behind the other.
+// The elements of an array, of which the brace was read, and what is after the other.
 fn array(alloc: Global, chars: &[char]) -> Result<Option<(Vec<Scalar>, &[char])>, AllocError>
     ensures some { IfOk result (λ found. IfSome found (λ x. BeginsWith IsArray ArrayFits chars.now x.0.items x.1.now)) }
     ensures none { IfOk result (λ found. IfNone found (Lacks IsArray ArrayFits chars.now)) }

@@ -35,7 +35,7 @@ pub(crate) fn instances_of(
     Ok(Some(instances))
 }
 
-// A declaration within the limits, and what is behind its semicolon.
+// A declaration within the limits, and what is after its semicolon.
 fn declaration(alloc: Global, chars: &[char]) -> Result<Option<(Instance, &[char])>, AllocError>
     ensures some { IfOk result (λ found. IfSome found (λ x. BeginsWith IsDeclaration InstanceFits chars.now x.0 x.1.now)) }
     ensures none { IfOk result (λ found. IfNone found (Lacks IsDeclaration InstanceFits chars.now)) }
@@ -60,7 +60,7 @@ fn declaration(alloc: Global, chars: &[char]) -> Result<Option<(Instance, &[char
     Ok(Some((instance, rest)))
 }
 
-// `instance of` and a class, and what is behind.
+// `instance of` and a class, and what is after.
 fn head(alloc: Global, chars: &[char]) -> Result<Option<(Ident, &[char])>, AllocError>
     ensures some { IfOk result (λ found. IfSome found (λ x. BeginsWith IsHead IsShortName chars.now x.0 x.1.now)) }
     ensures none { IfOk result (λ found. IfNone found (Lacks IsHead IsShortName chars.now)) }
@@ -77,7 +77,7 @@ fn head(alloc: Global, chars: &[char]) -> Result<Option<(Ident, &[char])>, Alloc
     Ok(Some((class, rest)))
 }
 
-// An alias, or none, and what is behind the opening brace.
+// An alias, or none, and what is after the opening brace.
 fn naming(alloc: Global, chars: &[char]) -> Result<Option<(Option<Ident>, &[char])>, AllocError>
     ensures some { IfOk result (λ found. IfSome found (λ x. BeginsWith IsNaming NamingFits chars.now x.0 x.1.now)) }
     ensures none { IfOk result (λ found. IfNone found (Lacks IsNaming NamingFits chars.now)) }

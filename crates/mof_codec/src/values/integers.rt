@@ -1,4 +1,4 @@
-//! Integers of each base, behind separators.
+//! Integers of each base, after separators.
 ghost use Rattle.std.specs.Prelude.{◌≡◌, ◌≤◌, ◌^◌, ◌↔◌, true, IfSome, IfNone};
 ghost use Rattle.std.specs.Str.Parse.{digits_value};
 ghost use Rattle.mof_syntax.specs.Characters.{digit_of};
@@ -14,7 +14,7 @@ use mof_syntax::separators_rest;
 // The first magnitude that no integer has.
 const CAP: u128 = 0x1_0000_0000_0000_0000;
 
-/// An integer from -2^63 to 2^64-1, and what is behind.
+/// An integer from -2^63 to 2^64-1, and what is after.
 pub(crate) fn integer(chars: &[char]) -> Option<(i128, &[char])>
     ensures some { IfSome result (λ found. BeginsWith IsNumber IsInRange chars.now found.0 found.1.now) }
     ensures none { IfNone result (Lacks IsNumber IsInRange chars.now) }

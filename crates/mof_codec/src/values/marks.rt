@@ -1,4 +1,4 @@
-//! Marks, behind separators.
+//! Marks, after separators.
 ghost use Rattle.std.specs.Prelude.{◌≡◌, IfSome, IfNone};
 ghost use Rattle.std.specs.Option.{option_copied};
 ghost use Rattle.mof_codec.specs.Reading.{Begins, BeginsNo};

@@ -12,7 +12,7 @@ use mof_syntax::MAX_PROPERTIES;
 use mof_values::Property;
 use std::alloc::{AllocError, Global};
 
-/// The properties up to the closing brace, within the limits, and what is behind it.
+/// The properties up to the closing brace, within the limits, and what is after it.
 pub(crate) fn properties(
     alloc: Global,
     chars: &[char],
@@ -37,7 +37,7 @@ pub(crate) fn properties(
     }
 }
 
-// A property within the limits, and what is behind its semicolon.
+// A property within the limits, and what is after its semicolon.
 fn property(alloc: Global, chars: &[char]) -> Result<Option<(Property, &[char])>, AllocError>
     ensures some { IfOk result (λ found. IfSome found (λ x. BeginsWith IsProperty PropertyFits chars.now x.0 x.1.now)) }
     ensures none { IfOk result (λ found. IfNone found (Lacks IsProperty PropertyFits chars.now)) }

@@ -11,7 +11,7 @@ use mof_syntax::separators_rest;
 use mof_values::Scalar;
 use std::alloc::{AllocError, Global};
 
-/// A single value within the limits, and what is behind.
+/// A single value within the limits, and what is after.
 pub(crate) fn constant(
     alloc: Global,
     chars: &[char],

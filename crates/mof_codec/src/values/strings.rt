@@ -12,7 +12,7 @@ use mof_syntax::separators_rest;
 use mof_values::Text;
 use std::alloc::{AllocError, Global};
 
-/// The text of one or more literals, joined, and what is behind: no further literal.
+/// The text of one or more literals, joined, and what is after: no further literal.
 pub(crate) fn string(alloc: Global, chars: &[char]) -> Result<Option<(Text, &[char])>, AllocError>
     ensures some { IfOk result (λ found. IfSome found (λ x. BeginsWith StringValue AnyText chars.now x.0 x.1.now)) }
     ensures none { IfOk result (λ found. IfNone found (Lacks StringValue AnyText chars.now)) }
@@ -34,7 +34,7 @@ pub(crate) fn string(alloc: Global, chars: &[char]) -> Result<Option<(Text, &[ch
     Ok(Some((Text::of(text), left)))
 }
 
-// Behind a quote that stands behind separators.
+// Behind a quote that stands after separators.
 fn behind_quote(chars: &[char]) -> Option<&[char]>
     ensures some { IfSome result (λ behind. BeginsQuote chars.now behind.now) }
     ensures none { IfNone result (NoLiteralFirst chars.now) }
@@ -42,7 +42,7 @@ fn behind_quote(chars: &[char]) -> Option<&[char]>
     behind_char(separators_rest(chars), '"')
 }
 
-// Adds the text of a literal, of which the quote was read: what is behind it.
+// Adds the text of a literal, of which the quote was read: what is after it.
 fn push_quoted<'a>(
     text: &mut Vec<char>,
     chars: &'a [char],
@@ -63,7 +63,7 @@ fn push_quoted<'a>(
     }
 }
 
-// A character of a literal, itself or by an escape, and what is behind.
+// A character of a literal, itself or by an escape, and what is after.
 fn literal_char(chars: &[char]) -> Option<(char, &[char])>
     ensures some { IfSome result (λ found. GoesOnBy chars.now found.0 found.1.now) }
     ensures none { IfNone result (OnlyQuoteFirst chars.now) }
@@ -80,7 +80,7 @@ fn literal_char(chars: &[char]) -> Option<(char, &[char])>
     Some((*c, rest))
 }
 
-// What an escape stands for, of which the backslash was read, and what is behind.
+// What an escape stands for, of which the backslash was read, and what is after.
 fn escape(chars: &[char]) -> Option<(char, &[char])>
     ensures some { IfSome result (λ found. Escape chars.now found.0 found.1.now) }
     ensures none { IfNone result (NoEscape chars.now) }
@@ -116,7 +116,7 @@ fn short_escape(c: char) -> Option<char>
     }
 }
 
-// One to four digits behind an x.
+// One to four digits after an x.
 fn hex_escape(chars: &[char]) -> Option<(char, &[char])>
     ensures some { IfSome result (λ found. HexEscape chars.now found.0 found.1.now) }
     ensures none { IfNone result (NoHexEscape chars.now) }

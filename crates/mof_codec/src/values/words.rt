@@ -1,4 +1,4 @@
-//! Words, keywords and aliases, behind separators.
+//! Words, keywords and aliases, after separators.
 ghost use Rattle.std.specs.Prelude.{◌≡◌, false, IfOk, IfSome, IfNone};
 ghost use Rattle.mof_values.specs.Ident.{IsIdent, is_ident};
 ghost use Rattle.mof_syntax.specs.Limits.{IsShortName};
@@ -25,7 +25,7 @@ pub(crate) fn keyword<'a>(chars: &'a [char], keyword: &str) -> Option<&'a [char]
     }
 }
 
-/// A word of at most 255 characters, and what is behind.
+/// A word of at most 255 characters, and what is after.
 pub(crate) fn word(alloc: Global, chars: &[char]) -> Result<Option<(Ident, &[char])>, AllocError>
     ensures some { IfOk result (λ found. IfSome found (λ x. BeginsWith IsWord IsShortName chars.now x.0 x.1.now)) }
     ensures none { IfOk result (λ found. IfNone found (Lacks IsWord IsShortName chars.now)) }
@@ -39,7 +39,7 @@ pub(crate) fn word(alloc: Global, chars: &[char]) -> Result<Option<(Ident, &[cha
     Ok(Some((name, rest)))
 }
 
-/// The name of an alias, of at most 255 characters, and what is behind.
+/// The name of an alias, of at most 255 characters, and what is after.
 pub(crate) fn alias(alloc: Global, chars: &[char]) -> Result<Option<(Ident, &[char])>, AllocError>
     ensures some { IfOk result (λ found. IfSome found (λ x. BeginsWith IsAlias IsShortName chars.now x.0 x.1.now)) }
     ensures none { IfOk result (λ found. IfNone found (Lacks IsAlias IsShortName chars.now)) }
@@ -72,7 +72,7 @@ fn dollar_identifier(chars: &[char]) -> Option<(&[char], &[char])>
     identifier(behind_char(chars, '$')?)
 }
 
-// An identifier of any length, and what is behind.
+// An identifier of any length, and what is after.
 fn identifier(chars: &[char]) -> Option<(&[char], &[char])>
     ensures some { IfSome result (λ found. Identifier chars.now found.0.now found.1.now) }
     ensures none { IfNone result (NoIdentifier chars.now) }

@@ -39,7 +39,7 @@ fn push_elements(out: &mut String, scalars: &[Scalar]) -> Result<(), AllocError>
     Ok(())
 }
 
-// Each behind a comma and a space.
+// Each after a comma and a space.
 fn push_further(out: &mut String, scalars: &[Scalar]) -> Result<(), AllocError>
     ensures text { OnOk result (Adds (string_bytes out.old) (string_bytes out.new) (flat_map further_element scalars.now)) }
     ensures valid { OnOk result (AllByRecursion ScalarIsValid scalars.now) }

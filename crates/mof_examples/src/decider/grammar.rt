@@ -1,4 +1,4 @@
-//! The rules over tokens. Each takes a rule's tokens from the front of a list, and gives what is behind them.
+//! The rules over tokens. Each takes a rule's tokens from the front of a list, and gives what is after them.
 ghost use Rattle.std.specs.Prelude.{◌<◌, ◌≤◌, length, IfSome};
 
 use crate::decider::pieces::{Token, Word};
@@ -42,7 +42,7 @@ fn alias(tokens: &[Token]) -> &[Token]
     }
 }
 
-// Any number of properties, and the brace behind them.
+// Any number of properties, and the brace after them.
 fn properties(tokens: &[Token]) -> Option<&[Token]>
     ensures { IfSome result (λ rest. length rest.now ≤ length tokens.now) }
 {
@@ -64,7 +64,7 @@ fn value(tokens: &[Token]) -> Option<&[Token]>
     }
 }
 
-// One or more single values with commas between them, and the brace behind them.
+// One or more single values with commas between them, and the brace after them.
 fn elements(tokens: &[Token]) -> Option<&[Token]>
     ensures { IfSome result (λ rest. length rest.now ≤ length tokens.now) }
 {
@@ -90,7 +90,7 @@ fn single(tokens: &[Token]) -> Option<&[Token]>
     }
 }
 
-// What is behind all the literals.
+// What is after all the literals.
 fn literals(tokens: &[Token]) -> &[Token]
     ensures { length result.now ≤ length tokens.now }
 {

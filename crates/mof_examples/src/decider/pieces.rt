@@ -90,7 +90,7 @@ fn whole_piece(chars: &[char]) -> Option<Piece> {
     }
 }
 
-// White space, or a comment: behind `//` to the end of its line, or from `/*` to the next `*/`.
+// White space, or a comment: after `//` to the end of its line, or from `/*` to the next `*/`.
 fn is_separator(chars: &[char]) -> bool {
     match chars {
         [' ' | '\t' | '\r' | '\n'] => true,
@@ -194,7 +194,7 @@ fn ends_literal(chars: &[char]) -> bool {
     false
 }
 
-// What is behind the escape whose backslash was before.
+// What is after the escape whose backslash was before.
 fn behind_escape(chars: &[char]) -> Option<&[char]>
     ensures { IfSome result (λ rest. length rest.now ≤ length chars.now) }
 {
@@ -205,7 +205,7 @@ fn behind_escape(chars: &[char]) -> Option<&[char]>
     }
 }
 
-// What is behind one to four hexadecimal digits, as many as there are.
+// What is after one to four hexadecimal digits, as many as there are.
 fn behind_digits(chars: &[char]) -> Option<&[char]>
     ensures { IfSome result (λ rest. length rest.now ≤ length chars.now) }
 {

@@ -8,7 +8,7 @@ const WEB: &str =
 const SECURE: &str =
     "instance of MSFT_WebDownloadManager{ServerURL=\"https://pull/\";ConfigurationNames={\"Web\"};};instance of MSFT_DSCMetaConfiguration{RefreshMode=\"Pull\";};";
 
-// App depends on Base, and so comes behind it.
+// App depends on Base, and so comes after it.
 const PARTIALS: &str =
     "instance of MSFT_WebDownloadManager{ServerURL=\"http://pull/\";ConfigurationNames={\"Web\"};};instance of MSFT_DSCMetaConfiguration{RefreshMode=\"Pull\";};instance of MSFT_PartialConfiguration{ResourceID=\"[PartialConfiguration]App\";DependsOn={\"[PartialConfiguration]Base\"};};instance of MSFT_PartialConfiguration{ResourceID=\"[PartialConfiguration]Base\";};";
 

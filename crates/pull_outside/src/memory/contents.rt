@@ -3,7 +3,7 @@ use dsc_outside::Package;
 use mof_values::{Bytes, Items};
 
 /// A configuration, kept unread.
-#[derive(Clone, Debug, Drop, PartialEq)]
+#[derive(Debug, Drop, PartialEq)]
 pub struct Configuration {
     /// In UTF-8.
     pub name: Bytes,
@@ -13,7 +13,7 @@ pub struct Configuration {
 
 /// What a shelf in memory holds. Of several configurations of one name, and of several packages of one name and version, the
 /// first counts.
-#[derive(Clone, Debug, Drop)]
+#[derive(Debug, Drop)]
 pub struct ShelfContents {
     pub configurations: Items<Configuration>,
     pub packages: Items<Package>,

@@ -1,8 +1,10 @@
 //! Documents of one resource, `[A]One`, written as words: `file PATH CONTENTS`, `any-file PATH`, `folder PATH`, `no-file PATH`,
 //! `no-folder PATH`, `no-folder-by-force PATH`, `variable NAME VALUE`, `entries NAME VALUE`, `no-variable NAME`,
-//! `no-entries NAME VALUE`, `entry MESSAGE`. A path is below the root. `|` stands for `;`.
+//! `no-entries NAME VALUE`, `entry MESSAGE`. A path is below the root.
 use dsc_document::{Document, check};
 use mof_codec::read;
+use mof_values::Instance;
+use std::alloc::AllocError;
 use std::test::Fail;
 
 const FILE: &str = "MSFT_FileDirectoryConfiguration{ResourceID=\"[A]One\";DestinationPath=\"/";
@@ -11,7 +13,7 @@ const VARIABLE: &str = "MSFT_EnvironmentResource{ResourceID=\"[A]One\";Name=\"";
 
 const LOG: &str = "MSFT_LogResource{ResourceID=\"[A]One\";Message=\"";
 
-/// A word, the declaration up to what the first word behind it says, what follows that, and the property that the rest says.
+/// A word, the declaration up to what the first word after it says, what follows that, and the property that the rest says.
 type Kind = (&'static str, &'static str, &'static str, &'static str);
 
 const KINDS: &[Kind] = &[
@@ -43,26 +45,32 @@ const KINDS: &[Kind] = &[
     ("entry", LOG, "", ""),
 ];
 
-fn push_word(text: &mut String, word: &str) -> Result<(), Fail> {
-    for c in word.chars() {
-        text.push(if c == '|' { ';' } else { c })?;
+// The property that the rest of the words says, where there is one.
+fn push_property(text: &mut String, property: &str, rest: &str) -> Result<(), AllocError> {
+    if property.is_empty() {
+        return Ok(());
     }
-    Ok(())
+    text.push_str(property)?;
+    text.push_str("=\"")?;
+    text.push_str(rest)?;
+    text.push_str("\";")
 }
 
 // The text of a resource and of the header.
-fn declared(rt: &impl AllocGlobal, kind: &Kind, words: &str) -> Result<String, Fail> {
-    let (_, front, more, property) = *kind;
+fn push_declared(text: &mut String, kind: &Kind, words: &str) -> Result<(), AllocError> {
     let (first, rest) = words.split_once(' ').unwrap_or((words, ""));
-    let mut text = format!(in rt.alloc(); "instance of {front}")?;
-    push_word(&mut text, first)?;
-    write!(text, "\";{more}")?;
-    if !property.is_empty() {
-        write!(text, "{property}=\"")?;
-        push_word(&mut text, rest)?;
-        text.push_str("\";")?;
-    }
-    text.push_str("};instance of OMI_ConfigurationDocument{};")?;
+    text.push_str("instance of ")?;
+    text.push_str(kind.1)?;
+    text.push_str(first)?;
+    text.push_str("\";")?;
+    text.push_str(kind.2)?;
+    push_property(text, kind.3, rest)?;
+    text.push_str("};instance of OMI_ConfigurationDocument{};")
+}
+
+fn declared(rt: &impl AllocGlobal, kind: &Kind, words: &str) -> Result<String, Fail> {
+    let mut text = String::new(rt.alloc());
+    push_declared(&mut text, kind, words)?;
     Ok(text)
 }
 
@@ -76,9 +84,14 @@ fn text_of(rt: &impl AllocGlobal, words: &str) -> Result<String, Fail> {
     Err(words.into())
 }
 
+fn instances(rt: &impl AllocGlobal, words: &str) -> Result<Vec<Instance>, Fail> {
+    let text = text_of(rt, words)?;
+    Ok(read(rt.alloc(), text.as_bytes())?)
+}
+
 /// The document of these words.
 pub fn document(rt: &impl AllocGlobal, words: &str) -> Result<Document, Fail> {
-    let instances = read(rt.alloc(), text_of(rt, words)?.as_bytes())?;
+    let instances = instances(rt, words)?;
     if instances.len() != 2 {
         return Err(words.into());
     }

@@ -1,65 +1,87 @@
 //! Machines written as words: `p/` is a folder, `p:hi` a file, `p?` something else at a path; `$name=value` a variable,
-//! `#id=message` an entry of the log, `!id` a wish for a reboot. `|` stands for `;`.
+//! `#id=message` an entry of the log, `!id` a wish for a reboot.
 use dsc_outside::{HostContents, LogEntry, MemoryHost, PathEntry, Standing, Variable};
 use mof_values::Bytes;
 use std::test::Fail;
 
 fn bytes(rt: &impl AllocGlobal, word: &str) -> Result<Bytes, Fail> {
-    let mut made = Vec::new(rt.alloc());
-    for byte in word.as_bytes() {
-        made.push(if *byte == b'|' { b';' } else { *byte })?;
-    }
-    Ok(Bytes::of(made))
+    Ok(Bytes::of(word.as_bytes().to_vec(rt.alloc())?))
 }
 
-fn path_entry(rt: &impl AllocGlobal, word: &str) -> Result<PathEntry, Fail> {
-    let (path, stands) = if let Some((path, held)) = word.split_once(':') {
-        (path, Standing::File(bytes(rt, held)?))
-    } else if let Some(path) = word.strip_suffix('?') {
-        (path, Standing::Other)
-    } else {
-        (word.trim_end_matches('/'), Standing::Folder)
-    };
-    Ok(PathEntry {
-        path: bytes(rt, path)?,
-        stands,
-    })
+fn path_entry(rt: &impl AllocGlobal, path: &str, stands: Standing) -> Result<PathEntry, Fail> {
+    let path = bytes(rt, path)?;
+    Ok(PathEntry { path, stands })
 }
 
-fn empty(rt: &impl AllocGlobal) -> HostContents {
-    HostContents {
-        paths: Vec::new(rt.alloc()),
-        variables: Vec::new(rt.alloc()),
-        log: Vec::new(rt.alloc()),
-        packages: Vec::new(rt.alloc()),
-        wanting: Vec::new(rt.alloc()),
+fn file_entry(rt: &impl AllocGlobal, path: &str, held: &str) -> Result<PathEntry, Fail> {
+    let held = bytes(rt, held)?;
+    path_entry(rt, path, Standing::File(held))
+}
+
+// What stands at a path.
+fn entry(rt: &impl AllocGlobal, word: &str) -> Result<PathEntry, Fail> {
+    if let Some((path, held)) = word.split_once(':') {
+        return file_entry(rt, path, held);
     }
+    match word.strip_suffix('?') {
+        Some(path) => path_entry(rt, path, Standing::Other),
+        None => path_entry(rt, word.trim_end_matches('/'), Standing::Folder),
+    }
+}
+
+fn variable(rt: &impl AllocGlobal, name: &str, value: &str) -> Result<Variable, Fail> {
+    let name = bytes(rt, name)?;
+    let value = bytes(rt, value)?;
+    Ok(Variable { name, value })
+}
+
+fn log_entry(rt: &impl AllocGlobal, id: &str, message: &str) -> Result<LogEntry, Fail> {
+    let id = bytes(rt, id)?;
+    let message = bytes(rt, message)?;
+    Ok(LogEntry { id, message })
+}
+
+fn put_variable(
+    rt: &impl AllocGlobal,
+    words: &str,
+    variables: &mut Vec<Variable>,
+) -> Result<(), Fail> {
+    let (name, value) = words.split_once('=').unwrap_or((words, ""));
+    variables.push(variable(rt, name, value)?)?;
+    Ok(())
+}
+
+fn put_log(rt: &impl AllocGlobal, words: &str, log: &mut Vec<LogEntry>) -> Result<(), Fail> {
+    let (id, message) = words.split_once('=').unwrap_or((words, ""));
+    log.push(log_entry(rt, id, message)?)?;
+    Ok(())
+}
+
+fn put_wish(rt: &impl AllocGlobal, id: &str, wanting: &mut Vec<Bytes>) -> Result<(), Fail> {
+    wanting.push(bytes(rt, id)?)?;
+    Ok(())
+}
+
+fn put_path(rt: &impl AllocGlobal, word: &str, paths: &mut Vec<PathEntry>) -> Result<(), Fail> {
+    paths.push(entry(rt, word)?)?;
+    Ok(())
 }
 
 fn put_word(rt: &impl AllocGlobal, word: &str, made: &mut HostContents) -> Result<(), Fail> {
-    let rest = word.split_at_checked(1).map(|parts| parts.1).unwrap_or("");
-    let (name, value) = rest.split_once('=').unwrap_or((rest, ""));
-    if word.starts_with('$') {
-        made.variables.push(Variable {
-            name: bytes(rt, name)?,
-            value: bytes(rt, value)?,
-        })?;
-    } else if word.starts_with('#') {
-        made.log.push(LogEntry {
-            id: bytes(rt, name)?,
-            message: bytes(rt, value)?,
-        })?;
-    } else if word.starts_with('!') {
-        made.wanting.push(bytes(rt, rest)?)?;
+    if let Some(words) = word.strip_prefix('$') {
+        put_variable(rt, words, &mut made.variables)
+    } else if let Some(words) = word.strip_prefix('#') {
+        put_log(rt, words, &mut made.log)
+    } else if let Some(id) = word.strip_prefix('!') {
+        put_wish(rt, id, &mut made.wanting)
     } else {
-        made.paths.push(path_entry(rt, word)?)?;
+        put_path(rt, word, &mut made.paths)
     }
-    Ok(())
 }
 
 /// The machine of these words.
 pub fn machine(rt: &impl AllocGlobal, words: &str) -> Result<HostContents, Fail> {
-    let mut made = empty(rt);
+    let mut made = HostContents::empty(rt.alloc());
     for word in words.split_whitespace() {
         put_word(rt, word, &mut made)?;
     }
@@ -68,18 +90,23 @@ pub fn machine(rt: &impl AllocGlobal, words: &str) -> Result<HostContents, Fail>
 
 /// The host that is this machine, of which these calls fail.
 pub fn host(rt: &impl AllocGlobal, words: &str, failing: &[u64]) -> Result<MemoryHost, Fail> {
-    let failing = failing.to_vec(rt.alloc())?;
-    Ok(MemoryHost::of(machine(rt, words)?, failing, None))
+    let contents = machine(rt, words)?;
+    Ok(MemoryHost::of(contents, failing.to_vec(rt.alloc())?, None))
 }
 
-fn stands_in(entry: &PathEntry, others: &[PathEntry]) -> bool {
-    others.iter().any(|other| other == entry)
+fn all_stand_in(entries: &[PathEntry], others: &[PathEntry]) -> bool {
+    for entry in entries {
+        if !others.contains(entry) {
+            return false;
+        }
+    }
+    true
 }
 
 /// Tells whether the two hold the same; paths may stand in another order.
 pub fn hold_the_same(a: &HostContents, b: &HostContents) -> bool {
     a.paths.len() == b.paths.len()
-        && a.paths.iter().all(|entry| stands_in(entry, &b.paths))
+        && all_stand_in(&a.paths, &b.paths)
         && a.variables == b.variables
         && a.log == b.log
         && a.packages == b.packages

@@ -30,7 +30,7 @@ module _ (rebooting : Bool) (ids : List (List ℕ)) (marks : List Mark) (place k
   lists_none : reason_of rebooting (get_or marks place NotCalled) ≡ None → listed_at rebooting ids marks k ≡ None
   lists_none is = ap (λ (o : Option Reason). option_map (λ (why : Reason). missed_of (get_or ids k []) why) o) (read_here ∙ is)
 
--- the list behind one more place
+-- the list after one more place
 module _ (f : ℕ → Option Missed) (listed : List Missed) (k n : ℕ) (before : listed ≡ take listed_limit (filter_map f (places_below k))) (more : n ≡ suc k) where
   goes_on : take listed_limit (filter_map f (places_below (suc k))) ≡ take listed_limit (filter_map f (places_below n))
   goes_on = ap (λ (j : ℕ). take listed_limit (filter_map f (places_below j))) (sym more)

@@ -20,7 +20,7 @@ there_or_missing old value entry wanted = elim (cases_Bool (is_among (entries_of
   | inr other ↦ inr (Contains-each_once _ entry (Contains-filter (λ e. not (is_among (entries_of old) e)) (wanted_entries value) entry wanted (not_from_false _ other)))
 ]
 
--- what is appended to a value that is not empty stands behind its own entries
+-- what is appended to a value that is not empty stands after its own entries
 entries-appended : (b : ℕ) (bs : List ℕ) (more : List (List ℕ)) → All IsPiece more → entries (appended (b ∷ bs) more) ≡ entries (b ∷ bs) ++ more
 entries-appended b bs [] pieces = sym (append-nil (entries (b ∷ bs)))
 entries-appended b bs (m ∷ ms) pieces =

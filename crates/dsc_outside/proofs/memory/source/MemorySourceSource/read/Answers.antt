@@ -1,4 +1,4 @@
--- What was copied is the front of what was left, and the rest is behind it.
+-- What was copied is the front of what was left, and the rest is after it.
 use Rattle.std.proofs.Common.{ap, sym, ◌∙◌}
 use Rattle.dsc_outside.proofs.Fronts.{left_is, none_is_left}
 use Rattle.dsc_outside.proofs.memory.source.MemorySourceSource.read.Goals as goal
