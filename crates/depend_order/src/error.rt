@@ -8,7 +8,7 @@ use std::alloc::{AllocError, AllocFailed};
 /// Why the places have no order.
 #[derive(Debug, Drop, PartialEq)]
 pub enum OrderError {
-    /// The dependencies lead round: each of these places depends on the next, and the last on the first.
+    /// The dependencies form a cycle: each of these places depends on the next, and the last on the first.
     Cycle(Items<u32>),
 
     Memory,

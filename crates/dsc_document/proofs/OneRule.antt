@@ -10,7 +10,7 @@ use Rattle.dsc_document.specs.declared.error.DocError.{DocError}
 use Rattle.dsc_document.specs.declared.error.DocError.TheVariants.{DuplicateProperty, TwoAliases, AliasUnknown, NoHeader, TwoHeaders, BadResourceId, DuplicateId, BadDependsOn, DependsUnknown, Memory}
 use Rattle.dsc_document.proofs.Firsts.{first_once}
 
--- a name that is told is fixed by the properties or by the names
+-- a name that is reported is fixed by the properties or by the names
 
 one_repeated : (properties : List Property) (a b : List ℕ) → RepeatsName properties a → RepeatsName properties b → a ≡ b
 one_repeated properties a b at_a at_b =

@@ -61,7 +61,7 @@ IsFirstUnknown instances names name =
 
 -- ---- refusals
 
--- the refusal tells the truth
+-- the refusal is true
 abbrev pub Applies : List Instance → DocError → Type 0
 Applies instances (DuplicateProperty index name) = HasAt instances index (λ i. RepeatsName i.properties name)
 Applies instances (TwoAliases first second) = ShareName (alias_at instances) first second

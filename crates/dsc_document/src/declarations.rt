@@ -8,7 +8,7 @@ use mof_values::{Instance, Scalar, Text, Value, is_named};
 use std::alloc::{AllocError, Global};
 use std::slice;
 
-/// Tells whether the instance is a header.
+/// Returns whether the instance is a header.
 pub fn is_header(instance: &Instance) -> bool
     ensures { result ≡ is_header instance.now }
 {

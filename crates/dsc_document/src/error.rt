@@ -7,7 +7,7 @@ use std::alloc::{AllocError, AllocFailed};
 
 /// Which rule the instances break. An index is an instance's place in the list, counted from 0.
 ///
-/// The rules stand in the order in which they win; of one rule the least index is told, and of a pair the least
+/// The rules stand in the order in which they win; of one rule the least index is reported, and of a pair the least
 /// second and then the least first.
 #[derive(Debug, Drop, PartialEq)]
 pub enum DocError {

@@ -50,7 +50,7 @@ fn is_resource_id(id: &Text) -> bool
     id.fits_utf8(MAX_ID) && has_kind_and_name(id.as_slice())
 }
 
-// Tells whether the characters are `[kind]name`, with no bracket in the kind.
+// Returns whether the characters are `[kind]name`, with no bracket in the kind.
 fn has_kind_and_name(chars: &[char]) -> bool
     ensures { IsTrue result ↔ HasKindAndName chars.now }
 {
@@ -60,7 +60,7 @@ fn has_kind_and_name(chars: &[char]) -> bool
     }
 }
 
-// Tells whether the characters are `kind]name`.
+// Returns whether the characters are `kind]name`.
 fn ends_kind(chars: &[char]) -> bool
     ensures { IsTrue result ↔ HasKindAndName (91 ∷ chars.now) }
 {

@@ -24,7 +24,7 @@ impl Places {
         }
     }
 
-    /// Gives the name this place, and tells which one it had. After a refusal of memory nothing is known of the places.
+    /// Gives the name this place, and returns the one that it had. After a refusal of memory nothing is known of the places.
     pub fn put(&mut self, name: &[char], place: u32) -> Result<Option<u32>, AllocError>
         ensures had { IfOk result (λ had. had ≡ place_of self.old name.now) }
         ensures put { OnOk result (Puts self.old self.new name.now place) }
@@ -32,7 +32,7 @@ impl Places {
         Ok(self.by_fold.insert(folded(self.alloc, name)?, place)?)
     }
 
-    /// Puts a name, if there is one; else nothing changes, and no place is told.
+    /// Puts a name, if there is one; else nothing changes, and no place is returned.
     pub fn put_any(&mut self, name: Option<&[char]>, place: u32) -> Result<Option<u32>, AllocError>
         ensures had { IfOk result (λ had. had ≡ option_and_then (place_of self.old) (option_copied name.entry)) }
         ensures put { OnOk result (PutsIfAny self.old self.new (option_copied name.entry) place) }

@@ -40,7 +40,7 @@ ends_as mode (RebootAsked place) trace ends = ends
 ends_as mode Memory trace (inl wants) = inl wants
 ends_as mode Memory trace (inr none) = inr none.nothing
 
--- a chain of the kinds over a host is true of the host, where it tells
+-- a chain of the kinds over a host is true of the host, where it exposes what it holds
 module _ {H : Type 0} (told : H → Option HostState) where
   told_by : Kinds H → Option HostState
   told_by k = told (host_of k)

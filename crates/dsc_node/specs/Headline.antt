@@ -119,7 +119,7 @@ AreAsBrought d begin command asked heard from work =
 -- ---- 4: each Set
 
 -- The trace is that of a run over the merged parts: each Set follows a Test of that resource that answered no, and Tests of its
--- dependencies that answered yes; nothing is left out; and the trace is true of the host, where that tells.
+-- dependencies that answered yes; nothing is left out; and the trace is true of the host, where that exposes what it holds.
 pub record HasTrace {H : Type 0} (host : hosts.Ghosts H) (run : Run) (before after : Kinds H) : Type 0 where
   pub ran : Ran (kinds_of host) run before after
   pub is_true : TellsTrue run.document (host.told (host_of before)) (calls_of after) (host.told (host_of after))
@@ -129,7 +129,8 @@ abbrev pub IsRun : {H : Type 0} → hosts.Ghosts H → Option Run → Kinds H �
 IsRun host None before after = after ≡ before
 IsRun host (Some run) before after = HasTrace host run before after
 
--- the ends of a pull that failed, or whose server's answer was refused; a later step may end as the last one
+-- the statuses of a pull that came to nothing: the clock, the link or the host failed, an answer of the server was refused, or memory was
+-- refused. The start may end with the first or the last of these also for a step after the pull.
 abbrev pub IsPullFault : Status → Type 0
 IsPullFault statuses.ClockFault = ⊤
 IsPullFault statuses.LinkFault = ⊤
@@ -208,7 +209,7 @@ AreTold from (Some run) after work status lines = IsTold from run (calls_of afte
 
 -- ---- 6: completes
 
--- a repair that came to its last resource, on a host that tells
+-- a repair that came to its last resource, on a host that exposes what it holds
 pub record IsFinished {H : Type 0} (host : hosts.Ghosts H) (run : Run) (before : Kinds H) : Type 0 where
   pub repairs : run.choice.mode ≡ Repair
   pub finished : run.end ≡ ends.Finished

@@ -70,7 +70,7 @@ fn is_disabled(refresh: RefreshMode) -> bool
     }
 }
 
-/// Tells whether the refresh mode is Pull.
+/// Returns whether the refresh mode is Pull.
 pub(crate) fn is_pull(refresh: RefreshMode) -> bool
     ensures { result ≡ is_pull refresh }
 {
@@ -106,7 +106,7 @@ fn declares_partials(node: &Node) -> bool
     !node.meta.partials.as_slice().is_empty()
 }
 
-/// Tells whether the task waits for a reboot that was asked for.
+/// Returns whether the task waits for a reboot that was asked for.
 pub(crate) fn waits(node: &Node, task: &Task) -> bool
     ensures { result ≡ waits node.now task.now }
 {
@@ -122,7 +122,7 @@ pub(crate) fn waits(node: &Node, task: &Task) -> bool
     }
 }
 
-/// Tells whether the task comes to a run, if there is something to run.
+/// Returns whether the task comes to a run, if there is something to run.
 pub(crate) fn is_run(task: &Task) -> bool
     ensures { result ≡ is_run task.now }
 {
@@ -137,7 +137,7 @@ pub(crate) fn is_run(task: &Task) -> bool
     }
 }
 
-/// Tells whether the task reads the clock.
+/// Returns whether the task reads the clock.
 pub(crate) fn reads_clock(task: &Task) -> bool
     ensures { result ≡ reads_clock task.now }
 {
@@ -147,7 +147,7 @@ pub(crate) fn reads_clock(task: &Task) -> bool
     }
 }
 
-/// Tells whether the task ends without a run: a boot that was asked for, after which the node is to stop.
+/// Returns whether the task ends without a run: a boot that was asked for, after which the node is to stop.
 pub(crate) fn stops(node: &Node, task: &Task) -> bool
     ensures { result ≡ stops node.now task.now }
 {

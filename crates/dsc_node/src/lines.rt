@@ -10,7 +10,7 @@ use mof_codec::push_literal;
 use resource_kinds::{Entry, Failure, SetAnswer, TestAnswer};
 use std::alloc::{AllocError, Global};
 
-/// The lines of a run in which so many resources succeeded; `overlaps` tells whether some of them do.
+/// The lines of a run in which so many resources succeeded; `overlaps` says whether some of them do.
 pub fn lines_of(
     alloc: Global,
     document: &Document,

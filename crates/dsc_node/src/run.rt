@@ -49,7 +49,7 @@ pub fn run_merged<M: Machine>(
 
 /// Runs over the resources of a merged document in this order, that of their dependencies, on the machine that a host is.
 ///
-/// Where the host tells what it holds the trace is true of it.
+/// Where the host exposes what it holds the trace is true of it.
 pub fn run_kinds<H: Host>(
     alloc: Global,
     document: &Document,

@@ -16,13 +16,13 @@ pub enum InputError {
     /// bytes for a checksum.
     TooLong,
 
-    /// It spells no instances. `MofError::TooLong` and `MofError::Memory` are never told so.
+    /// It spells no instances. `MofError::TooLong` and `MofError::Memory` are never reported so.
     Mof(MofError),
 
-    /// It declares no document. `MergeError::Memory` is never told so.
+    /// It declares no document. `MergeError::Memory` is never reported so.
     Merge(MergeError),
 
-    /// It declares no meta-configuration. `MetaError::Memory` is never told so.
+    /// It declares no meta-configuration. `MetaError::Memory` is never reported so.
     Meta(MetaError),
 
     /// Its partial configurations have no order: each at these places depends on the next, and the last on the first.
@@ -37,7 +37,7 @@ pub enum Status {
     /// So many resources did not succeed: their last Test did not answer yes.
     NotCompliant { count: u32 },
 
-    /// The words are in no form; `word` is the place of the first word that no form goes on with, or their count.
+    /// The arguments fit no command; `word` is the place of the first argument that no command goes on with, or their count.
     Usage { word: u32 },
 
     InputRefused(InputError),
@@ -72,7 +72,7 @@ pub enum Status {
     /// A reboot was asked for, and the command waits for the boot.
     RebootWaiting,
 
-    /// The Set of the resource at this place asked for a reboot; `now` tells whether the node is to reboot at once.
+    /// The Set of the resource at this place asked for a reboot; `now` says whether the node is to reboot at once.
     RebootAsked { index: u32, now: bool },
 
     /// Memory was refused.

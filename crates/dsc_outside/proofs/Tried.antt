@@ -127,7 +127,7 @@ cause_by calls whole half old new result before now by later rose = record {
   failed = λ is. rose (λ runs. runs_not_failed whole half old new result (subst (λ (course : Course). ChangesBy course whole half old new result) runs by) is);
 }
 
--- what is told of the change
+-- what is answered of the change
 module _ (Part : HostState → HostState → Type 0) (whole half : HostState → HostState) (old new : HostInMemory)
     (same : Part (told_of old) (told_of old)) (all : Part (told_of old) (whole (told_of old))) (some : Part (told_of old) (half (told_of old))) where
   part_is : (s : HostState) → told_of new ≡ s → Part (told_of old) s → Part (told_of old) (told_of new)

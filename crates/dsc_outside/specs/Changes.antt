@@ -46,7 +46,7 @@ pub record ChangedVariable (name : List ℕ) (old new : HostState) : Type 0 wher
 abbrev pub AllOrNothing : (HostState → HostState) → HostState → HostState → Type 0
 AllOrNothing done old new = (new ≡ old) ⊎ (new ≡ done old)
 
--- where the host tells what it holds, the call did this to it; where it answered an error, it did at most that part
+-- where the host exposes what it holds, the call did this to it; where it answered an error, it did at most that part
 abbrev pub Does : {A E : Type 0} → Option HostState → Option HostState → Result A E → (HostState → HostState) → (HostState → HostState → Type 0) → Type 0
 Does None new result done part = new ≡ None
 Does (Some old) new (Ok answer) done part = new ≡ Some (done old)

@@ -6,7 +6,7 @@ use Rattle.std.specs.Result.{result_ok}
 abbrev pub last_moment : ℕ
 last_moment = 253402207200
 
--- where the readings are told, the first of them is taken, a moment or none where the clock fails; with none left it fails. A clock that does not tell them tells nothing afterwards either
+-- where the readings are exposed, the first of them is taken, a moment or none where the clock fails; with none left it fails. A clock that does not expose them exposes nothing afterwards either
 abbrev pub TakesReading : {E : Type 0} → Option (List (Option ℕ)) → Option (List (Option ℕ)) → Result ℕ E → Type 0
 TakesReading None after result = after ≡ None
 TakesReading (Some []) after result = (after ≡ Some []) × (result_ok result ≡ None)

@@ -1,4 +1,4 @@
--- What a link tells of its exchanges.
+-- What a link exposes of its exchanges.
 use Rattle.std.specs.Prelude.{◌≡◌, ◌⊎◌, ◌<◌, ℕ, ◌+◌, List, [], ◌∷◌, ◌++◌, length, Option, Some, None, Result, Ok, Err, IsErrOf, ⊤}
 use Rattle.std.specs.Io.{StartsWith}
 use Rattle.dsc_outside.specs.declared.link.LinkError.{LinkError}
@@ -12,7 +12,7 @@ use Rattle.dsc_outside.specs.declared.exchange.Outcome.TheVariants.{Answered, Fa
 abbrev pub answer_limit : ℕ
 answer_limit = 67108864
 
--- the error is this outcome; lack of memory tells nothing of it
+-- the error is this outcome; lack of memory says nothing of it
 abbrev pub IsFault : LinkError → Outcome → Type 0
 IsFault errors.Failed Failed = ⊤
 IsFault errors.Failed (Answered bytes) = ⊥
@@ -29,7 +29,7 @@ ComesTo (Ok done) old new Failed = ⊥
 ComesTo (Ok done) old new TooLong = ⊥
 ComesTo (Err error) old new outcome = IsFault error outcome
 
--- where the exchanges are told, the call adds its own at the end; out of memory, it adds at most its own. A link that does not tell them tells nothing afterwards either
+-- where the exchanges are exposed, the call adds its own at the end; out of memory, it adds at most its own. A link that does not expose them exposes nothing afterwards either
 abbrev pub AddsExchange : Option (List Exchange) → Option (List Exchange) → Peer → List ℕ → Result (Unit {0}) LinkError → List ℕ → List ℕ → Type 0
 AddsExchange None after to request result old new = after ≡ None
 AddsExchange (Some before) after to request result old new =

@@ -68,7 +68,7 @@ pub record SinkInMemory : Type 0 where
   pub short : Bool
   pub calls : CallCount
 
--- a write keeps the whole piece; it fails where it is to fail, or for lack of memory, which it then tells
+-- a write keeps the whole piece; it fails where it is to fail, or for lack of memory, which it then reports
 abbrev pub SinkWrites : {E : Type 0} → SinkInMemory → List ℕ → Result ℕ E → SinkInMemory → Type 0
 SinkWrites old piece (Ok n) new = (is_to_fail old.calls ≡ false) × (n ≡ length piece) × (new ≡ record { held = old.held ++ piece; short = old.short; calls = counted old.calls })
 SinkWrites old piece (Err e) new = MatchBool (is_to_fail old.calls)

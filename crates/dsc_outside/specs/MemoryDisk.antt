@@ -174,7 +174,7 @@ Looks (calls.WriteAt at bytes) = ⊥
 Looks (calls.Cut to) = ⊥
 Looks call = ⊤
 
--- the answer of a call that was tried, whether it tells that there was no memory, and the count
+-- the answer of a call that was tried, whether it reports that there was no memory, and the count
 abbrev pub Settles : {E F : Type 0} → CallOutcome → Result (Unit {0}) F → Bool → CallCount → Result (Unit {0}) E → Bool → CallCount → Type 0
 Settles outcomes.Done (Ok done) short count result short_after count_after = IsOk result × (short_after ≡ short) × (count_after ≡ count)
 Settles outcomes.Done (Err error) short count result short_after count_after = IsErr result × (short_after ≡ true) × (count_after ≡ with_fault count)

@@ -93,7 +93,7 @@ AreMissing path old missing = (other : List ℕ) → kind_at missing other ≡ f
 abbrev pub Adds : List ℕ → List PathEntry → PathKind → List PathEntry → Type 0
 Adds path old kind added = (other : List ℕ) → kind_at added other ≡ first_kind (folder_if (is_below other path && kinds.is_nothing (kind_at old other))) (if bytes_eq path other then kind else kinds.Nothing)
 
--- what a host in memory tells
+-- what a host in memory exposes
 abbrev pub told_of : HostInMemory → HostState
 told_of host = record { path = kind_at host.paths; variable = value_of host.variables; log = host.log; packages = host.packages; wanting = host.wanting }
 
@@ -114,7 +114,7 @@ part_put courses.Fails bytes = bytes
 part_put courses.StopsHalf bytes = take (length bytes / 2) bytes
 part_put courses.StopsWhole bytes = bytes
 
--- a stopped call leaves its part, or nothing for lack of memory, which is then told
+-- a stopped call leaves its part, or nothing for lack of memory, which is then reported
 abbrev pub LeavesPart : (HostState → HostState) → HostInMemory → HostInMemory → Type 0
 LeavesPart part old new = IsChanged part old new ⊎ ((told_of new ≡ told_of old) × (new.short ≡ true))
 
@@ -134,7 +134,7 @@ TakesBy courses.Fails whole old new result = (result ≡ Err errors.Failed) × I
 TakesBy courses.StopsHalf whole old new result = (result ≡ Err errors.Failed) × IsChanged whole old new
 TakesBy courses.StopsWhole whole old new result = (result ≡ Err errors.Failed) × IsChanged whole old new
 
--- the answer of a change that was tried, and whether lack of memory is told: a stopped call fails, and tells it
+-- the answer of a change that was tried, and whether lack of memory is reported: a stopped call fails, and reports it
 abbrev pub Settles : {E : Type 0} → Course → Result (Unit {0}) E → Bool → Bool → Result (Unit {0}) HostError → Type 0
 Settles courses.Runs (Ok done) old new result = IsOk result × (new ≡ old)
 Settles courses.Runs (Err error) old new result = (result ≡ Err errors.Memory) × (new ≡ old)

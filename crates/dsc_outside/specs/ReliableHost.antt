@@ -10,11 +10,11 @@ use Rattle.dsc_outside.specs.declared.memory.stop.Course.TheVariants as courses
 abbrev pub unfailing : HostContents → HostInMemory
 unfailing contents = host_with contents [] None
 
--- what these contents tell
+-- what these contents expose
 abbrev pub told_by : HostContents → HostState
 told_by contents = told_of (unfailing contents)
 
--- a change that takes memory: done, or there was none, and what is told stays
+-- a change that takes memory: done, or there was none, and what is exposed stays
 abbrev pub Changes : (whole : HostState → HostState) → HostContents → HostContents → Result (Unit {0}) HostError → Type 0
 Changes whole old new result = ChangesBy courses.Runs whole whole (unfailing old) (unfailing new) result
 

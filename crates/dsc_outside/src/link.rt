@@ -54,7 +54,7 @@ impl fmt::Display for LinkError {
 }
 
 pub trait Link {
-    /// The exchanges so far, in order, where they are told.
+    /// The exchanges so far, in order, where they are exposed.
     ghost told: { Self → Option (List Exchange) };
 
     /// How often a call has failed.

@@ -1,4 +1,4 @@
-//! The outside in memory: forms that tell what they hold, and that fail where they are told to, or never.
+//! The outside in memory: forms that expose what they hold, and that fail where they are set to, or never.
 
 mod calls;
 mod clock;

@@ -1,6 +1,6 @@
 //! The real things: standard input and output, and a folder that stands for the machine.
 //!
-//! They tell nothing of what they hold, and each counts its failures. This is the edge that is trusted: no clause
+//! They expose nothing of what they hold, and each counts its failures. This is the edge that is trusted: no clause
 //! can say what the system gives or takes.
 
 mod comparing;

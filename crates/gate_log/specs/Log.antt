@@ -23,7 +23,7 @@ pub record LogTerm : Type 0 where
   pub filled : Option ℕ
 
 -- Every image has the log's bank live with these bodies and its closed gate, and the log keeps the disk's length. Over a disk
--- that does not tell this says nothing.
+-- that does not expose this says nothing.
 pub record IsOf (seen : Option (List ℕ)) (images : List ℕ → Type 0) (log : LogTerm) (bodies : List (List ℕ)) : Type 0 where
   pub each : Each images (λ c. IsText log.shape log.second log.closed c bodies)
   pub long : IfSome seen (λ held. log.long ≡ length held)

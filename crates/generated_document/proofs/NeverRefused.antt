@@ -1,4 +1,4 @@
--- The part of generated instances is merged, or memory is wanting.
+-- The part of generated instances is merged, or memory is lacking.
 use Rattle.std.proofs.Common.{◌≡◌, ℕ, zero, suc, ◌≤◌, List, [], ◌∷◌, refl, subst}
 use Rattle.mof_values.specs.declared.instance.Instance.{Instance}
 use Rattle.mof_syntax.specs.Refusals.{Reads}

@@ -16,7 +16,7 @@ instance of MSFT_EnvironmentResource\n{\n ResourceID = \"[Environment]R1\";\n Na
 instance of MSFT_EnvironmentResource\n{\n ResourceID = \"[Environment]R0\";\n Name = \"V0\";\n Value = \"0\";\n};\n\
 instance of OMI_ConfigurationDocument\n{\n Version = \"2.0.0\";\n};\n";
 
-// Tells whether the text declares the document's resources in their order, and then the header.
+// Returns whether the text declares the document's resources in their order, and then the header.
 fn declares(alloc: Global, text: &str, document: &Document) -> bool {
     match read(alloc, text.as_bytes()) {
         Ok(instances) => are_of(&instances, document),

@@ -104,7 +104,7 @@ fn call_on_lists<H: Host>(host: &mut H, call: &str, subject: &str, bytes: &[u8])
     }
 }
 
-// Tells whether the variable has the value.
+// Returns whether the variable has the value.
 fn has_value<H: Host>(host: &mut H, name: &str, value: &[u8], found: &mut Vec<u8>) -> &'static str {
     match host.env_state(name, found) {
         Ok(true) if found.as_slice() != value => "other",

@@ -32,7 +32,7 @@ use Rattle.lcm_core.specs.RepairLaws.{ComesTo, EntryBlames, FaultsAreContained, 
 use Rattle.lcm_core.specs.Whole.{IsReached}
 use Rattle.lcm_core.proofs.RepairedEntries.{final_ends, last_is, last_of, set_has, test_has}
 
--- ---- what its entries tell of a resource without a fault of its own
+-- ---- what its entries say of a resource without a fault of its own
 
 result_is : (asks : Result Wanted Failure) (wanted : Wanted) → result_ok asks ≡ Some wanted → asks ≡ Ok wanted
 result_is (Ok known) wanted is = ap (λ (w : Wanted). Ok w) (same_Some known wanted is)

@@ -75,7 +75,7 @@ IsSpared trace r = All (λ e. place_of e ≡ r → EntryBlames e → ⊥) trace
 
 -- ---- repairs that succeed
 
--- a repair that came to its last resource, on a host that tells
+-- a repair that came to its last resource, on a host that exposes what it holds
 pub record IsFullRepair (document : Document) (order : List ℕ) (before : HostState) (trace : List Entry) (after : HostState) : Type 0 where
   pub ordered : IsOrderOfDocument document order
   pub legal : Legal document Repair order trace
@@ -89,7 +89,7 @@ RepairSucceeds =
     (document : Document) (order : List ℕ) (before after : HostState) (trace : List Entry) (r : ℕ)
     → IsFullRepair document order before trace after → BlamesNothing trace → r < length document.resources → IsSound document r → Succeeded trace r
 
--- a fault of the machine harms no resource but those that come to the one whose entry tells of it
+-- a fault of the machine harms no resource but those that come to the one whose entry reports it
 abbrev pub FaultsAreContained : Type 0
 FaultsAreContained =
     (document : Document) (order : List ℕ) (before after : HostState) (trace : List Entry) (r : ℕ)

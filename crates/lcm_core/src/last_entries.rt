@@ -6,7 +6,7 @@ ghost use Rattle.lcm_core.specs.RunLaws.{EndsAtYes};
 
 use resource_kinds::Entry;
 
-/// Tells whether the last entry of the resource at that place is a Test that answered yes; takes no memory.
+/// Returns whether the last entry of the resource at that place is a Test that answered yes; takes no memory.
 pub fn succeeded(calls: &[Entry], place: u32) -> bool
     ensures { result ≡ has_succeeded calls.now place }
 {

@@ -3,7 +3,7 @@
 /// What a run may do with a resource that does not hold.
 #[derive(Clone, Copy, Debug, PartialEq, Eq)]
 pub enum RunMode {
-    /// Nothing: it only tells.
+    /// Nothing: it only reports.
     Monitor,
 
     /// It sets the resource and tests it again.

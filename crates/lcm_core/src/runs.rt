@@ -140,7 +140,7 @@ fn take_turns<R: Resources>(
     Ok(())
 }
 
-// Tells whether all of these places are marked.
+// Returns whether all of these places are marked.
 fn all_held(places: &[u32], held: &[bool]) -> bool
     requires { All (λ q. q < length held.now) places.now }
     ensures { result ≡ all_held held.now places.now }

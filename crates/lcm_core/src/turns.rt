@@ -14,7 +14,7 @@ pub enum Stop {
     Memory,
 }
 
-/// Takes the turn of the resource at that place, and tells whether it succeeded.
+/// Takes the turn of the resource at that place, and returns whether it succeeded.
 pub fn take_turn<R: Resources>(
     document: &Document,
     place: u32,

@@ -1,4 +1,4 @@
--- The word that a count is, and what `parse` gives of it.
+-- The argument that a count is, and what `parse` gives of it.
 use Rattle.std.proofs.Common.{◌≡◌, ℕ, ◌<◌, ◌≤◌, ◌^◌, List, length, get_or, Result, Ok, Err, OkIff, is_ok, true≢false, sym, ap, ◌∙◌, arith}
 use Rattle.std.specs.Fmt.{decimal}
 use Rattle.std.specs.Str.Parse.{AllDigits, ParsesUnsigned, digits_value}
@@ -22,7 +22,7 @@ module _ {E : Type 0} (word : List ℕ) (result : Result ℕ E) (parses : Parses
   parses_plain : 48 < get_or word 0 0 → OkIff result (AllDigits 10 word × (0 < length word) × (digits_value 10 word < 2 ^ 32)) (digits_value 10 word)
   parses_plain first = parse_plain (numerals_by_value _ tells_digits) 32 word result parses (λ plus. omega (arith, plus, first))
 
-  -- what is read of a word with no zero in front is written so
+  -- what is read of an argument with no zero in front is written so
   written : (count : ℕ) → result ≡ Ok count → 48 < get_or word 0 0 → word ≡ decimal count
   written count is first =
       let read = rw is at (parses_plain first) in

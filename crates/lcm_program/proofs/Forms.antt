@@ -1,4 +1,4 @@
--- Words ask for at most one command; where words in no form go wrong.
+-- Arguments ask for at most one command; where arguments in no form go wrong.
 use Rattle.std.proofs.Common.{◌≡◌, ℕ, ◌-◌, ◌<◌, ◌≤◌, List, [], ◌∷◌, ◌⊎◌, inl, inr, length, take, drop, get_or, codes, map, unwrap_or, bytes_eq, if◌then◌else◌, refl, sym, ap, ap₂, ◌∙◌, subst, take_all, arith, Some}
 use Rattle.std.specs.Fmt.{decimal}
 use Rattle.std.specs.Str.Parse.{digits_value}
@@ -11,7 +11,7 @@ use Rattle.lcm_program.specs.declared.words.Command.{Command}
 use Rattle.lcm_program.specs.declared.words.Command.TheVariants.{Test, Check, Order, Canon, Checksum, Generate, Init, Meta, Register, Pull, Push, Consistency, Boot, Get, Restore, Remove, Reports}
 use Rattle.lcm_program.specs.Words.{IsAgent, IsCount, IsForm, IsInRange, IsName, IsStage, IsUsage, agent_of}
 
--- the first letter of a word, and that of the first word, which tells the commands that take another word from all others
+-- the first letter of an argument, and that of the first argument, which distinguishes the commands that take another argument from all others
 abbrev letter : List ℕ → ℕ
 letter word = get_or word 0 0
 
@@ -22,7 +22,7 @@ first_letter words = letter (get_or words 0 [])
 abbrev first_length : List (List ℕ) → ℕ
 first_length words = length (get_or words 0 [])
 
--- the stage that a word names
+-- the stage that an argument names
 stage_of : List ℕ → Stage
 stage_of word =
     if bytes_eq word (codes "pending") then Pending else
@@ -40,7 +40,7 @@ abbrev pub plain : Command → Command
 plain (Register name) = Register (record { ref_ptr = (0, 0); now = name.now })
 plain command = command
 
--- the command that words in a form ask for, so
+-- the command that arguments in a form ask for, so
 asked : List (List ℕ) → Command
 asked words =
     let first = get_or words 0 [] in
@@ -83,7 +83,7 @@ form_asks Restore words form = ap asked form
 form_asks (Remove stage) words (word, is, named) = ap asked is ∙ ap (λ (s : Stage). Remove s) (named_stage word stage named)
 form_asks Reports words form = ap asked form
 
--- the words ask for one command
+-- the arguments ask for one command
 pub one_form : (a b : Command) (words : List (List ℕ)) → IsForm a words → IsForm b words → plain a ≡ plain b
 one_form a b words p q = sym (form_asks a words p) ∙ form_asks b words q
 
@@ -106,13 +106,13 @@ in_range Restore words form = tt
 in_range (Remove stage) words form = tt
 in_range Reports words form = tt
 
--- ---- words alone
+-- ---- arguments alone
 
--- the word of a command that takes another
+-- the argument of a command that takes another
 abbrev pub TakesWord : List ℕ → Type 0
 TakesWord first = (first ≡ codes "generate") ⊎ ((first ≡ codes "init") ⊎ ((first ≡ codes "remove") ⊎ (first ≡ codes "register")))
 
--- any other form is a word alone
+-- any other form is an argument alone
 form_parts : (command : Command) (first : List ℕ) (rest : List (List ℕ)) → IsForm command (first ∷ rest)
     → (IsForm command (first ∷ []) × (rest ≡ [])) ⊎ TakesWord first
 form_parts Test first rest form = inl (ap (take 1) form, ap (drop 1) form)
@@ -133,7 +133,7 @@ form_parts Restore first rest form = inl (ap (take 1) form, ap (drop 1) form)
 form_parts (Remove stage) first rest (word, is, named) = inr (inr (inr (inl (ap (λ words. get_or words 0 []) is))))
 form_parts Reports first rest form = inl (ap (take 1) form, ap (drop 1) form)
 
--- a command whose word stands alone takes no other
+-- a command whose argument stands alone takes no other
 alone_takes_none : (command : Command) (first : List ℕ) → IsForm command (first ∷ []) → TakesWord first → ⊥
 alone_takes_none Test first form (inl is) = omega (arith, ap first_letter form, ap letter is)
 alone_takes_none Test first form (inr (inl is)) = omega (arith, ap first_letter form, ap letter is)
@@ -211,7 +211,7 @@ some_word Restore words form = omega (arith, ap length form)
 some_word (Remove stage) words (word, is, named) = omega (arith, ap length is)
 some_word Reports words form = omega (arith, ap length form)
 
--- there is no word
+-- there is no argument
 pub no_word : IsUsage [] 0
 no_word = record {
   no_form = λ command form. omega (arith, some_word command [] form);
@@ -220,7 +220,7 @@ no_word = record {
   stops = λ below begins. omega (arith, below);
 }
 
--- the first word is that of no command
+-- the first argument is that of no command
 pub wrong_first : (first : List ℕ) (rest : List (List ℕ)) → ((command : Command) → IsForm command (first ∷ []) → ⊥) → (TakesWord first → ⊥)
     → IsUsage (first ∷ rest) 0
 wrong_first first rest alone other =
@@ -237,7 +237,7 @@ wrong_first first rest alone other =
       | inr is ↦ other is
     ]
 
--- a word follows one that stands alone
+-- an argument follows one that stands alone
 pub second_word : (first : List ℕ) (rest : List (List ℕ)) (command : Command) → 0 < length rest → IsForm command (first ∷ []) → IsUsage (first ∷ rest) 1
 second_word first [] command above form = absurd (omega (arith, above))
 second_word first (second ∷ rest) command above form =
@@ -254,9 +254,9 @@ second_word first (second ∷ rest) command above form =
       | inr takes ↦ alone_takes_none command first form takes
     ]
 
--- ---- a word that takes another
+-- ---- an argument that takes another
 
--- forms that begin with this word go on with one word of which P holds; there is such a form
+-- forms that begin with this argument go on with one argument of which P holds; there is such a form
 module _ (name : List ℕ) (P : List ℕ → Type 0)
     (other : (command : Command) (rest : List (List ℕ)) → IsForm command (name ∷ rest) → (word : List ℕ) × (rest ≡ word ∷ []) × P word)
     (some : (word : List ℕ) × (command : Command) × IsForm command (name ∷ word ∷ [])) where
@@ -269,7 +269,7 @@ module _ (name : List ℕ) (P : List ℕ → Type 0)
     stops = λ below begins. omega (arith, below);
   }
 
-  -- the word after it is none of those
+  -- the argument after it is none of those
   pub wrong_other : (word : List ℕ) (rest : List (List ℕ)) → (P word → ⊥) → IsUsage (name ∷ word ∷ rest) 1
   wrong_other word rest not =
       record {
@@ -285,7 +285,7 @@ module _ (name : List ℕ) (P : List ℕ → Type 0)
           let same : parts.0 ≡ word = ap (λ words. get_or words 0 []) (sym parts.1) in
           not (subst P same parts.2)
 
-  -- a third word follows
+  -- a third argument follows
   pub third_word : (word : List ℕ) (more : List (List ℕ)) (command : Command) → 0 < length more → IsForm command (name ∷ word ∷ [])
       → IsUsage (name ∷ word ∷ more) 2
   third_word word [] command above form = absurd (omega (arith, above))
@@ -408,7 +408,7 @@ register_form Reports rest form = absurd (omega (arith, ap first_length form))
 pub some_register : (word : List ℕ) × (command : Command) × IsForm command (codes "register" ∷ word ∷ [])
 some_register = (codes "n", Register (record { ref_ptr = (0, 0); now = codes "n" }), (refl, (omega arith, omega arith)))
 
--- words as the bytes of the texts that were handed over
+-- arguments as the bytes of the texts that were handed over
 module _ {X : Type 0} (f : X → List ℕ) where
   pub no_texts : (texts : List X) → length texts < 1 → map f texts ≡ []
   no_texts [] below = refl

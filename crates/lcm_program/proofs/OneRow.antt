@@ -1,4 +1,4 @@
--- Words ask for one row of the table of commands.
+-- Arguments ask for one row of the table of commands.
 use Rattle.std.proofs.Common.{◌≡◌, ℕ, List, refl, sym, subst}
 use Rattle.dsc_node.specs.declared.status.Status.{Status}
 use Rattle.lcm_program.specs.declared.words.Command.{Command}
@@ -29,7 +29,7 @@ module _ {S K D H L C : Type 0} (o : Known S K D H L C) (status : Status) (befor
   same_row (Remove stage) = refl
   same_row Reports = refl
 
-  -- the rows of two commands for which the words ask are one
+  -- the rows of two commands for which the arguments ask are one
   pub one_row : (a b : Command) (words : List (List ℕ)) → IsForm a words → IsForm b words → Did o a status before after → Did o b status before after
   one_row a b words p q did =
       subst (λ (X : Type 0). X) (same_row b)

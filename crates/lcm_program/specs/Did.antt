@@ -38,7 +38,7 @@ Did o Restore status before after = Started commands.Restore o status before aft
 Did o (Remove stage) status before after = Started (commands.Remove stage) o status before after
 Did o Reports status before after = Started commands.Reports o status before after
 
--- words in no form are refused with the place of the first word that does not fit; or memory was refused and nothing is printed
+-- arguments in no form are refused with the place of the first argument that does not fit; or memory was refused and nothing is printed
 abbrev pub UsageEnds : {S K D H L C : Type 0} → Known S K D H L C → List (List ℕ) → Status → Objects S K D H L C → Objects S K D H L C → Type 0
 UsageEnds o words (Usage place) before after = IsUsage words place × PrintsRefusal o.sink (refusals.Usage place) before.output after.output
 UsageEnds o words Memory before after = after.output ≡ before.output

@@ -39,7 +39,7 @@ abbrev pub generated_lines : ℕ → Document → List ℕ → List Entry → Li
 generated_lines count document order trace =
     codes "generated " ++ decimal count ++ codes "\n" ++ resources_line (length document.resources) (succeeded_count document trace) ++ calls_line trace ++ ends_line document order
 
--- the text tells of the repair of the document of that count, on an empty machine that did not fail: it came to its last
+-- the text speaks of the repair of the document of that count, on an empty machine that did not fail: it came to its last
 -- resource, and every resource succeeded
 pub record IsGeneratedText (count : ℕ) (text : List ℕ) : Type 0 where
   pub document : Document

@@ -1,4 +1,4 @@
--- The words of the errors for which an input is refused: their names, and their values.
+-- The printed names of the errors for which an input is refused: their names, and their values.
 use Rattle.std.specs.Prelude.{ℕ, List, ◌++◌, codes, encode_utf8_all}
 use Rattle.std.specs.List.{flat_map}
 use Rattle.std.specs.Fmt.{decimal}
@@ -29,7 +29,7 @@ form_name forms.Qualifier = codes "qualifier"
 form_name forms.Character = codes "character"
 form_name forms.Real = codes "real"
 
--- the name of a text's refusal, and its values; lack of memory has a status of its own, and is never told so
+-- the name of a text's refusal, and its values; lack of memory has a status of its own, and is never reported so
 abbrev pub mof_words : MofError → List ℕ
 mof_words faults.TooLong = codes "TooLong"
 mof_words (faults.Text at) = codes "Text " ++ decimal at

@@ -1,4 +1,4 @@
--- The words for what a pull server gave that is refused: the names of the error, and its values.
+-- The printed names of what a pull server gave that is refused: the names of the error, and its values.
 use Rattle.std.specs.Prelude.{ℕ, List, ◌++◌, codes}
 use Rattle.std.specs.Fmt.{decimal}
 use Rattle.shared_key.specs.Checksum.{checksum_of}
@@ -37,7 +37,7 @@ message_words messages.Memory = codes "Memory"
 abbrev pub mismatch_words : List ℕ → List ℕ → List ℕ
 mismatch_words announced found = codes "Mismatch " ++ checksum_of announced ++ codes " " ++ checksum_of found
 
--- of an answer; a failed link and lack of memory have statuses of their own, and are never told so
+-- of an answer; a failed link and lack of memory have statuses of their own, and are never reported so
 abbrev pub answer_words : PeerError → List ℕ
 answer_words peers.NotServed = codes "NotServed"
 answer_words peers.Link = codes "Link"

@@ -34,7 +34,7 @@ PrintsRun sink text missed (NotCompliant count) old new = (count ≡ missed) × 
 PrintsRun sink text missed WriteFault old new = IsCutShort sink text old new
 PrintsRun sink text missed _ old new = ⊥
 
--- the text tells the run of the input's document to its last resource, in which so many resources did not succeed
+-- the text gives the run of the input's document to its last resource, in which so many resources did not succeed
 pub record IsRunOf {H : Type 0} (host : hosts.Ghosts H) (input : Option (List ℕ)) (before after : Kinds H) (text : List ℕ) (missed : ℕ) : Type 0 where
   pub document : Document
   pub input_is : IsInput ReadsDocument input (Ok document)
@@ -64,7 +64,7 @@ abbrev pub IsUntested : {H : Type 0} → hosts.Ghosts H → Unread → Option (L
 IsUntested host (unread.Refused refusal) input faults_before faults_now before after = IsRefused ReadsDocument refusal input faults_before faults_now × (after ≡ before)
 IsUntested host unread.Memory input faults_before faults_now before after = StopsEarly host input before after
 
--- the run is told whole; or the input is refused for its error, or a read failed, and nothing was tested; or memory was refused,
+-- the run is printed whole; or the input is refused for its error, or a read failed, and nothing was tested; or memory was refused,
 -- nothing is printed, and what was tested is the front of a run
 abbrev pub TestEnds : {S K D H L C : Type 0} → Known S K D H L C → Status → Objects S K D H L C → Objects S K D H L C → Type 0
 TestEnds o Done before after = TestedAll o Done before after

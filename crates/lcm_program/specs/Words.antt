@@ -12,7 +12,7 @@ use Rattle.lcm_program.specs.declared.words.Command.TheVariants.{Test, Check, Or
 abbrev pub generated_limit : ℕ
 generated_limit = 4096
 
--- the word is this number of resources, in decimal
+-- the argument is this number of resources, in decimal
 abbrev pub IsCount : List ℕ → ℕ → Type 0
 IsCount word count = (word ≡ decimal count) × (0 < count) × (count ≤ generated_limit)
 
@@ -27,7 +27,7 @@ IsAgent word agent = agent_of word ≡ Some agent
 abbrev pub name_limit : ℕ
 name_limit = 255
 
--- the word can name a node
+-- the argument can name a node
 abbrev pub IsName : List ℕ → Type 0
 IsName word = (0 < length word) × (length word ≤ name_limit)
 
@@ -36,11 +36,11 @@ stage_name Pending = codes "pending"
 stage_name Current = codes "current"
 stage_name Previous = codes "previous"
 
--- the word names the stage
+-- the argument names the stage
 abbrev pub IsStage : List ℕ → Stage → Type 0
 IsStage word stage = word ≡ stage_name stage
 
--- the words, each in UTF-8, ask for the command
+-- the arguments, each in UTF-8, ask for the command
 abbrev pub IsForm : Command → List (List ℕ) → Type 0
 IsForm Test words = words ≡ codes "test" ∷ []
 IsForm Check words = words ≡ codes "check" ∷ []
@@ -60,16 +60,16 @@ IsForm Restore words = words ≡ codes "restore" ∷ []
 IsForm (Remove stage) words = (word : List ℕ) × (words ≡ codes "remove" ∷ word ∷ []) × IsStage word stage
 IsForm Reports words = words ≡ codes "reports" ∷ []
 
--- the number of a command is one that its words can give
+-- the number of a command is one that its arguments can give
 abbrev pub IsInRange : Command → Type 0
 IsInRange (Generate count) = (0 < count) × (count ≤ generated_limit)
 IsInRange _ = ⊤
 
--- some form begins with these words
+-- some form begins with these arguments
 abbrev pub BeginsForm : List (List ℕ) → Type 0
 BeginsForm words = (command : Command) × (more : List (List ℕ)) × IsForm command (words ++ more)
 
--- the words are in no form; the front before that place begins one, and no form goes on with the word there
+-- the arguments are in no form; the front before that place begins one, and no form goes on with the argument there
 pub record IsUsage (words : List (List ℕ)) (place : ℕ) : Type 0 where
   pub no_form : (command : Command) → IsForm command words → ⊥
   pub within : place ≤ length words

@@ -7,7 +7,7 @@ use crate::input::{Unread, read_document};
 use dsc_outside::Source;
 use std::alloc::Global;
 
-/// Reads the input to its end, and tells how many resources its document has.
+/// Reads the input to its end, and prints how many resources its document has.
 pub fn read_count<S: Source>(alloc: Global, input: &mut S) -> Result<Vec<u8>, Unread>
     ensures ok { IfOk result (λ text. IsInput AnswersCheck (S.left input.old) (Ok text.items)) }
     ensures err { IfErr result (λ e. IsUnread AnswersCheck e (S.left input.old) (S.faults input.old) (S.faults input.new)) }

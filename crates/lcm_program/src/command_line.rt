@@ -1,4 +1,4 @@
-//! The command line of the program: the store, the host's folder, and the words of the command.
+//! The command line of the program: the store, the host's folder, and the arguments of the command.
 ghost use Rattle.std.specs.Prelude.{map, string_bytes};
 ghost use Rattle.lcm_program.specs.CommandLine.{IsCommandLine};
 
@@ -19,8 +19,8 @@ pub struct CommandLine<'a> {
 }
 
 impl<'a> CommandLine<'a> {
-    /// Reads the arguments: the program's name, STORE, HOST and the words. Where STORE or HOST is missing or empty there are no
-    /// words.
+    /// Reads the command line: the program's name, STORE, HOST and the arguments. Where STORE or HOST is missing or empty there are no
+    /// arguments.
     pub fn of(arguments: &'a [String]) -> CommandLine<'a>
         ensures { IsCommandLine (map string_bytes arguments.now) result.store.now result.host.now (map string_bytes result.words.now) }
     {

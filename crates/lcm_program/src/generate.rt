@@ -15,7 +15,7 @@ use resource_kinds::{Entry, Kinds, Resources};
 use std::alloc::{AllocError, Global};
 
 /// Makes the document of so many resources, 1 to 4,096, repairs an empty machine in memory by it, and gives the lines that
-/// tell of that.
+/// print that.
 pub fn repair_generated(alloc: Global, count: u32) -> Result<String, Memory>
     requires some { 0 < count }
     requires few { count ≤ 4096 }

@@ -1,4 +1,4 @@
-//! The words for why a text spells no instances.
+//! The printed names of why a text spells no instances.
 ghost use Rattle.std.specs.Prelude.{◌≡◌, ◌++◌, codes, OnOk, string_bytes};
 ghost use Rattle.std.specs.Fmt.{decimal};
 ghost use Rattle.lcm_program.specs.InputWords.{mof_words, form_name};

@@ -11,7 +11,7 @@ use dsc_outside::Source;
 use mof_codec::push_literal;
 use std::alloc::{AllocError, Global};
 
-/// Reads the input to its end, and tells the ids of its document in the order of their dependencies, a line each.
+/// Reads the input to its end, and prints the ids of its document in the order of their dependencies, a line each.
 pub fn read_order<S: Source>(alloc: Global, input: &mut S) -> Result<Vec<u8>, Unread>
     ensures ok { IfOk result (λ text. IsInput AnswersOrder (S.left input.old) (Ok text.items)) }
     ensures err { IfErr result (λ e. IsUnread AnswersOrder e (S.left input.old) (S.faults input.old) (S.faults input.new)) }

@@ -1,4 +1,4 @@
-//! The words for what a pull server gave that is refused.
+//! The printed names of what a pull server gave that is refused.
 ghost use Rattle.std.specs.Prelude.{◌≡◌, ◌++◌, codes, OnOk, string_bytes};
 ghost use Rattle.shared_key.specs.Checksum.{checksum_of};
 ghost use Rattle.pull_messages.specs.Names.{name_of};

@@ -1,4 +1,4 @@
-//! The program: one command, from its words and its input to its output.
+//! The program: one command, from its arguments and its input to its output.
 ghost use Rattle.std.specs.Prelude.{◌≡◌, ◌⊎◌, [], map, string_bytes, IfErr, IfOk};
 ghost use Rattle.resource_kinds.specs.Kinds.{calls_of};
 ghost use Rattle.lcm_program.specs.declared.words.Command.{Command};
@@ -22,7 +22,7 @@ use mof_values::Memory;
 use resource_kinds::Kinds;
 use std::alloc::Global;
 
-/// Does what the words ask for, and answers how it ended.
+/// Does what the arguments ask for, and answers how it ended.
 ///
 /// Where the command takes an input, it is read to its end first. The output is written after all other work.
 pub fn node<S: Source, K: Sink, D: Disk, H: Host, L: Link, C: Clock>(
@@ -37,12 +37,12 @@ pub fn node<S: Source, K: Sink, D: Disk, H: Host, L: Link, C: Clock>(
 ) -> Status
     requires fresh { calls_of kinds.old ≡ [] }
 
-    // What the words ask for was done, by the table of commands.
+    // What the arguments ask for was done, by the table of commands.
     ensures did { (command : Command) → IsForm command (map string_bytes words.now)
         → Did (known S.Ends K.Ends D.Disk H.Host L.Link C.Clock) command result
         (objects input.old output.old disk.old kinds.old link.old clock.old) (objects input.new output.new disk.new kinds.new link.new clock.new) }
 
-    // Words in no form ask for nothing, and are refused.
+    // Arguments in no form ask for nothing, and are refused.
     ensures nothing { ((command : Command) → IsForm command (map string_bytes words.now) → ⊥)
         → DidNothing (known S.Ends K.Ends D.Disk H.Host L.Link C.Clock) (map string_bytes words.now) result
         (objects input.old output.old disk.old kinds.old link.old clock.old) (objects input.new output.new disk.new kinds.new link.new clock.new) }

@@ -15,7 +15,7 @@ use std::alloc::{AllocError, Global};
 /// Why a command was refused.
 #[derive(Debug, Drop, PartialEq)]
 pub enum Refusal {
-    /// The words are in no form; the place is that of the first word that no form goes on with, or their count.
+    /// The arguments fit no command; the place is that of the first argument that no command goes on with, or their count.
     Usage { word: u32 },
 
     Input(InputError),

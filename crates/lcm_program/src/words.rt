@@ -1,4 +1,4 @@
-//! The words of the command line.
+//! The arguments of the command line.
 ghost use Rattle.std.specs.Prelude.{◌↔◌, ℕ, [], ◌∷◌, IfOk, IfErr, IfSome, IfNone, IsTrue, codes, map, string_bytes};
 ghost use Rattle.lcm_program.specs.Words.{IsAgent, IsCount, IsForm, IsName, IsStage, IsUsage};
 
@@ -29,7 +29,7 @@ pub enum Command<'a> {
     /// Prints the checksum of the input.
     Checksum,
 
-    /// Repairs an empty machine in memory by a document of so many resources, 1 to 4,096, and tells of it.
+    /// Repairs an empty machine in memory by a document of so many resources, 1 to 4,096, and prints what came of it.
     Generate { count: u32 },
 
     /// Makes the node that of an agent.
@@ -66,13 +66,13 @@ pub enum Command<'a> {
     Reports,
 }
 
-/// The words are in no form; `word` is the place of the first word that no form goes on with, or their count.
+/// The arguments fit no command; `word` is the place of the first argument that no command goes on with, or their count.
 #[derive(Clone, Copy, Debug, PartialEq, Eq)]
 pub struct UsageError {
     pub word: u32,
 }
 
-/// The command that the words ask for.
+/// The command that the arguments ask for.
 pub fn read_words<'a>(words: &'a [String]) -> Result<Command<'a>, UsageError>
     ensures ok { IfOk result (λ command. IsForm command (map string_bytes words.now)) }
     ensures usage { IfErr result (λ error. IsUsage (map string_bytes words.now) error.word) }
@@ -101,7 +101,7 @@ pub fn read_words<'a>(words: &'a [String]) -> Result<Command<'a>, UsageError>
     }
 }
 
-// The command that the word asks for alone.
+// The command that the argument asks for alone.
 fn command_of(word: &str) -> Option<Command<'static>>
     ensures some { IfSome result (λ command. IsForm command (word.now ∷ [])) }
     ensures none { IfNone result ((command : Command) → IsForm command (word.now ∷ []) → ⊥) }
@@ -124,7 +124,7 @@ fn command_of(word: &str) -> Option<Command<'static>>
     }
 }
 
-// What the words after `generate` ask for.
+// What the arguments after `generate` ask for.
 fn read_generate(rest: &[String]) -> Result<Command<'static>, UsageError>
     ensures ok { IfOk result (λ command. IsForm command (codes "generate" ∷ map string_bytes rest.now)) }
     ensures usage { IfErr result (λ error. IsUsage (codes "generate" ∷ map string_bytes rest.now) error.word) }
@@ -141,7 +141,7 @@ fn read_generate(rest: &[String]) -> Result<Command<'static>, UsageError>
     }
 }
 
-// What the words after `init` ask for.
+// What the arguments after `init` ask for.
 fn read_init(rest: &[String]) -> Result<Command<'static>, UsageError>
     ensures ok { IfOk result (λ command. IsForm command (codes "init" ∷ map string_bytes rest.now)) }
     ensures usage { IfErr result (λ error. IsUsage (codes "init" ∷ map string_bytes rest.now) error.word) }
@@ -158,7 +158,7 @@ fn read_init(rest: &[String]) -> Result<Command<'static>, UsageError>
     }
 }
 
-// What the words after `register` ask for.
+// What the arguments after `register` ask for.
 fn read_register<'a>(rest: &'a [String]) -> Result<Command<'a>, UsageError>
     ensures ok { IfOk result (λ command. IsForm command (codes "register" ∷ map string_bytes rest.now)) }
     ensures usage { IfErr result (λ error. IsUsage (codes "register" ∷ map string_bytes rest.now) error.word) }
@@ -176,7 +176,7 @@ fn read_register<'a>(rest: &'a [String]) -> Result<Command<'a>, UsageError>
     }
 }
 
-// What the words after `remove` ask for.
+// What the arguments after `remove` ask for.
 fn read_remove(rest: &[String]) -> Result<Command<'static>, UsageError>
     ensures ok { IfOk result (λ command. IsForm command (codes "remove" ∷ map string_bytes rest.now)) }
     ensures usage { IfErr result (λ error. IsUsage (codes "remove" ∷ map string_bytes rest.now) error.word) }
@@ -193,14 +193,14 @@ fn read_remove(rest: &[String]) -> Result<Command<'static>, UsageError>
     }
 }
 
-// Tells whether the word can name a node.
+// Returns whether the argument can name a node.
 fn is_name(word: &str) -> bool
     ensures { IsTrue result ↔ IsName word.now }
 {
     !word.is_empty() && word.len() <= NAME_LIMIT
 }
 
-// The stage that the word names.
+// The stage that the argument names.
 fn read_stage(word: &str) -> Option<Stage>
     ensures some { IfSome result (IsStage word.now) }
     ensures none { IfNone result ((stage : Stage) → IsStage word.now stage → ⊥) }
@@ -213,7 +213,7 @@ fn read_stage(word: &str) -> Option<Stage>
     }
 }
 
-// The number of resources that the word is: in decimal, without a sign or a zero in front.
+// The number of resources that the argument is: in decimal, without a sign or a zero in front.
 fn read_count(word: &str) -> Option<u32>
     ensures some { IfSome result (IsCount word.now) }
     ensures none { IfNone result ((count : ℕ) → IsCount word.now count → ⊥) }
@@ -228,7 +228,7 @@ fn read_count(word: &str) -> Option<u32>
     }
 }
 
-// The agent that the word is the identifier of, in any form that `uuid` reads.
+// The agent that the argument is the identifier of, in any form that `uuid` reads.
 fn read_agent(word: &str) -> Option<u128>
     ensures some { IfSome result (IsAgent word.now) }
     ensures none { IfNone result ((agent : ℕ) → IsAgent word.now agent → ⊥) }

@@ -150,7 +150,7 @@ pub record IsRefused (bytes : List ℕ) (refusal : MetaError) : Type 0 where
   pub read : mof.Reads bytes instances
   pub refused : refusal_of instances ≡ Some refusal
 
--- the bytes are refused so. Want of memory has no cause here
+-- the bytes are refused so. Lack of memory has no cause here
 abbrev pub Refuses : List ℕ → MetaError → Type 0
 Refuses bytes (Mof fault) = mof.Refuses bytes fault × (fault ≢ mof_errors.Memory)
 Refuses bytes Memory = ⊤

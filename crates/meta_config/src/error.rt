@@ -8,7 +8,7 @@ use std::alloc::{AllocError, AllocFailed};
 
 /// Why a text declares no meta-configuration. An index is an instance's place in the text, counted from 0.
 ///
-/// The faults stand in the order in which they win; of one kind the least index is told, and of a pair the least
+/// The faults stand in the order in which they win; of one kind the least index is reported, and of a pair the least
 /// second and then the least first.
 #[derive(Debug, Drop, PartialEq)]
 pub enum MetaError {

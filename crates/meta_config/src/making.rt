@@ -65,7 +65,7 @@ fn first_of<'a>(class: Class, instances: &'a [Instance]) -> Option<&'a Instance>
     instances.iter().find(|i| is_of(class, *i))
 }
 
-/// Tells whether there is an instance of the class.
+/// Returns whether there is an instance of the class.
 pub fn has(class: Class, instances: &[Instance]) -> bool
     ensures { result ≡ has class instances.now }
 {

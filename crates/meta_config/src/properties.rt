@@ -87,7 +87,7 @@ pub fn scalars_of<'a>(value: &'a Value) -> &'a [Scalar]
     }
 }
 
-/// Tells whether the name is this word, by fold.
+/// Returns whether the name is this word, by fold.
 pub fn has_name(name: &Ident, word: &str) -> bool
     ensures { result ≡ same_name name.now word.now }
 {

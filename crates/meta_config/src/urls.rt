@@ -227,7 +227,7 @@ pub fn push_ascii(chars: &mut Vec<char>, text: &str) -> Result<(), AllocError>
     chars.extend_from_slice(more.as_slice())
 }
 
-/// Tells whether two sites are one server.
+/// Returns whether two sites are one server.
 pub fn same_site(a: &Site, b: &Site) -> bool
     ensures { result ≡ same_site a.now b.now }
 {

@@ -12,7 +12,7 @@ use crate::tables::Domain;
 use crate::{AfterReboot, ConfigMode, RefreshMode};
 use mof_values::{Scalar, Value, is_named};
 
-/// Tells whether the value may stand where the domain is asked.
+/// Returns whether the value may stand where the domain is asked.
 pub fn fits(domain: Domain, value: &Value) -> bool
     ensures { result ≡ fits domain value.now }
 {
@@ -172,7 +172,7 @@ fn is_reference_scalar(scalar: &Scalar) -> bool
     }
 }
 
-/// Tells whether the characters are the same but for the case of ASCII letters.
+/// Returns whether the characters are the same but for the case of ASCII letters.
 pub fn same_chars(a: &[char], b: &[char]) -> bool
     ensures { result ≡ same_name a.now b.now }
 {
@@ -192,7 +192,7 @@ fn is_name(chars: &[char]) -> bool
     !chars.is_empty() && fits_utf8(chars, 255)
 }
 
-// Tells whether the characters have at most so many bytes of UTF-8.
+// Returns whether the characters have at most so many bytes of UTF-8.
 fn fits_utf8(chars: &[char], limit: usize) -> bool
     ensures { result ≡ nat_le (length (encode_utf8_all chars.now)) limit }
 {
@@ -207,7 +207,7 @@ fn fits_utf8(chars: &[char], limit: usize) -> bool
     true
 }
 
-// Tells whether the characters are `[PartialConfiguration]`, by fold, and a name.
+// Returns whether the characters are `[PartialConfiguration]`, by fold, and a name.
 fn is_reference(chars: &[char]) -> bool
     ensures { result ≡ is_reference chars.now }
 {

@@ -177,7 +177,7 @@ fn joined(alloc: Global, pieces: [&str; 3]) -> Result<String, AllocError> {
     Ok(text)
 }
 
-// Tells whether the text of these pieces is read as the line of those.
+// Returns whether the text of these pieces is read as the line of those.
 fn reads_as(alloc: Global, pieces: [&str; 3], want: [&str; 3]) -> Result<bool, AllocError> {
     let text = joined(alloc, pieces)?;
     is_told(alloc, &read_meta(alloc, text.as_bytes()), want)
@@ -233,7 +233,7 @@ fn push_numbers(text: &mut String, count: u32) -> Result<(), AllocError> {
     text.push_str("};};")
 }
 
-// Tells whether the text is refused with this word, or is read where there is none. What is read can be written, read
+// Returns whether the text is refused with this word, or is read where there is none. What is read can be written, read
 // again and ordered.
 fn is_answered(alloc: Global, text: &str, word: &str) -> bool {
     match read_meta(alloc, text.as_bytes()) {
@@ -275,7 +275,7 @@ fn parts_text(alloc: Global, rows: &[(&str, &str)]) -> Result<String, AllocError
     Ok(text)
 }
 
-// Tells whether the partial configurations of the text have this order, or this cycle.
+// Returns whether the partial configurations of the text have this order, or this cycle.
 fn is_ordered(alloc: Global, text: &str, cycle: bool, places: &[u32]) -> bool {
     match read_meta(alloc, text.as_bytes()) {
         Ok(meta) => orders_as(alloc, &meta, cycle, places),

@@ -110,7 +110,7 @@ module _ (text : List ℕ) (at : ℕ) (b : Behind) (is : walked (take at text) �
     excess_case events.Property here x = excess_property here x
     excess_case events.Element here x = excess_element here x
 
-    -- what the counts tell is too many
+    -- what the counts say is too many
     pub counts_excess : is_excess t.begun n ≡ true → TooMany text end at
     counts_excess x = excess_case t.begun told x
 
@@ -118,7 +118,7 @@ module _ (text : List ℕ) (at : ℕ) (b : Behind) (is : walked (take at text) �
   long_excess end before e name rest stands long =
       long_identifier before (record { begins = identifier_begins text at b is e; name = name; rest = rest; stands = stands; long = long })
 
--- and what is too many the counts tell
+-- and what is too many the counts show
 
 declaration_parts : (h : Half) (p : Place) → begins_declaration h p ≡ true → (h ≡ halves.Gap) × (p ≡ Start)
 declaration_parts halves.Gap Start e = (refl, refl)
@@ -147,7 +147,7 @@ array_only h p e t = absurd (clash e)
 front_of : (front : List ℕ) (is : List Instance) → WideSpells front is → IsFront front
 front_of front is w = ([], subst (λ (x : List ℕ). Wide x) (sym (append-nil front)) (is, w))
 
--- either the counts tell, or a long identifier begins
+-- either the counts show it, or a long identifier begins
 pub record LongName (text : List ℕ) (at : ℕ) (b : Behind) : Type 0 where
   pub begins : begins_identifier b.half b.place ≡ true
   pub name : List ℕ

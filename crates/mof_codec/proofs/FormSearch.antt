@@ -193,7 +193,7 @@ module _ (text : List ℕ) (fault : ℕ) (within : fault ≤ length text) where
   real_none e f = λ other what o. f other (stands_there other what o e)
 
   module _ (state : State) (s : StandsBehind (take fault text) state) (no_point_here : NoPoint) where
-    -- a form that stands there is told by the state and the characters
+    -- a form that stands there is known by the state and the characters
     told : (at : ℕ) (what : Form) → OutOfProfile text fault at what → StandsForm state (drop fault text) what × (at ≡ fault)
     told at what (profile.pragma b c) = (declared forms.Pragma (begins_there text fault (behind_of state s.begun) s.behind b) (pragma (is_indexed fault text 35 (omega arith) c)), refl)
     told at what (profile.qualifiers b c) = (declared forms.Qualifiers (begins_there text fault (behind_of state s.begun) s.behind b) (qualifiers (is_indexed fault text 91 (omega arith) c)), refl)

@@ -183,7 +183,7 @@ fault_end text b is no_end = IsSyntaxFault-from_next text (length text)
     (subst (λ (x : List ℕ). IsFront x) (sym (take_all (length text) text (omega arith))) (is_front text b is))
     (λ lt. absurd (omega (arith, lt)))
 
--- what is begun in the instances is what the machine was told
+-- what is begun in the instances is what the machine was given
 pub events_here : (text : List ℕ) (b : Behind) → walked text ≡ Some b → (is : List Instance) → WideSpells text is → b.begun ≡ events_of is []
 events_here text b e is w =
     (only_so (Ends (Is (events_of is []))) text [] b e (subst (λ (x : List ℕ). Runs (Is (events_of is [])) x halves.Gap Start []) (sym (append-nil text)) (spells_runs text is w))).1

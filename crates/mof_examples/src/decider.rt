@@ -9,7 +9,7 @@ use grammar::are_declarations;
 use pieces::tokens;
 use std::alloc::{AllocError, Global};
 
-/// Tells whether the text is in the grammar, with integers of any size, identifiers of any length and any number of parts.
+/// Returns whether the text is in the grammar, with integers of any size, identifiers of any length and any number of parts.
 pub fn is_wide(alloc: Global, text: &[char]) -> Result<bool, AllocError> {
     match tokens(alloc, text)? {
         Some(tokens) => Ok(are_declarations(tokens.as_slice())),

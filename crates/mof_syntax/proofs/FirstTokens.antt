@@ -1,4 +1,4 @@
--- The token that the first character tells is the one that stands there.
+-- The token that the first character announces is the one that stands there.
 use Rattle.std.proofs.Common.{◌≡◌, ◌⊎◌, inl, inr, ◌<◌, ℕ, Bool, true, false, cond, List, [], ◌∷◌, length, Option, Some, None, refl, sym, subst, ◌∙◌, arith, Bor}
 use Rattle.std.specs.Option.{option_copied}
 use Rattle.std.specs.Prelude.{◌==◌, ◌||◌, IfSome, IfNone, ℤ, pos, neg_ℤ}
@@ -16,7 +16,7 @@ use Rattle.mof_syntax.specs.Leads.{is_mark, lead_of, kind_by, StandsMagnitude, S
 use Rattle.mof_syntax.specs.Walk.{token_kind, StandsToken, NoToken}
 use Rattle.mof_syntax.proofs.Scans.{some_same, digit_wider}
 
--- what the first character tells
+-- what the first character announces
 
 pub word_lead : (c : ℕ) → is_first c ≡ true → lead_of c ≡ leads.Other
 word_lead c h =

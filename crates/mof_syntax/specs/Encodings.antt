@@ -62,7 +62,7 @@ pub record IsTextFault (bytes : List ℕ) (at : ℕ) : Type 0 where
   pub within : at < length bytes
   pub no_char : StartsNoChar (encoding_of bytes) (drop at bytes)
 
--- the bytes are refused so. Want of memory has no cause here
+-- the bytes are refused so. Lack of memory has no cause here
 abbrev pub RefusesBytes : List ℕ → TextError → Type 0
 RefusesBytes bytes (TextFault at) = IsTextFault bytes at
 RefusesBytes bytes Memory = ⊤

@@ -76,7 +76,7 @@ pub record RefusesText (bytes : List ℕ) (refusal : MofError) : Type 0 where
   pub decoded : Chars bytes text
   pub wins : Wins text refusal
 
--- the bytes are refused so. Want of memory has no cause here
+-- the bytes are refused so. Lack of memory has no cause here
 abbrev pub Refuses : List ℕ → MofError → Type 0
 Refuses bytes TooLong = document_limit < length bytes
 Refuses bytes (Text at) = (length bytes ≤ document_limit) × IsTextFault bytes at

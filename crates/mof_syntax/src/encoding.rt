@@ -2,7 +2,7 @@
 ghost use Rattle.std.specs.Prelude.{◌≡◌, ◌++◌};
 ghost use Rattle.mof_syntax.specs.Encodings.{encoding_of, mark_of};
 
-/// How a text stands as bytes: which its first bytes tell, and without a mark there it is UTF-8.
+/// How a text stands as bytes: which its first bytes say, and without a mark there it is UTF-8.
 #[derive(Clone, Copy, Debug, PartialEq, Eq)]
 pub(crate) enum Encoding {
     Utf8,

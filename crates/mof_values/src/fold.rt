@@ -4,21 +4,21 @@ ghost use Rattle.mof_values.specs.Fold.{SameName};
 
 use crate::{Ident, Text};
 
-/// Tells whether the folds of two names are equal; an equivalence.
+/// Returns whether the folds of two names are equal; an equivalence.
 pub fn same_name(a: &Ident, b: &Ident) -> bool
     ensures { IsTrue result ↔ SameName a.now b.now }
 {
     folds_equal(a.as_slice(), b.as_slice())
 }
 
-/// Tells whether the folds of two texts are equal; an equivalence.
+/// Returns whether the folds of two texts are equal; an equivalence.
 pub fn same_text(a: &Text, b: &Text) -> bool
     ensures { IsTrue result ↔ SameName a.now b.now }
 {
     folds_equal(a.as_slice(), b.as_slice())
 }
 
-/// Tells whether the characters are an ASCII word, letter case and all.
+/// Returns whether the characters are an ASCII word, letter case and all.
 pub fn is_spelled(chars: &[char], word: &str) -> bool
     ensures { IsTrue result ↔ (chars.now ≡ word.now) }
 {
@@ -32,7 +32,7 @@ pub fn is_spelled(chars: &[char], word: &str) -> bool
     left.is_empty() && codes.is_empty()
 }
 
-/// Tells whether the characters are an ASCII word by fold.
+/// Returns whether the characters are an ASCII word by fold.
 pub fn is_named(chars: &[char], word: &str) -> bool
     ensures { IsTrue result ↔ SameName chars.now word.now }
 {

@@ -100,7 +100,7 @@ impl Ident {
         self.chars.as_slice()
     }
 
-    /// Tells whether the name is an ASCII word by fold.
+    /// Returns whether the name is an ASCII word by fold.
     pub fn is_named(&self, word: &str) -> bool
         ensures { result ≡ same_name self.now word.now }
     {
@@ -108,7 +108,7 @@ impl Ident {
     }
 }
 
-// Tells whether the characters are an identifier.
+// Returns whether the characters are an identifier.
 fn spells_ident(chars: &[char]) -> bool
     ensures { result ≡ is_ident chars.now }
 {
@@ -120,7 +120,7 @@ fn spells_ident(chars: &[char]) -> bool
     }
 }
 
-/// Tells whether a character may begin an identifier.
+/// Returns whether a character may begin an identifier.
 pub fn may_begin(c: char) -> bool
     ensures { result ≡ is_first c }
 {
@@ -133,7 +133,7 @@ fn all_follow(chars: &[char]) -> bool
     chars.iter().all(|c| may_follow(*c))
 }
 
-/// Tells whether a character may stand after the first of an identifier.
+/// Returns whether a character may stand after the first of an identifier.
 pub fn may_follow(c: char) -> bool
     ensures { result ≡ is_next c }
 {

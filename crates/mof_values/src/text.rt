@@ -58,7 +58,7 @@ impl Text {
         self.chars.iter().copied().collect(*self.chars.allocator())
     }
 
-    /// Tells whether the text has at most so many bytes of UTF-8.
+    /// Returns whether the text has at most so many bytes of UTF-8.
     pub fn fits_utf8(&self, limit: usize) -> bool
         ensures { IsTrue result ↔ (length (encode_utf8_all self.now) ≤ limit) }
     {

@@ -13,14 +13,14 @@ abbrev pub part_under : List Part → List ℕ → Option Part
 part_under [] name = None
 part_under (part ∷ parts) name = if bytes_eq part.name name then Some part else part_under parts name
 
--- the part that is kept under the next name, of whose content was told whether it is to be fetched: the one that is held, where it is not.
--- Where a server tells anything, it tells this of each name; under a name without an answer nothing is kept
+-- the part that is kept under the next name, of whose content the server says whether it is to be fetched: the one that is held, where it is not.
+-- Where a server says anything, it says this of each name; under a name without an answer nothing is kept
 abbrev pub kept_part : List Part → List ℕ → List Bool → Option Part
 kept_part held name [] = None
 kept_part held name (true ∷ fetches) = None
 kept_part held name (false ∷ fetches) = part_under held name
 
--- what was told of the names after the next
+-- what the server said of the names after the next
 abbrev pub later_answers : List Bool → List Bool
 later_answers [] = []
 later_answers (fetch ∷ fetches) = fetches

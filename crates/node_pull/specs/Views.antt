@@ -8,7 +8,7 @@ use Rattle.pull_client.specs.declared.error.PeerError.{PeerError}
 use Rattle.pull_client.specs.Asks.{Asks}
 use Rattle.pull_client.specs.Heard.{Heard}
 
--- its exchanges, where it tells them, and how often it has failed
+-- its exchanges, where it exposes them, and how often it has failed
 pub record LinkView : Type 0 where
   pub told : Option (List Exchange)
   pub faults : ℕ
@@ -20,7 +20,7 @@ view_of ghosts link = record { told = ghosts.told link; faults = ghosts.faults l
 abbrev pub AsksServer : {T : Type 0} → Server → List ℕ → (Reply → Result T PeerError → Type 0) → LinkView → LinkView → Result T PeerError → Type 0
 AsksServer server request Says before after result = Asks server request Says before.told after.told before.faults after.faults result
 
--- where the exchanges are told, they are only added
+-- where the exchanges are exposed, they are only added
 abbrev pub AddsExchanges : Option (List Exchange) → Option (List Exchange) → Type 0
 AddsExchanges None after = after ≡ None
 AddsExchanges (Some before) after = (more : List Exchange) × (after ≡ Some (before ++ more))
@@ -36,6 +36,6 @@ pub record Accepts {T : Type 0} (server : Server) (sent : List ℕ) (Says : Repl
   pub request : exchange.request ≡ sent
   pub answer : Heard Says exchange.outcome (Ok value)
 
--- where the exchanges are told, such a one was made since
+-- where the exchanges are exposed, such a one was made since
 abbrev pub MadeSince : (Exchange → Type 0) → LinkView → LinkView → Type 0
 MadeSince Such before after = (old : List Exchange) → before.told ≡ Some old → (new : List Exchange) × (after.told ≡ Some (old ++ new)) × Any Such new

@@ -13,10 +13,10 @@ use std::alloc::{AllocError, AllocFailed};
 /// Why what a server gave is refused.
 #[derive(Debug, Drop, PartialEq)]
 pub enum PeerFault {
-    /// The answer to a request. `PeerError::Link` and `PeerError::Memory` are never told so.
+    /// The answer to a request. `PeerError::Link` and `PeerError::Memory` are never reported so.
     Answer(PeerError),
 
-    /// The parts are no document. `MergeError::Memory` is never told so.
+    /// The parts are no document. `MergeError::Memory` is never reported so.
     Document(MergeError),
 
     /// The document of the parts does not fit the meta-configuration.

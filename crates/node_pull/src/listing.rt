@@ -17,8 +17,8 @@ use partial_merge::Part;
 use pull_client::{PeerError, ask, fetch};
 use std::alloc::Global;
 
-/// Asks the server once about all names of the meta-configuration, and gives the part under each: fetched, where that is told, or as it is
-/// held.
+/// Asks the server once about all names of the meta-configuration, and gives the part under each: fetched, where the server says
+/// so, or as it is held.
 pub(crate) fn listed<L: Link>(
     alloc: Global,
     link: &mut L,

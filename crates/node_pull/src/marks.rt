@@ -21,7 +21,7 @@ pub fn marks_of(alloc: Global, parts: &[Part]) -> Result<Vec<PartMark>, AllocErr
     Ok(marks)
 }
 
-/// Tells whether two lists of parts have the same names and digests, in the same order.
+/// Returns whether two lists of parts have the same names and digests, in the same order.
 pub(crate) fn same_marks(others: &[Part], parts: &[Part]) -> bool
     ensures { result ≡ same_marks others.now parts.now }
 {

@@ -27,7 +27,7 @@ use partial_merge::{MergeError, Part, merge};
 use resource_kinds::Machine;
 use std::alloc::Global;
 
-/// Asks the server once about all names of the meta-configuration, fetches each content that it is told to fetch, and each package that
+/// Asks the server once about all names of the meta-configuration, fetches each content that it is to fetch, and each package that
 /// the machine does not have of those that the new list's document names; and gives the new list of parts, where its names and digests are
 /// not those of the parts that are held.
 pub fn pull<L: Link, M: Machine>(

@@ -9,7 +9,7 @@ use dsc_document::{Document, Resource};
 use meta_config::{Meta, Partial};
 use mof_values::{Text, same_text};
 
-/// Tells whether the document of parts fits the meta-configuration: one part where no partial configuration is declared, else a
+/// Returns whether the document of parts fits the meta-configuration: one part where no partial configuration is declared, else a
 /// part for each partial configuration, no other part, and no resource whose type another partial configuration claims. Takes no
 /// memory.
 ///

@@ -1,7 +1,7 @@
 //! The state of a node, the Local Configuration Manager of PowerShell Desired State Configuration, and the table of events that
 //! change it, as plain values.
 //!
-//! A node keeps three lists of parts: Pending, Current and Previous. `Node::why` tells whether an event is allowed, and why not;
+//! A node keeps three lists of parts: Pending, Current and Previous. `Node::why` says whether an event is allowed, and why not;
 //! `Node::apply` makes the event's change, without memory but what `Node::supply` gave before. A layer above may rely on it that
 //! each event makes exactly the change of its row in the table, and that a sound node stays sound. A node is made again of its
 //! pieces.

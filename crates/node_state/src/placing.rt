@@ -8,7 +8,7 @@ use mof_values::{Items, Memory};
 use partial_merge::Part;
 
 impl Node {
-    /// Tells whether the piece may come next: Base first, then parts by their stages, then the reports by their jobs. Takes no
+    /// Returns whether the piece may come next: Base first, then parts by their stages, then the reports by their jobs. Takes no
     /// memory.
     pub fn fits(&self, piece: &Piece) -> bool
         ensures { result ≡ fits self.now piece.now }

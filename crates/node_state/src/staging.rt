@@ -54,7 +54,7 @@ pub fn stored(alloc: Global, parts: Vec<Part>) -> Result<Option<Staged>, Memory>
     Ok(listed(parts))
 }
 
-// Tells whether the parts are merged to a document.
+// Returns whether the parts are merged to a document.
 fn are_merged(alloc: Global, parts: &[Part]) -> Result<bool, Memory>
     requires named { AreNamed parts.now }
     ensures { IfOk result (λ merged. IsTrue merged ↔ IsMerged parts.now) }

@@ -66,7 +66,7 @@ pub record HasUnknown (parts : List Part) (spot : Spot) (name : List ℕ) : Type
   pub parts_are : AreParts parts document
   pub unknown : IsFirstUnknownId document spot name
 
--- the parts are one document, whose dependencies are resources and lead round
+-- the parts are one document, whose dependencies are resources and form a cycle
 pub record HasCycle (parts : List Part) (cycle : List ℕ) : Type 0 where
   pub document : Document
   pub parts_are : AreParts parts document
@@ -99,7 +99,7 @@ IsDocumentFault document (refusals.Cycle cycle) =
 IsDocumentFault document refusals.Memory = ⊤
 IsDocumentFault document _ = ⊥
 
--- the parts are refused so. Want of memory has no cause here
+-- the parts are refused so. Lack of memory has no cause here
 abbrev pub Refused : List Part → MergeError → Type 0
 Refused parts (refusals.TwoNames first second) = IsFirstRepeat (part_name_at parts) first second
 Refused parts (refusals.Part index fault) = IsFirstFault parts index fault

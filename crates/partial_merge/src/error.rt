@@ -37,7 +37,7 @@ pub enum MergeError {
     /// The first resource that depends on what is no resource's id, and its first such name.
     DependsUnknown { spot: Spot, name: Text },
 
-    /// The dependencies lead round: each of these resources depends on the next, and the last on the first. A
+    /// The dependencies form a cycle: each of these resources depends on the next, and the last on the first. A
     /// resource is its place in the document, counted from 0.
     Cycle(Items<u32>),
 

@@ -375,7 +375,7 @@ fn every_size_is_merged(rt: HostRuntime) -> Result<(), Fail> {
     Ok(())
 }
 
-// Tells whether the order is `count` - 1 down to 0, and each resource but the last depends on the next.
+// Returns whether the order is `count` - 1 down to 0, and each resource but the last depends on the next.
 fn is_falling(found: &Result<OrderedDocument, MergeError>, count: u32) -> bool {
     match found {
         Ok(merged) => {

@@ -8,6 +8,6 @@ pub record DoorCounts : Type 0 where
   -- how often a call has failed
   pub faults : ℕ
 
--- neither which connections are to come is told, nor which were handed back
+-- neither which connections are to come is exposed, nor which were handed back
 abbrev pub untold : Option (List Known)
 untold = None

@@ -20,7 +20,7 @@ const MOST_TRIES: usize = 8;
 /// Appends the bytes of the plain file at the place, and answers whether it is there. A link, a folder, or anything else in
 /// its place is a failure, and so is a file of more than 62,914,560 bytes.
 ///
-/// The file is taken as it is at one moment, as far as its length and the time of its last change tell: where it was changed
+/// The file is taken as it is at one moment, as far as its length and the time of its last change show: where it was changed
 /// or another one took its place meanwhile, it is read again, and after eight such tries the call fails.
 pub fn append_item<R: Files>(rt: &R, place: &str, into: &mut Vec<u8>) -> Result<bool, ShelfError>
     ensures { Leaves result into.old.items into.new.items }

@@ -17,7 +17,7 @@ Exchanged peer request Says before after result =
     × (after ≡ Some (before ++ record { peer = peer; request = request; outcome = outcome } ∷ [])))
     ⊎ ((result ≡ Err Memory) × (after ≡ Some before))
 
--- a server that wants https is not asked. Any other is sent the one request, where the link tells its exchanges
+-- a server that wants https is not asked. Any other is sent the one request, where the link exposes its exchanges
 pub record Asks {T : Type 0} (server : Server) (request : List ℕ) (Says : Reply → Result T PeerError → Type 0)
     (told told_after : Option (List Exchange)) (faults faults_after : ℕ) (result : Result T PeerError) : Type 0 where
   pub unserved : server.https ≡ true → (result ≡ Err NotServed) × (told_after ≡ told)

@@ -1,4 +1,4 @@
--- Queries of a node, and what the answers tell.
+-- Queries of a node, and what the answers say.
 use Rattle.std.specs.Prelude.{◌≡◌, ℕ, Bool, true, false, ◌&&◌, ◌||◌, ◌==◌, List, [], ◌∷◌, ◌++◌, map, length, bytes_eq, codes, if◌then◌else◌, Option, Some, None, is_some, Result, Ok, Err}
 use Rattle.mof_values.specs.Fold.{same_name}
 use Rattle.shared_key.specs.Checksum.{checksum_of}
@@ -78,13 +78,13 @@ fetches only answer held [] = Ok []
 fetches only answer held (name ∷ names) =
     before_others (fetch_of name (is_some (held_under held name)) (status_in only answer.node name answer.details)) (fetches only answer held names)
 
--- what a message tells, or why it is none
+-- what a message says, or why it is none
 abbrev pub told_by : List PartMark → List (List ℕ) → Result ActionAnswer MessageError → Result (List Bool) PeerError
 told_by held names (Ok answer) = fetches (length names == 1) answer held names
 told_by held names (Err messages.Memory) = Err Memory
 told_by held names (Err e) = Err (Message e)
 
--- what a reply tells, whose body is that message or none
+-- what a reply says, whose body is that message or none
 abbrev pub Tells : List PartMark → List (List ℕ) → Reply → Result (List Bool) PeerError → Type 0
 Tells held names reply result =
     (message : Result ActionAnswer MessageError) × ReadsBy action_of reply.body message × (result ≡ told_by held names message)

@@ -56,7 +56,7 @@ abbrev pub put : Server → Target → List ℕ → List ℕ → List ℕ
 put server target body date =
     written server (codes "PUT") target (signed_headers server body date) body
 
--- what a node says of itself: its version is 2.0, and it tells no address
+-- what a node says of itself: its version is 2.0, and it gives no address
 abbrev pub registration_of : List ℕ → List (List ℕ) → Registration
 registration_of node_name names = record { lcm_version = codes "2.0"; node_name = node_name; ip_address = []; names = names }
 

@@ -30,12 +30,12 @@ pub enum PeerError {
     /// The answer's body is no message of its kind.
     Message(MessageError),
 
-    /// The server tells to ask again for this name.
+    /// The server says to ask again for this name.
     Retry {
         name: Text,
     },
 
-    /// The answer has no known status for this name, or tells that what is held of it is right where nothing is held.
+    /// The answer has no known status for this name, or says that what is held of it is right where nothing is held.
     Uncovered {
         name: Text,
     },

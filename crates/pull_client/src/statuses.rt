@@ -1,4 +1,4 @@
-//! Statuses: what an answer to a query tells of the names that were asked.
+//! Statuses: what an answer to a query says of the names that were asked.
 ghost use Rattle.std.specs.Prelude.{◌≡◌, ◌⊎◌, ◌==◌, IfOk, Err, length};
 ghost use Rattle.pull_client.specs.Content.{items_in};
 ghost use Rattle.pull_client.specs.Heard.{IsAnswered, SaysOr};
@@ -13,7 +13,7 @@ use pull_messages::{ActionAnswer, Detail, MessageError, read_action};
 use report_log::PartMark;
 use std::alloc::{AllocError, Global};
 
-/// What a server tells of a configuration.
+/// What a server says of a configuration.
 #[derive(Clone, Copy, Debug, PartialEq, Eq)]
 pub enum Status {
     /// `Ok`: what is held is right.

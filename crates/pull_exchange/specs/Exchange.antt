@@ -59,7 +59,7 @@ abbrev pub told_by : FrameError → Received
 told_by frames.Memory = received.Memory
 told_by e = received.Refused e
 
--- what is received whatever the connection tells
+-- what is received whatever the connection exposes
 abbrev pub IsSized : Received → Type 0
 IsSized (received.Request request) = length request.body ≤ request_limits.content
 IsSized (received.Refused e) = IsRefusal e

@@ -1,13 +1,13 @@
 -- Connections that are still to come, and those that were handed back.
 use Rattle.std.specs.Prelude.{◌≡◌, ℕ, List, [], ◌∷◌, ◌++◌, Option, Some, None}
 
--- what is known of a connection: what it has left and what it took, where it tells, and its count of faults
+-- what is known of a connection: what it has left and what it took, where it exposes them, and its count of faults
 pub record Known : Type 0 where
   pub left : Option (List ℕ)
   pub held : Option (List ℕ)
   pub faults : ℕ
 
--- the first of those that are to come is taken. A door that does not tell them tells nothing afterwards either
+-- the first of those that are to come is taken. A door that does not expose them exposes nothing afterwards either
 abbrev pub TakesFirst : Option (List Known) → Option (List Known) → Known → Type 0
 TakesFirst None after taken = after ≡ None
 TakesFirst (Some []) after taken = ⊥

@@ -9,10 +9,10 @@ use dsc_outside::{Failed, Sink, Source};
 pub trait Door {
     type Conn: Source + Sink;
 
-    /// The connections that are still to come, in order, where they are told.
+    /// The connections that are still to come, in order, where they are exposed.
     ghost coming: { Self → Option (List Known) };
 
-    /// The connections that were handed back, in order, where they are told.
+    /// The connections that were handed back, in order, where they are exposed.
     ghost back: { Self → Option (List Known) };
 
     /// How many connections were given and not yet handed back.

@@ -1,4 +1,4 @@
-//! The forms in memory, which tell what they hold, and which fail where they are told to.
+//! The forms in memory, which expose what they hold, and which fail where they are set to.
 
 mod calls;
 mod conn;

@@ -47,7 +47,7 @@ impl fmt::Display for ShelfError {
 /// Each call answers whether the item is there, and then appends it. Where it is not there, or the call failed, the buffer stays
 /// as it was. An item has at most 62,914,560 bytes; one that is longer counts as a failure.
 pub trait Shelf {
-    /// What stands on the shelf, where it is told.
+    /// What stands on the shelf, where it is exposed.
     ghost holds: { Self → Option Contents };
 
     /// How often a call has failed.

@@ -1,7 +1,7 @@
 //! The pull server program, over the files and the network of this machine.
 //!
 //! `serve` serves connections; its contract says what each was answered and what was printed. `main` makes the real objects
-//! that the words name, hands them to `serve` with the same words, and ends with the number of its status.
+//! that the arguments name, hands them to `serve` with the same arguments, and ends with the number of its status.
 #![tactic(auto)]
 
 use dsc_outside::real::{FileDisk, OutSink};
@@ -53,7 +53,7 @@ fn run_server(rt: &HostRuntime, words: &[String]) -> ServeStatus {
     )
 }
 
-// What the words name.
+// What the arguments name.
 #[derive(Drop)]
 struct Places {
     store: String,
@@ -61,7 +61,7 @@ struct Places {
     listen: String,
 }
 
-// Where the words are refused, the places are empty, and `serve` touches none of them.
+// Where the arguments are refused, the places are empty, and `serve` touches none of them.
 fn places_of(alloc: Global, words: &[String]) -> Result<Places, Memory> {
     match serve_words(alloc, words) {
         Ok(values) => named(&values),

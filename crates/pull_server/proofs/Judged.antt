@@ -62,7 +62,7 @@ module _ (store : StoreTerm) (request : Request) (aim : Result Target ℕ) (hold
     cause = λ fault. inr spent;
   }
 
-  -- what is told asks for no change
+  -- what is answered asks for no change
   pub tells : (reply : Reply) → reply.code ≡ 200 → change_asked request aim ≡ None
       → ((shelf : Contents) → holds ≡ Some shelf → outcome_of (asked store shelf request aim) ≡ Some (leaves reply)) → IsSaid store request aim holds rose reply
   tells reply is none row = record {

@@ -48,7 +48,7 @@ is_full store change need room full =
     let rows : bank_room < whole_need (after change store.rows) = omega (arith, full.rows, full.bank, full.needs) in
     rw (lt-ltb (room_in store.log) (need_of (body_of change)) full.cell, lt-ltb bank_room (whole_need (after change store.rows)) rows) refl
 
--- a registration is never refused for want of a row
+-- a registration is never refused for lack of a row
 abbrev many_or_none : Bool → Option Refusal
 many_or_none b = if b then Some TooMany else None
 

@@ -1,4 +1,4 @@
--- What agents are told to do.
+-- What agents are to do.
 use Rattle.std.specs.Prelude.{ℕ, Bool, true, false, ◌==◌, if◌then◌else◌, List, [], ◌∷◌, map, length, codes, bytes_eq, encode_utf8_all, Option, Some, None}
 use Rattle.std.specs.List.{list_any}
 use Rattle.sha2.specs.Sha256.{sha256}

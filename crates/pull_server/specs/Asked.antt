@@ -68,7 +68,7 @@ pub record Asks (request : Request) (change : Change) : Type 0 where
 
 -- ---- what the answer depends on
 
--- so it is of what the shelf holds, or where the shelf does not tell that, of some contents
+-- so it is of what the shelf holds, or where the shelf does not expose that, of some contents
 pub record Over (shelf : Option Contents) (P : Contents → Type 0) : Type 0 where
   pub contents : Contents
   pub are : IfSome shelf (λ told. contents ≡ told)

@@ -16,7 +16,7 @@ use Rattle.pull_store.specs.Store.{StoreTerm, IsKept, IsReady, Untouched, WasTri
 use Rattle.pull_server.specs.Asked.{is_full_for}
 use Rattle.pull_server.specs.Replies.{plain}
 
--- the reply that tells of it
+-- the reply that answers it
 abbrev pub Tells : {T : Type 0} → Result T PullError → ℕ → Result Reply Memory → Type 0
 Tells (Ok v) code result = result ≡ Ok (plain code)
 Tells (Err errors.Spent) code result = result ≡ Ok (plain 500)

@@ -1,4 +1,4 @@
-//! What agents are told to do.
+//! What agents are to do.
 ghost use Rattle.std.specs.Prelude.{◌≡◌, IfOk, Some, bytes_eq, map, option_map};
 ghost use Rattle.std.specs.List.{list_any};
 ghost use Rattle.dsc_outside.specs.Causes.{HasCauseOf};

@@ -41,7 +41,7 @@ refusal_line statuses.Memory = []
 
 -- ---- the output
 
--- what is known of the output: what it took, where it tells that, and its count of faults
+-- what is known of the output: what it took, where it exposes that, and its count of faults
 pub record Output : Type 0 where
   pub held : Option (List ℕ)
   pub faults : ℕ

@@ -41,7 +41,7 @@ pub record IsOpenedRun {D : Type 0} (d : Ghosts D) (count : ℕ) (before after :
   pub any_moment : AtAnyMoment d before after (λ image. From KeepsRows (d.images before) image ⊎ Visits around.shelf (state d disk opened around.shelf_faults) run.turns image)
   pub shelf : around_after.shelf ≡ around.shelf
 
--- the words were refused, or memory was for them; or the store was not opened; or it was, and connections were served
+-- the arguments were refused, or memory was for them; or the store was not opened; or it was, and connections were served
 pub data Service {D : Type 0} (d : Ghosts D) (words : List (List ℕ)) (before after : D) (around around_after : Around) (out out_after : Output) : ServeStatus → Type 0 where
   refused : fault_of serve_app words ≢ [] → after ≡ before → around_after ≡ around → Writes out.held out_after.held (refusal_line statuses.Usage) out.faults out_after.faults
       → Service d words before after around around_after out out_after statuses.Usage

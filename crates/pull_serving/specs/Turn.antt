@@ -58,7 +58,7 @@ ConnectionRose t = Rose t.came.faults t.went.faults
 abbrev pub OutsideRose : Turn → Type 0
 OutsideRose t = DiskRose t ⊎ Rose t.before.shelf_faults t.after.shelf_faults
 
--- the reply to a request, and the rows after it: by the table, over what the shelf holds where it tells that; 500 has a cause whatever it holds
+-- the reply to a request, and the rows after it: by the table, over what the shelf holds where it exposes that; 500 has a cause whatever it holds
 pub record IsReplyTo (shelf : Option Contents) (t : Turn) (request : Request) (reply : Reply) : Type 0 where
   pub table : (contents : Contents) → shelf ≡ Some contents → Replies t.before.store contents request (OutsideRose t) reply t.after.store.rows
   pub cause : reply.code ≡ 500 → OutsideRose t ⊎ (is_spent t.before.store ≡ true)

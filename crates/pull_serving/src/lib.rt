@@ -1,7 +1,7 @@
 //! The pull server as a program runs it: connections from a door, served one after the other.
 //!
 //! `serve_connection` reads one request, answers it by the answer table, and writes the answer; `serve` does so for as many
-//! connections as its words say, over one store, and prints a line for each. A layer above may rely on this: each connection is
+//! connections as its arguments say, over one store, and prints a line for each. A layer above may rely on this: each connection is
 //! answered over what the one before it left, and nothing but its answer is written to it; a registration or a report that was
 //! acknowledged is on the disk from then on; and a crash at any moment leaves the rows before a connection, or those after the
 //! change that the table makes.

@@ -13,10 +13,10 @@ use pull_store::{PullError, open_pull};
 use serve_words::{WordsError, serve_words};
 use std::alloc::Global;
 
-/// Serves as many connections as the words say, over the store of the disk, and prints a line for each.
+/// Serves as many connections as the arguments say, over the store of the disk, and prints a line for each.
 ///
-/// The words are `--store FILE --shelf FOLDER --listen ADDRESS --connections N`; the objects are those that they name. Nothing is
-/// touched before the words are read. A refusal is printed as the last line; where memory was refused nothing is printed.
+/// The arguments are `--store FILE --shelf FOLDER --listen ADDRESS --connections N`; the objects are those that they name. Nothing is
+/// touched before the arguments are read. A refusal is printed as the last line; where memory was refused nothing is printed.
 pub fn serve<G: Door, S: Shelf, D: Disk, K: Sink>(
     alloc: Global,
     words: &[String],

@@ -9,7 +9,7 @@ use pull_store::PullError;
 pub enum ServeStatus {
     Done,
 
-    /// The words are not those of the server.
+    /// The arguments are not those of the server.
     Usage,
 
     /// The store's file is no store of a server, since its bytes from this one on are not.

@@ -13,7 +13,7 @@ pub struct Peer<'a> {
     pub failing: &'a [u64],
 }
 
-/// A run: the words, the peers, the bytes of the store, and the calls of disk, door and output that are to fail.
+/// A run: the arguments, the peers, the bytes of the store, and the calls of disk, door and output that are to fail.
 #[derive(Clone, Copy)]
 pub struct Run<'a> {
     pub words: &'a [&'a str],

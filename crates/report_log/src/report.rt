@@ -63,7 +63,7 @@ pub struct PartMark {
     pub digest: [u8; 32],
 }
 
-/// What a report tells besides the trace.
+/// What a report says besides the trace.
 #[derive(Debug, Drop)]
 pub struct Frame {
     /// The number of the job.

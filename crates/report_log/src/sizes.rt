@@ -20,7 +20,7 @@ const NAME_LIMIT: usize = 255;
 /// 9999-12-30T22:00:00Z, in seconds since 1970-01-01T00:00:00Z.
 const LAST_SECOND: u64 = 253_402_207_200;
 
-/// Tells whether a report is in size: its version has at most 64 characters, it lists at most 64 ids of at most 256 bytes in
+/// Returns whether a report is in size: its version has at most 64 characters, it lists at most 64 ids of at most 256 bytes in
 /// UTF-8 and has at most 8 parts with names of at most 255 bytes, and its times are at most 253,402,207,200. Takes no memory.
 pub fn is_in_size(report: &Report) -> bool
     ensures { IsTrue result ↔ ReportInSize report.now }

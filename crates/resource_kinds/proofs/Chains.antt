@@ -21,13 +21,13 @@ pub chain_append : {S : Type 0} (does : S → Document → Entry → S → Type 
 chain_append does still document a [] b e es c joins one other = (other.0, joins a b other.0 document e one other.1, other.2)
 chain_append does still document a (x ∷ t) b e es c joins one other = (one.0, one.1, chain_append does still document one.0 t b e es c joins one.2 other)
 
--- a chain of values is one of what they tell
+-- a chain of values is one of what they say
 pub chain_map : {S T : Type 0} (f : S → T) (does : T → Document → Entry → T → Type 0) (still : T → T → Type 0) (document : Document) (a : S) (t : List Entry) (b : S)
     → Chain (λ x d e y. does (f x) d e (f y)) (λ x y. still (f x) (f y)) document a t b → Chain does still document (f a) t (f b)
 chain_map f does still document a [] b chain = chain
 chain_map f does still document a (e ∷ t) b chain = (f chain.0, chain.1, chain_map f does still document chain.0 t b chain.2)
 
--- what a chain of values over a host tells is true, where the host tells
+-- what a chain of values over a host says is true, where the host exposes what it holds
 pub tells_true : (document : Document) (t : List Entry) (a b : Option HostState) → Chain TellsEntry (λ x y. x ≡ y) document a t b → TellsTrue document a t b
 tells_true document [] None b chain = (sym chain, All-nil (KeepsTable document))
 tells_true document [] (Some s) b chain = (s, sym chain, refl)

@@ -1,4 +1,4 @@
--- Resources meet where their keys tell it.
+-- Resources meet where their keys say so.
 use Rattle.std.proofs.Common.{◌≡◌, ◌⊎◌, ◌+◌, ◌<◌, ◌≤◌, ℕ, zero, suc, List, [], ◌∷◌, ◌++◌, true, false, IsTrue, Option, Some, None, inl, inr, map, length, take, get_or, slice_get, option_and_then, is_some, refl, sym, ap, subst, ◌∙◌, ⊎_elim, arith, length-append, drop, append_assoc, drop-cons}
 use Rattle.std.specs.Result.{result_ok}
 use Rattle.std.specs.Str.{bytes_eq}

@@ -26,7 +26,7 @@ below_chars (c ∷ cs) b is =
     let rest = below_chars cs found.0 (is.0, found.2) in
     (rest.0, found.1 ∙ ap (λ chars. c ∷ chars) rest.1)
 
--- ---- what an order tells
+-- ---- what an order says
 
 abbrev pub IsOrder : PathOrder → List ℕ → List ℕ → Type 0
 IsOrder Same a b = a ≡ b

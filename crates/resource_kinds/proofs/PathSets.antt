@@ -1,4 +1,4 @@
--- What a Set of one path makes of another, and the tests that tell which paths it reaches.
+-- What a Set of one path makes of another, and the tests that show which paths it reaches.
 use Rattle.std.proofs.Common.{◌≡◌, ℕ, Bool, true, false, cond, ◌||◌, List, [], ◌∷◌, refl, sym, ap, ap₂}
 use Rattle.std.proofs.lemmas.Bool.{and_parts, eqb-true, false≢true, false_from_ne_true}
 use Rattle.std.proofs.lemmas.Slice.Eq.{bytes_eq-Decides}

@@ -28,7 +28,7 @@ use Rattle.resource_kinds.proofs.PathOrders.{IsOrder, below_bytes, below_chars, 
 
 -- ---- paths
 
--- what is told of two paths by their order
+-- what is answered of two paths by their order
 abbrev pub told : PathOrder → Bool → Bool → Bool
 told orders.Same closed other_closed = true
 told orders.Above closed other_closed = closed

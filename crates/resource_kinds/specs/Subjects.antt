@@ -1,4 +1,4 @@
--- What matters of a resource where it meets others, as the code tells it from the texts of the resource.
+-- What matters of a resource where it meets others, as the code finds it from the texts of the resource.
 use Rattle.std.specs.Prelude.{ℕ, Bool, not, ◌||◌, if◌then◌else◌, List, Option, Some, None, encode_utf8_all}
 use Rattle.mof_values.specs.declared.instance.Instance.{Instance}
 use Rattle.resource_kinds.specs.Apart.{Matter, MattersMeet, Path, Variable, LogEntry, matter_of}

@@ -57,7 +57,7 @@ by_key kinds.File resource text = on_path resource.instance (path_of text)
 by_key kinds.Environment resource text = Ok (variable_of resource.instance (folded_utf8 text))
 by_key kinds.Log resource text = Ok (Logged (folded_utf8 resource.id) (encode_utf8_all text))
 
--- a wrong property is told before a missing key, and a key that is no path last
+-- a wrong property is reported before a missing key, and a key that is no path last
 abbrev pub by_table : Kind → Resource → Option Property → Option (List ℕ) → Result Wanted Failure
 by_table kind resource (Some property) text = Err (OutOfProfile property.name)
 by_table kind resource None None = Err (OutOfProfile (key_of kind))

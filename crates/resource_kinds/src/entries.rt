@@ -17,7 +17,7 @@ pub fn entry_laws()
     ensures kept { (old value : List ℕ) → entries_of (without_entries (Some old) value) ≡ kept_entries old value }
 {}
 
-/// Tells whether the variable is there and has each entry of the value that is not empty.
+/// Returns whether the variable is there and has each entry of the value that is not empty.
 pub fn has_entries(alloc: Global, old: Option<&[u8]>, value: &[u8]) -> Result<bool, AllocError>
     ensures { IfOk result (λ has. IsTrue has ↔ HasEntries (option_copied old.entry) value.now) }
 {
@@ -30,7 +30,7 @@ pub fn has_entries(alloc: Global, old: Option<&[u8]>, value: &[u8]) -> Result<bo
     }
 }
 
-/// Tells whether the variable has no entry of the value but empty ones.
+/// Returns whether the variable has no entry of the value but empty ones.
 pub fn lacks_entries(alloc: Global, old: Option<&[u8]>, value: &[u8]) -> Result<bool, AllocError>
     ensures { IfOk result (λ lacks. IsTrue lacks ↔ LacksEntries (option_copied old.entry) value.now) }
 {
@@ -66,7 +66,7 @@ pub fn without_entries(
     Ok(Some(joined(alloc, kept.as_slice())?))
 }
 
-// Tells whether each entry of the value that is not empty is in the set.
+// Returns whether each entry of the value that is not empty is in the set.
 fn all_in(own: &EntrySet, value: &[u8]) -> bool
     ensures { result ≡ list_all (λ e. (length e == 0) || is_in own.now e) (entries value.now) }
 {
@@ -75,7 +75,7 @@ fn all_in(own: &EntrySet, value: &[u8]) -> bool
         .all(|entry| entry.is_empty() || own.has(entry))
 }
 
-// Tells whether no entry of the value that is not empty is in the set.
+// Returns whether no entry of the value that is not empty is in the set.
 fn none_in(own: &EntrySet, value: &[u8]) -> bool
     ensures { result ≡ list_all (λ e. (length e == 0) || not (is_in own.now e)) (entries value.now) }
 {

@@ -76,7 +76,7 @@ impl Entry {
             Entry::Tested { place, .. } | Entry::Set { place, .. } => *place,
         }
     }
-    /// Tells whether it is a Test that answered yes.
+    /// Returns whether it is a Test that answered yes.
     pub fn is_yes(&self) -> bool
         ensures { result ≡ entry_is_yes self.now }
     {

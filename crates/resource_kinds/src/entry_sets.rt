@@ -33,7 +33,7 @@ impl<'a> EntrySet<'a> {
         Ok(set)
     }
 
-    /// Puts the entry into the set, and tells whether it is new there.
+    /// Puts the entry into the set, and returns whether it is new there.
     pub fn insert(&mut self, entry: &'a [u8]) -> Result<bool, AllocError>
         ensures new { IfOk result (λ new. new ≡ not (is_in self.old entry.now)) }
         ensures put { OnOk result ((other : List ℕ) → is_in self.new other ≡ (bytes_eq other entry.now || is_in self.old other)) }
@@ -41,7 +41,7 @@ impl<'a> EntrySet<'a> {
         Ok(self.entries.insert(entry)?)
     }
 
-    /// Tells whether the entry is in the set.
+    /// Returns whether the entry is in the set.
     pub fn has(&self, entry: &[u8]) -> bool
         ensures { result ≡ is_in self.now entry.now }
     {

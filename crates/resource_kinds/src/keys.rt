@@ -21,7 +21,7 @@ impl Keys {
         }
     }
 
-    /// Gives the key this place, and tells which one it had.
+    /// Gives the key this place, and returns the one that it had.
     pub fn put(&mut self, key: Vec<u8>, place: u32) -> Result<Option<u32>, AllocError>
         ensures had { IfOk result (λ had. had ≡ place_of self.old key.items) }
         ensures put { OnOk result (Puts self.old self.new key.items place) }
@@ -29,7 +29,7 @@ impl Keys {
         Ok(self.by_key.insert(key, place)?)
     }
 
-    /// Tells whether some key that begins with this has a place.
+    /// Returns whether some key that begins with this has a place.
     pub fn any_begins_with(&self, front: &Vec<u8>) -> bool
         ensures { IsTrue result ↔ AnyBeginsWith self.now front.now.items }
     {

@@ -10,7 +10,7 @@ use dsc_outside::HostError;
 
 /// The resources of a machine that also keeps module packages. The calls on packages keep no entry.
 pub trait Machine: Resources {
-    /// The packages, the oldest first, where they are told.
+    /// The packages, the oldest first, where they are exposed.
     ghost packages: { Self → Option (List Package) };
 
     /// Nothing has changed but the packages.

@@ -9,7 +9,7 @@ use crate::utf8::Utf8;
 use crate::wanted::Wanted;
 use dsc_outside::{Host, HostError, PathState};
 
-/// Tells whether something on the host is in the way of what is asked for.
+/// Returns whether something on the host is in the way of what is asked for.
 pub fn is_in_the_way<H: Host>(host: &mut H, wanted: &Wanted) -> Result<bool, HostError>
     ensures told { H.told host.new ≡ H.told host.old }
     ensures answer { Tells (H.told host.old) result (λ state yes. IsTrue yes ↔ InTheWay state wanted.now) }
@@ -54,7 +54,7 @@ fn bars_folder<H: Host>(host: &mut H, path: &Utf8) -> Result<bool, HostError>
     stands_for_folder(host, path.as_str())
 }
 
-// Tells whether something that is no folder stands at the path.
+// Returns whether something that is no folder stands at the path.
 fn stands_for_folder<H: Host>(host: &mut H, path: &str) -> Result<bool, HostError>
     ensures told { H.told host.new ≡ H.told host.old }
     ensures answer { Tells (H.told host.old) result (λ state yes. IsTrue yes ↔ BarsFolder (state.path path.now)) }
@@ -81,7 +81,7 @@ fn bars_removal<H: Host>(host: &mut H, path: &Utf8, forced: bool) -> Result<bool
     }
 }
 
-// Tells whether something that is no folder stands above the path; it looks from the top, and no further than that.
+// Returns whether something that is no folder stands above the path; it looks from the top, and no further than that.
 fn is_barred<H: Host>(host: &mut H, path: &str) -> Result<bool, HostError>
     ensures told { H.told host.new ≡ H.told host.old }
     ensures answer { Tells (H.told host.old) result (λ state yes. IsTrue yes ↔ IsBarred state.path path.now) }

@@ -13,7 +13,7 @@ use crate::wanted::{Wanted, WantedError, wanted_of};
 use dsc_document::{Document, Resource};
 use std::alloc::{AllocError, Global};
 
-/// Tells whether two resources without a fault meet: they are about one path, one variable or one entry of the log, or
+/// Returns whether two resources without a fault meet: they are about one path, one variable or one entry of the log, or
 /// the path of one lies below that of the other, and the other does not ask for a folder there.
 ///
 /// What each is about is kept by a key, once. Keys of paths below a path follow each other in the order of keys, so one
@@ -38,7 +38,7 @@ pub fn overlaps(alloc: Global, document: &Document) -> Result<bool, AllocError>
     Ok(false)
 }
 
-/// Tells whether no two resources without a fault meet; takes no memory, and compares each two.
+/// Returns whether no two resources without a fault meet; takes no memory, and compares each two.
 pub fn apart(document: &Document) -> bool
     ensures apart { result ≡ true → Apart document.now }
     ensures overlap { result ≡ false → Overlap document.now }
@@ -51,7 +51,7 @@ pub fn apart(document: &Document) -> bool
     true
 }
 
-// Tells whether the resource at that place meets one before it.
+// Returns whether the resource at that place meets one before it.
 fn meets_earlier(document: &Document, second: usize) -> bool
     requires { second < length document.now.resources }
     ensures { IsTrue result ↔ MeetsEarlier document.now second }
@@ -89,7 +89,7 @@ fn wanted_if_any(alloc: Global, resource: &Resource) -> Result<Option<Wanted>, A
     }
 }
 
-// Gives what is asked for a place by its key, and tells the place of another one that is about the same.
+// Gives what is asked for a place by its key, and returns the place of another one that is about the same.
 fn put_key(
     alloc: Global,
     keys: &mut Keys,
@@ -105,7 +105,7 @@ fn put_key(
     }
 }
 
-// Tells whether something has a place that is about a path below this one's, where no folder is asked for.
+// Returns whether something has a place that is about a path below this one's, where no folder is asked for.
 fn has_inside(alloc: Global, keys: &Keys, wanted: &Option<Wanted>) -> Result<bool, AllocError>
     ensures { IfOk result (λ inside. IsTrue inside ↔ HasInside keys.now wanted.now) }
 {

@@ -1,4 +1,4 @@
-//! How the paths that two texts mean lie to each other, told character by character.
+//! How the paths that two texts mean lie to each other, found character by character.
 ghost use Rattle.std.specs.Prelude.{◌≡◌, ◌≢◌, ◌<◌, ◌∷◌, [], length, option_map, IfSome};
 ghost use Rattle.std.specs.List.{join_with_byte};
 ghost use Rattle.std.specs.Option.{MatchOption};

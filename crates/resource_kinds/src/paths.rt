@@ -35,7 +35,7 @@ pub fn path_of(alloc: Global, text: &Text) -> Result<Option<String>, AllocError>
     }
 }
 
-/// Tells whether the text means a path.
+/// Returns whether the text means a path.
 pub fn is_path(text: &Text) -> bool
     ensures { result ≡ is_some (path_of text.now) }
 {

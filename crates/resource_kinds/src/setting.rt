@@ -21,7 +21,7 @@ use dsc_outside::{Host, HostError};
 use mof_values::Text;
 use std::alloc::Global;
 
-/// Makes of the host what the resource asks for, where nothing is in the way, and tells whether the host wants a reboot
+/// Makes of the host what the resource asks for, where nothing is in the way, and returns whether the host wants a reboot
 /// for it; with a fault of its own the host is not called.
 pub fn set<H: Host>(alloc: Global, host: &mut H, resource: &Resource) -> SetAnswer
     ensures told { TellsStep (H.told host.old) (H.told host.new) (λ before after. SetsTrue before resource.now.id (wanted_of resource.now) result after) }

@@ -1,4 +1,4 @@
-//! What resources are about, told without memory.
+//! What resources are about, found without memory.
 ghost use Rattle.std.specs.Prelude.{◌≡◌, ◌↔◌, IfOk, IsTrue, None, Some, option_map};
 ghost use Rattle.std.specs.Result.{is_err, result_ok};
 ghost use Rattle.resource_kinds.specs.Paths.{path_of};
@@ -17,7 +17,7 @@ use mof_values::{Instance, Text, same_text};
 /// What a resource is about.
 #[derive(Clone, Copy)]
 pub enum Subject<'a> {
-    /// A path, and the instance, which tells whether a folder is asked for there.
+    /// A path, and the instance, which says whether a folder is asked for there.
     Path {
         path: PathRest<'a>,
         instance: &'a Instance,
@@ -43,7 +43,7 @@ pub fn subject_of<'a>(resource: &'a Resource) -> Option<Subject<'a>>
     named_subject(resource)
 }
 
-/// Tells whether the resource has no fault and is about what meets the subject.
+/// Returns whether the resource has no fault and is about what meets the subject.
 pub fn meets(resource: &Resource, subject: Subject) -> bool
     ensures { IsTrue result ↔ AsksMeeting (result_ok (wanted_of resource.now)) (subject_matter subject.entry) }
 {
@@ -62,7 +62,7 @@ fn has_fault(resource: &Resource) -> bool
     }
 }
 
-// Tells whether the key is missing, or no path where it should be one.
+// Returns whether the key is missing, or no path where it should be one.
 fn lacks_key(kind: Kind, resource: &Resource) -> bool
     ensures { result ≡ is_err (by_table kind resource.now None (text_named (key_of kind) resource.now.instance)) }
 {
@@ -146,7 +146,7 @@ fn paths_meet(
     }
 }
 
-// Tells whether the instance asks for no folder.
+// Returns whether the instance asks for no folder.
 fn is_closed(instance: &Instance) -> bool
     ensures { result ≡ is_closed instance.now }
 {

@@ -131,7 +131,7 @@ fn fits_environment_row(property: &Property) -> bool
         || (has_name(name, "Path") && is_truth_value(value))
 }
 
-// Tells whether every kind has the property.
+// Returns whether every kind has the property.
 fn is_common(name: &Ident) -> bool
     ensures { result ≡ list_any (same_name name.now) common }
 {

@@ -19,7 +19,7 @@ use dsc_document::Resource;
 use dsc_outside::{Host, HostError, PathState};
 use std::alloc::Global;
 
-/// Tells whether what the resource asks for holds on the host, which stays as it is; one with a fault is not looked for.
+/// Returns whether what the resource asks for holds on the host, which stays as it is; one with a fault is not looked for.
 pub fn test<H: Host>(alloc: Global, host: &mut H, resource: &Resource) -> TestAnswer
     ensures told { H.told host.new ≡ H.told host.old }
     ensures answer { IfSome (H.told host.old) (λ state. AnswersTrue state (wanted_of resource.now) result) }

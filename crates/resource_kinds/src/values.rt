@@ -61,14 +61,14 @@ pub fn is_truth_value(value: &Value) -> bool
     matches!(value, Value::One(Scalar::Bool(_)))
 }
 
-/// Tells whether the property of that name is this word, by fold.
+/// Returns whether the property of that name is this word, by fold.
 pub fn says(instance: &Instance, name: &str, word: &str) -> bool
     ensures { result ≡ says name.now word.now instance.now }
 {
     is_word(text_named(instance, name), word)
 }
 
-/// Tells whether the property of that name is true.
+/// Returns whether the property of that name is true.
 pub fn says_yes(instance: &Instance, name: &str) -> bool
     ensures { result ≡ says_yes name.now instance.now }
 {
@@ -130,7 +130,7 @@ fn is_word(text: Option<&Text>, word: &str) -> bool
     }
 }
 
-/// Tells whether the name is this word, by fold.
+/// Returns whether the name is this word, by fold.
 pub fn has_name(name: &Ident, word: &str) -> bool
     ensures { result ≡ same_name name.now word.now }
 {

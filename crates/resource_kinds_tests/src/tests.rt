@@ -41,7 +41,7 @@ fn tested(alloc: Global, document: &Document, host: MemoryHost) -> &'static str 
     }
 }
 
-// Tells whether a Set of the document's resource answers so and makes that of the machine.
+// Returns whether a Set of the document's resource answers so and makes that of the machine.
 fn is_set(
     alloc: Global,
     document: &Document,
@@ -57,7 +57,7 @@ fn is_set(
     }
 }
 
-// Tells whether the document's resource is set, and then holds.
+// Returns whether the document's resource is set, and then holds.
 fn lasts(alloc: Global, document: &Document, host: MemoryHost) -> bool {
     let mut kinds = Kinds::new(alloc, host);
     if document.resources.as_slice().is_empty() || kinds.reserve(2).is_err() {
@@ -86,7 +86,7 @@ fn check_set(rt: &impl AllocGlobal, row: &SetRow) -> Result<(), Fail> {
     holds(is_set_as(rt, &document, row)?, row.0)
 }
 
-// Tells whether a Set of the document's resource answers as the row says, and makes that of the machine.
+// Returns whether a Set of the document's resource answers as the row says, and makes that of the machine.
 fn is_set_as(rt: &impl AllocGlobal, document: &Document, row: &SetRow) -> Result<bool, Fail> {
     let after = machine(rt, row.4)?;
     let host = host(rt, row.1, row.2)?;

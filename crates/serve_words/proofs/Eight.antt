@@ -1,4 +1,4 @@
--- The eight words are taken, and give their values.
+-- The eight arguments are taken, and give their values.
 use Rattle.std.proofs.Common.{◌≡◌, ◌∙◌, ◌≤◌, ◌==◌, ℕ, Bool, true, false, List, [], ◌∷◌, refl, sym, ap, ap₂, cond, drop, subst, Option, Some, None, codes, arith, rules, bytes_eq, if◌then◌else◌, ◌&&◌}
 use Rattle.std.specs.Prelude.{fold, option_and_then, pos}
 use Rattle.std.specs.Fmt.{decimal}
@@ -33,7 +33,7 @@ after_walk end =
     or_else (settle_fault built.rules false end) (or_else (defaults_fault (settled built.rules end).rows built.rules)
     (check_fault shape (finished built.rules end) false))
 
--- ---- a word that is no flag
+-- ---- an argument that is no flag
 
 module _ (x : ℕ) (xs : Text) (other : (x == 45) ≡ false) where
   no_dashes : bytes_eq (x ∷ xs) (45 ∷ 45 ∷ []) ≡ false
@@ -118,7 +118,7 @@ module _ (s f l n : Text) where
   unfolding clap_on_literals
   passes_at_end takes = ap (λ (b : Bool). or_else (or_else (if b then [] else kind.ValueValidation ∷ []) []) []) takes
 
--- ---- the eight words
+-- ---- the eight arguments
 
 module _ (x y z u : ℕ) (xs ys zs us : Text) (hx : (x == 45) ≡ false) (hy : (y == 45) ≡ false) (hz : (z == 45) ≡ false) (hu : (u == 45) ≡ false) where
   abbrev s' : Text

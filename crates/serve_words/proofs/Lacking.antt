@@ -1,4 +1,4 @@
--- Words none of which names some option are refused.
+-- Arguments none of which names some option are refused.
 use Rattle.std.proofs.Common.{◌≡◌, ◌≢◌, ◌⊎◌, ◌∙◌, ◌++◌, ◌==◌, ℕ, Bool, true, false, List, [], ◌∷◌, refl, sym, ap, subst, Option, Some, None, length, inl, inr, slice_index_or, if◌then◌else◌}
 use Rattle.std.specs.List.{All, after_first, before_first, position_or_len}
 use Rattle.std.proofs.lemmas.Bool.{cases_lt, eqb-true}
@@ -15,7 +15,7 @@ use Rattle.serve_words.proofs.Entries.{Each, Entry, each_adds, each_push}
 use Rattle.serve_words.proofs.Steps.{Step, ended, ends_with, given, named, valued}
 use Rattle.serve_words.proofs.Taken.{found_at_end}
 
--- ---- a word that is read as a long option names it
+-- ---- an argument that is read as a long option names it
 
 stripped : (c : ℕ) (word rest : Text) → strip_byte c word ≡ Some rest → word ≡ c ∷ rest
 stripped c [] rest e = cc

@@ -1,4 +1,4 @@
--- Words that give `--connections` what is no number from 1 to 1,000,000 are refused.
+-- Arguments that give `--connections` what is no number from 1 to 1,000,000 are refused.
 use Rattle.std.proofs.Common.{◌≡◌, ◌≢◌, ◌∙◌, ◌++◌, ℕ, Bool, true, false, List, [], ◌∷◌, refl, sym, ap, subst, Option, Some, None, codes, arith, bytes_eq, is_some}
 use Rattle.std.specs.Prelude.{pos}
 use Rattle.std.specs.Str.Parse.{IsNumeral, digits_value, starts_with_minus, without_leading_plus}
@@ -62,7 +62,7 @@ full_taken o v (word ∷ words) es position is_over h =
     go fs next over (given p w gs e adds takes) left rec = adds.1
     go fs next over (valued p e plain) left rec = cc
 
--- and so is the word after the name of an option
+-- and so is the argument after the name of an option
 opened_taken : (o : Which) (text : Text) (words : List Text) (es : List Entry) (position : ℕ) (is_over : Bool)
     → remains (state (rows_of es) (opened o) position is_over) (text ∷ words) ≡ [] → Takes (o, text)
 opened_taken o text words es position is_over h =
@@ -78,9 +78,9 @@ opened_taken o text words es position is_over h =
         let same : p ≡ o = cc in
         subst (λ (q : Which). Takes (q, text)) same (full_taken p text words es position false left)
 
--- ---- from the first word on
+-- ---- from the first argument on
 
--- where the walk stands after words that are followed by these
+-- where the walk stands after arguments that are followed by these
 record Reaches (rest : List Text) (position : ℕ) : Type 0 where
   es : List Entry
   place : Place

@@ -1,4 +1,4 @@
--- A walk without faults, word by word, in entries.
+-- A walk without faults, argument by argument, in entries.
 use Rattle.std.proofs.Common.{◌≡◌, ◌∙◌, ◌++◌, ℕ, suc, Bool, true, false, List, [], ◌∷◌, refl, ap, subst, Some, None, arith}
 use Rattle.std.specs.Prelude.{fold}
 use Rattle.std.specs.List.{All}
@@ -10,7 +10,7 @@ use Rattle.serve_words.proofs.Options.{Which, name, remains, rule, rules, shape}
 use Rattle.serve_words.proofs.Turns.{Place, Turn, closed, dashes, ends, fills, first_empty, full, gives, held_at, no_turn, opened, opens, state, turn}
 use Rattle.serve_words.proofs.Entries.{Adds, Entry, Takes, rows_of, settles, use_adds}
 
--- what a word makes of the entries and the place; the last says that `--` was met
+-- what an argument makes of the entries and the place; the last says that `--` was met
 pub data Step (word : Text) (es : List Entry) (place : Place) : List Entry → Place → Bool → Type 0 where
   ended : word ≡ dashes → Step word es place es place true
   named : (o : Which) (fs : List Entry) → long_of word ≡ Some (name o, None) → Adds place es fs → Step word es place fs (opened o) false
@@ -55,9 +55,9 @@ module _ (word : Text) (es : List Entry) (place : Place) (position : ℕ) where
   pub stepped : turn_fault shape [] (state (rows_of es) place position false) word ≡ [] → Stepped word es place position
   stepped h = stepped_by _ refl (turn (rows_of es) position word place h)
 
--- ---- many words
+-- ---- many arguments
 
--- nothing is left to fail after the first word, if nothing was before it
+-- nothing is left to fail after the first argument, if nothing was before it
 pub remains_after : (w : Walk) (word : Text) (words : List Text) → remains w (word ∷ words) ≡ []
     → (turn_fault shape [] w word ≡ []) × (remains (walked rules [] w word) words ≡ [])
 unfolding walk_fault
@@ -72,7 +72,7 @@ remains_after w word words h =
         or_else (settle_fault rules false end)
         (or_else (defaults_fault (settled rules end).rows rules) (check_fault shape (finished rules end) false))
 
--- one word more, from a place where nothing is left to fail
+-- one argument more, from a place where nothing is left to fail
 pub record Goes (word : Text) (words : List Text) (es : List Entry) (place : Place) (position : ℕ) : Type 0 where
   pub stepped : Stepped word es place position
   pub remains : remains (state (rows_of stepped.fs) stepped.next position stepped.is_over) words ≡ []

@@ -1,4 +1,4 @@
--- What words without a fault hold: each option once, with a value that its parser takes.
+-- What arguments without a fault hold: each option once, with a value that its parser takes.
 use Rattle.std.proofs.Common.{◌≡◌, ◌∙◌, List, [], sym, ap, subst, Some, bytes_eq, Bool, false}
 use Rattle.std.specs.Prelude.{find}
 use Rattle.clap.specs.Faults.{check_fault, fault_of}

@@ -1,4 +1,4 @@
--- One word of a walk without faults.
+-- One argument of a walk without faults.
 use Rattle.std.proofs.Common.{◌≡◌, ◌∙◌, ℕ, zero, suc, Bool, true, false, List, [], ◌∷◌, refl, sym, ap, cond, ◌||◌, ◌==◌, Option, Some, None, bytes_eq, length, drop, if◌then◌else◌}
 use Rattle.std.specs.Prelude.{slice_get, encode_utf8}
 use Rattle.std.specs.Option.{option_map_or}
@@ -45,7 +45,7 @@ state rows place position ended =
 abbrev pub settled_at : List Row → Place → List Row
 settled_at rows place = settled_rows rules (pending_at place) rows
 
--- ---- what a word without a fault does
+-- ---- what an argument without a fault does
 
 abbrev pub dashes : Text
 dashes = 45 ∷ 45 ∷ []
@@ -155,6 +155,6 @@ module _ (rows : List Row) (position : ℕ) (word : Text) where
   turn (opened o) h = dash_turn (bytes_eq word dashes) (opened o) refl h
   turn (full o v) h = dash_turn (bytes_eq word dashes) (full o v) refl h
 
-  -- after `--` no word is without a fault
+  -- after `--` no argument is without a fault
   pub no_turn : (place : Place) → turn_fault shape [] (state rows place position true) word ≡ [] → ⊥
   no_turn place h = some_empty _ _ h

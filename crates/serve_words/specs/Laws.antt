@@ -1,16 +1,16 @@
--- Which words are taken, and which are refused.
+-- Which arguments are taken, and which are refused.
 use Rattle.std.specs.Prelude.{◌≡◌, ◌≢◌, ◌⊎◌, ◌<◌, ◌≤◌, ℕ, List, [], ◌∷◌, ◌++◌, All, codes, Some, length, slice_index}
 use Rattle.std.specs.Fmt.{decimal}
 use Rattle.clap.specs.Words.{fault_of}
 use Rattle.serve_words.specs.Words.{SpellsCount, serve_app, value_of}
 
--- ---- the eight words
+-- ---- the eight arguments
 
 abbrev pub eight_words : List ℕ → List ℕ → List ℕ → List ℕ → List (List ℕ)
 eight_words store shelf listen connections =
     codes "--store" ∷ store ∷ codes "--shelf" ∷ shelf ∷ codes "--listen" ∷ listen ∷ codes "--connections" ∷ connections ∷ []
 
--- the words are taken and give these values
+-- the arguments are taken and give these values
 pub record Give (words : List (List ℕ)) (store shelf listen : List ℕ) (connections : ℕ) : Type 0 where
   pub taken : fault_of serve_app words ≡ []
   pub store_is : value_of (codes "store") words ≡ Some store
@@ -27,12 +27,12 @@ EightWordsAreTaken =
     (store shelf listen : List ℕ) (count : ℕ) → IsPlain store → IsPlain shelf → IsPlain listen → 1 ≤ count → count ≤ 1_000_000
     → Give (eight_words store shelf listen (decimal count)) store shelf listen count
 
--- ---- words without an option
+-- ---- arguments without an option
 
 abbrev pub IsOption : List ℕ → Type 0
 IsOption name = (name ≡ codes "store") ⊎ (name ≡ codes "shelf") ⊎ (name ≡ codes "listen") ⊎ (name ≡ codes "connections")
 
--- the word is `--name`, or `--name=` and a value; 61 is `=`
+-- the argument is `--name`, or `--name=` and a value; 61 is `=`
 abbrev pub Names : List ℕ → List ℕ → Type 0
 Names name word = (word ≡ codes "--" ++ name) ⊎ ((value : List ℕ) × (word ≡ codes "--" ++ name ++ 61 ∷ value))
 

@@ -16,7 +16,7 @@ option_rule name = record (new_rule name) { long = Some name; action = Some Set;
 abbrev pub count_rule : Rule
 count_rule = record (option_rule (codes "connections")) { parser = Some (vp.Signed (pos 1) (pos 1_000_000)) }
 
--- no word is the program's name
+-- no argument is the program's name
 abbrev pub bare : App
 bare = on_top (λ s. record s { no_binary_name = true }) (new_app (codes "serve"))
 
@@ -34,11 +34,11 @@ pub record SpellsCount (text : List ℕ) (count : ℕ) : Type 0 where
   pub least : 1 ≤ count
   pub most : count ≤ 1_000_000
 
--- the first value of the option with this name in the words
+-- the first value of the option with this name in the arguments
 unfoldable pub value_of : List ℕ → List (List ℕ) → Option (List ℕ)
 value_of name words = first_of name (matches_of serve_app words)
 
--- the words, each in UTF-8, are taken, and these are their values
+-- the arguments, each in UTF-8, are taken, and these are their values
 pub record AreValues (words : List (List ℕ)) (values : ServeWords) : Type 0 where
   pub taken : fault_of serve_app words ≡ []
   pub store : value_of (codes "store") words ≡ Some (encode_utf8_all values.store)
@@ -52,7 +52,7 @@ pub record AreValues (words : List (List ℕ)) (values : ServeWords) : Type 0 wh
 abbrev pub HasText : List ℕ → List Row → Type 0
 HasText name rows = (text : List ℕ) × (first_of name rows ≡ Some text)
 
--- the number of connections is spelled, as it stands in the words and as it is read
+-- the number of connections is spelled, as it stands in the arguments and as it is read
 abbrev pub HasCount : List Row → ℕ → Type 0
 HasCount rows count =
     (text : List ℕ) × (first_of (codes "connections") rows ≡ Some text) × (one_of (codes "connections") rows ≡ Some text)

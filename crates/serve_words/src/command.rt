@@ -6,7 +6,7 @@ ghost use Rattle.serve_words.specs.Words.{count_rule, option_rule, serve_app};
 use clap::{Arg, ArgAction, Command};
 use std::alloc::{AllocError, Global};
 
-/// The pull server's command: its four options and no other argument; no word is the program's name.
+/// The pull server's command: its four options and no other argument; no argument is the program's name.
 pub(crate) fn command<'a>(alloc: Global) -> Result<Command<'a>, AllocError>
     ensures { IfOk result (λ command. app_of command ≡ serve_app) }
 {

@@ -1,9 +1,9 @@
 //! The command line of the pull server.
 //!
-//! The words are four options in any order, each once and with a value: the file of the store, the folder of the shelf, the
+//! The arguments are four options in any order, each once and with a value: the file of the store, the folder of the shelf, the
 //! address to listen at, and how many connections to serve. The command line is read with `clap`; a layer above may rely on it
-//! that the values are those of the words, and that words are refused exactly where the command of `clap` refuses them, which
-//! the laws say of whole lists of words.
+//! that the values are those of the arguments, and that arguments are refused exactly where the command of `clap` refuses them, which
+//! the laws say of whole lists of arguments.
 #![tactic(auto)]
 
 mod command;

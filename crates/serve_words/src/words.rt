@@ -1,4 +1,4 @@
-//! The words and their values.
+//! The arguments and their values.
 ghost use Rattle.std.specs.Prelude.{◌≡◌, ◌≢◌, [], IfOk, IsErrOf, map, string_bytes};
 ghost use Rattle.clap.specs.Words.{fault_of, found_of, matches_of, rows_of};
 ghost use Rattle.serve_words.specs.Words.{AreValues, serve_app};
@@ -26,10 +26,10 @@ pub struct ServeWords {
     pub connections: u32,
 }
 
-/// Why words give no values.
+/// Why arguments give no values.
 #[derive(Clone, Copy, Debug, PartialEq, Eq)]
 pub enum WordsError {
-    /// The words are not the four options, each once and with a value that it takes.
+    /// The arguments are not the four options, each once and with a value that it takes.
     Usage,
 
     /// Memory was refused.

@@ -1,9 +1,9 @@
-//! Which words are taken, and with which values.
+//! Which arguments are taken, and with which values.
 use serve_words::{ServeWords, WordsError, serve_words};
 use std::alloc::{AllocError, Global};
 use std::test::Fail;
 
-// Command lines, words apart by one blank, and what comes of them: the values, or `refused`.
+// Command lines, arguments apart by one blank, and what comes of them: the values, or `refused`.
 fn lines() -> &'static [(&'static str, &'static str)] {
     &[
         (

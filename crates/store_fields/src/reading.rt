@@ -145,7 +145,7 @@ impl<'a> Fields<'a> {
         Ok(Bytes::of(Vec::from_slice(alloc, front)?))
     }
 
-    /// Tells whether all of the body was read.
+    /// Returns whether all of the body was read.
     pub fn is_empty(&self) -> bool
         ensures { IsTrue result ↔ (self.now ≡ []) }
     {

@@ -88,7 +88,7 @@ pub fn left_by_call(outcome: CallOutcome, left: DiskPart, stop_part: DiskPart) -
     }
 }
 
-/// The answer of a call that was to go so, and was tried. Where there was no memory, that is told.
+/// The answer of a call that was to go so, and was tried. Where there was no memory, that is reported.
 pub fn settle(
     outcome: CallOutcome,
     tried: Result<(), AllocError>,

@@ -79,7 +79,7 @@ impl MemoryHost {
         self.contents
     }
 
-    /// Tells whether a stopped call found no memory for the part that it was to leave. Every other call that finds
+    /// Returns whether a stopped call found no memory for the part that it was to leave. Every other call that finds
     /// no memory answers `Memory`.
     pub fn short(&self) -> bool
         ensures { result ≡ self.now.short }
@@ -100,7 +100,7 @@ fn part_done(course: Course, bytes: &[u8]) -> &[u8]
     }
 }
 
-// The answer of a change that was tried. One that was stopped fails, and where it found no memory, that is told.
+// The answer of a change that was tried. One that was stopped fails, and where it found no memory, that is reported.
 fn settled(course: Course, tried: Result<(), AllocError>, short: &mut bool) -> Result<(), HostError>
     ensures { Settles course tried short.old short.new result }
 {

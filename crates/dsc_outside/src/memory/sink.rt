@@ -45,7 +45,7 @@ impl MemorySink {
         &self.bytes
     }
 
-    /// Tells whether a call failed for lack of memory.
+    /// Returns whether a call failed for lack of memory.
     pub fn short(&self) -> bool
         ensures { result ≡ self.now.short }
     {

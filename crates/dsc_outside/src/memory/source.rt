@@ -40,7 +40,7 @@ impl MemorySource {
         }
     }
 
-    /// Tells whether a call failed for lack of memory. None does: a source keeps nothing.
+    /// Returns whether a call failed for lack of memory. None does: a source keeps nothing.
     pub fn short(&self) -> bool
         ensures { result ≡ false }
     {

@@ -9,8 +9,8 @@ use crate::{Ends, Failed, Source};
 use std::io::Read;
 use std::marker::Model;
 
-/// Standard input, as a source: it reads from the reader that the runtime has for it. It tells what its reader tells,
-/// and that of the system tells nothing.
+/// Standard input, as a source: it reads from the reader that the runtime has for it. It exposes what its reader exposes,
+/// and that of the system exposes nothing.
 #[derive(Drop)]
 pub struct InSource<R: Read> {
     reader: R,

@@ -58,7 +58,7 @@ fn is_change(outcome: Result<(), Failed>, want: &Answer<'_>) -> bool {
     }
 }
 
-/// Answers whether the call of a disk that has so many bytes, where it tells them, answers that.
+/// Answers whether the call of a disk that has so many bytes, where it exposes them, answers that.
 pub fn is_answered<D: Disk>(
     alloc: Global,
     disk: &mut D,

@@ -165,7 +165,7 @@ fn expect_after(
     expect_one_in(rt.alloc(), rt, folder, undone, done)
 }
 
-// Tells whether something stands at that place in the folder.
+// Returns whether something stands at that place in the folder.
 fn stands_in(rt: &HostRuntime, folder: &str, place: &str) -> io::Result<bool> {
     let place = format!(in rt.alloc(); "{folder}/{place}")?;
     fs::exists(rt, place.as_str())

@@ -45,7 +45,7 @@ fn with_ample_memory_a_source_gives_its_bytes(rt: HostRuntime) -> Result<(), Fai
     Ok(())
 }
 
-// Tells whether the sink takes the whole piece.
+// Returns whether the sink takes the whole piece.
 fn takes(sink: &mut MemorySink, piece: &[u8]) -> bool {
     sink.write(piece) == Ok(piece.len())
 }

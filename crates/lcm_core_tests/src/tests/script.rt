@@ -1,4 +1,4 @@
-//! Resources that answer as they are told to. An answer is written as a word: `yes`, `no`, `done`, `reboot`, `memory`, or the
+//! Resources that answer as they are set to. An answer is written as a word: `yes`, `no`, `done`, `reboot`, `memory`, or the
 //! name of a failure.
 ghost use Rattle.std.specs.Prelude.{◌≡◌};
 ghost use Rattle.resource_kinds.specs.declared.entry.Entry.{Entry};

@@ -1,6 +1,6 @@
 //! The rows of the tests.
 
-/// Settings without properties, and what is told of them.
+/// Settings without properties, and what is answered of them.
 pub const SETTINGS: &str = "instance of MSFT_DSCMetaConfiguration{};";
 
 pub const USUAL: &str = "ApplyAndMonitor Push false ContinueConfiguration 15 30 false";
@@ -12,7 +12,7 @@ pub const DOWNLOAD: &str =
 pub const PARTIAL: &str =
     "instance of MSFT_PartialConfiguration{ResourceID=\"[PartialConfiguration]";
 
-// Texts, and what is told.
+// Texts, and what is answered.
 pub const SETTING_ROWS: &[(&'static str, &'static str)] = &[
     (
         "instance of MSFT_DSCMetaConfiguration{};",
@@ -114,7 +114,7 @@ pub const SETTING_ROWS: &[(&'static str, &'static str)] = &[
     ("instance of A{", "Mof"),
 ];
 
-// Resource managers with a URL, and what is told.
+// Resource managers with a URL, and what is answered.
 pub const SITES: &[(&'static str, [&'static str; 3])] = &[
     (
         "instance of MSFT_WebResourceManager{ServerURL=\"http://pull:8080/PSDSCPullServer.svc/\";};",
@@ -230,7 +230,7 @@ pub const SITES: &[(&'static str, [&'static str; 3])] = &[
     ),
 ];
 
-// Texts after the settings, and what is told after these.
+// Texts after the settings, and what is answered after these.
 pub const ACCEPTED: &[(&'static str, &'static str)] = &[
     (
         "instance of MSFT_WebDownloadManager as $D{ServerURL=\"http://H\";RegistrationKey=\"k\";ConfigurationNames={\"Web\",\"web\",\"App\"};};",

@@ -4,14 +4,14 @@ ghost use Rattle.mof_codec.specs.Beginnings.{begins_declaration, begins_scalar, 
 
 use crate::machine::state::{Half, Place, State};
 
-/// Tells whether a declaration may begin.
+/// Returns whether a declaration may begin.
 pub(crate) fn begins_declaration(state: State) -> bool
     ensures { result ≡ begins_declaration state.half state.place }
 {
     matches!((state.half, state.place), (Half::Gap, Place::Start))
 }
 
-/// Tells whether a single value may begin.
+/// Returns whether a single value may begin.
 pub(crate) fn begins_scalar(state: State) -> bool
     ensures { result ≡ begins_scalar state.half state.place }
 {
@@ -24,7 +24,7 @@ pub(crate) fn begins_scalar(state: State) -> bool
     )
 }
 
-/// Tells whether an identifier that is no keyword may begin.
+/// Returns whether an identifier that is no keyword may begin.
 pub(crate) fn begins_identifier(state: State) -> bool
     ensures { result ≡ begins_identifier state.half state.place }
 {

@@ -46,7 +46,7 @@ impl Counts {
         }
     }
 
-    /// Tells whether what is begun is one more than there may be.
+    /// Returns whether what is begun is one more than there may be.
     pub(crate) fn is_excess(self, begun: Event) -> bool
         ensures { result ≡ is_excess begun self }
     {

@@ -144,7 +144,7 @@ fn digit_on(more: u8, value: u16, place: Place, c: char) -> Option<State>
     }
 }
 
-/// Tells whether no token and no comment is half read.
+/// Returns whether no token and no comment is half read.
 pub(crate) fn is_whole(half: Half) -> bool
     ensures { result ≡ is_whole half }
 {

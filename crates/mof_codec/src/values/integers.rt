@@ -26,7 +26,7 @@ pub(crate) fn integer(chars: &[char]) -> Option<(i128, &[char])>
     Some((value, rest))
 }
 
-/// Tells whether an integer out of that range comes first, as long as it goes on.
+/// Returns whether an integer out of that range comes first, as long as it goes on.
 pub(crate) fn is_out_of_range(chars: &[char]) -> bool
     ensures { result ≡ true ↔ BeginsExcessInteger chars.now }
 {

@@ -12,7 +12,7 @@ use mof_syntax::separators_rest;
 use mof_values::{Ident, IdentError, is_named};
 use std::alloc::{AllocError, Global};
 
-/// Behind a word that is the keyword by fold.
+/// After a word that is the keyword by fold.
 pub(crate) fn keyword<'a>(chars: &'a [char], keyword: &str) -> Option<&'a [char]>
     ensures some { IfSome result (λ rest. Begins (IsKeyword keyword.now) chars.now rest.now) }
     ensures none { IfNone result (BeginsNo (IsKeyword keyword.now) chars.now) }

@@ -3,7 +3,7 @@ ghost use Rattle.std.specs.Prelude.{◌<◌, ◌≤◌, length, IfSome};
 
 use crate::decider::pieces::{Token, Word};
 
-/// Tells whether all the tokens are declarations, any number of them.
+/// Returns whether all the tokens are declarations, any number of them.
 pub(crate) fn are_declarations(tokens: &[Token]) -> bool {
     let mut left = tokens;
     while !left.is_empty() {

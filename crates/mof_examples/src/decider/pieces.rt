@@ -100,7 +100,7 @@ fn is_separator(chars: &[char]) -> bool {
     }
 }
 
-// Tells whether a comment that is these characters would have ended before.
+// Returns whether a comment that is these characters would have ended before.
 fn holds_end(comment: &[char]) -> bool {
     let mut left = comment;
     while let [_, rest @ ..] = left {
@@ -178,7 +178,7 @@ fn are_digits(chars: &[char], base: u32) -> bool
     !chars.is_empty() && chars.iter().all(|c| c.is_digit(base))
 }
 
-// Tells whether a literal whose opening quote was before ends with these characters, and not sooner.
+// Returns whether a literal whose opening quote was before ends with these characters, and not sooner.
 fn ends_literal(chars: &[char]) -> bool {
     let mut left = chars;
     while let [c, rest @ ..] = left {

@@ -25,7 +25,7 @@ pub type Row = (
     &'static str,
 );
 
-/// Tells whether a pull comes to what the row says.
+/// Returns whether a pull comes to what the row says.
 pub fn comes_to(alloc: Global, row: &Row) -> bool {
     let (declared, held, answers, failing, exchanges, wanted) = *row;
     let Ok(mut link) = link(alloc, answers, failing) else {

@@ -105,7 +105,7 @@ fn cell_of(alloc: Global, at: usize) -> Result<usize, AllocError> {
     Ok(begin)
 }
 
-// The first byte whose change is told otherwise.
+// The first byte whose change is answered otherwise.
 fn first_told_otherwise(alloc: Global) -> Result<Option<usize>, AllocError> {
     let mut file = open_file(alloc, SMALL, 1)?;
     file.push(0)?;

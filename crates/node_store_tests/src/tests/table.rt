@@ -1,4 +1,4 @@
-//! Each event in each state that the conditions tell apart: what the store then keeps, or why the event is not allowed.
+//! Each event in each state that the conditions distinguish: what the store then keeps, or why the event is not allowed.
 ghost use Rattle.node_store.specs.Store.{IsReady};
 
 use crate::{commit_word, kept_in, run, store_after};

@@ -106,7 +106,7 @@ fn accepted(code: u32) -> [Wanted; 5] {
     ]
 }
 
-// Tells whether the code is answered so, with `{}` as the body. An answer of 100 to 199 comes before another.
+// Returns whether the code is answered so, with `{}` as the body. An answer of 100 to 199 comes before another.
 fn is_answered(alloc: Global, call: Call, wanted: &Wanted, code: u32) -> bool {
     let Ok(answer) = format!(in alloc; "HTTP/1.1 {code} A\r\n\r\n{{}}") else {
         return false;
@@ -172,7 +172,7 @@ fn a_link_that_fails_gives_no_answer(rt: HostRuntime) {
     }
 }
 
-// Tells whether an answer of so many bytes, with no head in them, is refused so.
+// Returns whether an answer of so many bytes, with no head in them, is refused so.
 fn is_refused_at(alloc: Global, size: usize, wanted: &Wanted) -> bool {
     let mut answer = Vec::new(alloc);
     answer.resize(size, b'x').is_ok() && answers(alloc, Call::Report, &PLAIN, &answer, wanted)

@@ -21,7 +21,7 @@ pub enum Call {
 /// What is wanted: the value of a call, or its error as `Debug` writes it.
 pub type Wanted = Result<&'static str, &'static str>;
 
-/// Tells whether the call answers so where the server answers these bytes.
+/// Returns whether the call answers so where the server answers these bytes.
 pub fn answers(
     alloc: Global,
     call: Call,
@@ -35,7 +35,7 @@ pub fn answers(
     }
 }
 
-/// Tells whether the call answers so over the link.
+/// Returns whether the call answers so over the link.
 pub fn answers_over(
     alloc: Global,
     link: &mut MemoryLink,
@@ -49,7 +49,7 @@ pub fn answers_over(
     }
 }
 
-/// Tells whether the call sends these lines to the site, and no more.
+/// Returns whether the call sends these lines to the site, and no more.
 pub fn sends(alloc: Global, call: Call, site: &Site, lines: &[&str]) -> bool {
     let Ok(mut link) = link(alloc, b"") else {
         return false;

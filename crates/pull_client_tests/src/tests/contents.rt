@@ -102,7 +102,7 @@ const CONTENTS: &[(&'static str, &'static str, Wanted)] = &[
     ),
 ];
 
-// Tells whether both calls for a content give that of the headers and the body.
+// Returns whether both calls for a content give that of the headers and the body.
 fn gives(alloc: Global, headers: &str, body: &str, wanted: &Wanted) -> bool {
     let Ok(answer) = format!(in alloc; "HTTP/1.1 200 OK\r\n{headers}\r\n{body}") else {
         return false;
@@ -139,7 +139,7 @@ const LONG_CONTENTS: &[(usize, &'static str, Wanted)] = &[
     ),
 ];
 
-// Tells whether a content of so many bytes comes to that.
+// Returns whether a content of so many bytes comes to that.
 fn gives_long(alloc: Global, size: usize, digest: &str, wanted: &Wanted) -> bool {
     let Ok(head) = format!(in alloc; "HTTP/1.1 200 OK\r\nChecksum: {digest}\r\n\r\n") else {
         return false;

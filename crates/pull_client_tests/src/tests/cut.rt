@@ -42,7 +42,7 @@ fn whole_answers_are_accepted(rt: HostRuntime) {
     }
 }
 
-// Tells whether the bytes end inside an answer.
+// Returns whether the bytes end inside an answer.
 fn is_torn(alloc: Global, call: Call, front: &[u8]) -> bool {
     match format!(in alloc; "Frame(Torn {{ at: {} }})", front.len()) {
         Ok(torn) => answers(alloc, call, &PLAIN, front, &Err(torn.as_str())),

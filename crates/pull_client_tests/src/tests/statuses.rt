@@ -13,7 +13,7 @@ const APP_UNCOVERED: Wanted = Err("Uncovered { name: Text { chars: ['A', 'p', 'p
 
 const WEB_RETRY: Wanted = Err("Retry { name: Text { chars: ['W', 'e', 'b'] } }");
 
-// The names that are asked, the body of the answer, and what is told.
+// The names that are asked, the body of the answer, and what is answered.
 const STATUSES: &[(&'static [&'static str], &'static str, Wanted)] = &[
     (WEB, r#"{"NodeStatus":"Ok"}"#, Ok("[false]")),
     (WEB, r#"{"NodeStatus":"oK","Details":[]}"#, Ok("[false]")),
@@ -127,7 +127,7 @@ const STATUSES: &[(&'static [&'static str], &'static str, Wanted)] = &[
     ),
 ];
 
-// Tells whether the body says that of the names.
+// Returns whether the body says that of the names.
 fn tells(alloc: Global, names: &'static [&'static str], body: &str, wanted: &Wanted) -> bool {
     match format!(in alloc; "HTTP/1.1 200 OK\r\n\r\n{body}") {
         Ok(answer) => answers(alloc, Call::Ask(names), &PLAIN, answer.as_bytes(), wanted),

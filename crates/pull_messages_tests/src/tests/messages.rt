@@ -70,7 +70,7 @@ fn written<M: Message>(alloc: Global, message: &M) -> Result<Vec<u8>, MessageErr
     }
 }
 
-/// Tells whether the body is that message, or is refused so.
+/// Returns whether the body is that message, or is refused so.
 pub fn answers<M: Message>(
     alloc: Global,
     body: &[u8],

@@ -20,7 +20,7 @@ fn written(alloc: Global, target: &Target) -> Result<Vec<u8>, TargetError> {
     }
 }
 
-// Tells whether the text is that target, or none from that byte on.
+// Returns whether the text is that target, or none from that byte on.
 fn answers(alloc: Global, text: &[u8], wanted: &Result<&str, usize>) -> bool {
     match (&again(alloc, text), wanted) {
         (Ok(text), Ok(wanted)) => text.as_slice() == wanted.as_bytes(),

@@ -9,7 +9,7 @@ const HEAD: &[u8] = b"DSCSTOR1";
 // How many agents have all the bytes that an agent may have.
 const WHOLE: u64 = 511;
 
-/// A disk that makes the bytes of a store when they are read, and keeps none that are written. It tells nothing.
+/// A disk that makes the bytes of a store when they are read, and keeps none that are written. It exposes nothing.
 ///
 /// The store has 512 agents with four reports of 131,072 bytes each. The texts of each registration have 131,072 bytes of UTF-8,
 /// in characters of four bytes, but those of the last agent, 0x511, which are empty. The live bank has room for 38,399 bytes

@@ -38,7 +38,7 @@ fn place_of_cut(
     Ok(place_of(shown_in(alloc, with_body(alloc, front, cut)?)))
 }
 
-// The first length at which a cut body is told otherwise.
+// The first length at which a cut body is answered otherwise.
 fn first_cut_otherwise(
     alloc: Global,
     front: &[&[u8]],
@@ -68,7 +68,7 @@ fn small(alloc: Global) -> Result<Vec<u8>, AllocError> {
     file_of(alloc, &[REGISTERED, REPORTED])
 }
 
-// The first length to which the file is cut and told otherwise: up to nine bytes it is new, else it fails at its end.
+// The first length to which the file is cut and answered otherwise: up to nine bytes it is new, else it fails at its end.
 fn first_length_otherwise(alloc: Global) -> Result<Option<usize>, AllocError> {
     let file = small(alloc)?;
     for length in 0..file.len() {
@@ -187,7 +187,7 @@ fn are_found(
     Ok(wanted.len() == 3)
 }
 
-// The first byte whose change is told otherwise.
+// The first byte whose change is answered otherwise.
 fn first_byte_otherwise(
     alloc: Global,
     first: usize,

@@ -103,7 +103,7 @@ fn all_stand_in(entries: &[PathEntry], others: &[PathEntry]) -> bool {
     true
 }
 
-/// Tells whether the two hold the same; paths may stand in another order.
+/// Returns whether the two hold the same; paths may stand in another order.
 pub fn hold_the_same(a: &HostContents, b: &HostContents) -> bool {
     a.paths.len() == b.paths.len()
         && all_stand_in(&a.paths, &b.paths)

@@ -5,7 +5,7 @@ use Rattle.lcm_program.proofs.OneRow.{one_row}
 use Rattle.lcm_program.proofs.Tools.{did_nothing}
 use Rattle.lcm_program.proofs.program.node.Goals as goal
 
--- words that are in a form ask for one command
+-- arguments that are in a form ask for one command
 
 pub do_command-requires-clause-range : goal.do_command-requires-clause-range
 do_command-requires-clause-range g c = in_range c.in-Ok.command _ c.in-Ok.ensures.ok
@@ -20,7 +20,7 @@ returns-in-Ok-clause-did g c = λ command form.
 pub returns-in-Ok-clause-nothing : goal.returns-in-Ok-clause-nothing
 returns-in-Ok-clause-nothing g c = λ none. absurd (none c.in-Ok.command c.in-Ok.ensures.ok)
 
--- words that are in no form ask for none
+-- arguments that are in no form ask for none
 
 pub returns-in-Err-clause-did : goal.returns-in-Err-clause-did
 returns-in-Err-clause-did g c = λ command form. absurd (c.in-Err.ensures.usage.no_form command form)

@@ -8,7 +8,7 @@ use Rattle.lcm_program.proofs.words.read_words.Goals as goal
 pub returns-in_default-clause-usage : goal.returns-in_default-clause-usage
 returns-in_default-clause-usage c = rw (no_texts string_bytes c.args.words.now c.in_default.len_below) no_word
 
--- the words begin with `generate`
+-- the arguments begin with `generate`
 
 pub returns-then-eq-clause-ok : goal.returns-then-eq-clause-ok
 returns-then-eq-clause-ok c =
@@ -72,7 +72,7 @@ returns-then-eq-4-clause-usage c =
     (first_and_rest string_bytes c.args.words.now c.first-item.result (codes "remove") c.in-len1-up.len_at_least c.first-item.is (sym remove ∙ c.as_str-4.ensures.value))
     c.read_remove.ensures.usage
 
--- they begin with the word of no command
+-- they begin with the argument of no command
 
 pub returns-in_default-command_of-clause-usage : goal.returns-in_default-command_of-clause-usage
 returns-in_default-command_of-clause-usage c =
@@ -91,7 +91,7 @@ returns-in_default-command_of-clause-usage c =
     (first_and_rest string_bytes c.args.words.now c.first-item.result word c.in-len1-up.len_at_least c.first-item.is c.deref.ensures)
     (wrong_first word _ c.in_default-command_of.ensures.none other)
 
--- a word follows one that stands alone
+-- an argument follows one that stands alone
 
 pub returns-in_default-rest-clause-usage : goal.returns-in_default-rest-clause-usage
 returns-in_default-rest-clause-usage c =
