@@ -1,0 +1,16 @@
+pub mod Comes
+pub mod Decided
+pub mod Excluded
+pub mod Fitting
+pub mod Halves
+pub mod Ids
+pub mod Least
+pub mod Limits
+pub mod Members
+pub mod Names
+pub mod Pairs
+pub mod Parts
+pub mod Reading
+pub mod Rules
+pub mod States
+pub mod Tested
