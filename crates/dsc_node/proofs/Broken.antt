@@ -1,5 +1,5 @@
 -- A commit that answered Disk: the disk's count rose, and the start ended so.
-use Rattle.std.proofs.Common.{◌≡◌, ◌⊎◌, inl, inr, ⊎_elim, ℕ, Bool, List, [], ◌∷◌, ◌++◌, Option, None, Result, Err, true, refl, ap, subst}
+use Rattle.std.proofs.Common.{◌≡◌, ◌⊎◌, inl, inr, ℕ, Bool, List, [], ◌∷◌, ◌++◌, Option, None, Result, Err, true, refl, ap, subst}
 use Rattle.std.specs.Prelude.{codes}
 use Rattle.dsc_terms.specs.Counts.{Rose}
 use Rattle.node_state.specs.declared.node.Node.{Node}

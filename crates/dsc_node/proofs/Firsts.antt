@@ -1,10 +1,12 @@
 -- The event that a task brings: what it leaves of a node, which parts it stages, and that it keeps no report.
-use Rattle.std.proofs.Common.{◌≡◌, ◌⊎◌, inl, inr, ⊎_elim, ℕ, Bool, true, false, List, [], ◌∷◌, Option, Some, None, Result, Ok, Err, refl, sym, ap, subst, ◌∙◌, arith}
+use Rattle.std.proofs.Common.{◌≡◌, ◌⊎◌, inl, inr, ℕ, Bool, true, false, List, [], ◌∷◌, Option, Some, None, Result, Ok, Err, refl, sym, ap, subst, ◌∙◌, arith}
 use Rattle.std.specs.Prelude.{All, Contains}
 use Rattle.std.proofs.lemmas.List.Elements.{All-contains}
 use Rattle.dsc_outside.specs.declared.disk.Disk as disks
+use Rattle.dsc_document.specs.declared.document.Document.{Document}
 use Rattle.meta_config.specs.declared.server.Server.{Server}
 use Rattle.partial_merge.specs.declared.part.Part.{Part}
+use Rattle.partial_merge.specs.Merged.{Merged}
 use Rattle.partial_merge.specs.Parts.{unnamed_part}
 use Rattle.resource_kinds.specs.declared.machine.Machine as machines
 use Rattle.resource_kinds.specs.declared.resources.Resources as resources
@@ -17,6 +19,7 @@ use Rattle.node_state.specs.declared.event.Stage.{Stage}
 use Rattle.node_state.specs.declared.event.Stage.TheVariants as slots
 use Rattle.node_state.specs.Slots.{IsIn, Stages, StagesPart}
 use Rattle.node_state.specs.StagedParts.{parts_of}
+use Rattle.node_state.specs.Staging.{AreFitting}
 use Rattle.node_state.specs.Table.{Steps}
 use Rattle.node_state.specs.Table.{after as after_of}
 use Rattle.node_state.proofs.SoundSteps.{only_one}
@@ -24,7 +27,8 @@ use Rattle.node_pull.specs.declared.error.PullError.{PullError}
 use Rattle.node_pull.specs.declared.error.PullError.TheVariants as pulls
 use Rattle.node_pull.specs.Errors.{error_of, staging_error}
 use Rattle.node_pull.specs.Contents.{IsHeldOrAccepted}
-use Rattle.node_pull.specs.Packages.{modules_of}
+use Rattle.node_pull.specs.Listing.{Listed}
+use Rattle.node_pull.specs.Packages.{HasAll, Packages, modules_of}
 use Rattle.node_pull.specs.Pulling as pulling
 use Rattle.node_pull.specs.Pulling.{Pulled}
 use Rattle.node_pull.specs.Views.{Accepts, GoesOn, LinkView}
@@ -41,7 +45,7 @@ use Rattle.dsc_node.specs.declared.command.Task.{Task}
 use Rattle.dsc_node.specs.declared.command.Task.TheVariants.{Init, Meta, Register, Pull, Push, Consistency, Boot, Get, Restore, Remove, Reports}
 use Rattle.dsc_node.specs.Bringing.{Brought, IsPull, events_of, held_among, held_of, registered_by, staged_by, status_of_pull}
 use Rattle.dsc_node.specs.Commands.{IsAllowed, IsTaskOf, boot_of, given_of, is_run}
-use Rattle.dsc_node.specs.Headline.{AddsPackages, IsBrought, IsPullFault, Keeps, KeepsReport, WasThere}
+use Rattle.dsc_node.specs.Headline.{AddsPackages, IsBrought, IsPullFault, Keeps, KeepsReport, PulledPackages, WasThere}
 
 -- ---- which event it is
 
@@ -256,48 +260,41 @@ fault_error pulls.Memory = tt
 
 -- what a pull came to
 module _ {S : Type 0} (runs_on : resources.Ghosts S) (machine : machines.Ghosts S) (node : Node) (end : LinkView) (status : Status) (allowed : IsAllowed node Pull) where
+  -- a list that fits, and the packages of its document as far as they came
+  came_adds : (server : Server) → node.meta.server ≡ Some server → (agent : ℕ) → node.agent ≡ Some agent → (asked listing heard : LinkView) (before after : S) (staged : Staged) (document : Document)
+      (result : Result (Unit {0}) PullError) → Listed node.meta server agent (held_of node) asked listing (Ok (parts_of staged)) → AreFitting node.meta (parts_of staged) → Merged (parts_of staged) document
+      → Packages machine.packages runs_on.faults server (modules_of document) listing heard before after result → GoesOn heard end
+      → ((IsPullFault status → ⊥) → HasAll (modules_of document) (machine.packages after)) → PulledPackages node asked end status (machine.packages before) (machine.packages after)
+  came_adds server is_server agent is_agent asked listing heard before after staged document result listed fitting merged came later there = record {
+    allowed = allowed;
+    server = server;
+    is_server = is_server;
+    agent = agent;
+    is_agent = is_agent;
+    staged = staged;
+    listing = listing;
+    listed = listed;
+    fitting = fitting;
+    document = document;
+    merged = merged;
+    on = on_and_on listing heard end (packages_go_on came) later;
+    added =
+        adds_on server (modules_of document) listing heard end (machine.packages before) (machine.packages after) later
+        (packages_are_accepted machine.packages runs_on.faults server (modules_of document) listing heard before after result came);
+    there = there;
+  }
+
   pulled_adds : (server : Server) → node.meta.server ≡ Some server → (agent : ℕ) → node.agent ≡ Some agent → (asked heard : LinkView) (before after : S) (answer : Result (Option Staged) PullError)
       → GoesOn heard end → ((error : PullError) → answer ≡ Err error → IsPullFault status)
       → Pulled machine.packages runs_on.faults node.meta server agent (held_of node) asked heard before after answer
       → AddsPackages commands.Pull node asked end status (machine.packages before) (machine.packages after)
   pulled_adds server is_server agent is_agent _ _ _ _ _ later fault (pulling.not_listed asked heard state error listed) = inl (inr (fault (error_of error) refl), refl)
   pulled_adds server is_server agent is_agent _ _ _ _ _ later fault (pulling.not_staged asked heard state parts error listed unfit) = inl (inr (fault (staging_error error) refl), refl)
-  pulled_adds server is_server agent is_agent _ _ _ _ _ later fault (pulling.no_package asked listing heard before after staged document error listed fitting merged came) = inr (record {
-    allowed = allowed;
-    server = server;
-    is_server = is_server;
-    agent = agent;
-    is_agent = is_agent;
-    staged = staged;
-    listing = listing;
-    listed = listed;
-    fitting = fitting;
-    document = document;
-    merged = merged;
-    on = on_and_on listing heard end (packages_go_on came) later;
-    added =
-        adds_on server (modules_of document) listing heard end (machine.packages before) (machine.packages after) later
-        (packages_are_accepted machine.packages runs_on.faults server (modules_of document) listing heard before after (Err error) came);
-    there = λ fine. absurd (fine (fault error refl));
-  })
-  pulled_adds server is_server agent is_agent _ _ _ _ _ later fault (pulling.brought asked listing heard before after staged document brings listed fitting merged came is) = inr (record {
-    allowed = allowed;
-    server = server;
-    is_server = is_server;
-    agent = agent;
-    is_agent = is_agent;
-    staged = staged;
-    listing = listing;
-    listed = listed;
-    fitting = fitting;
-    document = document;
-    merged = merged;
-    on = on_and_on listing heard end (packages_go_on came) later;
-    added =
-        adds_on server (modules_of document) listing heard end (machine.packages before) (machine.packages after) later
-        (packages_are_accepted machine.packages runs_on.faults server (modules_of document) listing heard before after (Ok tt) came);
-    there = λ fine. packages_are_there machine.packages runs_on.faults server (modules_of document) listing heard before after came;
-  })
+  pulled_adds server is_server agent is_agent _ _ _ _ _ later fault (pulling.no_package asked listing heard before after staged document error listed fitting merged came) = inr
+      (came_adds server is_server agent is_agent asked listing heard before after staged document (Err error) listed fitting merged came later (λ fine. absurd (fine (fault error refl))))
+  pulled_adds server is_server agent is_agent _ _ _ _ _ later fault (pulling.brought asked listing heard before after staged document brings listed fitting merged came is) = inr
+      (came_adds server is_server agent is_agent asked listing heard before after staged document (Ok tt) listed fitting merged came later
+      (λ fine. packages_are_there machine.packages runs_on.faults server (modules_of document) listing heard before after came))
 
 module _ {S : Type 0} (runs_on : resources.Ghosts S) (machine : machines.Ghosts S) (node : Node) (start : ℕ) (asked heard end : LinkView) (later : GoesOn heard end) (before after : S)
     (result : Result (Option Event) PullError) (status : Status) (fault : (error : PullError) → result ≡ Err error → IsPullFault status) where

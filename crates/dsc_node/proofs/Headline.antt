@@ -1,5 +1,5 @@
 -- The headline of a start, row by row of its table.
-use Rattle.std.proofs.Common.{◌≡◌, ◌≢◌, ◌⊎◌, inl, inr, ⊎_elim, ℕ, ◌<◌, ◌^◌, ◌-◌, ◌==◌, ◌&&◌, Bool, true, cond, List, [], ◌∷◌, ◌++◌, Option, Some, None, Result, Ok, Err, is_some, refl, sym, ap, subst, ◌∙◌, arith, eq-eqb, lt-ltb}
+use Rattle.std.proofs.Common.{◌≡◌, ◌≢◌, inl, inr, ⊎_elim, ℕ, ◌<◌, ◌^◌, ◌-◌, ◌==◌, ◌&&◌, Bool, true, cond, List, [], ◌∷◌, ◌++◌, Option, Some, None, Result, Ok, Err, is_some, refl, sym, ap, subst, ◌∙◌, arith, eq-eqb, lt-ltb}
 use Rattle.dsc_outside.specs.declared.disk.Disk as disks
 use Rattle.dsc_outside.specs.declared.host.Host as hosts
 use Rattle.dsc_outside.specs.declared.clock.Clock as clocks
@@ -13,7 +13,6 @@ use Rattle.lcm_core.specs.declared.modes.RunEnd.TheVariants as ends
 use Rattle.report_log.specs.declared.report.Report.{Report}
 use Rattle.node_state.specs.declared.node.Node.{Node}
 use Rattle.node_state.specs.declared.event.Event.{Event}
-use Rattle.node_state.specs.declared.event.Stage.TheVariants as slots
 use Rattle.node_state.specs.declared.event.Event.TheVariants as events
 use Rattle.node_state.specs.Sound.{Sound}
 use Rattle.node_state.specs.Table.{Step, Steps, is_next, refusal}
@@ -28,15 +27,16 @@ use Rattle.node_pull.specs.Views.{LinkView}
 use Rattle.dsc_node.specs.Bringing.{events_of}
 use Rattle.dsc_node.specs.Commits.{RefusedAfter, all_of}
 use Rattle.dsc_node.specs.Endings.{Answers}
-use Rattle.dsc_node.specs.Headline.{AreTold, Headline, HoldTogether, IsComplete, IsCurrent, IsFaultless, IsPrinted, IsRun, Keeps, kinds_of, machine_of}
+use Rattle.dsc_node.specs.Headline.{AreTold, Headline, IsCurrent, IsPrinted, IsPromotable, IsPromoted, IsRun, Keeps}
+use Rattle.dsc_node.specs.HostHeadline.{HoldTogether, HostHeadline, IsComplete, IsTrueRun, kinds_of, known_on_host}
 use Rattle.dsc_node.specs.Path.{disk_counts}
-use Rattle.dsc_node.specs.Runs.{Ran, Reported, Run, end_line, event_of, status_after}
+use Rattle.dsc_node.specs.Runs.{Reported, Run, end_line, event_of, status_after}
 use Rattle.dsc_node.specs.Sending.{EndsAfterSending, Sends, Tried, tried_text}
 use Rattle.dsc_node.specs.Start.{Opened, Outside}
-use Rattle.dsc_node.specs.Work.{Beside, Finish, Known, StartTable, clock_failed, finished, first_refused, known, no_run, not_allowed, not_brought, report_kept, report_refused, settled, unended, unready, waiting}
+use Rattle.dsc_node.specs.Work.{Beside, Finish, Known, StartTable, clock_failed, finished, first_refused, no_run, not_allowed, not_brought, report_kept, report_refused, settled, unended, unready, waiting}
 use Rattle.dsc_node.proofs.Broken.{work_unbroken}
 use Rattle.dsc_node.proofs.Firsts.{brings, first_job, first_keeps, first_meta, is_first}
-use Rattle.dsc_node.proofs.HeadlineRuns.{faultless_compliant, host_ran, pending_chosen, repaired, together, told}
+use Rattle.dsc_node.proofs.HeadlineRuns.{faultless_compliant, is_true, pending_chosen, repaired, together, told}
 use Rattle.dsc_node.proofs.Nodes.{are_sound, parts_there, steps_sound}
 use Rattle.dsc_node.proofs.Reports.{first_refused_keeps, noted_keeps, refused_run_keeps, sent_keeps}
 use Rattle.dsc_node.proofs.Sends.{sends_leave, sends_less, steps_same}
@@ -64,44 +64,35 @@ promotion_allowed node report parts sound pending job below =
 
 -- ---- the table
 
-module _ {D H C : Type 0} (d : disks.Ghosts D) (host : hosts.Ghosts H) (clock : clocks.Ghosts C) (succeeds : RepairSucceeds) (contained : FaultsAreContained) (law : CompliantHold)
-    (begin now : D) (from : Node) (sound : Sound from) where
-  abbrev over : Known D (Kinds H) C
-  over = known d (kinds_of host) (machine_of host) clock
-
-  record Facts (ready after : Kinds H) (status : Status) (lines : List ℕ) (run : Option Run) (committed : List Event) (broken : Option Event) : Type 0 where
-    h4 : IsRun host run ready after
-    h5 : AreTold from run after (all_of committed broken) status lines
-    h6 : IsComplete host d begin now from run ready after committed
-    h7 : HoldTogether host run ready after
+module _ {D S C : Type 0} (o : Known D S C) (begin now : D) (from : Node) (sound : Sound from) where
+  record Facts (ready after : S) (status : Status) (lines : List ℕ) (run : Option Run) (committed : List Event) (broken : Option Event) : Type 0 where
+    h4 : IsRun o.resources run ready after
+    h5 : AreTold from run (o.resources.kept after) (all_of committed broken) status lines
+    h6 : IsPromoted o.disk begin now from run (o.resources.kept after) committed
 
   module _ (status : Status) (lines : List ℕ) where
-    idle : (ready after : Kinds H) (committed : List Event) (broken : Option Event) → after ≡ ready → ((report : Report) → Keeps (all_of committed broken) report → ⊥)
+    idle : (ready after : S) (committed : List Event) (broken : Option Event) → after ≡ ready → ((report : Report) → Keeps (all_of committed broken) report → ⊥)
         → Facts ready after status lines None committed broken
-    idle ready after committed broken same none = record { h4 = same; h5 = none; h6 = tt; h7 = tt }
+    idle ready after committed broken same none = record { h4 = same; h5 = none; h6 = tt }
 
-    module _ (ready after : Kinds H) (work : List Event) (node : Node) (stopped : Bool) (readings left : Option (List (Option ℕ))) (start : ℕ) (asked heard : LinkView) (steps : Steps from work node)
+    module _ (ready after : S) (work : List Event) (node : Node) (stopped : Bool) (readings left : Option (List (Option ℕ))) (start : ℕ) (asked heard : LinkView) (steps : Steps from work node)
         (job : node.next_job ≡ from.next_job) (meta : node.meta ≡ from.meta) (none : (report : Report) → Keeps work report → ⊥) where
-      complete : (run : Run) (committed : List Event) → Ran (kinds_of host) run ready after → (IsFaultless host d begin now from run ready after → (n : Node) → Steps from committed n → IsCurrent run n)
-          → IsComplete host d begin now from (Some run) ready after committed
-      complete run committed ran promoted = record { repaired = repaired host ready after run ran contained; promoted = promoted }
-
-      module _ (run : Run) (report : Report) (reported : Reported (kinds_of host) node stopped readings start run report ready after) (f : IsFaultless host d begin now from run ready after) where
+      module _ (run : Run) (report : Report) (reported : Reported o.resources node stopped readings start run report ready after) (f : IsPromotable o.disk begin now from run (o.resources.kept after)) where
         no_missed : report.missed ≡ 0
-        no_missed = reported.is.missed ∙ faultless_compliant host ready after run reported.ran d begin now from succeeds f
+        no_missed = reported.is.missed ∙ f.compliant
 
         pending : node.pending ≡ Some run.choice.parts
         pending = (pending_chosen stopped node run.choice reported.chosen f.pending).1
 
         is_promotion : event_of run.end run.choice.pending report ≡ events.Promote report
         is_promotion =
-            ap (λ (e : RunEnd). event_of e run.choice.pending report) f.is_finished.finished
+            ap (λ (e : RunEnd). event_of e run.choice.pending report) f.finished
             ∙ ap (λ (b : Bool). cond (b && (report.missed == 0)) (events.Promote report) (events.Note report)) f.pending
             ∙ ap (λ (n : ℕ). cond (n == 0) (events.Promote report) (events.Note report)) no_missed
 
         -- a promotion is not refused where the disk does not fail
         not_refused : (error : StoreError) (committed : List Event) (broken : Option Event)
-            → RefusedAfter from (disk_counts d begin now) work (event_of run.end run.choice.pending report) error committed broken → error ≢ errors.Memory → ⊥
+            → RefusedAfter from (disk_counts o.disk begin now) work (event_of run.end run.choice.pending report) error committed broken → error ≢ errors.Memory → ⊥
         not_refused errors.Disk committed broken refused memory = f.disk refused.cause.1
         not_refused errors.Memory committed broken refused memory = memory refl
         not_refused errors.Spent committed broken refused memory = refused.cause
@@ -115,7 +106,7 @@ module _ {D H C : Type 0} (d : disks.Ghosts D) (host : hosts.Ghosts H) (clock : 
 
         -- after it the parts are Current, and sending reports leaves them so
         is_current : (noted : Node) (tried : Result (List Tried) StoreError) (committed : List Event) (broken : Option Event) → Step node (event_of run.end run.choice.pending report) noted
-            → Sends from (disk_counts d begin now) (work ++ event_of run.end run.choice.pending report ∷ []) noted asked heard tried committed broken
+            → Sends from (disk_counts o.disk begin now) (work ++ event_of run.end run.choice.pending report ∷ []) noted asked heard tried committed broken
             → (n : Node) → Steps from committed n → IsCurrent run n
         is_current noted tried committed broken step sends n all =
             let event = event_of run.end run.choice.pending report in
@@ -123,58 +114,55 @@ module _ {D H C : Type 0} (d : disks.Ghosts D) (host : hosts.Ghosts H) (clock : 
             let is : noted ≡ after_of node (events.Promote report) = step.is ∙ ap (λ (e : Event). after_of node e) is_promotion in
             record {
               current =
-                  sends_leave (λ m. m.current) (λ m reports. refl) from (disk_counts d begin now) (work ++ event ∷ []) noted asked heard tried committed broken sends first n all
+                  sends_leave (λ m. m.current) (λ m reports. refl) from (disk_counts o.disk begin now) (work ++ event ∷ []) noted asked heard tried committed broken sends first n all
                   ∙ ap (λ (m : Node). m.current) is ∙ pending;
               pending =
-                  sends_leave (λ m. m.pending) (λ m reports. refl) from (disk_counts d begin now) (work ++ event ∷ []) noted asked heard tried committed broken sends first n all
+                  sends_leave (λ m. m.pending) (λ m reports. refl) from (disk_counts o.disk begin now) (work ++ event ∷ []) noted asked heard tried committed broken sends first n all
                   ∙ ap (λ (m : Node). m.pending) is;
             }
 
       finish_facts : (run : Option Run) (committed : List Event) (broken : Option Event)
-          → Finish over from (disk_counts d begin now) work node stopped readings left start asked heard ready after status lines run committed broken → Facts ready after status lines run committed broken
+          → Finish o from (disk_counts o.disk begin now) work node stopped readings left start asked heard ready after status lines run committed broken → Facts ready after status lines run committed broken
       finish_facts _ _ _ (no_run tried committed broken is same taken sends ends) =
           idle ready after committed broken same
-          (λ report k. none report (sends_less (λ w. Keeps w report) (sent_keeps report) from (disk_counts d begin now) work node asked heard tried committed broken sends k))
+          (λ report k. none report (sends_less (λ w. Keeps w report) (sent_keeps report) from (disk_counts o.disk begin now) work node asked heard tried committed broken sends k))
       finish_facts _ _ _ (unready same taken unasked ends) = idle ready after work None same none
       finish_facts _ _ _ (unended run u taken unasked silent) = record {
-        h4 = host_ran host ready after run u.ran;
+        h4 = u.ran;
         h5 = record {
           report = λ report k. absurd (none report k);
           success = λ report k. absurd (none report k);
           compliant = λ report k. absurd (none report k);
           printed = inl silent;
         };
-        h6 = complete run work u.ran (λ f. absurd (finished_in_memory run.end f.is_finished.finished u.ended));
-        h7 = together host ready after law run u.ran;
+        h6 = λ f. absurd (finished_in_memory run.end f.finished u.ended);
       } where
         finished_in_memory : (end : RunEnd) → end ≡ ends.Finished → end ≡ ends.Memory → ⊥
         finished_in_memory end is memory = cc (is, memory)
       finish_facts _ _ _ (report_refused run report error text committed broken reported took unasked refused memory is_text answers) = record {
-        h4 = host_ran host ready after run reported.ran;
-        h5 = told host ready after from node job meta stopped readings start run report (all_of committed broken) status lines reported
-            (λ kept k. refused_run_keeps kept from (disk_counts d begin now) work run report error committed broken (none kept) refused k)
+        h4 = reported.ran;
+        h5 = told o.resources ready after from node job meta stopped readings start run report (all_of committed broken) status lines reported
+            (λ kept k. refused_run_keeps kept from (disk_counts o.disk begin now) work run report error committed broken (none kept) refused k)
             (printed answers);
-        h6 = complete run committed reported.ran (λ f. absurd (not_refused run report reported f error committed broken refused memory));
-        h7 = together host ready after law run reported.ran;
+        h6 = λ f. absurd (not_refused run report reported f error committed broken refused memory);
       } where
-        printed : {wanted : Status} → Answers wanted text status lines → IsPrinted run (calls_of after) status lines
+        printed : {wanted : Status} → Answers wanted text status lines → IsPrinted run (o.resources.kept after) status lines
         printed (inl e) = inr (text, is_text, inl e.1)
         printed (inr e) = inl e
       finish_facts _ _ _ (report_kept run report text noted tried committed broken reported took is_text step sends ended) = record {
-        h4 = host_ran host ready after run reported.ran;
-        h5 = told host ready after from node job meta stopped readings start run report (all_of committed broken) status lines reported
+        h4 = reported.ran;
+        h5 = told o.resources ready after from node job meta stopped readings start run report (all_of committed broken) status lines reported
             (λ kept k. noted_keeps kept work run report (none kept)
-            (sends_less (λ w. Keeps w kept) (sent_keeps kept) from (disk_counts d begin now) (work ++ event_of run.end run.choice.pending report ∷ []) noted asked heard tried committed broken sends k))
+            (sends_less (λ w. Keeps w kept) (sent_keeps kept) from (disk_counts o.disk begin now) (work ++ event_of run.end run.choice.pending report ∷ []) noted asked heard tried committed broken sends k))
             (printed (status_after node.meta.reboot_if_needed run.end report.missed) tried ended);
-        h6 = complete run committed reported.ran (λ f. is_current run report reported f noted tried committed broken step sends);
-        h7 = together host ready after law run reported.ran;
+        h6 = λ f. is_current run report reported f noted tried committed broken step sends;
       } where
-        alone : (wanted : Status) → Answers wanted text status lines → IsPrinted run (calls_of after) status lines
+        alone : (wanted : Status) → Answers wanted text status lines → IsPrinted run (o.resources.kept after) status lines
         alone wanted (inl e) = inr (text, is_text, inl e.1)
         alone wanted (inr e) = inl e
 
         printed : (wanted : Status) (tried : Result (List Tried) StoreError) → EndsAfterSending wanted text (end_line run.end run.choice.pending report.missed) tried status lines
-            → IsPrinted run (calls_of after) status lines
+            → IsPrinted run (o.resources.kept after) status lines
         printed wanted (Ok some) (inl e) = inr (text, is_text, inr (some, e.1 ∙ ap (λ (n : ℕ). text ++ end_line run.end run.choice.pending n ++ tried_text some) reported.is.missed))
         printed wanted (Ok some) (inr e) = inl e
         printed wanted (Err errors.Memory) e = inl e
@@ -183,53 +171,87 @@ module _ {D H C : Type 0} (d : disks.Ghosts D) (host : hosts.Ghosts H) (clock : 
         printed wanted (Err (errors.NotAStore at)) e = alone (statuses.NotAStore at) e
         printed wanted (Err (errors.NotAllowed why)) e = alone (statuses.NotAllowed why) e
 
-    work_facts : (task : Task) (before after : Beside (Kinds H) C) (ready : Kinds H) (run : Option Run) (committed : List Event) (broken : Option Event)
-        → StartTable over task from (disk_counts d begin now) [] from before after status lines ready run committed broken → Facts ready after.machine status lines run committed broken
-    work_facts task before after _ _ _ _ (not_allowed why is same ends) = idle before.machine after.machine [] None (ap (λ (b : Beside (Kinds H) C). b.machine) same) (λ report k. k)
-    work_facts task before after _ _ _ _ (waiting allowed is same ends) = idle before.machine after.machine [] None (ap (λ (b : Beside (Kinds H) C). b.machine) same) (λ report k. k)
+    work_facts : (task : Task) (before after : Beside S C) (ready : S) (run : Option Run) (committed : List Event) (broken : Option Event)
+        → StartTable o task from (disk_counts o.disk begin now) [] from before after status lines ready run committed broken → Facts ready after.machine status lines run committed broken
+    work_facts task before after _ _ _ _ (not_allowed why is same ends) = idle before.machine after.machine [] None (ap (λ (b : Beside S C). b.machine) same) (λ report k. k)
+    work_facts task before after _ _ _ _ (waiting allowed is same ends) = idle before.machine after.machine [] None (ap (λ (b : Beside S C). b.machine) same) (λ report k. k)
     work_facts task before after _ _ _ _ (clock_failed allowed other gave took rose same link ends) = idle before.machine after.machine [] None same (λ report k. k)
     work_facts task before after _ _ _ _ (not_brought start error allowed reads brought ends) = idle after.machine after.machine [] None refl (λ report k. k)
     work_facts task before after _ _ _ _ (first_refused start event error committed broken allowed reads brought refused ends) =
         idle after.machine after.machine committed broken refl
-        (λ report k. first_refused_keeps report from (disk_counts d begin now) event error committed broken
-        (first_keeps report (Some event) from task (is_first (kinds_of host) (machine_of host) from start before.link after.link before.machine after.machine (Some event) task brought)) refused k)
+        (λ report k. first_refused_keeps report from (disk_counts o.disk begin now) event error committed broken
+        (first_keeps report (Some event) from task (is_first o.resources o.machine from start before.link after.link before.machine after.machine (Some event) task brought)) refused k)
     work_facts task before after _ _ _ _ (settled start first allowed ends reads brought answers) =
         idle after.machine after.machine (events_of first) None refl
-        (λ report k. first_keeps report first from task (is_first (kinds_of host) (machine_of host) from start before.link after.link before.machine after.machine first task brought) k)
+        (λ report k. first_keeps report first from task (is_first o.resources o.machine from start before.link after.link before.machine after.machine first task brought) k)
     work_facts task before after _ _ _ _ (finished start readings heard ready first mid run committed broken allowed other gave took brought steps f) =
-        let is = is_first (kinds_of host) (machine_of host) from start before.link heard before.machine ready first task brought in
+        let is = is_first o.resources o.machine from start before.link heard before.machine ready first task brought in
         finish_facts ready after.machine (events_of first) mid _ readings _ start heard after.link steps (first_job from mid first steps task is) (first_meta from mid first steps task other is)
         (λ report k. first_keeps report first from task is k) run committed broken f
 
-pub headline : {D H C : Type 0} (d : disks.Ghosts D) (host : hosts.Ghosts H) (clock : clocks.Ghosts C) → RepairSucceeds → FaultsAreContained → CompliantHold → (command : Command) (before after : Outside D (Kinds H) C)
-    (status : Status) (lines : List ℕ) (o : Opened (known d (kinds_of host) (machine_of host) clock) command before after status lines)
-    → Headline d host command before after status lines o.from o.ready o.run o.ended.committed o.ended.broken
-headline d host clock succeeds contained law command before after status lines o =
-    let all = all_of o.ended.committed o.ended.broken in
-    let facts = work_facts d host clock succeeds contained law before.disk after.disk o.from o.sound status lines o.task before.beside after.beside o.ready o.run o.ended.committed o.ended.broken o.ended.table in
+pub headline : {D S C : Type 0} (o : Known D S C) (command : Command) (before after : Outside D S C) (status : Status) (lines : List ℕ) (opened : Opened o command before after status lines)
+    → Headline o command before after status lines opened.from opened.ready opened.run opened.ended.committed opened.ended.broken
+headline o command before after status lines opened =
+    let all = all_of opened.ended.committed opened.ended.broken in
+    let facts = work_facts o before.disk after.disk opened.from opened.sound status lines opened.task before.beside after.beside opened.ready opened.run opened.ended.committed opened.ended.broken opened.ended.table in
     record {
       h1 = record {
-        moments = o.ended.passes;
-        left = o.ended.left;
+        moments = opened.ended.passes;
+        left = opened.ended.left;
         unbroken =
-            work_unbroken (known d (kinds_of host) (machine_of host) clock) o.task o.from (disk_counts d before.disk after.disk) [] o.from before.beside after.beside status lines o.ready o.run o.ended.committed o.ended.broken o.ended.table;
+            work_unbroken o opened.task opened.from (disk_counts o.disk before.disk after.disk) [] opened.from before.beside after.beside status lines opened.ready opened.run opened.ended.committed opened.ended.broken opened.ended.table;
       };
-      h2 = are_sound d before.disk o.from all o.sound;
+      h2 = are_sound o.disk before.disk opened.from all opened.sound;
       h3 = λ node part way slot.
           ⊎_elim (λ there. inl there)
           (λ staged.
-          let s = work_stages part (known d (kinds_of host) (machine_of host) clock) o.task o.from (disk_counts d before.disk after.disk) o.from before.beside after.beside status lines o.ready o.run o.ended.committed o.ended.broken o.ended.table staged in
-          brings d before.disk (kinds_of host) (machine_of host) o.from s.start before.beside.link s.heard after.beside.link s.later before.beside.machine s.ready part s.first s.stages command o.task o.is_task s.brought)
-          (parts_there d before.disk o.from all node part way slot);
+          let s = work_stages part o opened.task opened.from (disk_counts o.disk before.disk after.disk) opened.from before.beside after.beside status lines opened.ready opened.run opened.ended.committed opened.ended.broken opened.ended.table staged in
+          brings o.disk before.disk o.resources o.machine opened.from s.start before.beside.link s.heard after.beside.link s.later before.beside.machine s.ready part s.first s.stages command opened.task opened.is_task s.brought)
+          (parts_there o.disk before.disk opened.from all node part way slot);
       h4 = record {
-        packages = o.leaves.packages;
+        packages = opened.leaves.packages;
         added =
-            work_adds (known d (kinds_of host) (machine_of host) clock) command o.task o.is_task o.from (disk_counts d before.disk after.disk) [] o.from before.beside after.beside status lines o.ready o.run o.ended.committed o.ended.broken o.ended.table;
-        untested = o.leaves.kept;
-        later = o.leaves.later;
+            work_adds o command opened.task opened.is_task opened.from (disk_counts o.disk before.disk after.disk) [] opened.from before.beside after.beside status lines opened.ready opened.run opened.ended.committed opened.ended.broken opened.ended.table;
+        untested = opened.leaves.kept;
+        later = opened.leaves.later;
         runs = facts.h4;
       };
       h5 = facts.h5;
       h6 = facts.h6;
-      h7 = facts.h7;
     }
+
+-- ---- over the kinds of resources of a host
+
+module _ {D H C : Type 0} (d : disks.Ghosts D) (host : hosts.Ghosts H) (clock : clocks.Ghosts C) (succeeds : RepairSucceeds) (contained : FaultsAreContained) (law : CompliantHold) where
+  run_true : (run : Option Run) (ready after : Kinds H) → IsRun (kinds_of host) run ready after → IsTrueRun host run ready after
+  run_true None ready after same = tt
+  run_true (Some run) ready after ran = is_true host ready after run ran
+
+  complete : (begin now : D) (from : Node) (run : Option Run) (ready after : Kinds H) (committed : List Event) → IsRun (kinds_of host) run ready after
+      → IsPromoted d begin now from run (calls_of after) committed → IsComplete host d begin now from run ready after committed
+  complete begin now from None ready after committed same promoted = tt
+  complete begin now from (Some run) ready after committed ran promoted = record {
+    repaired = repaired host ready after run ran contained;
+    promoted = λ f. promoted (record {
+      pending = f.pending;
+      finished = f.is_finished.finished;
+      compliant = faultless_compliant host ready after run ran d begin now from succeeds f;
+      disk = f.disk;
+      job = f.job;
+    });
+  }
+
+  all_together : (run : Option Run) (ready after : Kinds H) → IsRun (kinds_of host) run ready after → HoldTogether host run ready after
+  all_together None ready after same = tt
+  all_together (Some run) ready after ran = together host ready after law run ran
+
+  pub host_headline : (command : Command) (before after : Outside D (Kinds H) C) (status : Status) (lines : List ℕ) (opened : Opened (known_on_host d host clock) command before after status lines)
+      → HostHeadline d host clock command before after status lines opened.from opened.ready opened.run opened.ended.committed opened.ended.broken
+  host_headline command before after status lines opened =
+      let any = headline (known_on_host d host clock) command before after status lines opened in
+      record {
+        any = any;
+        is_true = run_true opened.run opened.ready after.beside.machine any.h4.runs;
+        completes = complete before.disk after.disk opened.from opened.run opened.ready after.beside.machine opened.ended.committed any.h4.runs any.h6;
+        h7 = all_together opened.run opened.ready after.beside.machine any.h4.runs;
+      }

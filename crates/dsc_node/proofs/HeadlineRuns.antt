@@ -1,5 +1,5 @@
--- The run of a start over the kinds of resources of a host: what the headline says of it.
-use Rattle.std.proofs.Common.{◌≡◌, ◌≢◌, ◌⊎◌, ℕ, ◌<◌, Bool, true, false, List, [], ◌∷◌, length, Option, Some, None, refl, sym, ap, subst, ◌∙◌, arith}
+-- The run of a start: what the headline says of it, over any machine and over the kinds of resources of a host.
+use Rattle.std.proofs.Common.{◌≡◌, ◌≢◌, ℕ, ◌<◌, Bool, true, false, List, length, Option, Some, None, refl, sym, ap, subst, ◌∙◌, arith}
 use Rattle.dsc_outside.specs.declared.disk.Disk as disks
 use Rattle.dsc_outside.specs.declared.host.Host as hosts
 use Rattle.dsc_outside.specs.Host.{HostState}
@@ -10,6 +10,7 @@ use Rattle.meta_config.specs.declared.modes.ConfigMode.{ConfigMode}
 use Rattle.meta_config.specs.declared.modes.ConfigMode.TheVariants.{ApplyOnly, ApplyAndMonitor, ApplyAndAutoCorrect}
 use Rattle.resource_kinds.specs.declared.kinds.Kinds.{Kinds}
 use Rattle.resource_kinds.specs.declared.entry.Entry.{Entry}
+use Rattle.resource_kinds.specs.declared.resources.Resources as resources
 use Rattle.resource_kinds.specs.Kinds.{calls_of, host_of}
 use Rattle.resource_kinds.specs.Trace.{Compliant, EndsInReboot, Succeeded}
 use Rattle.resource_kinds.specs.True.{TellsTrue, True}
@@ -31,7 +32,8 @@ use Rattle.report_log.specs.Report.{IsOutcome, IsReport}
 use Rattle.node_state.specs.declared.node.Node.{Node}
 use Rattle.node_state.specs.declared.event.Event.{Event}
 use Rattle.dsc_node.specs.declared.status.Status.{Status}
-use Rattle.dsc_node.specs.Headline.{AreTold, HoldTogether, IsFaultless, IsFinished, IsPrinted, IsRun, Keeps, kinds_of}
+use Rattle.dsc_node.specs.Headline.{AreTold, IsPrinted, Keeps}
+use Rattle.dsc_node.specs.HostHeadline.{HoldTogether, IsFaultless, IsFinished, IsTrueRun, kinds_of}
 use Rattle.dsc_node.specs.Ran.{EndsAs, IsWholeOrNone}
 use Rattle.dsc_node.specs.Readings.{end_of}
 use Rattle.dsc_node.specs.Runs.{Choice, Ran, Reported, Run, chosen_among, chosen_current, chosen_of, frame_of}
@@ -89,25 +91,18 @@ pending_chosen false node choice is pending = pending_among node.meta.mode node.
 
 -- ---- runs
 
-module _ {H : Type 0} (host : hosts.Ghosts H) (before after : Kinds H) where
-  pub host_ran : (run : Run) → Ran (kinds_of host) run before after → IsRun host (Some run) before after
-  host_ran run r = record { ran = r; is_true = kinds_tell host.told run.document before after (calls_of after) r.chain }
-
-  pub together : CompliantHold → (run : Run) → Ran (kinds_of host) run before after → HoldTogether host (Some run) before after
-  together law run r b e is_b is_e apart compliant =
-      law run.document run.choice.mode run.order b e (calls_of after) r.legal
-      (told_between run.document (calls_of after) _ _ b e is_b is_e (kinds_tell host.told run.document before after (calls_of after) r.chain)) apart compliant
-
+-- what is said of the run of a report
+module _ {S : Type 0} (machine : resources.Ghosts S) (before after : S) where
   pub told : (from node : Node) → node.next_job ≡ from.next_job → node.meta ≡ from.meta → (stopped : Bool) (readings : Option (List (Option ℕ))) (start : ℕ) (run : Run) (report : Report)
       (work : List Event) (status : Status) (lines : List ℕ)
-      → Reported (kinds_of host) node stopped readings start run report before after → ((kept : Report) → Keeps work kept → kept ≡ report)
-      → IsPrinted run (calls_of after) status lines → AreTold from (Some run) after work status lines
+      → Reported machine node stopped readings start run report before after → ((kept : Report) → Keeps work kept → kept ≡ report)
+      → IsPrinted run (machine.kept after) status lines → AreTold from (Some run) (machine.kept after) work status lines
   told from node job meta stopped readings start run report work status lines reported one printed = record {
-    report = λ kept k. (start, end_of start reported.given, subst (λ (r : Report). IsReport run.document (calls_of after) (frame_of from run.choice start (end_of start reported.given)) r) (sym (one kept k)) is);
+    report = λ kept k. (start, end_of start reported.given, subst (λ (r : Report). IsReport run.document (machine.kept after) (frame_of from run.choice start (end_of start reported.given)) r) (sym (one kept k)) is);
     success = λ kept k success r lt.
-        each_succeeded run.document (calls_of after) (sym is.missed ∙ success_none (calls_of after) report.missed report.outcome is.outcome (ap (λ (x : Report). x.outcome) (sym (one kept k)) ∙ success)) r lt;
+        each_succeeded run.document (machine.kept after) (sym is.missed ∙ success_none (machine.kept after) report.missed report.outcome is.outcome (ap (λ (x : Report). x.outcome) (sym (one kept k)) ∙ success)) r lt;
     compliant = λ kept k goes_on compliant.
-        ap (λ (x : Report). x.outcome) (one kept k) ∙ none_success (calls_of after) report.missed report.outcome is.outcome goes_on (is.missed ∙ compliant);
+        ap (λ (x : Report). x.outcome) (one kept k) ∙ none_success (machine.kept after) report.missed report.outcome is.outcome goes_on (is.missed ∙ compliant);
     printed = printed;
   } where
     framed : (job : ℕ) (meta : Meta) → Node → Node
@@ -116,8 +111,17 @@ module _ {H : Type 0} (host : hosts.Ghosts H) (before after : Kinds H) where
     same : frame_of node run.choice start (end_of start reported.given) ≡ frame_of from run.choice start (end_of start reported.given)
     same = ap (λ (j : ℕ). frame_of (framed j node.meta from) run.choice start (end_of start reported.given)) job ∙ ap (λ (m : Meta). frame_of (framed from.next_job m from) run.choice start (end_of start reported.given)) meta
 
-    is : IsReport run.document (calls_of after) (frame_of from run.choice start (end_of start reported.given)) report
-    is = subst (λ (f : Frame). IsReport run.document (calls_of after) f report) same reported.is
+    is : IsReport run.document (machine.kept after) (frame_of from run.choice start (end_of start reported.given)) report
+    is = subst (λ (f : Frame). IsReport run.document (machine.kept after) f report) same reported.is
+
+module _ {H : Type 0} (host : hosts.Ghosts H) (before after : Kinds H) where
+  pub is_true : (run : Run) → Ran (kinds_of host) run before after → IsTrueRun host (Some run) before after
+  is_true run r = kinds_tell host.told run.document before after (calls_of after) r.chain
+
+  pub together : CompliantHold → (run : Run) → Ran (kinds_of host) run before after → HoldTogether host (Some run) before after
+  together law run r b e is_b is_e apart compliant =
+      law run.document run.choice.mode run.order b e (calls_of after) r.legal
+      (told_between run.document (calls_of after) _ _ b e is_b is_e (is_true run r)) apart compliant
 
   -- a repair that came to its last resource
   module _ (run : Run) (r : Ran (kinds_of host) run before after) where

@@ -1,5 +1,5 @@
 -- What a run shows after room for its trace was made.
-use Rattle.std.proofs.Common.{◌≡◌, ◌⊎◌, inl, inr, ℕ, List, [], ◌∷◌, Option, sym, ap, subst}
+use Rattle.std.proofs.Common.{◌≡◌, ◌⊎◌, inl, inr, ℕ, List, [], ◌∷◌, Option}
 use Rattle.dsc_document.specs.declared.document.Document.{Document}
 use Rattle.dsc_outside.specs.Host.{HostState}
 use Rattle.lcm_core.specs.declared.modes.RunEnd.{RunEnd}

@@ -3,6 +3,7 @@ pub mod Commands
 pub mod Commits
 pub mod Endings
 pub mod Headline
+pub mod HostHeadline
 pub mod Lines
 pub mod Path
 pub mod Quoted

@@ -7,7 +7,8 @@ ghost use Rattle.node_store.specs.Stands.{Stands};
 ghost use Rattle.node_store.specs.Store.{IsKept};
 ghost use Rattle.node_pull.specs.Views.{view_of};
 ghost use Rattle.dsc_node.specs.Commands.{IsTaken, IsTakenTask, is_run, why_not};
-ghost use Rattle.dsc_node.specs.Headline.{HasHeadline, kinds_of, machine_of};
+ghost use Rattle.dsc_node.specs.Headline.{HasHeadline};
+ghost use Rattle.dsc_node.specs.HostHeadline.{HasHostHeadline, known_on_host};
 ghost use Rattle.dsc_node.specs.Path.{OpenedGoes, RunGoes};
 ghost use Rattle.dsc_node.specs.Readings.{StartsAt};
 ghost use Rattle.dsc_node.specs.Start.{Start, outside};
@@ -31,7 +32,7 @@ use std::alloc::Global;
 /// One start of the node: what the command asks for is done, on any machine and over any link.
 ///
 /// The table in `specs/Work.antt` says what a start asks the server for, commits, runs, sends and prints, and how it ends;
-/// `specs/Path.antt` what a crash at any moment of it leaves.
+/// `specs/Path.antt` what a crash at any moment of it leaves, and `specs/Headline.antt` what that comes to.
 pub fn start_over<D: Disk, M: Machine, L: Link, C: Clock>(
     alloc: Global,
     command: Command,
@@ -43,6 +44,7 @@ pub fn start_over<D: Disk, M: Machine, L: Link, C: Clock>(
     requires taken { IsTaken command }
     requires fresh { M.kept machine.old ≡ [] }
     ensures start { Start (known D.Disk M.Resources M.Machine.own C.Clock) command (outside disk.old machine.old (view_of L.Link link.old) clock.old) (outside disk.new machine.new (view_of L.Link link.new) clock.new) result.status (string_bytes result.lines) }
+    ensures headline { HasHeadline (known D.Disk M.Resources M.Machine.own C.Clock) command (outside disk.old machine.old (view_of L.Link link.old) clock.old) (outside disk.new machine.new (view_of L.Link link.new) clock.new) result.status (string_bytes result.lines) }
     ensures again { AllStand D.Disk disk.old Stands Any → AllStand D.Disk disk.new Stands Any }
     ensures later { C.faults clock.old ≤ C.faults clock.new }
 {
@@ -61,7 +63,8 @@ pub fn start_over<D: Disk, M: Machine, L: Link, C: Clock>(
 
 /// One start of the node, over the kinds of resources of a host.
 ///
-/// Beside the table of [`start_over`] it carries the headline, `specs/Headline.antt`, of each start that opened its store.
+/// Beside the clauses of [`start_over`] the trace is true of the host, and `specs/HostHeadline.antt` says what completes and what
+/// holds together.
 pub fn start<D: Disk, H: Host, L: Link, C: Clock>(
     alloc: Global,
     command: Command,
@@ -72,8 +75,8 @@ pub fn start<D: Disk, H: Host, L: Link, C: Clock>(
 ) -> StartEnd
     requires taken { IsTaken command }
     requires fresh { calls_of kinds.old ≡ [] }
-    ensures start { Start (known D.Disk (kinds_of H.Host) (machine_of H.Host) C.Clock) command (outside disk.old kinds.old (view_of L.Link link.old) clock.old) (outside disk.new kinds.new (view_of L.Link link.new) clock.new) result.status (string_bytes result.lines) }
-    ensures headline { HasHeadline (known D.Disk (kinds_of H.Host) (machine_of H.Host) C.Clock) H.Host command (outside disk.old kinds.old (view_of L.Link link.old) clock.old) (outside disk.new kinds.new (view_of L.Link link.new) clock.new) result.status (string_bytes result.lines) }
+    ensures start { Start (known_on_host D.Disk H.Host C.Clock) command (outside disk.old kinds.old (view_of L.Link link.old) clock.old) (outside disk.new kinds.new (view_of L.Link link.new) clock.new) result.status (string_bytes result.lines) }
+    ensures headline { HasHostHeadline D.Disk H.Host C.Clock command (outside disk.old kinds.old (view_of L.Link link.old) clock.old) (outside disk.new kinds.new (view_of L.Link link.new) clock.new) result.status (string_bytes result.lines) }
     ensures again { AllStand D.Disk disk.old Stands Any → AllStand D.Disk disk.new Stands Any }
     ensures later { C.faults clock.old ≤ C.faults clock.new }
 {

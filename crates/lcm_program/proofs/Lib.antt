@@ -7,5 +7,6 @@ pub mod Inputs
 pub mod Readings
 pub mod Results
 pub mod Monitoring
+pub mod OnHost
 pub mod OneRow
 pub mod Tools

@@ -5,12 +5,13 @@ use Rattle.lcm_program.specs.declared.words.Command.{Command}
 use Rattle.lcm_program.specs.declared.words.Command.TheVariants.{Test, Check, Order, Canon, Checksum, Generate, Init, Meta, Register, Pull, Push, Consistency, Boot, Get, Restore, Remove, Reports}
 use Rattle.lcm_program.specs.Did.{Did}
 use Rattle.lcm_program.specs.Objects.{Known, Objects}
+use Rattle.lcm_program.specs.Further.{Further}
 use Rattle.lcm_program.specs.Words.{IsForm}
 use Rattle.lcm_program.proofs.Forms.{one_form, plain}
 
-module _ {S K D H L C : Type 0} (o : Known S K D H L C) (status : Status) (before after : Objects S K D H L C) where
+module _ {S K D M L C : Type 0} (o : Known S K D M L C) (further : Further D M C) (status : Status) (before after : Objects S K D M L C) where
   -- a row speaks of a command's name, and not of the place where that lies
-  same_row : (command : Command) → Did o (plain command) status before after ≡ Did o command status before after
+  same_row : (command : Command) → Did o further (plain command) status before after ≡ Did o further command status before after
   same_row Test = refl
   same_row Check = refl
   same_row Order = refl
@@ -30,7 +31,7 @@ module _ {S K D H L C : Type 0} (o : Known S K D H L C) (status : Status) (befor
   same_row Reports = refl
 
   -- the rows of two commands for which the arguments ask are one
-  pub one_row : (a b : Command) (words : List (List ℕ)) → IsForm a words → IsForm b words → Did o a status before after → Did o b status before after
+  pub one_row : (a b : Command) (words : List (List ℕ)) → IsForm a words → IsForm b words → Did o further a status before after → Did o further b status before after
   one_row a b words p q did =
       subst (λ (X : Type 0). X) (same_row b)
-      (subst (λ (x : Command). Did o x status before after) (one_form a b words p q) (subst (λ (X : Type 0). X) (sym (same_row a)) did))
+      (subst (λ (x : Command). Did o further x status before after) (one_form a b words p q) (subst (λ (X : Type 0). X) (sym (same_row a)) did))

@@ -19,7 +19,7 @@ use Rattle.lcm_program.specs.Tool.{RanTool, ToolEnds}
 use Rattle.lcm_program.specs.Words.{IsUsage}
 use Rattle.lcm_program.proofs.Readings.{Decides, each_failed, each_memory, each_refused, each_used}
 
-module _ {S K D H L C : Type 0} (o : Known S K D H L C) (before after : Objects S K D H L C) where
+module _ {S K D M L C : Type 0} (o : Known S K D M L C) (before after : Objects S K D M L C) where
   module _ (answers : Reading (List ℕ)) where
     -- a text was printed
     text_ends : (text : List ℕ) (status : Status) → IsInput answers (o.source.left before.input) (Ok text)

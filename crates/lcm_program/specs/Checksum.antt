@@ -30,6 +30,6 @@ abbrev pub HasRefusal : Option (List ℕ) → ℕ → ℕ → Type 0
 HasRefusal input before now = ((error : InputError) × IsInput AnswersChecksum input (Err error)) ⊎ Rose before now
 
 -- memory is taken for the line of a refusal alone
-pub record Checksummed {S K D H L C : Type 0} (o : Known S K D H L C) (status : Status) (before after : Objects S K D H L C) : Type 0 where
+pub record Checksummed {S K D M L C : Type 0} (o : Known S K D M L C) (status : Status) (before after : Objects S K D M L C) : Type 0 where
   pub tool : RanTool AnswersChecksum o status before after
   pub memory : status ≡ Memory → HasRefusal (o.source.left before.input) (o.source.faults before.input) (o.source.faults after.input)

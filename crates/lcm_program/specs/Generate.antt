@@ -54,14 +54,14 @@ pub record IsGeneratedText (count : ℕ) (text : List ℕ) : Type 0 where
   pub lines : text ≡ generated_lines count document order trace
 
 -- such a text is printed, or a part from its front where the output failed; or memory was refused and nothing is printed
-abbrev pub GenerateEnds : {S K D H L C : Type 0} → ℕ → Known S K D H L C → Status → Objects S K D H L C → Objects S K D H L C → Type 0
+abbrev pub GenerateEnds : {S K D M L C : Type 0} → ℕ → Known S K D M L C → Status → Objects S K D M L C → Objects S K D M L C → Type 0
 GenerateEnds count o Done before after = (text : List ℕ) × IsGeneratedText count text × Holds o.sink text before.output after.output
 GenerateEnds count o WriteFault before after = (text : List ℕ) × IsGeneratedText count text × IsCutShort o.sink text before.output after.output
 GenerateEnds count o Memory before after = after.output ≡ before.output
 GenerateEnds count o _ before after = ⊥
 
 -- a document of that many resources was repaired; the input was not read
-pub record Generated {S K D H L C : Type 0} (count : ℕ) (o : Known S K D H L C) (status : Status) (before after : Objects S K D H L C) : Type 0 where
+pub record Generated {S K D M L C : Type 0} (count : ℕ) (o : Known S K D M L C) (status : Status) (before after : Objects S K D M L C) : Type 0 where
   pub input : after.input ≡ before.input
   pub untouched : IsUntouched before after
   pub ends : GenerateEnds count o status before after

@@ -5,6 +5,7 @@ pub mod Checksum
 pub mod CommandLine
 pub mod Did
 pub mod Endings
+pub mod Further
 pub mod Generate
 pub mod Input
 pub mod InputWords

@@ -1,19 +1,19 @@
 -- The command `test`: a run that monitors the document of the input.
-use Rattle.std.specs.Prelude.{◌≡◌, ◌⊎◌, ℕ, ◌<◌, List, [], Option, Ok, Err}
-use Rattle.dsc_terms.specs.Counts.{Rose}
-use Rattle.dsc_outside.specs.declared.host.Host as hosts
+use Rattle.std.specs.Prelude.{◌≡◌, ◌⊎◌, ℕ, ◌<◌, List, Option, Ok, Err}
+use Rattle.dsc_terms.specs.Counts.{Rose, RoseBy}
 use Rattle.dsc_outside.specs.declared.ends.Ends as ends
 use Rattle.dsc_document.specs.declared.document.Document.{Document}
-use Rattle.resource_kinds.specs.declared.kinds.Kinds.{Kinds}
-use Rattle.resource_kinds.specs.Kinds.{calls_of, host_of}
-use Rattle.resource_kinds.specs.Trace.{missed_count}
+use Rattle.depend_order.specs.Documents.{IsOrderOfDocument}
+use Rattle.resource_kinds.specs.declared.resources.Resources as resources
+use Rattle.resource_kinds.specs.Trace.{Chain, host_failures, missed_count}
 use Rattle.lcm_core.specs.declared.modes.RunEnd.{RunEnd}
 use Rattle.lcm_core.specs.declared.modes.RunEnd.TheVariants.{Finished}
 use Rattle.lcm_core.specs.declared.modes.RunMode.TheVariants.{Monitor}
+use Rattle.lcm_core.specs.Legal.{Legal}
 use Rattle.dsc_node.specs.declared.status.Status.{Status}
 use Rattle.dsc_node.specs.declared.status.Status.TheVariants.{Done, NotCompliant, InputRefused, ReadFault, WriteFault, Memory}
 use Rattle.dsc_node.specs.Lines.{IsRunText}
-use Rattle.dsc_node.specs.Ran.{Ran}
+use Rattle.dsc_node.specs.Ran.{EndsAs, IsWholeOrNone}
 use Rattle.lcm_program.specs.declared.input.Unread.{Unread}
 use Rattle.lcm_program.specs.declared.input.Unread.TheVariants as unread
 use Rattle.lcm_program.specs.declared.refusal.Refusal.TheVariants as refusals
@@ -21,11 +21,20 @@ use Rattle.lcm_program.specs.Answers.{EachAllows}
 use Rattle.lcm_program.specs.Input.{IsInput, IsRefused, ReadsDocument}
 use Rattle.lcm_program.specs.Objects.{IsOffline, Known, Objects}
 use Rattle.lcm_program.specs.Printed.{Holds, IsCutShort, PrintsRefusal}
+use Rattle.lcm_program.specs.Further.{Further, FurtherOfRuns}
 
--- the document was monitored, in some order, and the run ended so
-abbrev pub Monitored : {H : Type 0} → hosts.Ghosts H → Document → RunEnd → Kinds H → Kinds H → Type 0
-Monitored host document end before after =
-    (order : List ℕ) × Ran document Monitor order end (calls_of after) (host.told (host_of before)) (host.told (host_of after)) (host.faults (host_of before)) (host.faults (host_of after))
+-- The document was monitored in an order of its dependencies, and the run ended so: the trace is one that such a run may leave, with no
+-- entry left out; each entry led from one state of the machine to the next; the trace blames the machine no more often than its count of
+-- faults rose; and the further fact of runs holds.
+pub record Monitored {M : Type 0} (machine : resources.Ghosts M) (further : FurtherOfRuns M) (document : Document) (end : RunEnd) (before after : M) : Type 0 where
+  pub order : List ℕ
+  pub is_order : IsOrderOfDocument document order
+  pub legal : Legal document Monitor order (machine.kept after)
+  pub whole : IsWholeOrNone document Monitor order end (machine.kept after)
+  pub ended : EndsAs end (machine.kept after)
+  pub chain : Chain machine.does machine.still document before (machine.kept after) after
+  pub failures : RoseBy (host_failures (machine.kept after)) (machine.faults before) (machine.faults after)
+  pub more : further document before after
 
 -- how the text of a run is printed in which so many resources did not succeed
 abbrev pub PrintsRun : {K : Type 0} → ends.Ghosts K → List ℕ → ℕ → Status → K → K → Type 0
@@ -35,53 +44,53 @@ PrintsRun sink text missed WriteFault old new = IsCutShort sink text old new
 PrintsRun sink text missed _ old new = ⊥
 
 -- the text gives the run of the input's document to its last resource, in which so many resources did not succeed
-pub record IsRunOf {H : Type 0} (host : hosts.Ghosts H) (input : Option (List ℕ)) (before after : Kinds H) (text : List ℕ) (missed : ℕ) : Type 0 where
+pub record IsRunOf {M : Type 0} (machine : resources.Ghosts M) (further : FurtherOfRuns M) (input : Option (List ℕ)) (before after : M) (text : List ℕ) (missed : ℕ) : Type 0 where
   pub document : Document
   pub input_is : IsInput ReadsDocument input (Ok document)
-  pub run : Monitored host document Finished before after
-  pub shows : IsRunText document (calls_of after) text
-  pub missed_is : missed ≡ missed_count document (calls_of after)
+  pub run : Monitored machine further document Finished before after
+  pub text_is : IsRunText document (machine.kept after) text
+  pub missed_is : missed ≡ missed_count document (machine.kept after)
 
 -- the input's document was run as far as memory went
-pub record IsFrontOf {H : Type 0} (host : hosts.Ghosts H) (input : Option (List ℕ)) (before after : Kinds H) : Type 0 where
+pub record IsFrontOf {M : Type 0} (machine : resources.Ghosts M) (further : FurtherOfRuns M) (input : Option (List ℕ)) (before after : M) : Type 0 where
   pub document : Document
   pub input_is : IsInput ReadsDocument input (Ok document)
   pub end : RunEnd
-  pub run : Monitored host document end before after
+  pub run : Monitored machine further document end before after
 
--- nothing was tested, or the input's document as far as memory went
-abbrev pub StopsEarly : {H : Type 0} → hosts.Ghosts H → Option (List ℕ) → Kinds H → Kinds H → Type 0
-StopsEarly host input before after = (calls_of after ≡ []) ⊎ IsFrontOf host input before after
+-- the machine is as it was, or the input's document was run as far as memory went
+abbrev pub StopsEarly : {M : Type 0} → resources.Ghosts M → FurtherOfRuns M → Option (List ℕ) → M → M → Type 0
+StopsEarly machine further input before after = (after ≡ before) ⊎ IsFrontOf machine further input before after
 
 -- the input's document was run to its last resource, and that run is printed
-abbrev pub TestedAll : {S K D H L C : Type 0} → Known S K D H L C → Status → Objects S K D H L C → Objects S K D H L C → Type 0
-TestedAll o status before after =
-    (text : List ℕ) × (missed : ℕ) × IsRunOf o.host (o.source.left before.input) before.kinds after.kinds text missed
+abbrev pub TestedAll : {S K D M L C : Type 0} → Known S K D M L C → FurtherOfRuns M → Status → Objects S K D M L C → Objects S K D M L C → Type 0
+TestedAll o further status before after =
+    (text : List ℕ) × (missed : ℕ) × IsRunOf o.outside.resources further (o.source.left before.input) before.machine after.machine text missed
     × PrintsRun o.sink text missed status before.output after.output
 
 -- why there was no run to the last resource: the input is refused and nothing was tested, or memory was refused
-abbrev pub IsUntested : {H : Type 0} → hosts.Ghosts H → Unread → Option (List ℕ) → ℕ → ℕ → Kinds H → Kinds H → Type 0
-IsUntested host (unread.Refused refusal) input faults_before faults_now before after = IsRefused ReadsDocument refusal input faults_before faults_now × (after ≡ before)
-IsUntested host unread.Memory input faults_before faults_now before after = StopsEarly host input before after
+abbrev pub IsUntested : {M : Type 0} → resources.Ghosts M → FurtherOfRuns M → Unread → Option (List ℕ) → ℕ → ℕ → M → M → Type 0
+IsUntested machine further (unread.Refused refusal) input faults_before faults_now before after = IsRefused ReadsDocument refusal input faults_before faults_now × (after ≡ before)
+IsUntested machine further unread.Memory input faults_before faults_now before after = StopsEarly machine further input before after
 
 -- the run is printed whole; or the input is refused for its error, or a read failed, and nothing was tested; or memory was refused,
 -- nothing is printed, and what was tested is the front of a run
-abbrev pub TestEnds : {S K D H L C : Type 0} → Known S K D H L C → Status → Objects S K D H L C → Objects S K D H L C → Type 0
-TestEnds o Done before after = TestedAll o Done before after
-TestEnds o (NotCompliant count) before after = TestedAll o (NotCompliant count) before after
-TestEnds o WriteFault before after = TestedAll o WriteFault before after
-TestEnds o (InputRefused error) before after =
+abbrev pub TestEnds : {S K D M L C : Type 0} → Known S K D M L C → FurtherOfRuns M → Status → Objects S K D M L C → Objects S K D M L C → Type 0
+TestEnds o further Done before after = TestedAll o further Done before after
+TestEnds o further (NotCompliant count) before after = TestedAll o further (NotCompliant count) before after
+TestEnds o further WriteFault before after = TestedAll o further WriteFault before after
+TestEnds o further (InputRefused error) before after =
     IsInput ReadsDocument (o.source.left before.input) (Err error) × PrintsRefusal o.sink (refusals.Input error) before.output after.output
-    × (after.kinds ≡ before.kinds)
-TestEnds o ReadFault before after =
+    × (after.machine ≡ before.machine)
+TestEnds o further ReadFault before after =
     Rose (o.source.faults before.input) (o.source.faults after.input) × PrintsRefusal o.sink refusals.ReadFault before.output after.output
-    × (after.kinds ≡ before.kinds)
-TestEnds o Memory before after = StopsEarly o.host (o.source.left before.input) before.kinds after.kinds × (after.output ≡ before.output)
-TestEnds o _ before after = ⊥
+    × (after.machine ≡ before.machine)
+TestEnds o further Memory before after =
+    StopsEarly o.outside.resources further (o.source.left before.input) before.machine after.machine × (after.output ≡ before.output)
+TestEnds o further _ before after = ⊥
 
--- the document of the input was tested, and nothing was changed
-pub record Tested {S K D H L C : Type 0} (o : Known S K D H L C) (status : Status) (before after : Objects S K D H L C) : Type 0 where
+-- the document of the input was tested
+pub record Tested {S K D M L C : Type 0} (o : Known S K D M L C) (further : Further D M C) (status : Status) (before after : Objects S K D M L C) : Type 0 where
   pub offline : IsOffline before after
-  pub host : o.host.told (host_of after.kinds) ≡ o.host.told (host_of before.kinds)
-  pub ends : TestEnds o status before after
+  pub ends : TestEnds o further.run status before after
   pub each : EachAllows ReadsDocument (o.source.left before.input) status (o.source.faults before.input) (o.source.faults after.input)

@@ -16,7 +16,7 @@ Shows reads shows all (Err error) = reads all (Err error)
 
 -- the text is printed, or a part from its front where the output failed; or the input is refused for its error, or a read failed;
 -- or memory was refused and nothing is printed
-abbrev pub ToolEnds : {S K D H L C : Type 0} → Reading (List ℕ) → Known S K D H L C → Status → Objects S K D H L C → Objects S K D H L C → Type 0
+abbrev pub ToolEnds : {S K D M L C : Type 0} → Reading (List ℕ) → Known S K D M L C → Status → Objects S K D M L C → Objects S K D M L C → Type 0
 ToolEnds answers o Done before after =
     (text : List ℕ) × IsInput answers (o.source.left before.input) (Ok text) × Holds o.sink text before.output after.output
 ToolEnds answers o WriteFault before after =
@@ -29,8 +29,8 @@ ToolEnds answers o Memory before after = after.output ≡ before.output
 ToolEnds answers o _ before after = ⊥
 
 -- a tool with these answers was run
-pub record RanTool {S K D H L C : Type 0} (answers : Reading (List ℕ)) (o : Known S K D H L C) (status : Status)
-    (before after : Objects S K D H L C) : Type 0 where
+pub record RanTool {S K D M L C : Type 0} (answers : Reading (List ℕ)) (o : Known S K D M L C) (status : Status)
+    (before after : Objects S K D M L C) : Type 0 where
   pub untouched : IsUntouched before after
   pub ends : ToolEnds answers o status before after
   pub each : EachAllows answers (o.source.left before.input) status (o.source.faults before.input) (o.source.faults after.input)

@@ -1,5 +1,6 @@
 //! What the input is: bytes, instances, and the document that they declare.
 ghost use Rattle.std.specs.Prelude.{◌≡◌, ◌≢◌, ◌≤◌, ◌⊎◌, IfErr, IfOk, Ok};
+ghost use Rattle.depend_order.specs.Ordered.{IsOrdered};
 ghost use Rattle.node_state.specs.Metas.{IsNodeMeta};
 ghost use Rattle.lcm_program.specs.declared.input.Unread.TheVariants.{Memory};
 ghost use Rattle.lcm_program.specs.Input.{IsInput, IsUnread, ReadsBytes, ReadsDocument, ReadsInstances, ReadsMeta, input_limit};
@@ -13,7 +14,7 @@ use dsc_outside::Source;
 use meta_config::{Meta, MetaError, parts_order};
 use mof_codec::{MofError, read};
 use mof_values::{Instance, Text};
-use partial_merge::{MergeError, merge, part_of};
+use partial_merge::{MergeError, OrderedDocument, merge_text};
 use std::alloc::{AllocError, AllocFailed, Global};
 
 /// The most bytes of a document.
@@ -45,19 +46,31 @@ impl<T: Drop> From<AllocFailed<T>> for Unread {
     }
 }
 
-/// Reads the input to its end, and the document that it declares, as one part without a name.
-pub fn read_document<S: Source>(alloc: Global, input: &mut S) -> Result<Document, Unread>
-    ensures ok { IfOk result (λ document. IsInput ReadsDocument (S.left input.old) (Ok document)) }
+/// Reads the input to its end, and the document that it declares, as one part without a name, with its order.
+pub fn read_ordered<S: Source>(alloc: Global, input: &mut S) -> Result<OrderedDocument, Unread>
+    ensures ok { IfOk result (λ ordered. IsInput ReadsDocument (S.left input.old) (Ok ordered.document)) }
+    ensures ordered { IfOk result IsOrdered }
     ensures err { IfErr result (λ e. IsUnread ReadsDocument e (S.left input.old) (S.faults input.old) (S.faults input.new)) }
 {
     let bytes = match read_bytes(alloc, input) {
         Ok(bytes) => bytes,
         Err(unread) => return Err(unread),
     };
-    let part = part_of(Text::of(Vec::new(alloc)), bytes);
-    match merge(alloc, &[part]) {
-        Ok(document) => Ok(document),
+    let name = Text::of(Vec::new(alloc));
+    match merge_text(alloc, &name, &bytes) {
+        Ok(ordered) => Ok(ordered),
         Err(error) => Err(unmerged(error)),
+    }
+}
+
+/// Reads the input to its end, and the document that it declares.
+pub fn read_document<S: Source>(alloc: Global, input: &mut S) -> Result<Document, Unread>
+    ensures ok { IfOk result (λ document. IsInput ReadsDocument (S.left input.old) (Ok document)) }
+    ensures err { IfErr result (λ e. IsUnread ReadsDocument e (S.left input.old) (S.faults input.old) (S.faults input.new)) }
+{
+    match read_ordered(alloc, input) {
+        Ok(ordered) => Ok(ordered.document),
+        Err(unread) => Err(unread),
     }
 }
 

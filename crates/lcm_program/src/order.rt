@@ -4,9 +4,9 @@ ghost use Rattle.std.specs.List.{flat_map};
 ghost use Rattle.lcm_program.specs.Input.{IsInput, IsUnread};
 ghost use Rattle.lcm_program.specs.Order.{AnswersOrder, id_line};
 
-use crate::input::{Unread, read_document};
+use crate::input::{Unread, read_ordered};
 use dsc_document::Document;
-use dsc_node::{id, order_of_merged};
+use dsc_node::id;
 use dsc_outside::Source;
 use mof_codec::push_literal;
 use std::alloc::{AllocError, Global};
@@ -16,12 +16,12 @@ pub fn read_order<S: Source>(alloc: Global, input: &mut S) -> Result<Vec<u8>, Un
     ensures ok { IfOk result (λ text. IsInput AnswersOrder (S.left input.old) (Ok text.items)) }
     ensures err { IfErr result (λ e. IsUnread AnswersOrder e (S.left input.old) (S.faults input.old) (S.faults input.new)) }
 {
-    let document = match read_document(alloc, input) {
-        Ok(document) => document,
+    let ordered = match read_ordered(alloc, input) {
+        Ok(ordered) => ordered,
         Err(unread) => return Err(unread),
     };
-    let order = order_of_merged(alloc, &document)?;
-    Ok(id_lines(alloc, &document, &order)?.into_bytes())
+    let lines = id_lines(alloc, &ordered.document, ordered.order.as_slice())?;
+    Ok(lines.into_bytes())
 }
 
 // The ids at these places, a line each.

@@ -1,9 +1,11 @@
 //! The program: one command, from its arguments and its input to its output.
 ghost use Rattle.std.specs.Prelude.{◌≡◌, ◌⊎◌, [], map, string_bytes, IfErr, IfOk};
 ghost use Rattle.resource_kinds.specs.Kinds.{calls_of};
+ghost use Rattle.dsc_node.specs.HostHeadline.{kinds_of, machine_of};
 ghost use Rattle.lcm_program.specs.declared.words.Command.{Command};
 ghost use Rattle.lcm_program.specs.Did.{Did, DidNothing};
 ghost use Rattle.lcm_program.specs.Objects.{known, objects};
+ghost use Rattle.lcm_program.specs.Further.{nothing_further, further_of_host};
 ghost use Rattle.lcm_program.specs.Words.{IsForm, IsInRange};
 
 use crate::canon::read_canonical;
@@ -18,11 +20,16 @@ use crate::test::read_and_monitor;
 use crate::words::{Command, UsageError, read_words};
 use dsc_node::{Command as StartCommand, Status};
 use dsc_outside::{Clock, Disk, Host, Link, Sink, Source};
+use lcm_core::{repair_laws, trace_laws};
 use mof_values::Memory;
-use resource_kinds::Kinds;
+use resource_kinds::{Kinds, Machine};
 use std::alloc::Global;
 
-/// Does what the arguments ask for, and answers how it ended.
+/// Does what the arguments ask for over the kinds of resources of a host, and answers how it ended.
+///
+/// It is [`node_over`] on that machine. Beside its clauses the trace of each start is true of the host, what completes and what
+/// holds together is as `specs/HostHeadline.antt` of `dsc_node` says, and the trace of each run of `test` is true of the host,
+/// which it leaves as it was.
 ///
 /// Where the command takes an input, it is read to its end first. The output is written after all other work.
 pub fn node<S: Source, K: Sink, D: Disk, H: Host, L: Link, C: Clock>(
@@ -39,38 +46,68 @@ pub fn node<S: Source, K: Sink, D: Disk, H: Host, L: Link, C: Clock>(
 
     // What the arguments ask for was done, by the table of commands.
     ensures did { (command : Command) → IsForm command (map string_bytes words.now)
-        → Did (known S.Ends K.Ends D.Disk H.Host L.Link C.Clock) command result
+        → Did (known S.Ends K.Ends D.Disk (kinds_of H.Host) (machine_of H.Host) L.Link C.Clock) (further_of_host D.Disk H.Host C.Clock) command result
         (objects input.old output.old disk.old kinds.old link.old clock.old) (objects input.new output.new disk.new kinds.new link.new clock.new) }
 
     // Arguments in no form ask for nothing, and are refused.
     ensures nothing { ((command : Command) → IsForm command (map string_bytes words.now) → ⊥)
-        → DidNothing (known S.Ends K.Ends D.Disk H.Host L.Link C.Clock) (map string_bytes words.now) result
+        → DidNothing (known S.Ends K.Ends D.Disk (kinds_of H.Host) (machine_of H.Host) L.Link C.Clock) (map string_bytes words.now) result
         (objects input.old output.old disk.old kinds.old link.old clock.old) (objects input.new output.new disk.new kinds.new link.new clock.new) }
 {
+    repair_laws();
+    trace_laws();
+    node_over(alloc, words, input, output, disk, kinds, link, clock)
+}
+
+/// Does what the arguments ask for on any machine, and answers how it ended.
+///
+/// Where the command takes an input, it is read to its end first. The output is written after all other work.
+pub fn node_over<S: Source, K: Sink, D: Disk, M: Machine, L: Link, C: Clock>(
+    alloc: Global,
+    words: &[String],
+    input: &mut S,
+    output: &mut K,
+    disk: &mut D,
+    machine: &mut M,
+    link: &mut L,
+    clock: &mut C,
+) -> Status
+    requires fresh { M.kept machine.old ≡ [] }
+
+    // What the arguments ask for was done, by the table of commands.
+    ensures did { (command : Command) → IsForm command (map string_bytes words.now)
+        → Did (known S.Ends K.Ends D.Disk M.Resources M.Machine.own L.Link C.Clock) nothing_further command result
+        (objects input.old output.old disk.old machine.old link.old clock.old) (objects input.new output.new disk.new machine.new link.new clock.new) }
+
+    // Arguments in no form ask for nothing, and are refused.
+    ensures nothing { ((command : Command) → IsForm command (map string_bytes words.now) → ⊥)
+        → DidNothing (known S.Ends K.Ends D.Disk M.Resources M.Machine.own L.Link C.Clock) (map string_bytes words.now) result
+        (objects input.old output.old disk.old machine.old link.old clock.old) (objects input.new output.new disk.new machine.new link.new clock.new) }
+{
     match read_words(words) {
-        Ok(command) => do_command(alloc, command, input, output, disk, kinds, link, clock),
+        Ok(command) => do_command(alloc, command, input, output, disk, machine, link, clock),
         Err(UsageError { word }) => refuse(alloc, output, Refusal::Usage { word }),
     }
 }
 
 // Does the command.
-fn do_command<S: Source, K: Sink, D: Disk, H: Host, L: Link, C: Clock>(
+fn do_command<S: Source, K: Sink, D: Disk, M: Machine, L: Link, C: Clock>(
     alloc: Global,
     command: Command,
     input: &mut S,
     output: &mut K,
     disk: &mut D,
-    kinds: &mut Kinds<H>,
+    machine: &mut M,
     link: &mut L,
     clock: &mut C,
 ) -> Status
-    requires fresh { calls_of kinds.old ≡ [] }
+    requires fresh { M.kept machine.old ≡ [] }
     requires range { IsInRange command }
-    ensures did { Did (known S.Ends K.Ends D.Disk H.Host L.Link C.Clock) command.entry result
-        (objects input.old output.old disk.old kinds.old link.old clock.old) (objects input.new output.new disk.new kinds.new link.new clock.new) }
+    ensures did { Did (known S.Ends K.Ends D.Disk M.Resources M.Machine.own L.Link C.Clock) nothing_further command.entry result
+        (objects input.old output.old disk.old machine.old link.old clock.old) (objects input.new output.new disk.new machine.new link.new clock.new) }
 {
     match command {
-        Command::Test => print_run(alloc, output, read_and_monitor(alloc, input, kinds)),
+        Command::Test => print_run(alloc, output, read_and_monitor(alloc, input, machine)),
         Command::Check => print_answer(alloc, output, read_count(alloc, input)),
         Command::Order => print_answer(alloc, output, read_order(alloc, input)),
         Command::Canon => print_answer(alloc, output, read_canonical(alloc, input)),
@@ -84,29 +121,35 @@ fn do_command<S: Source, K: Sink, D: Disk, H: Host, L: Link, C: Clock>(
         },
         Command::Init { agent } => {
             let init = StartCommand::Init(agent);
-            start_node(alloc, init, output, disk, kinds, link, clock)
+            start_node(alloc, init, output, disk, machine, link, clock)
         }
-        Command::Meta => set_meta(alloc, input, output, disk, kinds, link, clock),
-        Command::Register { name } => register(alloc, name, output, disk, kinds, link, clock),
-        Command::Pull => start_node(alloc, StartCommand::Pull, output, disk, kinds, link, clock),
-        Command::Push => push(alloc, input, output, disk, kinds, link, clock),
+        Command::Meta => set_meta(alloc, input, output, disk, machine, link, clock),
+        Command::Register { name } => register(alloc, name, output, disk, machine, link, clock),
+        Command::Pull => {
+            let pull = StartCommand::Pull;
+            start_node(alloc, pull, output, disk, machine, link, clock)
+        }
+        Command::Push => push(alloc, input, output, disk, machine, link, clock),
         Command::Consistency => {
             let consistency = StartCommand::Consistency;
-            start_node(alloc, consistency, output, disk, kinds, link, clock)
+            start_node(alloc, consistency, output, disk, machine, link, clock)
         }
-        Command::Boot => start_node(alloc, StartCommand::Boot, output, disk, kinds, link, clock),
-        Command::Get => start_node(alloc, StartCommand::Get, output, disk, kinds, link, clock),
+        Command::Boot => {
+            let boot = StartCommand::Boot;
+            start_node(alloc, boot, output, disk, machine, link, clock)
+        }
+        Command::Get => start_node(alloc, StartCommand::Get, output, disk, machine, link, clock),
         Command::Restore => {
             let restore = StartCommand::Restore;
-            start_node(alloc, restore, output, disk, kinds, link, clock)
+            start_node(alloc, restore, output, disk, machine, link, clock)
         }
         Command::Remove { stage } => {
             let remove = StartCommand::Remove(stage);
-            start_node(alloc, remove, output, disk, kinds, link, clock)
+            start_node(alloc, remove, output, disk, machine, link, clock)
         }
         Command::Reports => {
             let reports = StartCommand::Reports;
-            start_node(alloc, reports, output, disk, kinds, link, clock)
+            start_node(alloc, reports, output, disk, machine, link, clock)
         }
     }
 }

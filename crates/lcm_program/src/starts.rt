@@ -1,55 +1,56 @@
 //! The commands that start the node.
 ghost use Rattle.std.specs.Prelude.{◌≡◌, [], IfOk};
 ghost use Rattle.std.specs.Str.{chars};
-ghost use Rattle.resource_kinds.specs.Kinds.{calls_of};
 ghost use Rattle.node_pull.specs.Views.{view_of};
 ghost use Rattle.dsc_node.specs.Commands.{IsTaken};
 ghost use Rattle.dsc_node.specs.Start.{outside};
+ghost use Rattle.dsc_node.specs.Work.{known};
+ghost use Rattle.lcm_program.specs.Further.{nothing_further};
 ghost use Rattle.lcm_program.specs.Started.{IsStart, MetaEnds, PushEnds, RegisterEnds};
 
 use crate::input::{read_bytes, read_meta};
 use crate::printing::{print_start, print_unread};
-use dsc_node::{Command, Status, start};
-use dsc_outside::{Clock, Disk, Host, Link, Sink, Source};
+use dsc_node::{Command, Status, start_over};
+use dsc_outside::{Clock, Disk, Link, Sink, Source};
 use mof_values::{Bytes, Text};
-use resource_kinds::Kinds;
+use resource_kinds::Machine;
 use std::alloc::{AllocError, Global};
 
 /// Starts the node with the command, and prints how that ended.
-pub fn start_node<K: Sink, D: Disk, H: Host, L: Link, C: Clock>(
+pub fn start_node<K: Sink, D: Disk, M: Machine, L: Link, C: Clock>(
     alloc: Global,
     command: Command,
     output: &mut K,
     disk: &mut D,
-    kinds: &mut Kinds<H>,
+    machine: &mut M,
     link: &mut L,
     clock: &mut C,
 ) -> Status
     requires taken { IsTaken command }
-    requires fresh { calls_of kinds.old ≡ [] }
-    ensures { IsStart K.Ends D.Disk H.Host C.Clock command result output.old output.new
-        (outside disk.old kinds.old (view_of L.Link link.old) clock.old) (outside disk.new kinds.new (view_of L.Link link.new) clock.new) }
+    requires fresh { M.kept machine.old ≡ [] }
+    ensures { IsStart K.Ends (known D.Disk M.Resources M.Machine.own C.Clock) nothing_further command result output.old output.new
+        (outside disk.old machine.old (view_of L.Link link.old) clock.old) (outside disk.new machine.new (view_of L.Link link.new) clock.new) }
 {
     print_start(
         alloc,
         output,
-        start(alloc, command, disk, kinds, link, clock),
+        start_over(alloc, command, disk, machine, link, clock),
     )
 }
 
 /// Starts the node with its registration under this name.
-pub fn register<K: Sink, D: Disk, H: Host, L: Link, C: Clock>(
+pub fn register<K: Sink, D: Disk, M: Machine, L: Link, C: Clock>(
     alloc: Global,
     name: &str,
     output: &mut K,
     disk: &mut D,
-    kinds: &mut Kinds<H>,
+    machine: &mut M,
     link: &mut L,
     clock: &mut C,
 ) -> Status
-    requires fresh { calls_of kinds.old ≡ [] }
-    ensures { RegisterEnds K.Ends D.Disk H.Host C.Clock name.now result output.old output.new
-        (outside disk.old kinds.old (view_of L.Link link.old) clock.old) (outside disk.new kinds.new (view_of L.Link link.new) clock.new) }
+    requires fresh { M.kept machine.old ≡ [] }
+    ensures { RegisterEnds K.Ends (known D.Disk M.Resources M.Machine.own C.Clock) nothing_further name.now result output.old output.new
+        (outside disk.old machine.old (view_of L.Link link.old) clock.old) (outside disk.new machine.new (view_of L.Link link.new) clock.new) }
 {
     match text_of(alloc, name) {
         Ok(text) => start_node(
@@ -57,7 +58,7 @@ pub fn register<K: Sink, D: Disk, H: Host, L: Link, C: Clock>(
             Command::Register(text),
             output,
             disk,
-            kinds,
+            machine,
             link,
             clock,
         ),
@@ -73,18 +74,18 @@ fn text_of(alloc: Global, word: &str) -> Result<Text, AllocError>
 
 /// Reads the input to its end, and starts the node with it as the document that is pushed; where it is not read nothing else is
 /// touched.
-pub fn push<S: Source, K: Sink, D: Disk, H: Host, L: Link, C: Clock>(
+pub fn push<S: Source, K: Sink, D: Disk, M: Machine, L: Link, C: Clock>(
     alloc: Global,
     input: &mut S,
     output: &mut K,
     disk: &mut D,
-    kinds: &mut Kinds<H>,
+    machine: &mut M,
     link: &mut L,
     clock: &mut C,
 ) -> Status
-    requires fresh { calls_of kinds.old ≡ [] }
-    ensures { PushEnds S.Ends K.Ends D.Disk H.Host C.Clock result input.old input.new output.old output.new
-        (outside disk.old kinds.old (view_of L.Link link.old) clock.old) (outside disk.new kinds.new (view_of L.Link link.new) clock.new) }
+    requires fresh { M.kept machine.old ≡ [] }
+    ensures { PushEnds S.Ends K.Ends (known D.Disk M.Resources M.Machine.own C.Clock) nothing_further result input.old input.new output.old output.new
+        (outside disk.old machine.old (view_of L.Link link.old) clock.old) (outside disk.new machine.new (view_of L.Link link.new) clock.new) }
 {
     match read_bytes(alloc, input) {
         Ok(bytes) => start_node(
@@ -92,7 +93,7 @@ pub fn push<S: Source, K: Sink, D: Disk, H: Host, L: Link, C: Clock>(
             Command::Push(Bytes::of(bytes)),
             output,
             disk,
-            kinds,
+            machine,
             link,
             clock,
         ),
@@ -102,21 +103,29 @@ pub fn push<S: Source, K: Sink, D: Disk, H: Host, L: Link, C: Clock>(
 
 /// Reads the input to its end, and starts the node with the meta-configuration that it declares; where it is not read nothing else
 /// is touched.
-pub fn set_meta<S: Source, K: Sink, D: Disk, H: Host, L: Link, C: Clock>(
+pub fn set_meta<S: Source, K: Sink, D: Disk, M: Machine, L: Link, C: Clock>(
     alloc: Global,
     input: &mut S,
     output: &mut K,
     disk: &mut D,
-    kinds: &mut Kinds<H>,
+    machine: &mut M,
     link: &mut L,
     clock: &mut C,
 ) -> Status
-    requires fresh { calls_of kinds.old ≡ [] }
-    ensures { MetaEnds S.Ends K.Ends D.Disk H.Host C.Clock result input.old input.new output.old output.new
-        (outside disk.old kinds.old (view_of L.Link link.old) clock.old) (outside disk.new kinds.new (view_of L.Link link.new) clock.new) }
+    requires fresh { M.kept machine.old ≡ [] }
+    ensures { MetaEnds S.Ends K.Ends (known D.Disk M.Resources M.Machine.own C.Clock) nothing_further result input.old input.new output.old output.new
+        (outside disk.old machine.old (view_of L.Link link.old) clock.old) (outside disk.new machine.new (view_of L.Link link.new) clock.new) }
 {
     match read_meta(alloc, input) {
-        Ok(meta) => start_node(alloc, Command::Meta(meta), output, disk, kinds, link, clock),
+        Ok(meta) => start_node(
+            alloc,
+            Command::Meta(meta),
+            output,
+            disk,
+            machine,
+            link,
+            clock,
+        ),
         Err(unread) => print_unread(alloc, output, unread),
     }
 }

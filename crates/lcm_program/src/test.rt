@@ -1,21 +1,23 @@
 //! The command `test`: a run that monitors the document that the input declares.
 ghost use Rattle.std.specs.Prelude.{◌≡◌, ◌⊎◌, ◌<◌, ◌^◌, ◌++◌, List, [], length, All, IfErr, IfOk, OnOk, string_bytes};
+ghost use Rattle.depend_order.specs.Ordered.{IsOrdered};
 ghost use Rattle.partial_merge.specs.declared.part.Part.{Part};
 ghost use Rattle.partial_merge.specs.Merged.{Merged};
-ghost use Rattle.resource_kinds.specs.Kinds.{calls_of, host_of};
 ghost use Rattle.resource_kinds.specs.Trace.{missed_count, place_of};
 ghost use Rattle.lcm_core.specs.RunLaws.{EndsAtYes};
 ghost use Rattle.lcm_core.specs.declared.modes.RunEnd.{RunEnd};
 ghost use Rattle.dsc_node.specs.Lines.{IsRunText, overlap_line, run_lines};
+ghost use Rattle.lcm_program.specs.Further.{nothing_further_of_runs};
 ghost use Rattle.lcm_program.specs.Test.{IsRunOf, IsUntested, Monitored};
 
-use crate::input::{Unread, read_document};
+use crate::input::{Unread, read_ordered};
 use dsc_document::Document;
-use dsc_node::{lines_of, order_of_merged, run_kinds};
-use dsc_outside::{Host, Source};
+use dsc_node::{lines_of, run_merged};
+use dsc_outside::Source;
 use lcm_core::{RunEnd, RunMode, count_succeeded};
 use mof_values::Memory;
-use resource_kinds::{Entry, Kinds, Resources, overlaps};
+use partial_merge::OrderedDocument;
+use resource_kinds::{Entry, Machine, overlaps};
 use std::alloc::{AllocError, Global};
 
 /// What a run comes to.
@@ -29,46 +31,51 @@ pub struct Outcome {
 }
 
 /// Reads the input to its end, and tests each resource of its document in the order of dependencies.
-pub fn read_and_monitor<S: Source, H: Host>(
+pub fn read_and_monitor<S: Source, M: Machine>(
     alloc: Global,
     input: &mut S,
-    kinds: &mut Kinds<H>,
+    machine: &mut M,
 ) -> Result<Outcome, Unread>
-    requires fresh { calls_of kinds.old ≡ [] }
-    ensures host { H.told (host_of kinds.new) ≡ H.told (host_of kinds.old) }
-    ensures ok { IfOk result (λ outcome. IsRunOf H.Host (S.left input.old) kinds.old kinds.new (string_bytes outcome.lines) outcome.missed) }
-    ensures err { IfErr result (λ e. IsUntested H.Host e (S.left input.old) (S.faults input.old) (S.faults input.new) kinds.old kinds.new) }
+    requires fresh { M.kept machine.old ≡ [] }
+    ensures ok { IfOk result (λ outcome. IsRunOf M.Resources nothing_further_of_runs (S.left input.old) machine.old machine.new (string_bytes outcome.lines) outcome.missed) }
+    ensures err { IfErr result (λ e. IsUntested M.Resources nothing_further_of_runs e (S.left input.old) (S.faults input.old) (S.faults input.new) machine.old machine.new) }
 {
-    let document = match read_document(alloc, input) {
-        Ok(document) => document,
+    let ordered = match read_ordered(alloc, input) {
+        Ok(ordered) => ordered,
         Err(unread) => return Err(unread),
     };
-    match monitor_document(alloc, &document, kinds) {
+    match monitor_document(alloc, &ordered, machine) {
         Ok(outcome) => Ok(outcome),
         Err(Memory) => Err(Unread::Memory),
     }
 }
 
 // Tests each resource of a merged document, in the order of dependencies.
-fn monitor_document<H: Host>(
+fn monitor_document<M: Machine>(
     alloc: Global,
-    document: &Document,
-    kinds: &mut Kinds<H>,
+    ordered: &OrderedDocument,
+    machine: &mut M,
 ) -> Result<Outcome, Memory>
-    requires fresh { calls_of kinds.old ≡ [] }
-    requires merged { (parts : List Part) × Merged parts document.now }
+    requires fresh { M.kept machine.old ≡ [] }
+    requires merged { (parts : List Part) × Merged parts ordered.now.document }
+    requires ordered { IsOrdered ordered.now }
 
-    ensures run { (calls_of kinds.new ≡ []) ⊎ ((end : RunEnd) × Monitored H.Host document.now end kinds.old kinds.new) }
-    ensures host { H.told (host_of kinds.new) ≡ H.told (host_of kinds.old) }
-    ensures ok { OnOk result (Monitored H.Host document.now RunEnd.Finished kinds.old kinds.new) }
-    ensures lines { IfOk result (λ outcome. IsRunText document.now (calls_of kinds.new) (string_bytes outcome.lines)) }
-    ensures missed { IfOk result (λ outcome. outcome.missed ≡ missed_count document.now (calls_of kinds.new)) }
+    ensures run { (machine.new ≡ machine.old) ⊎ ((end : RunEnd) × Monitored M.Resources nothing_further_of_runs ordered.now.document end machine.old machine.new) }
+    ensures ok { OnOk result (Monitored M.Resources nothing_further_of_runs ordered.now.document RunEnd.Finished machine.old machine.new) }
+    ensures lines { IfOk result (λ outcome. IsRunText ordered.now.document (M.kept machine.new) (string_bytes outcome.lines)) }
+    ensures missed { IfOk result (λ outcome. outcome.missed ≡ missed_count ordered.now.document (M.kept machine.new)) }
 {
+    let document = &ordered.document;
     let overlap = overlaps(alloc, document)?;
-    let order = order_of_merged(alloc, document)?;
-    match run_kinds(alloc, document, &order, RunMode::Monitor, kinds) {
+    match run_merged(
+        alloc,
+        document,
+        ordered.order.as_slice(),
+        RunMode::Monitor,
+        machine,
+    ) {
         RunEnd::Finished | RunEnd::RebootAsked(_) => {
-            Ok(outcome_of(alloc, document, kinds.calls(), overlap)?)
+            Ok(outcome_of(alloc, document, machine.calls(), overlap)?)
         }
         RunEnd::Memory => Err(Memory),
     }

@@ -1,5 +1,4 @@
-use Rattle.std.proofs.Common.{ℕ, List, Option, Some, Ok, arith}
-use Rattle.dsc_outside.specs.declared.failed.Failed.{Failed}
+use Rattle.std.proofs.Common.{Some, arith}
 use Rattle.dsc_node.proofs.Readings.{gave_some}
 use Rattle.dsc_node.proofs.running.end_of.Goals as goal
 

@@ -1,8 +1,6 @@
 use Rattle.std.proofs.Common.{List, inr, refl, sym, subst}
 use Rattle.resource_kinds.specs.declared.entry.Entry.{Entry}
-use Rattle.lcm_core.specs.declared.modes.RunEnd.TheVariants as ends
 use Rattle.lcm_core.specs.RepairLaws.{IsReportable}
-use Rattle.dsc_node.specs.Readings.{end_of}
 use Rattle.dsc_node.specs.Runs.{Choice}
 use Rattle.dsc_node.proofs.RunReports.{frame_in_size, framed, ran_of, reportable, reported_of, the_run}
 use Rattle.dsc_node.proofs.running.run_ready.Goals as goal

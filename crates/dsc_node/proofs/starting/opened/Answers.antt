@@ -1,7 +1,7 @@
-use Rattle.std.proofs.Common.{Some, None, Bool, true, false, refl, ◌∙◌, arith, sym, subst}
+use Rattle.std.proofs.Common.{Some, None, Bool, false, refl, ◌∙◌, arith, sym, subst}
 use Rattle.std.specs.Prelude.{string_bytes}
 use Rattle.node_pull.specs.Views.{view_of}
-use Rattle.dsc_node.specs.Commands.{IsAllowed, is_run, reads_clock}
+use Rattle.dsc_node.specs.Commands.{IsAllowed}
 use Rattle.dsc_node.specs.Work.{ReadsBefore, beside, clock_failed, known, not_allowed, waiting}
 use Rattle.dsc_node.proofs.Commits.{ends_as, ends_here}
 use Rattle.dsc_node.proofs.Tasks.{failed_reads, run_reads, said_waits, said_why, settle_goes, starts_before}

@@ -4,6 +4,7 @@ use Rattle.node_pull.specs.Views.{view_of}
 use Rattle.dsc_node.specs.Start.{Start, opened, outside, refused, unopened}
 use Rattle.dsc_node.specs.Work.{known}
 use Rattle.dsc_node.proofs.Commits.{opens}
+use Rattle.dsc_node.proofs.Headline.{headline}
 use Rattle.dsc_node.proofs.Nodes.{kept_sound}
 use Rattle.dsc_node.proofs.Starts.{begins_again}
 use Rattle.dsc_node.proofs.starting.start_over.Goals as goal
@@ -56,3 +57,14 @@ pub returns-in-Err-open_store-clause-start : goal.returns-in-Err-open_store-clau
 returns-in-Err-open_store-clause-start g c =
     unopened c.in-Ok.task c.in-Err-open_store.error c.in-Ok.ensures.ok c.in-Err-open_store.ensures.count c.in-Err-open_store.ensures.cause refl c.in-Err-open_store.ensures.any_moment
     (c.silent-in-Err-open_store.ensures.status ∙ c.status_of.ensures, c.silent-in-Err-open_store.ensures.lines)
+
+-- the headline follows from the table, whatever that says
+
+pub returns-in-Err-clause-headline : goal.returns-in-Err-clause-headline
+returns-in-Err-clause-headline g c = headline (known g.D.Disk g.M.Resources g.M.Machine g.C.Clock) c.args.command _ _ _ _
+
+pub returns-in-Ok-open_store-clause-headline : goal.returns-in-Ok-open_store-clause-headline
+returns-in-Ok-open_store-clause-headline g c = headline (known g.D.Disk g.M.Resources g.M.Machine g.C.Clock) c.args.command _ _ _ _
+
+pub returns-in-Err-open_store-clause-headline : goal.returns-in-Err-open_store-clause-headline
+returns-in-Err-open_store-clause-headline g c = headline (known g.D.Disk g.M.Resources g.M.Machine g.C.Clock) c.args.command _ _ _ _

@@ -13,55 +13,55 @@ use Rattle.lcm_program.proofs.program.do_command.Goals as goal
 pub returns-in-Test : goal.returns-in-Test
 returns-in-Test g c =
     record {
-      did = rw c.in-Test.is (tested (known g.S.Ends g.K.Ends g.D.Disk g.H.Host g.L.Link g.C.Clock)
-          (objects c.args.input.now c.args.output.now c.args.disk.now c.args.kinds.now c.args.link.now c.args.clock.now)
-          (objects c.read_and_monitor.new.input c.print_run.new.output c.args.disk.now c.read_and_monitor.new.kinds c.args.link.now c.args.clock.now)
+      did = rw c.in-Test.is (tested (known g.S.Ends g.K.Ends g.D.Disk g.M.Resources g.M.Machine g.L.Link g.C.Clock)
+          (objects c.args.input.now c.args.output.now c.args.disk.now c.args.machine.now c.args.link.now c.args.clock.now)
+          (objects c.read_and_monitor.new.input c.print_run.new.output c.args.disk.now c.read_and_monitor.new.machine c.args.link.now c.args.clock.now)
           (λ outcome. string_bytes outcome.lines) (λ outcome. outcome.missed) c.read_and_monitor.result c.print_run.result
-          (record { disk = refl; link = refl; clock = refl }) c.requires.fresh c.read_and_monitor.ensures.host
+          (record { disk = refl; link = refl; clock = refl })
           c.read_and_monitor.ensures.ok c.read_and_monitor.ensures.err c.print_run.ensures.ok c.print_run.ensures.err);
     }
 
 pub returns-in-Check : goal.returns-in-Check
 returns-in-Check g c =
     record {
-      did = rw c.in-Check.is (ran_tool (known g.S.Ends g.K.Ends g.D.Disk g.H.Host g.L.Link g.C.Clock)
-          (objects c.args.input.now c.args.output.now c.args.disk.now c.args.kinds.now c.args.link.now c.args.clock.now)
-          (objects c.read_count.new.input c.print_answer.new.output c.args.disk.now c.args.kinds.now c.args.link.now c.args.clock.now)
+      did = rw c.in-Check.is (ran_tool (known g.S.Ends g.K.Ends g.D.Disk g.M.Resources g.M.Machine g.L.Link g.C.Clock)
+          (objects c.args.input.now c.args.output.now c.args.disk.now c.args.machine.now c.args.link.now c.args.clock.now)
+          (objects c.read_count.new.input c.print_answer.new.output c.args.disk.now c.args.machine.now c.args.link.now c.args.clock.now)
           AnswersCheck (shown_decides ReadsDocument IsCountLine document_decides) (λ text. text.items) c.read_count.result c.print_answer.result
-          (record { offline = record { disk = refl; link = refl; clock = refl }; kinds = refl })
+          (record { offline = record { disk = refl; link = refl; clock = refl }; machine = refl })
           c.read_count.ensures.ok c.read_count.ensures.err c.print_answer.ensures.ok c.print_answer.ensures.err);
     }
 
 pub returns-in-Order : goal.returns-in-Order
 returns-in-Order g c =
     record {
-      did = rw c.in-Order.is (ran_tool (known g.S.Ends g.K.Ends g.D.Disk g.H.Host g.L.Link g.C.Clock)
-          (objects c.args.input.now c.args.output.now c.args.disk.now c.args.kinds.now c.args.link.now c.args.clock.now)
-          (objects c.read_order.new.input c.print_answer-in-Order.new.output c.args.disk.now c.args.kinds.now c.args.link.now c.args.clock.now)
+      did = rw c.in-Order.is (ran_tool (known g.S.Ends g.K.Ends g.D.Disk g.M.Resources g.M.Machine g.L.Link g.C.Clock)
+          (objects c.args.input.now c.args.output.now c.args.disk.now c.args.machine.now c.args.link.now c.args.clock.now)
+          (objects c.read_order.new.input c.print_answer-in-Order.new.output c.args.disk.now c.args.machine.now c.args.link.now c.args.clock.now)
           AnswersOrder (shown_decides ReadsDocument AreIdLines document_decides) (λ text. text.items) c.read_order.result c.print_answer-in-Order.result
-          (record { offline = record { disk = refl; link = refl; clock = refl }; kinds = refl })
+          (record { offline = record { disk = refl; link = refl; clock = refl }; machine = refl })
           c.read_order.ensures.ok c.read_order.ensures.err c.print_answer-in-Order.ensures.ok c.print_answer-in-Order.ensures.err);
     }
 
 pub returns-in-Canon : goal.returns-in-Canon
 returns-in-Canon g c =
     record {
-      did = rw c.in-Canon.is (ran_tool (known g.S.Ends g.K.Ends g.D.Disk g.H.Host g.L.Link g.C.Clock)
-          (objects c.args.input.now c.args.output.now c.args.disk.now c.args.kinds.now c.args.link.now c.args.clock.now)
-          (objects c.read_canonical.new.input c.print_answer-in-Canon.new.output c.args.disk.now c.args.kinds.now c.args.link.now c.args.clock.now)
+      did = rw c.in-Canon.is (ran_tool (known g.S.Ends g.K.Ends g.D.Disk g.M.Resources g.M.Machine g.L.Link g.C.Clock)
+          (objects c.args.input.now c.args.output.now c.args.disk.now c.args.machine.now c.args.link.now c.args.clock.now)
+          (objects c.read_canonical.new.input c.print_answer-in-Canon.new.output c.args.disk.now c.args.machine.now c.args.link.now c.args.clock.now)
           AnswersCanon (shown_decides ReadsInstances IsCanonicalText instances_decide) (λ text. text.items) c.read_canonical.result c.print_answer-in-Canon.result
-          (record { offline = record { disk = refl; link = refl; clock = refl }; kinds = refl })
+          (record { offline = record { disk = refl; link = refl; clock = refl }; machine = refl })
           c.read_canonical.ensures.ok c.read_canonical.ensures.err c.print_answer-in-Canon.ensures.ok c.print_answer-in-Canon.ensures.err);
     }
 
 pub returns-in-Err : goal.returns-in-Err
 returns-in-Err g c =
     record {
-      did = rw c.in-Checksum.is (not_summed (known g.S.Ends g.K.Ends g.D.Disk g.H.Host g.L.Link g.C.Clock)
-          (objects c.args.input.now c.args.output.now c.args.disk.now c.args.kinds.now c.args.link.now c.args.clock.now)
-          (objects c.read_checksum.new.input c.refuse.new.output c.args.disk.now c.args.kinds.now c.args.link.now c.args.clock.now)
+      did = rw c.in-Checksum.is (not_summed (known g.S.Ends g.K.Ends g.D.Disk g.M.Resources g.M.Machine g.L.Link g.C.Clock)
+          (objects c.args.input.now c.args.output.now c.args.disk.now c.args.machine.now c.args.link.now c.args.clock.now)
+          (objects c.read_checksum.new.input c.refuse.new.output c.args.disk.now c.args.machine.now c.args.link.now c.args.clock.now)
           (shown_decides (ReadsBytes checksum_limit) IsChecksumLine (bytes_decide checksum_limit)) c.in-Err.refusal c.refuse.result
-          (record { offline = record { disk = refl; link = refl; clock = refl }; kinds = refl }) c.in-Err.ensures.err c.refuse.ensures);
+          (record { offline = record { disk = refl; link = refl; clock = refl }; machine = refl }) c.in-Err.ensures.err c.refuse.ensures);
     }
 
 -- starts

@@ -1,33 +1,10 @@
-use Rattle.std.proofs.Common.{refl}
-use Rattle.lcm_program.specs.Objects.{known, objects}
-use Rattle.lcm_program.proofs.Forms.{in_range}
-use Rattle.lcm_program.proofs.OneRow.{one_row}
-use Rattle.lcm_program.proofs.Tools.{did_nothing}
+use Rattle.lcm_program.specs.Objects.{objects}
+use Rattle.lcm_program.proofs.OnHost.{did_on_host}
 use Rattle.lcm_program.proofs.program.node.Goals as goal
 
--- arguments that are in a form ask for one command
-
-pub do_command-requires-clause-range : goal.do_command-requires-clause-range
-do_command-requires-clause-range g c = in_range c.in-Ok.command _ c.in-Ok.ensures.ok
-
-pub returns-in-Ok-clause-did : goal.returns-in-Ok-clause-did
-returns-in-Ok-clause-did g c = λ command form.
-    one_row (known g.S.Ends g.K.Ends g.D.Disk g.H.Host g.L.Link g.C.Clock) c.do_command.result
+pub returns-clause-did : goal.returns-clause-did
+returns-clause-did g c = λ command form.
+    did_on_host g.S.Ends g.K.Ends g.D.Disk g.H.Host g.L.Link g.C.Clock c.repair_laws.ensures.succeeds c.repair_laws.ensures.contained c.trace_laws.ensures.together
     (objects c.args.input.now c.args.output.now c.args.disk.now c.args.kinds.now c.args.link.now c.args.clock.now)
-    (objects c.do_command.new.input c.do_command.new.output c.do_command.new.disk c.do_command.new.kinds c.do_command.new.link c.do_command.new.clock)
-    c.in-Ok.command command _ c.in-Ok.ensures.ok form c.do_command.ensures.did
-
-pub returns-in-Ok-clause-nothing : goal.returns-in-Ok-clause-nothing
-returns-in-Ok-clause-nothing g c = λ none. absurd (none c.in-Ok.command c.in-Ok.ensures.ok)
-
--- arguments that are in no form ask for none
-
-pub returns-in-Err-clause-did : goal.returns-in-Err-clause-did
-returns-in-Err-clause-did g c = λ command form. absurd (c.in-Err.ensures.usage.no_form command form)
-
-pub returns-in-Err-clause-nothing : goal.returns-in-Err-clause-nothing
-returns-in-Err-clause-nothing g c = λ none.
-    did_nothing (known g.S.Ends g.K.Ends g.D.Disk g.H.Host g.L.Link g.C.Clock)
-    (objects c.args.input.now c.args.output.now c.args.disk.now c.args.kinds.now c.args.link.now c.args.clock.now)
-    (objects c.args.input.now c.refuse.new.output c.args.disk.now c.args.kinds.now c.args.link.now c.args.clock.now)
-    _ c.in-Err.field-0.word c.refuse.result refl (record { offline = record { disk = refl; link = refl; clock = refl }; kinds = refl }) c.in-Err.ensures.usage c.refuse.ensures
+    (objects c.node_over.new.input c.node_over.new.output c.node_over.new.disk c.node_over.new.machine c.node_over.new.link c.node_over.new.clock)
+    command c.node_over.result (c.node_over.ensures.did command form)

@@ -3,11 +3,12 @@ use Rattle.lcm_program.proofs.starts.start_node.Goals as goal
 
 pub returns : goal.returns
 returns g c = record {
-  ended = c.start.result.status;
-  lines = string_bytes c.start.result.lines;
-  start = c.start.ensures.start;
-  headline = c.start.ensures.headline;
-  again = c.start.ensures.again;
-  later = c.start.ensures.later;
+  ended = c.start_over.result.status;
+  lines = string_bytes c.start_over.result.lines;
+  start = c.start_over.ensures.start;
+  headline = c.start_over.ensures.headline;
+  more = tt;
+  again = c.start_over.ensures.again;
+  later = c.start_over.ensures.later;
   prints = c.print_start.ensures;
 }
