@@ -67,8 +67,9 @@ fn append_unchanged<R: Files>(
         Err(e) if e.kind() == ErrorKind::NotFound => return Ok(false),
         Err(_) => return Err(ShelfError::Failed),
     };
-    into.reserve_exact(found.len() as usize)?;
-    append_rest(&mut file, into)?;
+    let length = (found.len() as usize).min(LONGEST_ITEM);
+    into.reserve_exact(length)?;
+    append_front(&mut file, length, into)?;
     match file.metadata() {
         Ok(read) => Ok(is_unchanged(found, &read)),
         Err(_) => Err(ShelfError::Failed),
@@ -83,22 +84,30 @@ fn is_unchanged(before: &Metadata, after: &Metadata) -> bool {
         && before.mtime_nsec() == after.mtime_nsec()
 }
 
-// Appends all that the reader gives, up to its end. The bytes are counted, since a file may grow while it is read.
-fn append_rest<R: Read>(reader: &mut R, into: &mut Vec<u8>) -> Result<(), ShelfError>
+// Appends the first so many bytes that the reader gives, or all where it ends before. Its end is not waited for: that a file
+// grew while it was read shows in its length.
+fn append_front<R: Read>(
+    reader: &mut R,
+    longest: usize,
+    into: &mut Vec<u8>,
+) -> Result<(), ShelfError>
     ensures start { StartsWith into.new.items into.old.items }
-    ensures limit { length into.new.items ≤ length into.old.items + LONGEST_ITEM }
+    ensures limit { length into.new.items ≤ length into.old.items + longest }
 {
     let mut buffer = [0; BUFFER_SIZE];
-    let mut room = LONGEST_ITEM;
+    let mut room = longest;
     for _ in 0..u64::MAX {
-        match reader.read(&mut buffer) {
+        if room == 0 {
+            return Ok(());
+        }
+        match reader.read(&mut buffer[..room.min(BUFFER_SIZE)]) {
             Ok(0) => return Ok(()),
-            Ok(count) if count <= room => {
+            Ok(count) => {
                 into.extend_from_slice(&buffer[..count])?;
                 room -= count;
             }
             Err(e) if e.kind() == ErrorKind::Interrupted => {}
-            _ => return Err(ShelfError::Failed),
+            Err(_) => return Err(ShelfError::Failed),
         }
     }
     Err(ShelfError::Failed)

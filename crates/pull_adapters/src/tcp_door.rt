@@ -7,7 +7,7 @@ ghost use Rattle.pull_outside.specs.Door.{TakesFirst};
 use crate::tcp_conn::TcpConn;
 use dsc_network::{Deadline, Line};
 use dsc_outside::Failed;
-use pull_outside::Door;
+use pull_outside::{Door, Parting};
 use std::io::ErrorKind;
 use std::marker::Model;
 use std::net::{Net, OpenListener, TcpListener};
@@ -38,9 +38,9 @@ pub struct DoorLimits {
 /// A port at which connections are taken one after the other. It is bound at the first `next`; where that cannot be done,
 /// each `next` fails, and tries it again. A connection that broke before it was taken is passed over.
 ///
-/// A connection that is handed back without a failure is ended so that the peer gets the whole answer, also while it still
-/// sends; one that failed is ended at once. A clause sees a door as how many connections it gave and has not back, and how
-/// often a call has failed.
+/// A connection that is handed back to end after its peer is ended so that the peer gets the whole answer, also while it still
+/// sends; one that failed, or that may end at once, is closed at once, and the system sends what was written. A clause sees a
+/// door as how many connections it gave and has not back, and how often a call has failed.
 #[derive(Drop)]
 pub struct TcpDoor<'r, R: Net + Clock> {
     port: Port<'r, R>,
@@ -119,13 +119,16 @@ impl<'r, R: Net + Clock> Door for TcpDoor<'r, R> {
         Err(Failed)
     }
 
-    fn close(&mut self, conn: TcpConn<'r, R>)
+    fn close(&mut self, conn: TcpConn<'r, R>, parting: Parting)
         requires { 0 < self.old.out }
         ensures out { self.old.out ≡ self.new.out + 1 }
         ensures count { self.old.faults ≤ self.new.faults }
     {
         self.out -= 1;
-        conn.finish(self.port.limits.linger);
+        match parting {
+            Parting::AtOnce => {}
+            Parting::AfterPeer => conn.finish(self.port.limits.linger),
+        }
     }
 }
 

@@ -5,6 +5,17 @@ ghost use Rattle.pull_outside.specs.Door.{Known, TakesFirst, GetsBack};
 
 use dsc_outside::{Failed, Sink, Source};
 
+/// How a connection that is handed back is to end. What was written is sent in either case.
+#[derive(Clone, Copy, Debug)]
+pub enum Parting {
+    /// Without a wait, where the peer has sent all that it will. Where it sends more all the same, the system may reset the
+    /// connection, and the peer can lose what it has not read yet.
+    AtOnce,
+
+    /// After the peer has ended its side, or its time for that is over: where it may still send.
+    AfterPeer,
+}
+
 /// Gives connections one after the other, and takes each back once it was served.
 pub trait Door {
     type Conn: Source + Sink;
@@ -30,8 +41,8 @@ pub trait Door {
         ensures not_given { OnErr result (out self.new ≡ out self.old) }
         ensures cause { HasCause (faults self.old) (faults self.new) result };
 
-    /// Takes a connection back that was given.
-    fn close(&mut self, conn: Self::Conn)
+    /// Takes a connection back that was given, and ends it so.
+    fn close(&mut self, conn: Self::Conn, parting: Parting)
         requires { 0 < out self.old }
         ensures back { GetsBack (back self.old) (back self.new) (record { left = Self.Conn.left conn; held = Self.Conn.held conn; faults = Self.Conn.faults conn }) }
         ensures coming { coming self.new ≡ coming self.old }

@@ -13,6 +13,6 @@ mod door;
 mod memory;
 mod shelf;
 
-pub use door::Door;
+pub use door::{Door, Parting};
 pub use memory::{Configuration, MemoryConn, MemoryDoor, MemoryShelf, ShelfContents};
 pub use shelf::{LONGEST_ITEM, Shelf, ShelfError};

@@ -1,3 +1,4 @@
+pub mod Parting
 pub mod Printing
 pub mod Sent
 pub mod Serving

@@ -1,6 +1,7 @@
 //! One connection.
 ghost use Rattle.std.specs.Prelude.{◌≡◌, ◌≤◌, ◌&&◌, not, if◌then◌else◌};
 ghost use Rattle.pull_store.specs.Store.{IsReady, is_spent};
+ghost use Rattle.pull_serving.specs.Parting.{parting_of};
 ghost use Rattle.pull_serving.specs.Sent.{IsSentEnd};
 ghost use Rattle.pull_serving.specs.Turn.{IsServed, known_by, state};
 
@@ -8,7 +9,7 @@ use dsc_outside::{Disk, Sink, Source};
 use http_frames::Reply;
 use mof_values::Memory;
 use pull_exchange::{Received, SendEnd, receive, refusal, send_reply};
-use pull_outside::Shelf;
+use pull_outside::{Parting, Shelf};
 use pull_server::answer;
 use pull_store::PullStore;
 use std::alloc::Global;
@@ -33,6 +34,20 @@ pub enum ConnectionEnd {
 
     /// Nothing was written; a change that the request asked for may have been made.
     Memory,
+}
+
+impl ConnectionEnd {
+    /// How the connection is to end: at once where a request was read whole and its answer says that it was done. Any other
+    /// answer may come before the end of what the peer sends. Bytes after the request get no answer, and where they are still
+    /// on their way at the end, the peer may find the connection reset before it has read the whole answer.
+    pub fn parting(self) -> Parting
+        ensures { result ≡ parting_of self }
+    {
+        match self {
+            ConnectionEnd::Answered { code: 200 | 204 } => Parting::AtOnce,
+            _ => Parting::AfterPeer,
+        }
+    }
 }
 
 /// Reads one request, answers it, and writes the answer.

@@ -8,11 +8,13 @@
 #![tactic(auto)]
 
 mod connection;
+mod laws;
 mod printing;
 mod serving;
 mod status;
 mod turns;
 
 pub use connection::{ConnectionEnd, serve_connection};
+pub use laws::only_done_requests_end_at_once;
 pub use serving::serve;
 pub use status::ServeStatus;

@@ -69,6 +69,6 @@ fn serve_next<G: Door, S: Shelf, D: Disk>(
 {
     let mut conn = door.next()?;
     let end = serve_connection(alloc, &mut conn, store, disk, shelf);
-    door.close(conn);
+    door.close(conn, end.parting());
     Ok(end)
 }

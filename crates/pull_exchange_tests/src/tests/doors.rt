@@ -1,5 +1,5 @@
 use pull_exchange::{Received, receive};
-use pull_outside::{Door, MemoryConn, MemoryDoor};
+use pull_outside::{Door, MemoryConn, MemoryDoor, Parting};
 use std::alloc::{AllocError, Global};
 use std::rt::HostRuntime;
 use std::test::Fail;
@@ -28,7 +28,7 @@ fn served(alloc: Global, door: &mut MemoryDoor) -> Option<u64> {
         Received::Torn { at } => at,
         _ => 100,
     };
-    door.close(conn);
+    door.close(conn, Parting::AfterPeer);
     Some(end)
 }
 

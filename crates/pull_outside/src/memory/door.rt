@@ -7,7 +7,7 @@ ghost use Rattle.pull_outside.specs.Memory.{counted_with, is_empty, known};
 
 use super::calls::Calls;
 use super::conn::MemoryConn;
-use crate::door::Door;
+use crate::door::{Door, Parting};
 use dsc_outside::Failed;
 use mof_values::Memory;
 use std::alloc::Global;
@@ -97,7 +97,7 @@ impl Door for MemoryDoor {
         Ok(self.coming.remove(0))
     }
 
-    fn close(&mut self, conn: MemoryConn)
+    fn close(&mut self, conn: MemoryConn, _parting: Parting)
         requires { 0 < self.old.out }
         ensures back { GetsBack (Some (map known self.old.back)) (Some (map known self.new.back)) (known conn) }
         ensures coming { Some (map known self.new.coming) ≡ Some (map known self.old.coming) }

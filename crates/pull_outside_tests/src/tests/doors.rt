@@ -1,5 +1,5 @@
 use dsc_outside::{Sink, Source};
-use pull_outside::{Door, MemoryConn, MemoryDoor};
+use pull_outside::{Door, MemoryConn, MemoryDoor, Parting};
 use std::alloc::{AllocError, Global};
 use std::rt::HostRuntime;
 use std::test::Fail;
@@ -85,7 +85,7 @@ fn conns(alloc: Global, count: usize, size: usize) -> Result<Vec<MemoryConn>, Al
 fn come<D: Door>(door: &mut D) -> u64 {
     for number in 0..u64::MAX {
         match door.next() {
-            Ok(conn) => door.close(conn),
+            Ok(conn) => door.close(conn, Parting::AtOnce),
             Err(_) => return number,
         }
     }

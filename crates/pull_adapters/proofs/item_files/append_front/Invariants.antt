@@ -1,10 +1,9 @@
 use Rattle.std.proofs.Common.{◌≡◌, ◌+◌, length}
 use Rattle.std.specs.Io.{StartsWith}
-use Rattle.pull_outside.specs.declared.shelf.TheConstants.{LONGEST_ITEM}
-use Rattle.pull_adapters.proofs.item_files.append_rest.Given as goal
+use Rattle.pull_adapters.proofs.item_files.append_front.Given as goal
 
 abbrev pub invariant-loop : goal.invariant-loop
 invariant-loop g l = record {
   start : StartsWith l.into.items l.fn.into.items;
-  room : length l.into.items + l.room ≡ length l.fn.into.items + LONGEST_ITEM;
+  room : length l.into.items + l.room ≡ length l.fn.into.items + l.longest;
 }
