@@ -118,8 +118,8 @@ def documents():
 
 def cycles():
     """The walk begins at the least resource that is left, and here that one is on the cycle."""
-    for length in (1, 2, 3, 12, 300):
-        for before, after in ((0, 0), (3, 2), (700, 500)):
+    for length in (1, 2, 3, 12, 300, 4096):
+        for before, after in ((0, 0), (3, 2), (700, 500)) if length < 4096 else ((0, 0),):
             count = before + length + after
             depends = [[] for _ in range(count)]
             for step in range(length):

@@ -1,5 +1,6 @@
 pub mod Adding
 pub mod Answered
+pub mod Counting
 pub mod Cycles
 pub mod DocumentOrders
 pub mod Existing

@@ -1,18 +1,18 @@
 -- What the counts and the ready places say of the order so far, and of the places that are left.
-use Rattle.std.proofs.Common.{◌≡◌, inl, inr, ℕ, zero, suc, ◌+◌, ◌<◌, ◌≤◌, List, [], ◌∷◌, ◌++◌, Option, Some, None, All, length, get_or, map, refl, sym, ◌∙◌, ap, subst, arith}
+use Rattle.std.proofs.Common.{◌≡◌, inl, inr, ℕ, zero, suc, ◌+◌, ◌<◌, ◌≤◌, List, [], ◌∷◌, ◌++◌, All, length, get_or, map, refl, sym, ◌∙◌, ap, arith, length-append}
 use Rattle.std.proofs.lemmas.Bool.{cases_eq, cases_lt}
 use Rattle.std.proofs.lemmas.List.{get_or_default, get_or_past, length-map}
-use Rattle.std.proofs.lemmas.Option.{none-some, slice_get-get_or, slice_get_past}
+use Rattle.std.proofs.lemmas.Option.{slice_get_past}
 use Rattle.std.specs.Global.{Vec}
 use Rattle.std.specs.Option.{option_map_or}
-use Rattle.std.specs.Prelude.{Contains, slice_get, slice_index, vec_len}
+use Rattle.std.specs.Prelude.{slice_index, vec_len}
 use Rattle.depend_order.specs.Cycle.{DependsOn, IsLeft, IsLeastLeft}
 use Rattle.depend_order.specs.Numbers.{numbers_of, Lists, AreBelow}
 use Rattle.depend_order.specs.Order.{IsReady, IsNext, IsEarliestReady, IsOrder}
-use Rattle.depend_order.specs.Counts.{AreCounted, AreDependents, IsReadied, IsStuck, times, waits_for, none_left}
+use Rattle.depend_order.specs.Counts.{AreCounted, AreDependents, IsReadied, IsStuck, times, none_left}
 use Rattle.depend_order.proofs.NumberLemmas.{number_below}
-use Rattle.depend_order.proofs.Orders.{once_earliest, stopped}
-use Rattle.depend_order.proofs.Times.{one_if, one_same, one_other, times_push, times_has, has_times, none_is, none_not, none_at_most, none_means, none_waits, all_stand, first_waits, waits_push, waits_all}
+use Rattle.depend_order.proofs.Orders.{earliest_count, earliest_push, once_earliest, stopped}
+use Rattle.depend_order.proofs.Times.{one_if, times_push, times_has, has_times, none_is, none_not, none_at_most, none_means, none_waits, all_stand, first_waits, waits_push, waits_all}
 
 -- an empty list has no place
 pub times_none : (r : ℕ) (list : List ℕ) → length list ≡ 0 → times r list ≡ 0
@@ -70,6 +70,12 @@ module _ (depends : List (Vec ℕ)) (order waiting ready : List ℕ) (counted : 
       };
       least = λ s is. least s (omega (arith, ready_once s is));
     }
+
+    -- there is room for it in the order
+    pub room : ((s : ℕ) → 1 ≤ times s ready → r ≤ s) → IsEarliestReady (length depends) (DependsOn (Lists depends)) order → length order + 1 ≤ length depends
+    room least earliest =
+        let more = earliest_push (length depends) (DependsOn (Lists depends)) order r earliest (ready_next least) in
+        omega (arith, earliest_count (length depends) (DependsOn (Lists depends)) (order ++ r ∷ []) more, length-append order (r ∷ []))
 
     -- the place goes to the end of the order, and those that depend on it wait for one less
     module _ (dependents : List (Vec ℕ)) (are : AreDependents depends dependents) (lowered left now : List ℕ) (size : length lowered ≡ length waiting)

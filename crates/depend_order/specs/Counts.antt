@@ -1,5 +1,5 @@
 -- What the search for an order keeps, and what it hands to the walk.
-use Rattle.std.specs.Prelude.{◌≡◌, ◌↔◌, ◌==◌, ℕ, ◌+◌, ◌<◌, ◌≤◌, List, length, Some, if◌then◌else◌, slice_get, slice_index}
+use Rattle.std.specs.Prelude.{◌≡◌, ◌==◌, ℕ, ◌+◌, ◌<◌, ◌≤◌, List, length, if◌then◌else◌, slice_index}
 use Rattle.std.specs.List.{count_by}
 use Rattle.std.specs.Global.{Vec}
 use Rattle.depend_order.specs.Cycle.{IsLeft}
@@ -16,6 +16,10 @@ waits_for order numbers = count_by (λ q. times q order == 0) numbers
 -- 1 where the count is 0, else 0
 abbrev pub none_left : ℕ → ℕ
 none_left count = if count == 0 then 1 else 0
+
+-- how many of the counts are 0
+abbrev pub zeros : List ℕ → ℕ
+zeros counts = count_by (λ count. count == 0) counts
 
 -- for each place those that depend on it, each as often as it lists it
 pub record AreDependents (depends dependents : List (Vec ℕ)) : Type 0 where

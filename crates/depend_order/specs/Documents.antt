@@ -1,11 +1,17 @@
 -- Orders and cycles of the resources of a document.
 use Rattle.std.specs.Prelude.{◌≡◌, ◌↔◌, ℕ, List, length}
+use Rattle.std.specs.List.{sum_by}
 use Rattle.std.specs.Global.{Vec}
 use Rattle.dsc_document.specs.declared.document.Document.{Document}
+use Rattle.dsc_document.specs.declared.document.Resource.{Resource}
 use Rattle.dsc_document.specs.Dependencies.{IsDependency, Names}
 use Rattle.depend_order.specs.Cycle.{IsCycle}
 use Rattle.depend_order.specs.Numbers.{AreBelow, Lists}
 use Rattle.depend_order.specs.Order.{IsOrder}
+
+-- how many names the resources list in all
+abbrev pub names_in : List Resource → ℕ
+names_in resources = sum_by (λ resource. length resource.depends) resources
 
 abbrev pub IsOrderOfDocument : Document → List ℕ → Type 0
 IsOrderOfDocument document order = IsOrder (length document.resources) (IsDependency document) order

@@ -1,5 +1,6 @@
 -- Dependencies that are given as numbers.
-use Rattle.std.specs.Prelude.{◌≡◌, ℕ, ◌<◌, List, [], All, Some, length, slice_get}
+use Rattle.std.specs.Prelude.{◌≡◌, ℕ, ◌<◌, List, [], All, Some, length, slice_get, vec_len}
+use Rattle.std.specs.List.{sum_by}
 use Rattle.std.specs.Option.{option_map_or}
 use Rattle.std.specs.Global.{Vec}
 use Rattle.depend_order.specs.Cycle.{DependsOn, IsCycle}
@@ -16,6 +17,10 @@ Lists depends r k q = slice_get (numbers_of depends r) k ≡ Some q
 -- each number is below the count
 abbrev pub AreBelow : ℕ → List (Vec ℕ) → Type 0
 AreBelow count depends = All (λ numbers. All (λ q. q < count) numbers.items) depends
+
+-- how many numbers are listed in all
+abbrev pub numbers_in : List (Vec ℕ) → ℕ
+numbers_in depends = sum_by vec_len depends
 
 abbrev pub IsOrderOfNumbers : List (Vec ℕ) → List ℕ → Type 0
 IsOrderOfNumbers depends order = IsOrder (length depends) (DependsOn (Lists depends)) order

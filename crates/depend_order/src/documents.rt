@@ -1,14 +1,16 @@
 //! The order of the resources of a document.
-ghost use Rattle.std.specs.Prelude.{◌<◌, ◌^◌, ℕ, List, IfOk, length};
+ghost use Rattle.std.specs.Prelude.{◌≡◌, ◌+◌, ◌*◌, ◌<◌, ◌≤◌, ◌^◌, ℕ, List, IfOk, length};
 ghost use Rattle.depend_order.specs.Answers.{IfCycle, OnCycle};
 ghost use Rattle.dsc_document.specs.Dependencies.{HasDistinctIds, NamesResources};
-ghost use Rattle.depend_order.specs.Documents.{AreDependencies, IsCycleOfDocument, IsOrderOfDocument};
+ghost use Rattle.depend_order.specs.Documents.{AreDependencies, IsCycleOfDocument, IsOrderOfDocument, names_in};
 
-use crate::OrderError;
-use crate::names::places_of_names;
-use crate::numbers::order_of;
+use crate::names::{places_counted, places_of_names};
+use crate::numbers::order_of_counted;
+use crate::{OrderError, Steps};
 use dsc_document::Document;
 use std::alloc::{AllocError, Global};
+use std::marker::Brand;
+use std::sync::ledger::{Blank, Ledger};
 
 /// The order of the resources of a document, by the names in their DependsOn; a resource is its place.
 ///
@@ -23,8 +25,48 @@ pub fn order(alloc: Global, document: &Document) -> Result<Vec<u32>, OrderError>
     ensures cycle { IfCycle result (IsCycleOfDocument document.now) }
     ensures no_order { OnCycle result ((order : List ℕ) → IsOrderOfDocument document.now order → ⊥) }
 {
-    let depends = places_of_names(alloc, document)?;
-    order_of(alloc, &depends)
+    order_uncounted::<Brand>(alloc, document, Blank::new(1))
+}
+
+// The same, with a ledger for steps that nobody reads.
+fn order_uncounted<L: Ledger>(
+    alloc: Global,
+    document: &Document,
+    blank: Blank,
+) -> Result<Vec<u32>, OrderError>
+    requires name { blank.name ≡ L.name }
+    requires parts { blank.parts ≡ L.parts }
+    requires some { 0 < blank.parts }
+    requires few { length document.now.resources < 2 ^ 32 }
+    requires known { NamesResources document.now }
+    requires distinct { HasDistinctIds document.now }
+    ensures order { IfOk result (λ order. IsOrderOfDocument document.now order.items) }
+    ensures cycle { IfCycle result (IsCycleOfDocument document.now) }
+    ensures no_order { OnCycle result ((order : List ℕ) → IsOrderOfDocument document.now order → ⊥) }
+{
+    let mut steps = Steps::<L>::new(blank);
+    order_counted(alloc, document, &mut steps)
+}
+
+/// The same as [`order`], in a bounded number of steps; see [`Steps`].
+///
+/// The bound is three steps for each resource and two for each name in a DependsOn, also where the answer is
+/// `Cycle` or `Memory`.
+pub fn order_counted<L: Ledger>(
+    alloc: Global,
+    document: &Document,
+    steps: &mut Steps<L>,
+) -> Result<Vec<u32>, OrderError>
+    requires few { length document.now.resources < 2 ^ 32 }
+    requires known { NamesResources document.now }
+    requires distinct { HasDistinctIds document.now }
+    ensures order { IfOk result (λ order. IsOrderOfDocument document.now order.items) }
+    ensures cycle { IfCycle result (IsCycleOfDocument document.now) }
+    ensures no_order { OnCycle result ((order : List ℕ) → IsOrderOfDocument document.now order → ⊥) }
+    ensures steps { steps.new ≤ steps.old + (3 * length document.now.resources + 2 * names_in document.now.resources) }
+{
+    let depends = places_counted(alloc, document, steps)?;
+    order_of_counted(alloc, &depends, steps)
 }
 
 /// The places of the resources that each resource depends on, in the order of the names in its DependsOn.

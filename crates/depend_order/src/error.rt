@@ -2,8 +2,9 @@
 ghost use Rattle.std.specs.Prelude.{◌≡◌};
 ghost use Rattle.depend_order.specs.declared.error.OrderError.TheVariants.{Memory};
 
-use mof_values::Items;
+use mof_values::{Items, Memory};
 use std::alloc::{AllocError, AllocFailed};
+use std::fmt;
 
 /// Why the places have no order.
 #[derive(Debug, Drop, PartialEq)]
@@ -28,4 +29,22 @@ impl<T: Drop> From<AllocFailed<T>> for OrderError {
     fn from(_: AllocFailed<T>) -> Self {
         OrderError::Memory
     }
+}
+
+impl fmt::Display for OrderError {
+    fn fmt<W: fmt::Write>(&self, f: &mut fmt::Formatter<W>) -> fmt::Result {
+        match self {
+            OrderError::Cycle(walk) => write_cycle(f, walk.as_slice()),
+            OrderError::Memory => write!(f, "{Memory}"),
+        }
+    }
+}
+
+/// Writes that the dependencies form a cycle, and its places.
+pub fn write_cycle<W: fmt::Write>(f: &mut fmt::Formatter<W>, walk: &[u32]) -> fmt::Result {
+    f.write_str("the dependencies form a cycle:")?;
+    for place in walk {
+        write!(f, " {place}")?;
+    }
+    Ok(())
 }

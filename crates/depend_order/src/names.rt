@@ -1,14 +1,18 @@
 //! The places of the resources that names mean.
-ghost use Rattle.std.specs.Prelude.{◌≡◌, ◌<◌, ◌^◌, All, IfOk, OnOk, length};
+ghost use Rattle.std.specs.Prelude.{◌≡◌, ◌+◌, ◌<◌, ◌≤◌, ◌^◌, All, IfOk, OnOk, length};
 ghost use Rattle.std.specs.List.{AllZip};
 ghost use Rattle.mof_values.specs.Fold.{fold_case};
 ghost use Rattle.dsc_document.specs.Dependencies.{NamesResources};
+ghost use Rattle.depend_order.specs.Documents.{names_in};
 ghost use Rattle.depend_order.specs.Index.{IsIndex, IsKnown, IsKept, AreResolved};
 
+use crate::Steps;
 use dsc_document::{Document, Resource};
 use mof_values::Text;
 use std::alloc::{AllocError, Global};
 use std::collections::HashMap;
+use std::marker::Brand;
+use std::sync::ledger::{Blank, Ledger};
 
 /// For each resource the places of the resources that the names in its DependsOn mean, in their order.
 pub fn places_of_names(alloc: Global, document: &Document) -> Result<Vec<Vec<u32>>, AllocError>
@@ -16,44 +20,85 @@ pub fn places_of_names(alloc: Global, document: &Document) -> Result<Vec<Vec<u32
     requires known { NamesResources document.now }
     ensures { IfOk result (λ depends. AreResolved document.now.resources document.now.resources depends.items) }
 {
+    places_uncounted::<Brand>(alloc, document, Blank::new(1))
+}
+
+// The same, with a ledger for steps that nobody reads.
+fn places_uncounted<L: Ledger>(
+    alloc: Global,
+    document: &Document,
+    blank: Blank,
+) -> Result<Vec<Vec<u32>>, AllocError>
+    requires name { blank.name ≡ L.name }
+    requires parts { blank.parts ≡ L.parts }
+    requires some { 0 < blank.parts }
+    requires few { length document.now.resources < 2 ^ 32 }
+    requires known { NamesResources document.now }
+    ensures { IfOk result (λ depends. AreResolved document.now.resources document.now.resources depends.items) }
+{
+    let mut steps = Steps::<L>::new(blank);
+    places_counted(alloc, document, &mut steps)
+}
+
+/// The same as [`places_of_names`], and its steps are counted.
+pub fn places_counted<L: Ledger>(
+    alloc: Global,
+    document: &Document,
+    steps: &mut Steps<L>,
+) -> Result<Vec<Vec<u32>>, AllocError>
+    requires few { length document.now.resources < 2 ^ 32 }
+    requires known { NamesResources document.now }
+    ensures places { IfOk result (λ depends. AreResolved document.now.resources document.now.resources depends.items) }
+    ensures steps { steps.new ≤ steps.old + (length document.now.resources + names_in document.now.resources) }
+{
     let resources = document.resources.as_slice();
-    let index = index_of(alloc, resources)?;
+    let index = index_of(alloc, resources, steps)?;
     let mut depends = Vec::new(alloc);
     for resource in resources {
-        let places = places_in(alloc, &index, resource.depends.as_slice())?;
+        let places = places_in(alloc, &index, resource.depends.as_slice(), steps)?;
         depends.push(places)?;
     }
     Ok(depends)
 }
 
 // The places of the resources by the folds of their ids.
-fn index_of(alloc: Global, resources: &[Resource]) -> Result<HashMap<Vec<char>, u32>, AllocError>
+fn index_of<L: Ledger>(
+    alloc: Global,
+    resources: &[Resource],
+    steps: &mut Steps<L>,
+) -> Result<HashMap<Vec<char>, u32>, AllocError>
     requires few { length resources.now < 2 ^ 32 }
-    ensures { IfOk result (IsIndex resources.now) }
+    ensures index { IfOk result (IsIndex resources.now) }
+    ensures steps { steps.new ≤ steps.old + length resources.now }
 {
-    let mut index = HashMap::new(alloc);
+    let mut index = HashMap::with_capacity(alloc, resources.len())?;
     for (place, resource) in resources.iter().enumerate() {
-        let mut fold = Vec::new(alloc);
+        let mut fold = Vec::with_capacity(alloc, resource.id.as_slice().len())?;
         write_fold(&mut fold, &resource.id)?;
         let _ = index.insert(fold, place as u32)?;
+        steps.tick();
     }
     Ok(index)
 }
 
 // The places that the names mean.
-fn places_in(
+fn places_in<L: Ledger>(
     alloc: Global,
     index: &HashMap<Vec<char>, u32>,
     names: &[Text],
+    steps: &mut Steps<L>,
 ) -> Result<Vec<u32>, AllocError>
     requires { All (IsKnown index.now) names.now }
-    ensures { IfOk result (λ places. AllZip (IsKept index.now) names.now places.items) }
+    ensures places { IfOk result (λ places. AllZip (IsKept index.now) names.now places.items) }
+    ensures steps { steps.new ≤ steps.old + length names.now }
 {
     let mut places = Vec::with_capacity(alloc, names.len())?;
     let mut fold = Vec::new(alloc);
     for name in names {
         write_fold(&mut fold, name)?;
-        match index.get(&fold) {
+        let found = index.get(&fold);
+        steps.tick();
+        match found {
             Some(place) => places.push(*place)?,
             None => unreachable!(),
         }

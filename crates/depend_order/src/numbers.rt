@@ -1,14 +1,16 @@
 //! The order of places whose dependencies are numbers.
-ghost use Rattle.std.specs.Prelude.{◌<◌, ◌^◌, ℕ, List, IfOk, length};
+ghost use Rattle.std.specs.Prelude.{◌≡◌, ◌+◌, ◌*◌, ◌<◌, ◌≤◌, ◌^◌, ℕ, List, IfOk, length};
 ghost use Rattle.depend_order.specs.Answers.{IfCycle, OnCycle};
-ghost use Rattle.depend_order.specs.Numbers.{AreBelow, IsCycleOfNumbers, IsOrderOfNumbers};
+ghost use Rattle.depend_order.specs.Numbers.{AreBelow, IsCycleOfNumbers, IsOrderOfNumbers, numbers_in};
 
-use crate::OrderError;
 use crate::counts::{counts_of, first_ready, first_waiting, release};
 use crate::dependents::dependents_of;
 use crate::walk::closed_walk;
+use crate::{OrderError, Steps};
 use std::alloc::Global;
 use std::cmp::Reverse;
+use std::marker::Brand;
+use std::sync::ledger::{Blank, Ledger};
 
 /// The order of the places 0, 1 and so on, where `depends[r]` lists the places that place `r` depends on.
 ///
@@ -22,12 +24,48 @@ pub fn order_of(alloc: Global, depends: &[Vec<u32>]) -> Result<Vec<u32>, OrderEr
     ensures cycle { IfCycle result (IsCycleOfNumbers depends.now) }
     ensures no_order { OnCycle result ((order : List ℕ) → IsOrderOfNumbers depends.now order → ⊥) }
 {
+    order_of_uncounted::<Brand>(alloc, depends, Blank::new(1))
+}
+
+// The same, with a ledger for steps that nobody reads.
+fn order_of_uncounted<L: Ledger>(
+    alloc: Global,
+    depends: &[Vec<u32>],
+    blank: Blank,
+) -> Result<Vec<u32>, OrderError>
+    requires name { blank.name ≡ L.name }
+    requires parts { blank.parts ≡ L.parts }
+    requires some { 0 < blank.parts }
+    requires few { length depends.now < 2 ^ 32 }
+    requires below { AreBelow (length depends.now) depends.now }
+    ensures order { IfOk result (λ order. IsOrderOfNumbers depends.now order.items) }
+    ensures cycle { IfCycle result (IsCycleOfNumbers depends.now) }
+    ensures no_order { OnCycle result ((order : List ℕ) → IsOrderOfNumbers depends.now order → ⊥) }
+{
+    let mut steps = Steps::<L>::new(blank);
+    order_of_counted(alloc, depends, &mut steps)
+}
+
+/// The same as [`order_of`], and its steps are counted.
+pub fn order_of_counted<L: Ledger>(
+    alloc: Global,
+    depends: &[Vec<u32>],
+    steps: &mut Steps<L>,
+) -> Result<Vec<u32>, OrderError>
+    requires few { length depends.now < 2 ^ 32 }
+    requires below { AreBelow (length depends.now) depends.now }
+    ensures order { IfOk result (λ order. IsOrderOfNumbers depends.now order.items) }
+    ensures cycle { IfCycle result (IsCycleOfNumbers depends.now) }
+    ensures no_order { OnCycle result ((order : List ℕ) → IsOrderOfNumbers depends.now order → ⊥) }
+    ensures steps { steps.new ≤ steps.old + (2 * length depends.now + numbers_in depends.now) }
+{
     let dependents = dependents_of(alloc, depends)?;
     let mut waiting = counts_of(alloc, depends)?;
-    let mut ready = first_ready(alloc, &waiting)?;
+    let mut ready = first_ready(alloc, &waiting, steps)?;
     let mut order = Vec::new(alloc);
     while let Some(Reverse(place)) = ready.pop() {
-        release(&dependents[place as usize], &mut waiting, &mut ready)?;
+        steps.tick();
+        release(&dependents[place as usize], &mut waiting, &mut ready, steps)?;
         order.push(place)?;
     }
     match first_waiting(&waiting) {

@@ -1,7 +1,10 @@
-use Rattle.std.proofs.Common.{take}
+use Rattle.std.proofs.Common.{◌≡◌, ◌+◌, take}
 use Rattle.std.specs.List.{AllZip}
 use Rattle.depend_order.specs.Index.{IsKept}
 use Rattle.depend_order.proofs.names.places_in.Given as goal
 
 abbrev pub invariant-loop-name : goal.invariant-loop-name
-invariant-loop-name l = AllZip (IsKept l.index) (take l.name-index l.names) l.places.items
+invariant-loop-name g l = record {
+  places : AllZip (IsKept l.index) (take l.name-index l.names) l.places.items;
+  steps : l.steps ≡ l.fn.steps + l.name-index;
+}

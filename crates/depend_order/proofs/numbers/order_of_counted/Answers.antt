@@ -1,23 +1,26 @@
-use Rattle.std.proofs.Common.{◌≡◌, ◌<◌, ◌≤◌, ◌+◌, ◌-◌, ℕ, List, [], ◌∷◌, ◌++◌, drop, length, map, slice_index, sym, ◌∙◌, ap, arith, length-append}
+use Rattle.std.proofs.Common.{◌≡◌, ◌<◌, ◌+◌, ◌-◌, ℕ, List, [], ◌∷◌, drop, length, map, slice_index, sym, ◌∙◌, ap, arith, length-append}
 use Rattle.std.proofs.lemmas.List.{length-map, take_at}
+use Rattle.std.proofs.lemmas.List.Sums.{sum-map}
+use Rattle.std.specs.Prelude.{sum, vec_len}
 use Rattle.std.specs.BinaryHeap.{heap_items}
 use Rattle.std.specs.declared.cmp.Reverse.{Reverse}
-use Rattle.depend_order.specs.Counts.{none_left, times}
+use Rattle.depend_order.specs.Counts.{none_left, times, zeros}
 use Rattle.depend_order.specs.Cycle.{DependsOn}
 use Rattle.depend_order.specs.Numbers.{Lists, numbers_of}
+use Rattle.depend_order.proofs.Counting.{zeros_at_most}
 use Rattle.depend_order.proofs.Cycles.{never_both}
 use Rattle.depend_order.proofs.NumberLemmas.{numbers_of_read}
 use Rattle.depend_order.proofs.Orders.{earliest_count, earliest_none, earliest_push}
-use Rattle.depend_order.proofs.Placing.{all_placed, counted_first, counted_push, dependents_below, enough, least_left, readied_push, ready_next, ready_place, stuck, times_none}
+use Rattle.depend_order.proofs.Placing.{all_placed, counted_first, counted_push, dependents_below, enough, least_left, readied_push, ready_next, ready_place, room, stuck, times_none}
 use Rattle.depend_order.proofs.Ready.{least_popped, popped_some, times_popped}
-use Rattle.depend_order.proofs.numbers.order_of.Goals as goal
+use Rattle.depend_order.proofs.numbers.order_of_counted.Goals as goal
 
 -- the places of the heap
 abbrev places : List (Reverse ℕ) → List ℕ
 places items = map (λ x. x.0) items
 
 pub loop-place-init : goal.loop-place-init
-loop-place-init c =
+loop-place-init g c =
     let depends = c.args.depends.now in
     let ready = rw c.deref.ensures.value at c.in_ok-ready.ensures.ready in
     rw c.new-order.ensures.items (record {
@@ -25,10 +28,11 @@ loop-place-init c =
       counted = counted_first depends c.in_ok-waiting.waiting.items c.in_ok-waiting.ensures;
       readied = ready;
       heap = c.in_ok-ready.ensures.heap;
+      steps = omega (arith, c.first_ready.ensures.steps, ap zeros c.deref.ensures.value, ap sum c.in_ok-waiting.ensures, sum-map vec_len depends);
     })
 
 pub index-requires : goal.index-requires
-index-requires c =
+index-requires g c =
     let so_far = c.loop-place.invariant in
     let place = c.in-Some.field-0.0 in
     let ready = heap_items c.loop-place.ready in
@@ -37,7 +41,7 @@ index-requires c =
     omega (arith, lt, so_far.counted.size, c.in_ok-dependents.ensures.count, c.in_ok-dependents.dependents.ok)
 
 pub release-requires-clause-below : goal.release-requires-clause-below
-release-requires-clause-below c =
+release-requires-clause-below g c =
     let so_far = c.loop-place.invariant in
     let depends = c.args.depends.now in
     let dependents = c.in_ok-dependents.dependents.items in
@@ -53,7 +57,7 @@ release-requires-clause-below c =
     λ k d inside. omega (arith, all k d inside, so_far.counted.size, ap length c.deref_mut.ensures.value)
 
 pub release-requires-clause-enough : goal.release-requires-clause-enough
-release-requires-clause-enough c =
+release-requires-clause-enough g c =
     let so_far = c.loop-place.invariant in
     let depends = c.args.depends.now in
     let dependents = c.in_ok-dependents.dependents.items in
@@ -73,7 +77,7 @@ release-requires-clause-enough c =
     )
 
 pub loop-place-smaller : goal.loop-place-smaller
-loop-place-smaller c =
+loop-place-smaller g c =
     let so_far = c.loop-place.invariant in
     let depends = c.args.depends.now in
     let order = c.loop-place.order.items in
@@ -81,15 +85,14 @@ loop-place-smaller c =
     let ready = heap_items c.loop-place.ready in
     let some = popped_some {X = Reverse ℕ} (λ x. x.0) x ready (heap_items c.pop.new.self) c.in-Some.ensures.permutation in
     let top = c.in-Some.ensures.heap_order so_far.heap in
-    let next = ready_next depends order c.loop-place.waiting.items (places ready) so_far.counted so_far.readied x.0 some
-    (λ s has. least_popped {X = Reverse ℕ} (λ x. x.0) x ready top.1 s has) in
-    let within = earliest_count (length depends) (DependsOn (Lists depends)) (order ++ x.0 ∷ []) (earliest_push (length depends) (DependsOn (Lists depends)) order x.0 so_far.earliest next) in
+    let within = room depends order c.loop-place.waiting.items (places ready) so_far.counted so_far.readied x.0 some
+    (λ s has. least_popped {X = Reverse ℕ} (λ x. x.0) x ready top.1 s has) so_far.earliest in
     let smaller : length depends - length c.push.new.self.items < length depends - length order =
-    omega (arith, within, ap length c.in_ok-push.ensures.items, length-append order (x.0 ∷ [])) in
+    omega (arith, within, c.in_ok-push.ensures.len, c.push.new.self.ok, c.loop-place.order.ok) in
     smaller
 
 pub loop-place-preserved : goal.loop-place-preserved
-loop-place-preserved c =
+loop-place-preserved g c =
     let so_far = c.loop-place.invariant in
     let depends = c.args.depends.now in
     let dependents = c.in_ok-dependents.dependents.items in
@@ -120,10 +123,19 @@ loop-place-preserved c =
       counted = counted_push depends order waiting (places ready) so_far.counted so_far.readied x.0 some dependents c.in_ok-dependents.ensures lowered (places left) (places now) size lowers taken readies;
       readied = readied_push depends order waiting (places ready) so_far.counted so_far.readied x.0 some dependents c.in_ok-dependents.ensures lowered (places left) (places now) size lowers taken readies;
       heap = c.in_ok-release.ensures.heap;
+      steps = omega (
+        arith,
+        so_far.steps,
+        c.tick.ensures,
+        c.release.ensures.steps,
+        ap sum c.deref_mut.ensures.value,
+        ap zeros c.deref_mut.ensures.value,
+        length-append order (x.0 ∷ []),
+      );
     })
 
 pub returns-in-None-clause-order : goal.returns-in-None-clause-order
-returns-in-None-clause-order c =
+returns-in-None-clause-order g c =
     let so_far = c.loop-place.invariant in
     let ready = heap_items c.loop-place.ready in
     let empty : length (places ready) ≡ 0 = omega (arith, length-map ready (λ (x : Reverse ℕ). x.0), c.in_default.ensures.none, c.loop-place.ready.data.ok) in
@@ -132,7 +144,7 @@ returns-in-None-clause-order c =
     (λ r. times_none r (places ready) empty) none
 
 pub closed_walk-requires-clause-start : goal.closed_walk-requires-clause-start
-closed_walk-requires-clause-start c =
+closed_walk-requires-clause-start g c =
     let so_far = c.loop-place.invariant in
     let ready = heap_items c.loop-place.ready in
     let empty : length (places ready) ≡ 0 = omega (arith, length-map ready (λ (x : Reverse ℕ). x.0), c.in_default.ensures.none, c.loop-place.ready.data.ok) in
@@ -141,7 +153,7 @@ closed_walk-requires-clause-start c =
     (λ r. times_none r (places ready) empty) c.in-Some-first_waiting.start start.found start.waits start.least
 
 pub closed_walk-requires-clause-stuck : goal.closed_walk-requires-clause-stuck
-closed_walk-requires-clause-stuck c =
+closed_walk-requires-clause-stuck g c =
     let so_far = c.loop-place.invariant in
     let ready = heap_items c.loop-place.ready in
     let empty : length (places ready) ≡ 0 = omega (arith, length-map ready (λ (x : Reverse ℕ). x.0), c.in_default.ensures.none, c.loop-place.ready.data.ok) in
@@ -150,4 +162,87 @@ closed_walk-requires-clause-stuck c =
     (λ r. times_none r (places ready) empty) c.requires.below)
 
 pub returns-clause-no_order : goal.returns-clause-no_order
-returns-clause-no_order c = λ order is. never_both (length c.args.depends.now) (Lists c.args.depends.now) order _ is c.in_ok-cycle-in-Some-first_waiting.ensures
+returns-clause-no_order g c = λ order is. never_both (length c.args.depends.now) (Lists c.args.depends.now) order _ is c.in_ok-cycle-in-Some-first_waiting.ensures
+
+pub returns-in_err-release-clause-steps : goal.returns-in_err-release-clause-steps
+returns-in_err-release-clause-steps g c =
+    let so_far = c.loop-place.invariant in
+    let depends = c.args.depends.now in
+    let waiting = c.loop-place.waiting.items in
+    let x = c.in-Some.field-0 in
+    let ready = heap_items c.loop-place.ready in
+    let some = popped_some {X = Reverse ℕ} (λ x. x.0) x ready (heap_items c.pop.new.self) c.in-Some.ensures.permutation in
+    let top = c.in-Some.ensures.heap_order so_far.heap in
+    let within = room depends c.loop-place.order.items waiting (places ready) so_far.counted so_far.readied x.0 some
+    (λ s has. least_popped {X = Reverse ℕ} (λ x. x.0) x ready top.1 s has) so_far.earliest in
+    omega (
+      arith,
+      so_far.steps,
+      c.tick.ensures,
+      c.release.ensures.steps,
+      ap sum c.deref_mut.ensures.value,
+      ap zeros c.deref_mut.ensures.value,
+      zeros_at_most c.release.new.waiting,
+      c.release.ensures.len,
+      ap length c.deref_mut.ensures.value,
+      so_far.counted.size,
+      within,
+    )
+
+pub returns-in_err-push-clause-steps : goal.returns-in_err-push-clause-steps
+returns-in_err-push-clause-steps g c =
+    let so_far = c.loop-place.invariant in
+    let depends = c.args.depends.now in
+    let waiting = c.loop-place.waiting.items in
+    let x = c.in-Some.field-0 in
+    let ready = heap_items c.loop-place.ready in
+    let some = popped_some {X = Reverse ℕ} (λ x. x.0) x ready (heap_items c.pop.new.self) c.in-Some.ensures.permutation in
+    let top = c.in-Some.ensures.heap_order so_far.heap in
+    let within = room depends c.loop-place.order.items waiting (places ready) so_far.counted so_far.readied x.0 some
+    (λ s has. least_popped {X = Reverse ℕ} (λ x. x.0) x ready top.1 s has) so_far.earliest in
+    omega (
+      arith,
+      so_far.steps,
+      c.tick.ensures,
+      c.release.ensures.steps,
+      ap sum c.deref_mut.ensures.value,
+      ap zeros c.deref_mut.ensures.value,
+      zeros_at_most c.release.new.waiting,
+      c.release.ensures.len,
+      ap length c.deref_mut.ensures.value,
+      so_far.counted.size,
+      within,
+    )
+
+pub returns-in-None-clause-steps : goal.returns-in-None-clause-steps
+returns-in-None-clause-steps g c =
+    let so_far = c.loop-place.invariant in
+    omega (
+      arith,
+      so_far.steps,
+      zeros_at_most c.loop-place.waiting.items,
+      so_far.counted.size,
+      earliest_count (length c.args.depends.now) (DependsOn (Lists c.args.depends.now)) c.loop-place.order.items so_far.earliest,
+    )
+
+pub returns-in_err-cycle-in-Some-first_waiting-clause-steps : goal.returns-in_err-cycle-in-Some-first_waiting-clause-steps
+returns-in_err-cycle-in-Some-first_waiting-clause-steps g c =
+    let so_far = c.loop-place.invariant in
+    omega (
+      arith,
+      so_far.steps,
+      zeros_at_most c.loop-place.waiting.items,
+      so_far.counted.size,
+      earliest_count (length c.args.depends.now) (DependsOn (Lists c.args.depends.now)) c.loop-place.order.items so_far.earliest,
+    )
+
+pub returns-clause-steps : goal.returns-clause-steps
+returns-clause-steps g c =
+    let so_far = c.loop-place.invariant in
+    omega (
+      arith,
+      so_far.steps,
+      zeros_at_most c.loop-place.waiting.items,
+      so_far.counted.size,
+      earliest_count (length c.args.depends.now) (DependsOn (Lists c.args.depends.now)) c.loop-place.order.items so_far.earliest,
+    )
