@@ -1,4 +1,4 @@
--- Of each condition of the rules of documents it is found that no refusal of it applies, or which one that applies is first.
+-- Of each rule of the rules of documents it is found that no refusal of it applies, or which one that applies is first.
 use Rattle.std.proofs.Common.{◌≡◌, ◌⊎◌, inl, inr, ℕ, ◌<◌, false, List, All, Option, Some, None, IsSomeAnd, length, option_and_then, option_map, slice_get, refl, subst, arith}
 use Rattle.std.specs.Prelude.{Contains, IsTrue, slice_index_or}
 use Rattle.std.proofs.lemmas.Bool.{both_ways, cases_Bool, cases_lt}
@@ -10,12 +10,13 @@ use Rattle.mof_values.specs.declared.value.Scalar.TheVariants as scalars
 use Rattle.mof_values.specs.declared.value.Scalar.TheVariants.{Alias}
 use Rattle.mof_values.specs.declared.value.Value.{Value}
 use Rattle.dsc_document.specs.Conditions.{IsFirstOf, NoneApplies}
-use Rattle.dsc_document.specs.Declarations.{IsResourceId, depends_of, depends_value, id_of, id_value, is_header, is_list_of_texts, scalars_of, text_of}
+use Rattle.mof_values.specs.Values.{scalars_of, text_of}
+use Rattle.dsc_document.specs.Declarations.{IsResourceId, depends_of, depends_value, id_of, id_value, is_header, is_list_of_texts}
 use Rattle.dsc_document.specs.Names.{IsName}
 use Rattle.dsc_document.specs.Rules.{Applies, HasAt, HasBadDependsOn, HasBadId, IsFirstUnknown, IsIdValue, NamesNoAlias, RepeatsName, StandsBefore, alias_at, id_at, indexes_of, property_name_at}
 use Rattle.dsc_document.specs.declared.error.DocError.{DocError}
 use Rattle.dsc_document.specs.declared.error.DocError.TheVariants.{AliasUnknown, BadDependsOn, BadResourceId, DependsUnknown, DuplicateId, DuplicateProperty, Memory, NoHeader, TwoAliases, TwoHeaders}
-use Rattle.dsc_document.proofs.OneCondition.{earlier, only_alias_unknown, only_bad_depends_on, only_bad_resource_id, only_depends_unknown, only_duplicate_id, only_duplicate_property, only_no_header, only_two_aliases, only_two_headers}
+use Rattle.dsc_document.proofs.RefusalsOfRules.{earlier, only_alias_unknown, only_bad_depends_on, only_bad_resource_id, only_depends_unknown, only_duplicate_id, only_duplicate_property, only_no_header, only_two_aliases, only_two_headers}
 use Rattle.depend_order.proofs.Options.{some_is, some_of}
 use Rattle.document_laws.proofs.Decided.{Decided, both_decided, decided_as, false_decided, less_decided, opposite_decided, some_decided, true_decided}
 use Rattle.document_laws.proofs.Ids.{resource_id_decided}
@@ -36,7 +37,7 @@ module _ {A : Type 0} (P : A → List ℕ → Type 0) where
 
 module _ (instances : List Instance) where
   abbrev pub Tested : ℕ → Type 0
-  Tested condition = NoneApplies condition instances ⊎ ((refusal : DocError) × IsFirstOf condition instances refusal)
+  Tested rule = NoneApplies rule instances ⊎ ((refusal : DocError) × IsFirstOf rule instances refusal)
 
   -- what applies at one index, and at none before it
   module _ (Has : Instance → Type 0) (decided : (i : Instance) → Decided (Has i)) where

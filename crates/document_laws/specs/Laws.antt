@@ -7,7 +7,7 @@ use Rattle.mof_syntax.specs.Limits.{Spells}
 use Rattle.mof_syntax.specs.Refusals.{Applies, Reads, Refuses}
 use Rattle.dsc_document.specs.declared.document.Document.{Document}
 use Rattle.dsc_document.specs.declared.error.DocError.{DocError}
-use Rattle.dsc_document.specs.Rules.{IsRefusal, PartRules, Rules, condition_of, document_of}
+use Rattle.dsc_document.specs.Rules.{IsRefusal, PartRules, Rules, rule_of, document_of, known_dependencies}
 use Rattle.partial_merge.specs.declared.part.Part.{Part}
 use Rattle.partial_merge.specs.declared.error.MergeError.{MergeError}
 use Rattle.partial_merge.specs.declared.error.MergeError.TheVariants.{Memory}
@@ -27,7 +27,7 @@ pub record WhatIsReadIsNotRefused : Type 0 where
 -- instances keep the rules of a part, or a refusal of one of these rules wins
 abbrev pub PartsHaveAnAnswer : Type 0
 PartsHaveAnAnswer =
-    (instances : List Instance) → PartRules instances (document_of instances) ⊎ ((refusal : DocError) × IsRefusal instances refusal × (condition_of refusal < 9))
+    (instances : List Instance) → PartRules instances (document_of instances) ⊎ ((refusal : DocError) × IsRefusal instances refusal × (rule_of refusal < known_dependencies))
 
 -- instances keep the rules of a whole document, or a refusal wins
 abbrev pub DocumentsHaveAnAnswer : Type 0

@@ -9,11 +9,12 @@ use Rattle.std.proofs.lemmas.List.Kept.{AllPairs-cons}
 use Rattle.std.proofs.lemmas.Option.{none-some, same_Some}
 use Rattle.mof_values.specs.Fold.{SameName}
 use Rattle.mof_values.specs.declared.instance.Instance.{Instance}
-use Rattle.dsc_document.specs.Declarations.{depends_of, id_of, is_header, text_of, value_named}
+use Rattle.mof_values.specs.Values.{text_of, value_named}
+use Rattle.dsc_document.specs.Declarations.{depends_of, id_of, is_header}
 use Rattle.dsc_document.specs.Dependencies.{HasDistinctIds, IsId, NamesResources}
 use Rattle.dsc_document.specs.Names.{IsName, ShareName}
 use Rattle.dsc_document.specs.Conditions.{KeepsUpTo, NoneApplies}
-use Rattle.dsc_document.specs.Rules.{IsFirstUnknown, document_of, id_at, resource_at}
+use Rattle.dsc_document.specs.Rules.{IsFirstUnknown, document_of, id_at, resource_at, texts_to_depend_on, known_dependencies}
 use Rattle.dsc_document.specs.declared.document.Document.{Document}
 use Rattle.dsc_document.specs.declared.error.DocError.TheVariants.{DependsUnknown, DuplicateId, NoHeader}
 use Rattle.dsc_document.specs.declared.document.Resource.{Resource}
@@ -184,17 +185,17 @@ few_from n (i ∷ is) = elim (cases_Bool (is_header i)) [
 -- ---- documents
 
 module _ (instances : List Instance) (document : Document) (made : document ≡ document_of instances) where
-  pub document_few : KeepsUpTo 8 instances → length document.resources < length instances
+  pub document_few : KeepsUpTo texts_to_depend_on instances → length document.resources < length instances
   document_few kept = elim (few_from 0 instances) [
     | inl few ↦ let same : length document.resources ≡ length (resources_from 0 instances) = ap (λ (d : Document). length d.resources) made in omega (arith, few, same)
     | inr none ↦ absurd (kept NoHeader (omega arith) none)
   ]
 
-  pub document_distinct : KeepsUpTo 8 instances → HasDistinctIds document
+  pub document_distinct : KeepsUpTo texts_to_depend_on instances → HasDistinctIds document
   document_distinct kept = subst HasDistinctIds (sym made)
       (distinct_from 0 instances (λ first second shared. kept (DuplicateId first second) (omega arith) shared))
 
-  pub document_known : NoneApplies 9 instances → NamesResources document
+  pub document_known : NoneApplies known_dependencies instances → NamesResources document
   document_known none = subst NamesResources (sym made)
       (known_declared instances (λ k i name at first. none (DependsUnknown k name) refl (subst (λ o. IsSomeAnd o (λ j. IsFirstUnknown instances (depends_of j) name)) (sym at) first)))
 

@@ -8,8 +8,9 @@ use Rattle.std.specs.Prelude.{IsSomeAnd, codes, encode_utf8_all, find, unwrap_or
 use Rattle.mof_values.specs.declared.instance.Instance.{Instance}
 use Rattle.mof_values.specs.declared.value.Value.{Value}
 use Rattle.dsc_document.specs.Conditions.{KeepsUpTo}
-use Rattle.dsc_document.specs.Declarations.{IsResourceId, id_value, is_header, text_of, value_named, version_of}
-use Rattle.dsc_document.specs.Rules.{HasBadId, IsIdValue, document_of}
+use Rattle.mof_values.specs.Values.{text_of, value_named}
+use Rattle.dsc_document.specs.Declarations.{IsResourceId, id_value, is_header, version_of}
+use Rattle.dsc_document.specs.Rules.{HasBadId, IsIdValue, document_of, texts_to_depend_on}
 use Rattle.dsc_document.specs.Sizes.{DocumentInSize, Fits}
 use Rattle.dsc_document.specs.declared.document.Document.{Document}
 use Rattle.dsc_document.specs.declared.error.DocError.TheVariants.{BadResourceId}
@@ -31,7 +32,7 @@ version_fits : (header : Option Instance) → length (option_map_or version_of h
 version_fits None = omega arith
 version_fits (Some header) = omega (arith, length-take MAX_VERSION (unwrap_or (option_and_then text_of (value_named (codes "Version") header)) []))
 
-module _ (instances : List Instance) (document : Document) (made : document ≡ document_of instances) (kept : KeepsUpTo 8 instances) where
+module _ (instances : List Instance) (document : Document) (made : document ≡ document_of instances) (kept : KeepsUpTo texts_to_depend_on instances) where
   ids_fit : All (λ r. Fits MAX_ID r.id) document.resources
   ids_fit = subst (λ (d : Document). All (λ r. Fits MAX_ID r.id) d.resources) (sym made)
       (all_from (λ r. Fits MAX_ID r.id) 0 instances (λ k m i r at is.

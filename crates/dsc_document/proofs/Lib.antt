@@ -4,7 +4,7 @@ pub mod Firsts
 pub mod FoldKeys
 pub mod InSize
 pub mod Indexes
-pub mod OneCondition
 pub mod OneRule
 pub mod Passing
 pub mod Placed
+pub mod RefusalsOfRules

@@ -5,7 +5,7 @@ use Rattle.mof_values.specs.declared.instance.Instance.{Instance}
 use Rattle.mof_values.specs.declared.instance.Property.{Property}
 use Rattle.dsc_document.specs.Declarations.{depends_of}
 use Rattle.dsc_document.specs.Names.{IsName}
-use Rattle.dsc_document.specs.Rules.{Applies, HasAt, IsFirstUnknown, IsRefusal, RepeatsName, condition_of, id_at, indexes_of, property_name_at}
+use Rattle.dsc_document.specs.Rules.{Applies, HasAt, IsFirstUnknown, IsRefusal, RepeatsName, rule_of, id_at, indexes_of, property_name_at}
 use Rattle.dsc_document.specs.declared.error.DocError.{DocError}
 use Rattle.dsc_document.specs.declared.error.DocError.TheVariants.{DuplicateProperty, TwoAliases, AliasUnknown, NoHeader, TwoHeaders, BadResourceId, DuplicateId, BadDependsOn, DependsUnknown, Memory}
 use Rattle.dsc_document.proofs.Firsts.{first_once}
@@ -33,8 +33,8 @@ pair : {a b c d : ℕ} → a ≡ c → b ≡ d → ◌≡◌ {A = ℕ × ℕ} (a
 pair first second = cc
 
 module _ (instances : List Instance) where
-  -- of one condition and at one index there is one refusal
-  same_place : (a b : DocError) → condition_of a ≡ condition_of b → indexes_of a ≡ indexes_of b → Applies instances a → Applies instances b → a ≡ b
+  -- of one rule and at one index there is one refusal
+  same_place : (a b : DocError) → rule_of a ≡ rule_of b → indexes_of a ≡ indexes_of b → Applies instances a → Applies instances b → a ≡ b
   same_place (DuplicateProperty i a) (DuplicateProperty j b) same at applies_a applies_b =
       let here : i ≡ j = ap (λ p. p.0) at in
       let named : a ≡ b = at_one (λ x. RepeatsName x.properties a) (λ x. RepeatsName x.properties b) (a ≡ b) (λ x. one_repeated x.properties a b)
@@ -80,4 +80,4 @@ module _ (instances : List Instance) where
       apart))
       (cases_order (indexes_of a).0 (indexes_of b).0))
       (λ apart. absurd (⊎_elim (λ below. is_b.wins a (inl below) is_a.applies) (λ above. is_a.wins b (inl above) is_b.applies) apart))
-      (cases_order (condition_of a) (condition_of b))
+      (cases_order (rule_of a) (rule_of b))

@@ -1,31 +1,31 @@
--- One condition of the rules at a time.
+-- One rule at a time.
 use Rattle.std.specs.Prelude.{◌≡◌, ◌≢◌, ℕ, ◌<◌, ◌≤◌, List, ◌∷◌, ◌++◌, All, Contains, None, is_some, IsTrue, Result, MatchResult}
 use Rattle.mof_values.specs.declared.instance.Instance.{Instance}
 use Rattle.mof_values.specs.declared.value.Scalar.{Scalar}
 use Rattle.mof_values.specs.declared.value.Scalar.TheVariants.{Alias}
 use Rattle.dsc_document.specs.Declarations.{is_header}
 use Rattle.dsc_document.specs.Places.{place_of}
-use Rattle.dsc_document.specs.Rules.{HasAt, Applies, condition_of, indexes_of, StandsBefore}
+use Rattle.dsc_document.specs.Rules.{HasAt, Applies, rule_of, indexes_of, StandsBefore}
 use Rattle.dsc_document.specs.declared.places.Places.{Places}
 use Rattle.dsc_document.specs.declared.error.DocError.{DocError}
 use Rattle.dsc_document.specs.declared.error.DocError.TheVariants.{Memory}
 
 abbrev pub NoneApplies : ℕ → List Instance → Type 0
-NoneApplies condition instances = (refusal : DocError) → condition_of refusal ≡ condition → Applies instances refusal → ⊥
+NoneApplies rule instances = (refusal : DocError) → rule_of refusal ≡ rule → Applies instances refusal → ⊥
 
 abbrev pub KeepsUpTo : ℕ → List Instance → Type 0
-KeepsUpTo condition instances = (refusal : DocError) → condition_of refusal ≤ condition → Applies instances refusal → ⊥
+KeepsUpTo rule instances = (refusal : DocError) → rule_of refusal ≤ rule → Applies instances refusal → ⊥
 
--- the refusal applies, and none of its condition at an earlier index does
-pub record IsFirstOf (condition : ℕ) (instances : List Instance) (refusal : DocError) : Type 0 where
-  pub is : condition_of refusal ≡ condition
+-- the refusal applies, and none of its rule at an earlier index does
+pub record IsFirstOf (rule : ℕ) (instances : List Instance) (refusal : DocError) : Type 0 where
+  pub is : rule_of refusal ≡ rule
   pub applies : Applies instances refusal
-  pub first : (other : DocError) → condition_of other ≡ condition → StandsBefore (indexes_of other) (indexes_of refusal) → Applies instances other → ⊥
+  pub first : (other : DocError) → rule_of other ≡ rule → StandsBefore (indexes_of other) (indexes_of refusal) → Applies instances other → ⊥
 
--- the condition was tested
+-- the rule was tested
 abbrev pub Tests : {T : Type 0} → ℕ → List Instance → Result T DocError → Type 0
-Tests condition instances result =
-    MatchResult result (λ _. NoneApplies condition instances) (λ refusal. refusal ≢ Memory → IsFirstOf condition instances refusal)
+Tests rule instances result =
+    MatchResult result (λ _. NoneApplies rule instances) (λ refusal. refusal ≢ Memory → IsFirstOf rule instances refusal)
 
 -- ---- what the tests find on their way
 

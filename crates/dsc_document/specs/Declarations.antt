@@ -1,5 +1,5 @@
 -- What a declaration says: the header, a resource, or another instance. Names compare by fold.
-use Rattle.std.specs.Prelude.{◌≡◌, ◌≢◌, ℕ, Bool, true, not, ◌&&◌, if◌then◌else◌, List, [], ◌∷◌, ◌++◌, take, ◌==◌, IsTrue, Option, Some, None, is_some, option_map, option_and_then, unwrap_or, find, filter_map, codes}
+use Rattle.std.specs.Prelude.{◌≡◌, ◌≢◌, ℕ, Bool, true, not, ◌&&◌, if◌then◌else◌, List, [], ◌∷◌, ◌++◌, take, ◌==◌, IsTrue, Option, None, is_some, option_and_then, unwrap_or, filter_map, codes}
 use Rattle.std.specs.List.{list_all}
 use Rattle.std.specs.Option.{option_map_or}
 use Rattle.mof_values.specs.declared.instance.Instance.{Instance}
@@ -9,29 +9,8 @@ use Rattle.mof_values.specs.declared.value.Value.{Value}
 use Rattle.mof_values.specs.declared.value.Value.TheVariants.{One, Many}
 use Rattle.dsc_document.specs.Sizes.{Fits}
 use Rattle.dsc_document.specs.declared.limits.TheConstants.{MAX_ID, MAX_VERSION}
-use Rattle.dsc_document.specs.Names.{same_name}
-
--- ---- values
-
--- the text that a scalar is
-abbrev pub text_of_scalar : Scalar → Option (List ℕ)
-text_of_scalar (scalars.Text text) = Some text
-text_of_scalar _ = None
-
--- the single text that a value is
-abbrev pub text_of : Value → Option (List ℕ)
-text_of (One scalar) = text_of_scalar scalar
-text_of (Many _) = None
-
-abbrev pub scalars_of : Value → List Scalar
-scalars_of (One scalar) = scalar ∷ []
-scalars_of (Many many) = many
-
--- ---- properties
-
--- the value of the first property of that name
-abbrev pub value_named : List ℕ → Instance → Option Value
-value_named name instance = option_map (λ p. p.value) (find (λ p. same_name p.name name) instance.properties)
+use Rattle.mof_values.specs.Fold.{same_name}
+use Rattle.mof_values.specs.Values.{text_of, text_of_scalar, text_named, scalars_of, value_named}
 
 -- ---- the header
 
@@ -40,7 +19,7 @@ is_header instance = same_name instance.class (codes "OMI_ConfigurationDocument"
 
 -- the first 64 characters of its Version, where that is a single text
 abbrev pub version_of : Instance → List ℕ
-version_of header = take MAX_VERSION (unwrap_or (option_and_then text_of (value_named (codes "Version") header)) [])
+version_of header = take MAX_VERSION (unwrap_or (text_named (codes "Version") header) [])
 
 -- ---- resources
 

@@ -1,9 +1,6 @@
 -- Names that compare by fold.
-use Rattle.std.specs.Prelude.{◌≡◌, ℕ, ◌<◌, Bool, List, Option, Some, bytes_eq}
-use Rattle.mof_values.specs.Fold.{fold_case, SameName}
-
-abbrev pub same_name : List ℕ → List ℕ → Bool
-same_name a b = bytes_eq (fold_case a) (fold_case b)
+use Rattle.std.specs.Prelude.{◌≡◌, ℕ, ◌<◌, List, Option, Some}
+use Rattle.mof_values.specs.Fold.{SameName}
 
 -- two places of a list, the first before the second, have the same name; a place need not have one
 abbrev pub ShareName : (ℕ → Option (List ℕ)) → ℕ → ℕ → Type 0

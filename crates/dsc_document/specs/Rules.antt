@@ -7,7 +7,8 @@ use Rattle.mof_values.specs.declared.instance.Property.{Property}
 use Rattle.mof_values.specs.declared.value.Scalar.TheVariants.{Alias}
 use Rattle.mof_values.specs.declared.value.Value.{Value}
 use Rattle.dsc_document.specs.Names.{ShareName, IsName}
-use Rattle.dsc_document.specs.Declarations.{scalars_of, is_header, version_of, id_value, id_of, is_other, text_of, IsResourceId, depends_value, depends_of, is_list_of_texts}
+use Rattle.mof_values.specs.Values.{scalars_of, text_of}
+use Rattle.dsc_document.specs.Declarations.{is_header, version_of, id_value, id_of, is_other, IsResourceId, depends_value, depends_of, is_list_of_texts}
 use Rattle.dsc_document.specs.declared.document.Resource.{Resource}
 use Rattle.dsc_document.specs.declared.document.Document.{Document}
 use Rattle.dsc_document.specs.declared.error.DocError.{DocError}
@@ -75,18 +76,46 @@ Applies instances (BadDependsOn index) = HasAt instances index HasBadDependsOn
 Applies instances (DependsUnknown index name) = HasAt instances index (λ i. IsFirstUnknown instances (depends_of i) name)
 Applies instances Memory = ⊥
 
--- the conditions in the order in which they win
-abbrev pub condition_of : DocError → ℕ
-condition_of Memory = 0
-condition_of (DuplicateProperty index name) = 1
-condition_of (TwoAliases first second) = 2
-condition_of (AliasUnknown index) = 3
-condition_of NoHeader = 4
-condition_of (TwoHeaders first second) = 5
-condition_of (BadResourceId index) = 6
-condition_of (DuplicateId first second) = 7
-condition_of (BadDependsOn index) = 8
-condition_of (DependsUnknown index name) = 9
+-- the rules, in the order in which their refusals win
+abbrev pub distinct_property_names : ℕ
+distinct_property_names = 1
+
+abbrev pub distinct_aliases : ℕ
+distinct_aliases = 2
+
+abbrev pub known_aliases : ℕ
+known_aliases = 3
+
+abbrev pub some_header : ℕ
+some_header = 4
+
+abbrev pub one_header : ℕ
+one_header = 5
+
+abbrev pub resource_ids : ℕ
+resource_ids = 6
+
+abbrev pub distinct_ids : ℕ
+distinct_ids = 7
+
+abbrev pub texts_to_depend_on : ℕ
+texts_to_depend_on = 8
+
+abbrev pub known_dependencies : ℕ
+known_dependencies = 9
+
+-- the rule that a refusal says is broken
+abbrev pub rule_of : DocError → ℕ
+rule_of Memory = 0
+rule_of (DuplicateProperty index name) = distinct_property_names
+rule_of (TwoAliases first second) = distinct_aliases
+rule_of (AliasUnknown index) = known_aliases
+rule_of NoHeader = some_header
+rule_of (TwoHeaders first second) = one_header
+rule_of (BadResourceId index) = resource_ids
+rule_of (DuplicateId first second) = distinct_ids
+rule_of (BadDependsOn index) = texts_to_depend_on
+rule_of (DependsUnknown index name) = known_dependencies
 
 -- the index of a refusal, or the second and the first of a pair
 abbrev pub indexes_of : DocError → ℕ × ℕ
@@ -103,9 +132,9 @@ indexes_of _ = (0, 0)
 abbrev pub StandsBefore : ℕ × ℕ → ℕ × ℕ → Type 0
 StandsBefore a b = (a.0 < b.0) ⊎ ((a.0 ≡ b.0) × (a.1 < b.1))
 
--- an earlier condition wins, and of one condition the earlier index
+-- the refusal of an earlier rule wins, and of one rule the earlier index
 abbrev pub WinsOver : DocError → DocError → Type 0
-WinsOver a b = (condition_of a < condition_of b) ⊎ ((condition_of a ≡ condition_of b) × StandsBefore (indexes_of a) (indexes_of b))
+WinsOver a b = (rule_of a < rule_of b) ⊎ ((rule_of a ≡ rule_of b) × StandsBefore (indexes_of a) (indexes_of b))
 
 -- the refusal applies, and none that wins over it does
 pub record IsRefusal (instances : List Instance) (refusal : DocError) : Type 0 where
@@ -135,5 +164,5 @@ pub record Rules (instances : List Instance) (document : Document) : Type 0 wher
 
 -- the rules of a part: all but that what a resource depends on is in the document
 pub record PartRules (instances : List Instance) (document : Document) : Type 0 where
-  pub kept : (refusal : DocError) → condition_of refusal < 9 → Applies instances refusal → ⊥
+  pub kept : (refusal : DocError) → rule_of refusal < known_dependencies → Applies instances refusal → ⊥
   pub made : document ≡ document_of instances

@@ -1,12 +1,11 @@
 //! Aliases: each instance's is its own, and each one that a value names is there.
 ghost use Rattle.std.specs.Prelude.{◌≡◌, ◌<◌, ◌^◌, ◌↔◌, Any, length, IsTrue, IfOk, option_copied};
-ghost use Rattle.dsc_document.specs.Declarations.{scalars_of};
+ghost use Rattle.mof_values.specs.Values.{scalars_of};
 ghost use Rattle.dsc_document.specs.Places.{HoldsNames};
-ghost use Rattle.dsc_document.specs.Rules.{alias_at};
+ghost use Rattle.dsc_document.specs.Rules.{alias_at, distinct_aliases, known_aliases};
 ghost use Rattle.dsc_document.specs.Conditions.{Tests, HoldsUnplaced};
 
 use crate::DocError;
-use crate::declarations::scalars_of;
 use crate::places::Places;
 use mof_values::{Instance, Scalar};
 use std::alloc::{AllocError, Global};
@@ -14,7 +13,7 @@ use std::alloc::{AllocError, Global};
 /// The places of the aliases, where no two are the same.
 pub fn alias_places(alloc: Global, instances: &[Instance]) -> Result<Places, DocError>
     requires { length instances.now < 2 ^ 32 }
-    ensures tested { Tests 2 instances.now result }
+    ensures tested { Tests distinct_aliases instances.now result }
     ensures places { IfOk result (HoldsNames (alias_at instances.now)) }
 {
     let mut places = Places::new(alloc);
@@ -42,7 +41,7 @@ fn alias_of<'a>(instance: &'a Instance) -> Option<&'a [char]>
 pub fn check_aliases(instances: &[Instance], aliases: &Places) -> Result<(), DocError>
     requires few { length instances.now < 2 ^ 32 }
     requires places { HoldsNames (alias_at instances.now) aliases.now }
-    ensures { Tests 3 instances.now result }
+    ensures { Tests known_aliases instances.now result }
 {
     for (index, instance) in instances.iter().enumerate() {
         if names_no_alias(instance, aliases)? {
@@ -58,7 +57,7 @@ fn names_no_alias(instance: &Instance, aliases: &Places) -> Result<bool, AllocEr
     ensures { IfOk result (λ yes. IsTrue yes ↔ Any (λ p. HoldsUnplaced aliases.now (scalars_of p.value)) instance.now.properties) }
 {
     for property in instance.properties.as_slice() {
-        if is_unknown_alias(scalars_of(&property.value), aliases)? {
+        if is_unknown_alias(property.value.scalars(), aliases)? {
             return Ok(true);
         }
     }

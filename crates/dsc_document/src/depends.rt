@@ -1,13 +1,14 @@
 //! What resources depend on.
 ghost use Rattle.std.specs.Prelude.{◌≡◌, ◌<◌, ◌^◌, ◌↔◌, ◌++◌, All, length, IsTrue, IfOk, OnOk, MatchOption, filter_map, is_some, option_to_list};
 ghost use Rattle.std.specs.List.{list_all};
-ghost use Rattle.dsc_document.specs.Declarations.{depends_of, is_list_of_texts, is_text, text_of_scalar};
+ghost use Rattle.mof_values.specs.Values.{text_of_scalar};
+ghost use Rattle.dsc_document.specs.Declarations.{depends_of, is_list_of_texts, is_text};
 ghost use Rattle.dsc_document.specs.Places.{HoldsNames, place_of};
-ghost use Rattle.dsc_document.specs.Rules.{HasBadDependsOn, id_at};
+ghost use Rattle.dsc_document.specs.Rules.{HasBadDependsOn, id_at, texts_to_depend_on, known_dependencies};
 ghost use Rattle.dsc_document.specs.Conditions.{Tests, IsFirstUnplaced};
 
 use crate::DocError;
-use crate::declarations::{depends_value, scalars_of};
+use crate::declarations::depends_value;
 use crate::places::Places;
 use mof_values::{Instance, Scalar, Text, Value};
 use std::alloc::{AllocError, Global};
@@ -15,7 +16,7 @@ use std::alloc::{AllocError, Global};
 /// Finds the first resource whose DependsOn is neither null, nor a text, nor an array of texts.
 pub fn check_depends_on(instances: &[Instance]) -> Result<(), DocError>
     requires { length instances.now < 2 ^ 32 }
-    ensures { Tests 8 instances.now result }
+    ensures { Tests texts_to_depend_on instances.now result }
 {
     for (index, instance) in instances.iter().enumerate() {
         if has_bad_depends_on(instance) {
@@ -62,7 +63,7 @@ fn is_text(scalar: &Scalar) -> bool
 pub fn check_known(instances: &[Instance], ids: &Places) -> Result<(), DocError>
     requires few { length instances.now < 2 ^ 32 }
     requires places { HoldsNames (id_at instances.now) ids.now }
-    ensures { Tests 9 instances.now result }
+    ensures { Tests known_dependencies instances.now result }
 {
     for (index, instance) in instances.iter().enumerate() {
         if let Some(name) = first_unknown(depends_scalars(instance), ids)? {
@@ -122,7 +123,7 @@ fn depends_scalars<'a>(instance: &'a Instance) -> &'a [Scalar]
     ensures { filter_map text_of_scalar result.now ≡ depends_of instance.now }
 {
     match depends_value(instance) {
-        Some(value) => scalars_of(value),
+        Some(value) => value.scalars(),
         None => &[],
     }
 }

@@ -2,8 +2,9 @@
 ghost use Rattle.std.specs.Prelude.{◌≡◌};
 ghost use Rattle.dsc_document.specs.declared.error.DocError.TheVariants.{Memory};
 
-use mof_values::{Ident, Text};
+use mof_values::{Ident, Memory, Text};
 use std::alloc::{AllocError, AllocFailed};
+use std::fmt;
 
 /// Which rule the instances break. An index is an instance's place in the list, counted from 0.
 ///
@@ -50,4 +51,59 @@ impl<T: Drop> From<AllocFailed<T>> for DocError {
     fn from(_: AllocFailed<T>) -> Self {
         DocError::Memory
     }
+}
+
+impl fmt::Display for DocError {
+    fn fmt<W: fmt::Write>(&self, f: &mut fmt::Formatter<W>) -> fmt::Result {
+        match self {
+            DocError::DuplicateProperty { index, name } => {
+                write!(f, "instance {index} has two properties named ")?;
+                write_chars(f, name.as_slice())
+            }
+            DocError::TwoAliases { first, second } => {
+                write!(f, "instances {first} and {second} have the same alias")
+            }
+            DocError::AliasUnknown { index } => {
+                write!(
+                    f,
+                    "instance {index} refers to an alias that no instance has"
+                )
+            }
+            DocError::NoHeader => f.write_str("no OMI_ConfigurationDocument"),
+            DocError::TwoHeaders { first, second } => {
+                write!(
+                    f,
+                    "instances {first} and {second} are both OMI_ConfigurationDocument"
+                )
+            }
+            DocError::BadResourceId { index } => {
+                write!(
+                    f,
+                    "the ResourceID of instance {index} is not of the form [kind]name"
+                )
+            }
+            DocError::DuplicateId { first, second } => {
+                write!(f, "instances {first} and {second} have the same ResourceID")
+            }
+            DocError::BadDependsOn { index } => {
+                write!(f, "the DependsOn of instance {index} is no list of texts")
+            }
+            DocError::DependsUnknown { index, name } => {
+                write!(
+                    f,
+                    "no resource has the id that instance {index} depends on: "
+                )?;
+                write_chars(f, name.as_slice())
+            }
+            DocError::Memory => write!(f, "{Memory}"),
+        }
+    }
+}
+
+/// Writes the characters as they are.
+pub fn write_chars<W: fmt::Write>(f: &mut fmt::Formatter<W>, chars: &[char]) -> fmt::Result {
+    for c in chars {
+        f.write_char(*c)?;
+    }
+    Ok(())
 }

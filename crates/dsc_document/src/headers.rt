@@ -1,5 +1,6 @@
 //! There is one header.
 ghost use Rattle.std.specs.Prelude.{◌≡◌, ◌+◌, ◌<◌, ◌≤◌, ◌^◌, ℕ, length, IfOk, MatchOption};
+ghost use Rattle.dsc_document.specs.Rules.{some_header, one_header};
 ghost use Rattle.dsc_document.specs.Conditions.{Tests, IsHeaderAt, IsNextHeader};
 
 use crate::DocError;
@@ -9,7 +10,7 @@ use mof_values::Instance;
 /// The place of the first header.
 pub fn first_header(instances: &[Instance]) -> Result<usize, DocError>
     requires { length instances.now < 2 ^ 32 }
-    ensures tested { Tests 4 instances.now result }
+    ensures tested { Tests some_header instances.now result }
     ensures first { IfOk result (IsNextHeader instances.now 0) }
 {
     match header_from(instances, 0) {
@@ -22,7 +23,7 @@ pub fn first_header(instances: &[Instance]) -> Result<usize, DocError>
 pub fn check_one_header(instances: &[Instance], first: usize) -> Result<(), DocError>
     requires few { length instances.now < 2 ^ 32 }
     requires first { IsNextHeader instances.now 0 first }
-    ensures { Tests 5 instances.now result }
+    ensures { Tests one_header instances.now result }
 {
     match header_from(instances, first + 1) {
         Some(second) => Err(DocError::TwoHeaders {

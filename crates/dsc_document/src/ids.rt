@@ -2,10 +2,10 @@
 ghost use Rattle.std.specs.Prelude.{◌≡◌, ◌<◌, ◌^◌, ◌↔◌, ◌∷◌, length, IsTrue, IfOk, option_copied};
 ghost use Rattle.dsc_document.specs.Declarations.{IsResourceId, HasKindAndName, id_of};
 ghost use Rattle.dsc_document.specs.Places.{HoldsNames};
-ghost use Rattle.dsc_document.specs.Rules.{HasBadId, IsIdValue, id_at};
+ghost use Rattle.dsc_document.specs.Rules.{HasBadId, IsIdValue, id_at, resource_ids, distinct_ids};
 ghost use Rattle.dsc_document.specs.Conditions.{Tests};
 
-use crate::declarations::{id_of, id_value, text_of};
+use crate::declarations::{id_of, id_value};
 use crate::places::Places;
 use crate::{DocError, MAX_ID};
 use mof_values::{Instance, Text, Value};
@@ -14,7 +14,7 @@ use std::alloc::Global;
 /// Finds the first resource whose ResourceID has no form of an id.
 pub fn check_ids(instances: &[Instance]) -> Result<(), DocError>
     requires { length instances.now < 2 ^ 32 }
-    ensures { Tests 6 instances.now result }
+    ensures { Tests resource_ids instances.now result }
 {
     for (index, instance) in instances.iter().enumerate() {
         if has_bad_id(instance) {
@@ -38,7 +38,7 @@ fn has_bad_id(instance: &Instance) -> bool
 fn is_id_value(value: &Value) -> bool
     ensures { IsTrue result ↔ IsIdValue value.now }
 {
-    match text_of(value) {
+    match value.as_text() {
         Some(id) => is_resource_id(id),
         None => false,
     }
@@ -80,7 +80,7 @@ fn ends_kind(chars: &[char]) -> bool
 /// The places of the ids, where no two are the same.
 pub fn id_places(alloc: Global, instances: &[Instance]) -> Result<Places, DocError>
     requires { length instances.now < 2 ^ 32 }
-    ensures tested { Tests 7 instances.now result }
+    ensures tested { Tests distinct_ids instances.now result }
     ensures places { IfOk result (HoldsNames (id_at instances.now)) }
 {
     let mut places = Places::new(alloc);

@@ -25,7 +25,7 @@ mod spot;
 mod unknown;
 
 pub use document::{Document, Resource};
-pub use error::DocError;
+pub use error::{DocError, write_chars};
 pub use limits::{MAX_ID, MAX_RESOURCES, MAX_VERSION};
 pub use places::Places;
 pub use rules::{check, check_part, one_refusal_wins};

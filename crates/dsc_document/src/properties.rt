@@ -1,7 +1,7 @@
 //! No two properties of an instance have the same name.
 ghost use Rattle.std.specs.Prelude.{◌≡◌, ◌<◌, ◌^◌, ◌↔◌, ℕ, length, IsTrue, MatchOption};
 ghost use Rattle.dsc_document.specs.Names.{IsName, ShareName};
-ghost use Rattle.dsc_document.specs.Rules.{RepeatsName, property_name_at};
+ghost use Rattle.dsc_document.specs.Rules.{RepeatsName, property_name_at, distinct_property_names};
 ghost use Rattle.dsc_document.specs.Conditions.{Tests};
 
 use crate::DocError;
@@ -9,7 +9,7 @@ use mof_values::{Ident, Instance, Property, same_name};
 
 pub fn check_properties(instances: &[Instance]) -> Result<(), DocError>
     requires { length instances.now < 2 ^ 32 }
-    ensures { Tests 1 instances.now result }
+    ensures { Tests distinct_property_names instances.now result }
 {
     for (index, instance) in instances.iter().enumerate() {
         if let Some(name) = repeated_name(instance.properties.as_slice()) {

@@ -2,7 +2,7 @@
 ghost use Rattle.std.specs.Prelude.{◌≡◌, ◌≢◌, ◌+◌, ◌<◌, ◌≤◌, ◌^◌, List, length, IfOk, IfErr, vec_len};
 ghost use Rattle.dsc_document.specs.Dependencies.{HasDistinctIds, NamesResources};
 ghost use Rattle.dsc_document.specs.Places.{HoldsNames};
-ghost use Rattle.dsc_document.specs.Rules.{Rules, PartRules, IsRefusal, Applies, condition_of, id_at};
+ghost use Rattle.dsc_document.specs.Rules.{Rules, PartRules, IsRefusal, Applies, rule_of, id_at, texts_to_depend_on, known_dependencies};
 ghost use Rattle.dsc_document.specs.Conditions.{KeepsUpTo};
 ghost use Rattle.dsc_document.specs.Sizes.{DocumentInSize};
 
@@ -48,7 +48,7 @@ pub fn check_part(alloc: Global, instances: Vec<Instance>) -> Result<Document, D
     ensures in_size { vec_len instances ≤ MAX_RESOURCES + 1 → IfOk result DocumentInSize }
     ensures distinct { IfOk result HasDistinctIds }
     ensures refused { IfErr result (λ refusal. refusal ≢ DocError.Memory → IsRefusal instances.items refusal) }
-    ensures known { IfErr result (λ refusal. condition_of refusal < 9) }
+    ensures known { IfErr result (λ refusal. rule_of refusal < known_dependencies) }
 {
     let _ids = check_part_rules(alloc, &instances)?;
     Ok(document_of(alloc, instances)?)
@@ -63,9 +63,9 @@ pub fn one_refusal_wins()
 fn check_part_rules(alloc: Global, instances: &[Instance]) -> Result<Places, DocError>
     requires { length instances.now < 2 ^ 32 }
     ensures places { IfOk result (HoldsNames (id_at instances.now)) }
-    ensures kept { IfOk result (λ _. KeepsUpTo 8 instances.now) }
+    ensures kept { IfOk result (λ _. KeepsUpTo texts_to_depend_on instances.now) }
     ensures refused { IfErr result (λ refusal. refusal ≢ DocError.Memory → IsRefusal instances.now refusal) }
-    ensures known { IfErr result (λ refusal. condition_of refusal < 9) }
+    ensures known { IfErr result (λ refusal. rule_of refusal < known_dependencies) }
 {
     check_properties(instances)?;
     let aliases = alias_places(alloc, instances)?;

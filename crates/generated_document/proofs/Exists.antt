@@ -3,7 +3,7 @@ use Rattle.std.proofs.Common.{inl, inr, ℕ, ◌≤◌, [], ◌∷◌, refl, ari
 use Rattle.mof_syntax.specs.Canonical.{canonical_bytes}
 use Rattle.dsc_document.specs.Conditions.{KeepsUpTo}
 use Rattle.dsc_document.specs.declared.document.Document.{Document}
-use Rattle.dsc_document.specs.Rules.{document_of}
+use Rattle.dsc_document.specs.Rules.{document_of, texts_to_depend_on}
 use Rattle.dsc_document.proofs.Declared.{document_distinct, document_few}
 use Rattle.depend_order.proofs.KnownNames.{document_order_or_cycle}
 use Rattle.partial_merge.specs.Merged.{Merged}
@@ -20,7 +20,7 @@ module _ (n : ℕ) (few : n ≤ 4096) where
   the_document : Document
   the_document = document_of (generated_instances n)
 
-  kept : KeepsUpTo 8 (generated_instances n)
+  kept : KeepsUpTo texts_to_depend_on (generated_instances n)
   kept refusal condition applies = rules_kept n few refusal (omega (arith, condition)) applies
 
   its_parts : AreParts (unnamed_part (canonical_bytes (generated_instances n)) ∷ []) the_document

@@ -5,7 +5,7 @@ use Rattle.std.proofs.lemmas.List.Elements.{All-tail}
 use Rattle.mof_values.specs.Fold.{SameName, fold_case}
 use Rattle.dsc_document.specs.Declarations.{is_header}
 use Rattle.dsc_document.specs.Names.{ShareName}
-use Rattle.dsc_document.specs.Rules.{Applies, HasAt, HasBadDependsOn, HasBadId, NamesNoAlias, RepeatsName, condition_of, id_at}
+use Rattle.dsc_document.specs.Rules.{Applies, HasAt, HasBadDependsOn, HasBadId, NamesNoAlias, RepeatsName, rule_of, id_at, known_dependencies}
 use Rattle.dsc_document.specs.declared.error.DocError.{DocError}
 use Rattle.dsc_document.specs.declared.error.DocError.TheVariants.{DuplicateProperty, TwoAliases, AliasUnknown, NoHeader, TwoHeaders, BadResourceId, DuplicateId, BadDependsOn, DependsUnknown, Memory}
 use Rattle.depend_order.proofs.Options.{some_of}
@@ -35,7 +35,7 @@ distinct_ids n first second few shared =
     omega (arith, shared.0, one.2, other.2, same_number one.0 other.0 (omega (arith, few, one.2)) (omega (arith, few, other.2)) same)
 
 -- no rule is broken, but maybe that what a resource depends on is in the document
-pub rules_kept : (n : ℕ) → n ≤ 4096 → (refusal : DocError) → condition_of refusal < 9 → Applies (generated_instances n) refusal → ⊥
+pub rules_kept : (n : ℕ) → n ≤ 4096 → (refusal : DocError) → rule_of refusal < known_dependencies → Applies (generated_instances n) refusal → ⊥
 rules_kept n few (DuplicateProperty index name) below applies =
     nowhere n index (λ i. RepeatsName i.properties name) (header_repeats_none name) (λ i within. none_repeats i name) applies
 rules_kept n few (TwoAliases first second) below applies = no_alias n first applies.1 applies.3

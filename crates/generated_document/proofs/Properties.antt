@@ -7,12 +7,13 @@ use Rattle.std.proofs.lemmas.Bool.{both_ways}
 use Rattle.std.proofs.lemmas.List.Sums.{AllPass-from_list_all}
 use Rattle.std.proofs.lemmas.Option.{none-some, same_Some}
 use Rattle.std.proofs.lemmas.Slice.Eq.{bytes_eq-Decides}
-use Rattle.mof_values.specs.Fold.{fold_case, SameName}
+use Rattle.mof_values.specs.Fold.{fold_case, SameName, same_name}
 use Rattle.mof_values.specs.declared.instance.Instance.{Instance}
 use Rattle.mof_values.specs.declared.instance.Property.{Property}
 use Rattle.mof_values.specs.declared.value.Scalar.TheVariants.{Alias}
-use Rattle.dsc_document.specs.Names.{ShareName, same_name}
-use Rattle.dsc_document.specs.Declarations.{HasKindAndName, IsResourceId, is_text, scalars_of}
+use Rattle.dsc_document.specs.Names.{ShareName}
+use Rattle.mof_values.specs.Values.{scalars_of}
+use Rattle.dsc_document.specs.Declarations.{HasKindAndName, IsResourceId, is_text}
 use Rattle.dsc_document.specs.Rules.{HasBadDependsOn, HasBadId, NamesNoAlias, RepeatsName, property_name_at}
 use Rattle.generated_document.specs.Generated.{generated_header, generated_properties, generated_resource, id_of_number}
 use Rattle.generated_document.proofs.Decimals.{decimal_digits, decimal_short}

@@ -1,4 +1,4 @@
-//! Merges parts from files: a tool for measurements.
+//! Merges parts from files: a tool for measurements and checks.
 //!
 //! The arguments are FILE.., 1 to 8. Each file is read whole and is a part, with the name `part0`, `part1` and so on. It prints the ids of
 //! the merged document in the order of dependencies, a line each, as the command `order` of the node program does.
@@ -58,7 +58,7 @@ fn print_merged(rt: &HostRuntime, files: &[String]) -> io::Result<u8>
         }
         Err(MergeError::Memory) => Ok(4),
         Err(refusal) => {
-            println!(rt; "{refusal:?}")?;
+            println!(rt; "{refusal}")?;
             Ok(3)
         }
     }

@@ -3,7 +3,7 @@ use Rattle.std.proofs.Common.{◌≡◌, ℕ, ◌+◌, Bool, true, false, cond, 
 use Rattle.std.specs.List.{AllByRecursion, list_any, position_from}
 use Rattle.std.specs.Option.{option_or}
 use Rattle.mof_values.specs.declared.instance.Instance.{Instance}
-use Rattle.dsc_document.specs.Names.{same_name}
+use Rattle.mof_values.specs.Fold.{same_name}
 use Rattle.meta_config.specs.declared.meta.Partial.{Partial}
 use Rattle.meta_config.specs.declared.tables.Class.TheVariants as classes
 use Rattle.meta_config.specs.Making.{partial_name, partial_of}

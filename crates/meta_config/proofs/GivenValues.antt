@@ -5,7 +5,7 @@ use Rattle.std.specs.List.{AllByRecursion, list_all}
 use Rattle.std.specs.Option.{option_map_or, option_or}
 use Rattle.std.proofs.lemmas.Slice.Eq.{bytes_eq-Decides}
 use Rattle.std.specs.Str.{bytes_eq}
-use Rattle.mof_values.specs.Fold.{fold_case}
+use Rattle.mof_values.specs.Fold.{fold_case, same_name}
 use Rattle.mof_values.specs.declared.instance.Instance.{Instance}
 use Rattle.mof_values.specs.declared.instance.Property.{Property}
 use Rattle.mof_values.specs.declared.value.Scalar.{Scalar}
@@ -14,8 +14,7 @@ use Rattle.mof_values.specs.declared.value.Value.{Value}
 use Rattle.mof_values.specs.declared.value.Value.TheVariants.{One, Many}
 use Rattle.mof_syntax.specs.Limits.{ValueFits, elements_limit}
 use Rattle.mof_codec.specs.Written.{AreChars}
-use Rattle.dsc_document.specs.Names.{same_name}
-use Rattle.dsc_document.specs.Declarations.{scalars_of, text_of, text_of_scalar}
+use Rattle.mof_values.specs.Values.{scalars_of, text_of, text_of_scalar}
 use Rattle.meta_config.specs.declared.tables.Class.{Class}
 use Rattle.meta_config.specs.Making.{properties_of}
 use Rattle.meta_config.specs.Properties.{first_name, first_value, from_given, given, is_given_as, texts_of}

@@ -10,8 +10,7 @@ use Rattle.std.specs.Global.{Vec}
 use Rattle.std.specs.List.{AllByRecursion, AllZip}
 use Rattle.std.specs.Option.{option_map_or}
 use Rattle.std.specs.Prelude.{IsSomeAnd, MatchOption, slice_get}
-use Rattle.mof_values.specs.Fold.{fold_case, SameName}
-use Rattle.dsc_document.specs.Names.{same_name}
+use Rattle.mof_values.specs.Fold.{fold_case, SameName, same_name}
 use Rattle.depend_order.specs.Cycle.{DependsOn, IsCycle}
 use Rattle.depend_order.specs.Numbers.{Lists, AreBelow, IsOrderOfNumbers, IsCycleOfNumbers}
 use Rattle.depend_order.specs.Order.{IsOrder}

@@ -17,8 +17,8 @@ use Rattle.mof_values.specs.declared.value.Value.{Value}
 use Rattle.mof_values.specs.declared.value.Value.TheVariants.{One, Many}
 use Rattle.mof_syntax.specs.Limits.{InstanceFits, PropertyFits, ValueFits}
 use Rattle.mof_codec.specs.Written.{AreChars}
-use Rattle.dsc_document.specs.Names.{same_name}
-use Rattle.dsc_document.specs.Declarations.{text_of}
+use Rattle.mof_values.specs.Fold.{same_name}
+use Rattle.mof_values.specs.Values.{text_of}
 use Rattle.meta_config.specs.declared.error.MetaError.{MetaError}
 use Rattle.meta_config.specs.declared.meta.Meta.{Meta}
 use Rattle.meta_config.specs.declared.meta.Partial.{Partial}

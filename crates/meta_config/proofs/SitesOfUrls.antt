@@ -9,8 +9,7 @@ use Rattle.std.proofs.lemmas.Bool.{false≢true}
 use Rattle.std.proofs.lemmas.Fmt.{decimal_is_IsNumeral}
 use Rattle.std.proofs.lemmas.List.{take-append-drop, take-append-le, length-map, take-map}
 use Rattle.std.proofs.lemmas.Slice.Eq.{bytes_eq-Decides}
-use Rattle.mof_values.specs.Fold.{fold_case, SameName}
-use Rattle.dsc_document.specs.Names.{same_name}
+use Rattle.mof_values.specs.Fold.{fold_case, SameName, same_name}
 use Rattle.meta_config.specs.declared.server.Site.{Site}
 use Rattle.meta_config.specs.Urls.{SpellsPort, SpellsUrl, is_empty_text, is_host_char, is_in_name, is_path_char, is_slash, port_behind, scheme_of, site_at, site_behind, site_in, site_of, without_slashes}
 use Rattle.meta_config.specs.Urls.SpellsPort.{default, written}

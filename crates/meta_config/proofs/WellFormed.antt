@@ -1,7 +1,7 @@
 -- What holds of each meta-configuration that is read.
 use Rattle.std.proofs.Common.{◌≡◌, ℕ, ◌<◌, ◌≤◌, Bool, true, false, nat_le, List, [], length, Option, Some, None}
 use Rattle.std.specs.List.{AllByRecursion, list_any}
-use Rattle.dsc_document.specs.Names.{same_name}
+use Rattle.mof_values.specs.Fold.{same_name}
 use Rattle.mof_codec.specs.Written.{AreChars}
 use Rattle.meta_config.specs.declared.meta.Meta.{Meta}
 use Rattle.meta_config.specs.declared.meta.Partial.{Partial}

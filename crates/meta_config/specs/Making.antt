@@ -4,8 +4,8 @@ use Rattle.std.specs.List.{list_any}
 use Rattle.std.specs.Option.{option_map_or}
 use Rattle.mof_values.specs.declared.instance.Instance.{Instance}
 use Rattle.mof_values.specs.declared.instance.Property.{Property}
-use Rattle.dsc_document.specs.Names.{same_name}
-use Rattle.dsc_document.specs.Declarations.{text_of}
+use Rattle.mof_values.specs.Fold.{same_name}
+use Rattle.mof_values.specs.Values.{text_of}
 use Rattle.meta_config.specs.declared.meta.Meta.{Meta}
 use Rattle.meta_config.specs.declared.meta.Partial.{Partial}
 use Rattle.meta_config.specs.declared.modes.ConfigMode.{ConfigMode}

@@ -4,8 +4,8 @@ use Rattle.mof_values.specs.declared.instance.Property.{Property}
 use Rattle.mof_values.specs.declared.value.Value.{Value}
 use Rattle.mof_values.specs.declared.value.Value.TheVariants.{One}
 use Rattle.mof_values.specs.declared.value.Scalar.TheVariants as scalars
-use Rattle.dsc_document.specs.Names.{same_name}
-use Rattle.dsc_document.specs.Declarations.{scalars_of, text_of_scalar}
+use Rattle.mof_values.specs.Fold.{same_name}
+use Rattle.mof_values.specs.Values.{scalars_of, text_of_scalar}
 
 -- a value that is not Null
 abbrev pub is_given : Value → Bool

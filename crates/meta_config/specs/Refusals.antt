@@ -6,7 +6,7 @@ use Rattle.mof_values.specs.declared.instance.Instance.{Instance}
 use Rattle.mof_syntax.specs.Refusals as mof
 use Rattle.mof_syntax.specs.declared.mof_error.MofError.{MofError}
 use Rattle.mof_syntax.specs.declared.mof_error.MofError.TheVariants as mof_errors
-use Rattle.dsc_document.specs.Names.{same_name}
+use Rattle.mof_values.specs.Fold.{same_name}
 use Rattle.meta_config.specs.declared.error.Limit.TheVariants as limits
 use Rattle.meta_config.specs.declared.error.MetaError.{MetaError}
 use Rattle.meta_config.specs.declared.error.MetaError.TheVariants.{Mof, NoMeta, TwoMetas, TwoManagers, BadUrl, TwoServers, BadValue, TooMany, DuplicatePartial, DependsUnknown, Memory}

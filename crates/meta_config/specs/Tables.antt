@@ -3,7 +3,7 @@ use Rattle.std.specs.Prelude.{ℕ, Bool, ◌||◌, if◌then◌else◌, List, []
 use Rattle.std.specs.Option.{option_or}
 use Rattle.mof_values.specs.declared.instance.Instance.{Instance}
 use Rattle.mof_values.specs.declared.instance.Property.{Property}
-use Rattle.dsc_document.specs.Names.{same_name}
+use Rattle.mof_values.specs.Fold.{same_name}
 use Rattle.meta_config.specs.declared.tables.Class.{Class}
 use Rattle.meta_config.specs.declared.tables.Class.TheVariants as classes
 use Rattle.meta_config.specs.declared.tables.Domain.{Domain}

@@ -3,8 +3,7 @@ use Rattle.std.specs.Prelude.{◌≡◌, ◌≢◌, ℕ, ◌+◌, ◌*◌, ◌<�
 use Rattle.std.specs.List.{list_all, prefix_len}
 use Rattle.std.specs.Char.{digit_value, is_digit}
 use Rattle.std.specs.Fmt.{decimal}
-use Rattle.mof_values.specs.Fold.{fold_case, SameName}
-use Rattle.dsc_document.specs.Names.{same_name}
+use Rattle.mof_values.specs.Fold.{fold_case, SameName, same_name}
 use Rattle.meta_config.specs.declared.server.Site.{Site}
 
 -- an ASCII letter or digit, `.` or `-`

@@ -6,8 +6,9 @@ use Rattle.mof_values.specs.declared.value.Scalar.{Scalar}
 use Rattle.mof_values.specs.declared.value.Scalar.TheVariants as scalars
 use Rattle.mof_values.specs.declared.value.Value.{Value}
 use Rattle.mof_values.specs.declared.value.Value.TheVariants.{One}
-use Rattle.dsc_document.specs.Names.{same_name}
-use Rattle.dsc_document.specs.Declarations.{text_of, text_of_scalar, is_text, scalars_of}
+use Rattle.mof_values.specs.Fold.{same_name}
+use Rattle.mof_values.specs.Values.{text_of, text_of_scalar, scalars_of}
+use Rattle.dsc_document.specs.Declarations.{is_text}
 use Rattle.meta_config.specs.declared.modes.ConfigMode.{ConfigMode}
 use Rattle.meta_config.specs.declared.modes.ConfigMode.TheVariants.{ApplyOnly, ApplyAndMonitor, ApplyAndAutoCorrect}
 use Rattle.meta_config.specs.declared.modes.RefreshMode.{RefreshMode}

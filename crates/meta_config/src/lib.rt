@@ -28,4 +28,5 @@ pub use modes::{AfterReboot, ConfigMode, RefreshMode};
 pub use parts::parts_order;
 pub use reading::read_meta;
 pub use server::{Server, Site};
+pub use urls::url_of;
 pub use writing::write_meta;

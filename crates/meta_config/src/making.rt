@@ -2,14 +2,14 @@
 ghost use Rattle.std.specs.Prelude.{◌≡◌, ◌++◌, [], IfOk, OnOk, filter, find, map, option_map, filter_map, option_to_list};
 ghost use Rattle.std.specs.List.{list_any};
 ghost use Rattle.std.specs.Option.{option_copied};
-ghost use Rattle.dsc_document.specs.Names.{same_name};
-ghost use Rattle.dsc_document.specs.Declarations.{text_of_scalar};
+ghost use Rattle.mof_values.specs.Fold.{same_name};
+ghost use Rattle.mof_values.specs.Values.{text_of_scalar};
 ghost use Rattle.meta_config.specs.Making.{after_given, boolean_given, first_filled, first_site, has, key_given, key_of, meta_of, meta_with, minutes_given, mode_given, names_of, properties_of, refresh_given, server_at, site_given, with_name, with_names};
 ghost use Rattle.meta_config.specs.Properties.{given, texts_of};
 ghost use Rattle.meta_config.specs.Tables.{is_manager, is_of};
 
 use crate::partials::partials_of;
-use crate::properties::{copy_of, given, scalars_of, text_given};
+use crate::properties::{copy_of, given, text_given};
 use crate::tables::{Class, is_manager, is_of};
 use crate::urls::site_named;
 use crate::words::{after_of, boolean_of, minutes_of, mode_of, refresh_of};
@@ -246,7 +246,7 @@ pub fn texts_given(
     ensures { IfOk result (λ texts. texts.items ≡ texts_of (given name.now properties.now)) }
 {
     match given(properties, name) {
-        Some(value) => texts_in(alloc, scalars_of(value)),
+        Some(value) => texts_in(alloc, value.scalars()),
         None => Ok(Vec::new(alloc)),
     }
 }

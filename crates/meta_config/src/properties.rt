@@ -2,8 +2,8 @@
 ghost use Rattle.std.specs.Prelude.{◌≡◌, IfOk};
 ghost use Rattle.std.specs.Option.{option_copied};
 ghost use Rattle.mof_values.specs.Ident.{IsIdent};
-ghost use Rattle.dsc_document.specs.Names.{same_name};
-ghost use Rattle.dsc_document.specs.Declarations.{scalars_of, text_of};
+ghost use Rattle.mof_values.specs.Fold.{same_name};
+ghost use Rattle.mof_values.specs.Values.{scalars_of, text_of};
 ghost use Rattle.meta_config.specs.Making.{text_given};
 ghost use Rattle.meta_config.specs.Properties.{first_name, from_given, given, is_given, is_given_as};
 
@@ -28,7 +28,7 @@ pub fn from_given<'a>(properties: &'a [Property], name: &str) -> &'a [Property]
 fn is_given_as(property: &Property, name: &str) -> bool
     ensures { result ≡ is_given_as name.now property.now }
 {
-    has_name(&property.name, name) && is_given(&property.value)
+    property.name.is_named(name) && is_given(&property.value)
 }
 
 fn is_given(value: &Value) -> bool
@@ -62,36 +62,9 @@ pub fn text_given<'a>(properties: &'a [Property], name: &str) -> Option<&'a Text
     ensures { option_copied result ≡ text_given name.now properties.now }
 {
     match given(properties, name) {
-        Some(value) => text_of(value),
+        Some(value) => value.as_text(),
         None => None,
     }
-}
-
-/// The single text that a value is.
-pub fn text_of<'a>(value: &'a Value) -> Option<&'a Text>
-    ensures { option_copied result ≡ text_of value.now }
-{
-    match value {
-        Value::One(Scalar::Text(text)) => Some(text),
-        _ => None,
-    }
-}
-
-/// The scalars of a value.
-pub fn scalars_of<'a>(value: &'a Value) -> &'a [Scalar]
-    ensures { result.now ≡ scalars_of value.now }
-{
-    match value {
-        Value::One(scalar) => slice::from_ref(scalar),
-        Value::Many(scalars) => scalars.as_slice(),
-    }
-}
-
-/// Returns whether the name is this word, by fold.
-pub fn has_name(name: &Ident, word: &str) -> bool
-    ensures { result ≡ same_name name.now word.now }
-{
-    is_named(name.as_slice(), word)
 }
 
 /// The name that an identifier spells.

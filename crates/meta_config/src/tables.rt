@@ -3,7 +3,7 @@ ghost use Rattle.std.specs.Prelude.{◌≡◌, IfOk};
 ghost use Rattle.std.specs.Option.{option_copied, option_or};
 ghost use Rattle.meta_config.specs.Tables.{Row, class_name, download_rows, first_wrong, is_manager, is_of, partial_rows, report_rows, resource_rows, row, settings_rows, wrong_from, wrong_in, wrong_in_partial, wrong_in_row};
 
-use crate::properties::{first_name, from_given, given, has_name, ident};
+use crate::properties::{first_name, from_given, given, ident};
 use crate::words::fits;
 use mof_values::{Ident, Instance, Property};
 use std::alloc::{AllocError, Global};
@@ -62,7 +62,7 @@ impl Class {
 pub fn is_of(class: Class, instance: &Instance) -> bool
     ensures { result ≡ is_of class instance.now }
 {
-    has_name(&instance.class, class.name())
+    instance.class.is_named(class.name())
 }
 
 pub fn is_manager(instance: &Instance) -> bool

@@ -3,11 +3,10 @@ ghost use Rattle.std.specs.Prelude.{◌≡◌, codes, drop, encode_utf8_all, len
 ghost use Rattle.mof_values.specs.declared.value.Scalar.TheVariants.{Integer};
 ghost use Rattle.mof_values.specs.declared.value.Value.TheVariants.{One};
 ghost use Rattle.std.specs.List.{list_all};
-ghost use Rattle.dsc_document.specs.Names.{same_name};
+ghost use Rattle.mof_values.specs.Fold.{same_name};
 ghost use Rattle.dsc_document.specs.Declarations.{is_text};
 ghost use Rattle.meta_config.specs.Words.{after_named, after_of, boolean_of, fits, is_name, is_reference, is_text_that, minutes_of, mode_named, mode_of, refresh_named, refresh_of};
 
-use crate::properties::{scalars_of, text_of};
 use crate::tables::Domain;
 use crate::{AfterReboot, ConfigMode, RefreshMode};
 use mof_values::{Scalar, Value, is_named};
@@ -22,14 +21,14 @@ pub fn fits(domain: Domain, value: &Value) -> bool
         Domain::AfterReboot => after_of(value).is_some(),
         Domain::Boolean => boolean_of(value).is_some(),
         Domain::Minutes => minutes_of(value).is_some(),
-        Domain::Text => text_of(value).is_some(),
-        Domain::Texts => are_texts(scalars_of(value)),
-        Domain::Names => are_names(scalars_of(value)),
-        Domain::Reference => match text_of(value) {
+        Domain::Text => value.as_text().is_some(),
+        Domain::Texts => are_texts(value.scalars()),
+        Domain::Names => are_names(value.scalars()),
+        Domain::Reference => match value.as_text() {
             Some(text) => is_reference(text.as_slice()),
             None => false,
         },
-        Domain::References => are_references(scalars_of(value)),
+        Domain::References => are_references(value.scalars()),
         Domain::Any => true,
     }
 }
@@ -37,7 +36,7 @@ pub fn fits(domain: Domain, value: &Value) -> bool
 pub fn mode_of(value: &Value) -> Option<ConfigMode>
     ensures { result ≡ mode_of value.now }
 {
-    match text_of(value) {
+    match value.as_text() {
         Some(text) => mode_named(text.as_slice()),
         None => None,
     }
@@ -60,7 +59,7 @@ fn mode_named(word: &[char]) -> Option<ConfigMode>
 pub fn refresh_of(value: &Value) -> Option<RefreshMode>
     ensures { result ≡ refresh_of value.now }
 {
-    match text_of(value) {
+    match value.as_text() {
         Some(text) => refresh_named(text.as_slice()),
         None => None,
     }
@@ -83,7 +82,7 @@ fn refresh_named(word: &[char]) -> Option<RefreshMode>
 pub fn after_of(value: &Value) -> Option<AfterReboot>
     ensures { result ≡ after_of value.now }
 {
-    match text_of(value) {
+    match value.as_text() {
         Some(text) => after_named(text.as_slice()),
         None => None,
     }

@@ -6,7 +6,7 @@ use Rattle.std.proofs.lemmas.Str.{length-encode, len_utf8_bounds}
 use Rattle.std.proofs.lemmas.List.Sums.{sum_by-cons}
 use Rattle.std.proofs.lemmas.List.Elements.{recursion_from_All}
 use Rattle.std.specs.Prelude.{sum_by, All}
-use Rattle.report_log.specs.Sizes.{Fits}
+use Rattle.dsc_document.specs.Sizes.{Fits}
 use Rattle.store_fields.specs.Fields.{IsBlob}
 use Rattle.partial_merge.specs.declared.part.Part.{Part}
 use Rattle.node_state.specs.Lists.{bytes_of, IsStaged}

@@ -18,7 +18,8 @@ use Rattle.report_log.specs.declared.report.Missed.{Missed}
 use Rattle.report_log.specs.declared.report.Outcome.{Outcome}
 use Rattle.report_log.specs.declared.report.PartMark.{PartMark}
 use Rattle.report_log.specs.declared.report.Report.{Report}
-use Rattle.report_log.specs.Sizes.{Fits, ReportInSize}
+use Rattle.dsc_document.specs.Sizes.{Fits}
+use Rattle.report_log.specs.Sizes.{ReportInSize}
 use Rattle.node_state.specs.declared.event.Event.{Event}
 use Rattle.node_state.specs.declared.event.Event.TheVariants as events
 use Rattle.node_state.specs.declared.event.Stage.{Stage}

@@ -5,7 +5,8 @@ ghost use Rattle.std.specs.Int.{w32, w64};
 ghost use Rattle.store_fields.specs.Fields.{IsText};
 ghost use Rattle.store_fields.specs.Reading.{Reads};
 ghost use Rattle.store_fields.specs.Writing.{Writes};
-ghost use Rattle.report_log.specs.Sizes.{Fits, ReportInSize};
+ghost use Rattle.dsc_document.specs.Sizes.{Fits};
+ghost use Rattle.report_log.specs.Sizes.{ReportInSize};
 ghost use Rattle.node_store.specs.Reports.{bytes_of_outcome, bytes_of_reason, bytes_of_missed, bytes_of_mark, bytes_of_report, bytes_of_job, bytes_of_run, bytes_of_result, bytes_of_lists, byte_of_outcome, byte_of_reason, IsMissed, IsMark, IsReport, IsJob, IsRun, IsResult, AreLists};
 
 use mof_values::{Items, Memory, Text};

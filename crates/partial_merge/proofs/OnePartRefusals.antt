@@ -1,6 +1,7 @@
 -- One part has neither too many resources nor equal ids.
 use Rattle.std.proofs.Common.{ℕ, List, [], ◌∷◌, subst, refl, arith}
 use Rattle.std.specs.List.{AllZip}
+use Rattle.dsc_document.specs.Rules.{texts_to_depend_on}
 use Rattle.dsc_document.specs.Conditions.{KeepsUpTo}
 use Rattle.dsc_document.specs.declared.document.Document.{Document}
 use Rattle.dsc_document.specs.declared.spot.Spot.{Spot}
@@ -16,7 +17,7 @@ use Rattle.partial_merge.proofs.OnePart.{are_parts, one_differs}
 module _ (part : Part) where
   whole_parts : (document : Document) → IsWhole part document → AreParts (part ∷ []) (named document (part.name ∷ []))
   whole_parts document whole =
-      let kept : KeepsUpTo 8 whole.instances = λ refusal condition. whole.rules.kept refusal (omega (arith, condition)) in
+      let kept : KeepsUpTo texts_to_depend_on whole.instances = λ refusal condition. whole.rules.kept refusal (omega (arith, condition)) in
       are_parts part document (part.name ∷ []) refl whole
       (omega (arith, document_few whole.instances document whole.rules.made kept, whole.spelled.spelled.limits.count))
       (document_distinct whole.instances document whole.rules.made kept)

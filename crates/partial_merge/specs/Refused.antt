@@ -8,7 +8,7 @@ use Rattle.dsc_document.specs.declared.document.Document.{Document}
 use Rattle.dsc_document.specs.declared.document.Resource.{Resource}
 use Rattle.dsc_document.specs.declared.spot.Spot.{Spot}
 use Rattle.dsc_document.specs.Dependencies.{HasDistinctIds, IsFirstUnknownId, NamesResources}
-use Rattle.dsc_document.specs.Rules.{IsRefusal, condition_of}
+use Rattle.dsc_document.specs.Rules.{IsRefusal, rule_of, known_dependencies}
 use Rattle.dsc_document.specs.declared.limits.TheConstants.{MAX_RESOURCES}
 use Rattle.depend_order.specs.Documents.{IsCycleOfDocument}
 use Rattle.partial_merge.specs.declared.part.Part.{Part}
@@ -29,7 +29,7 @@ pub record IsUnspelled (bytes : List ℕ) (refusal : MofError) : Type 0 where
 abbrev pub IsFault : List ℕ → PartFault → Type 0
 IsFault bytes (Mof refusal) = IsUnspelled bytes refusal
 IsFault bytes (Doc refusal) =
-    (instances : List Instance) × Reads bytes instances × IsRefusal instances refusal × (condition_of refusal < 9)
+    (instances : List Instance) × Reads bytes instances × IsRefusal instances refusal × (rule_of refusal < known_dependencies)
 
 abbrev pub HasFault : Part → PartFault → Type 0
 HasFault part fault = IsFault part.bytes fault

@@ -2,10 +2,12 @@
 ghost use Rattle.std.specs.Prelude.{◌≡◌};
 ghost use Rattle.partial_merge.specs.declared.error.MergeError.TheVariants.{Memory};
 
-use dsc_document::{DocError, Spot};
+use depend_order::write_cycle;
+use dsc_document::{DocError, MAX_RESOURCES, Spot, write_chars};
 use mof_codec::MofError;
-use mof_values::{Items, Text};
+use mof_values::{Items, Memory, Text};
 use std::alloc::{AllocError, AllocFailed};
+use std::fmt;
 
 /// Why a part is no part of a document.
 #[derive(Debug, Drop, PartialEq)]
@@ -57,5 +59,37 @@ impl<T: Drop> From<AllocFailed<T>> for MergeError {
 
     fn from(_: AllocFailed<T>) -> Self {
         MergeError::Memory
+    }
+}
+
+impl fmt::Display for PartFault {
+    fn fmt<W: fmt::Write>(&self, f: &mut fmt::Formatter<W>) -> fmt::Result {
+        match self {
+            PartFault::Mof(error) => write!(f, "{error}"),
+            PartFault::Doc(error) => write!(f, "{error}"),
+        }
+    }
+}
+
+impl fmt::Display for MergeError {
+    fn fmt<W: fmt::Write>(&self, f: &mut fmt::Formatter<W>) -> fmt::Result {
+        match self {
+            MergeError::TwoNames { first, second } => {
+                write!(f, "parts {first} and {second} have the same name")
+            }
+            MergeError::Part { index, fault } => write!(f, "part {index}: {fault}"),
+            MergeError::TooMany { count } => {
+                write!(f, "{count} resources, more than {MAX_RESOURCES}")
+            }
+            MergeError::DuplicateId { first, second } => {
+                write!(f, "{first} and {second} have the same ResourceID")
+            }
+            MergeError::DependsUnknown { spot, name } => {
+                write!(f, "no resource has the id that {spot} depends on: ")?;
+                write_chars(f, name.as_slice())
+            }
+            MergeError::Cycle(walk) => write_cycle(f, walk.as_slice()),
+            MergeError::Memory => write!(f, "{Memory}"),
+        }
     }
 }

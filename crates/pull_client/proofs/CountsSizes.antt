@@ -20,7 +20,8 @@ use Rattle.serde_json.specs.Written.{compact_text, items_text}
 use Rattle.shared_key.specs.Checksum.{checksum_of}
 use Rattle.report_log.specs.declared.report.PartMark.{PartMark}
 use Rattle.report_log.specs.declared.report.Report.{Report}
-use Rattle.report_log.specs.Sizes.{Fits, ReportInSize}
+use Rattle.dsc_document.specs.Sizes.{Fits}
+use Rattle.report_log.specs.Sizes.{ReportInSize}
 use Rattle.pull_messages.specs.Writing.{text_data}
 use Rattle.pull_client.specs.Fitting.{IsMark}
 use Rattle.pull_client.specs.Reports.{counts_data, counts_text, part_data}

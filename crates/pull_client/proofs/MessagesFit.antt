@@ -8,7 +8,8 @@ use Rattle.serde_json.specs.Written.{compact_text, members_text}
 use Rattle.mof_values.specs.declared.memory.Memory.{Memory}
 use Rattle.http_frames.specs.Limits.{request_limits}
 use Rattle.report_log.specs.declared.report.Report.{Report}
-use Rattle.report_log.specs.Sizes.{Fits, ReportInSize}
+use Rattle.dsc_document.specs.Sizes.{Fits}
+use Rattle.report_log.specs.Sizes.{ReportInSize}
 use Rattle.pull_messages.specs.declared.report.ReportMessage.{ReportMessage}
 use Rattle.pull_messages.specs.Writing.{id_text, report_text, text_data, texts_data}
 use Rattle.pull_client.specs.Fitting.{IsMark, MessagesFit}

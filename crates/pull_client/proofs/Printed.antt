@@ -3,7 +3,7 @@ use Rattle.std.proofs.Common.{◌≡◌, ◌≤◌, ◌<◌, ◌^◌, ℕ, List,
 use Rattle.std.proofs.Math.Facts.{to_z_pos}
 use Rattle.jiff.specs.Types.{DateTime}
 use Rattle.jiff.specs.Words.{datetime_text}
-use Rattle.pull_client.specs.Moments.{last_moment}
+use Rattle.dsc_outside.specs.Clock.{last_moment}
 
 -- what a printer with these options writes of an instant
 abbrev pub printed : DateTime → Bool × ℕ × Option ℕ → List ℕ

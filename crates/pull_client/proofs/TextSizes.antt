@@ -19,7 +19,7 @@ use Rattle.report_log.specs.declared.report.Outcome.{Outcome}
 use Rattle.report_log.specs.declared.report.Outcome.TheVariants.{Success, Failure, Reboot}
 use Rattle.report_log.specs.declared.report.Reason.{Reason}
 use Rattle.report_log.specs.declared.report.Reason.TheVariants.{NotInDesiredState, Failed, Skipped, RebootAsked, NotReached}
-use Rattle.report_log.specs.Sizes.{Fits}
+use Rattle.dsc_document.specs.Sizes.{Fits}
 use Rattle.pull_messages.specs.Writing.{id_text, text_data}
 use Rattle.pull_client.specs.Moments.{IsMomentText}
 use Rattle.pull_client.specs.Reports.{error_text, operation_name, reason_name, reboot_name, refresh_name, status_name}

@@ -3,10 +3,6 @@ use Rattle.std.specs.Prelude.{◌≡◌, ℕ, ◌*◌, List, [], ◌∷◌, ◌+
 use Rattle.jiff.specs.Types.{DateTime}
 use Rattle.jiff.specs.Words.{civil_nanos, datetime_text}
 
--- 9999-12-30T22:00:00Z, in seconds since 1970-01-01T00:00:00Z
-abbrev pub last_moment : ℕ
-last_moment = 253402207200
-
 -- the date and time in UTC of a moment in seconds since 1970-01-01T00:00:00Z, with so many places of a fraction
 abbrev pub IsMomentText : Option ℕ → ℕ → List ℕ → Type 0
 IsMomentText places seconds text =

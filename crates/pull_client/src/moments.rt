@@ -1,6 +1,7 @@
 //! Moments as texts.
 ghost use Rattle.std.specs.Prelude.{◌≤◌, Some};
-ghost use Rattle.pull_client.specs.Moments.{IsMomentText, last_moment};
+ghost use Rattle.dsc_outside.specs.Clock.{last_moment};
+ghost use Rattle.pull_client.specs.Moments.{IsMomentText};
 
 use arrayvec::ArrayString;
 use jiff::Timestamp;

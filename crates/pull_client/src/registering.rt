@@ -2,7 +2,8 @@
 ghost use Rattle.std.specs.Prelude.{◌≡◌, ◌≤◌, true, Some, List, ℕ};
 ghost use Rattle.pull_client.specs.Asks.{Asks};
 ghost use Rattle.pull_client.specs.Heard.{IsDone};
-ghost use Rattle.pull_client.specs.Moments.{IsMomentText, last_moment};
+ghost use Rattle.dsc_outside.specs.Clock.{last_moment};
+ghost use Rattle.pull_client.specs.Moments.{IsMomentText};
 ghost use Rattle.pull_client.specs.Requests.{registration_of, registration_request};
 
 use crate::PeerError;

@@ -12,7 +12,8 @@ use Rattle.report_log.specs.declared.report.Frame.{Frame}
 use Rattle.report_log.specs.declared.report.Missed.{Missed}
 use Rattle.report_log.specs.declared.report.Report.{Report}
 use Rattle.report_log.specs.Report.{IsMissed, IsReport, listed_limit, missed_places}
-use Rattle.report_log.specs.Sizes.{DocumentInSize, Fits, FrameInSize, PartsInSize, ReportInSize}
+use Rattle.dsc_document.specs.Sizes.{DocumentInSize, Fits}
+use Rattle.report_log.specs.Sizes.{FrameInSize, PartsInSize, ReportInSize}
 use Rattle.report_log.proofs.Grown.{length-first}
 
 module _ (document : Document) (trace : List Entry) (in_size : DocumentInSize document) where

@@ -1,15 +1,11 @@
 -- Reports in size.
-use Rattle.std.specs.Prelude.{ℕ, ◌≤◌, List, length, All, encode_utf8_all}
+use Rattle.std.specs.Prelude.{ℕ, ◌≤◌, List, length, All}
 use Rattle.dsc_outside.specs.Clock.{last_moment}
-use Rattle.dsc_document.specs.declared.document.Document.{Document}
+use Rattle.dsc_document.specs.Sizes.{Fits}
 use Rattle.report_log.specs.declared.report.PartMark.{PartMark}
 use Rattle.report_log.specs.declared.report.Frame.{Frame}
 use Rattle.report_log.specs.declared.report.Report.{Report}
 use Rattle.report_log.specs.Report.{listed_limit}
-
--- at most so many bytes of UTF-8
-abbrev pub Fits : ℕ → List ℕ → Type 0
-Fits limit text = length (encode_utf8_all text) ≤ limit
 
 pub record PartsInSize (parts : List PartMark) : Type 0 where
   pub count : length parts ≤ 8
@@ -22,11 +18,6 @@ pub record TimesInSize (from to : ℕ) : Type 0 where
 pub record FrameInSize (frame : Frame) : Type 0 where
   pub parts : PartsInSize frame.parts
   pub times : TimesInSize frame.start frame.end
-
-pub record DocumentInSize (document : Document) : Type 0 where
-  pub resources : length document.resources ≤ 4096
-  pub ids : All (λ resource. Fits 256 resource.id) document.resources
-  pub version : length document.version ≤ 64
 
 pub record ReportInSize (report : Report) : Type 0 where
   pub version : length report.version ≤ 64

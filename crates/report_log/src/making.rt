@@ -5,7 +5,8 @@ ghost use Rattle.report_log.specs.declared.marks.Mark.TheVariants.{Unsettled};
 ghost use Rattle.report_log.specs.Marks.{listed_of, outcome_of, reason_of};
 ghost use Rattle.report_log.specs.Report.{HasNoUntestedSet, IsReport, listed_limit};
 ghost use Rattle.report_log.specs.Room.{IsRoomFor};
-ghost use Rattle.report_log.specs.Sizes.{DocumentInSize, FrameInSize, ReportInSize};
+ghost use Rattle.dsc_document.specs.Sizes.{DocumentInSize};
+ghost use Rattle.report_log.specs.Sizes.{FrameInSize, ReportInSize};
 
 use crate::marks::{Mark, count_missed, marked};
 use crate::report::{Frame, Missed, Outcome, Reason, Report};

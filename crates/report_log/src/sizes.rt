@@ -1,6 +1,7 @@
 //! Which reports are in size.
 ghost use Rattle.std.specs.Prelude.{◌↔◌, All, IsTrue};
-ghost use Rattle.report_log.specs.Sizes.{Fits, PartsInSize, ReportInSize, TimesInSize};
+ghost use Rattle.dsc_document.specs.Sizes.{Fits};
+ghost use Rattle.report_log.specs.Sizes.{PartsInSize, ReportInSize, TimesInSize};
 
 use crate::report::{Missed, PartMark, Report};
 use crate::room::LISTED_LIMIT;

@@ -22,7 +22,8 @@ use Rattle.resource_kinds.specs.Apart.{IsAround, Matter, MattersMeet, Target, Pa
 use Rattle.resource_kinds.specs.PathOrder.{order_of}
 use Rattle.resource_kinds.specs.Paths.{if_filled, is_parent, joined_path, kept_segments, names_of, path_of, rooted}
 use Rattle.resource_kinds.specs.Subjects.{AsksMeeting, entry_matter, is_closed, matter_at, variable_matter}
-use Rattle.resource_kinds.specs.Tables.{first_wrong, is_absent, is_directory, key_of, kind_of, rows_of, says_yes, text_named}
+use Rattle.mof_values.specs.Values.{text_named}
+use Rattle.resource_kinds.specs.Tables.{first_wrong, is_absent, is_directory, key_of, kind_of, rows_of, says_yes}
 use Rattle.resource_kinds.specs.Wanted.{by_key, by_table, contents_of, of_kind, on_path, wanted_of}
 use Rattle.resource_kinds.proofs.PathOrders.{IsOrder, below_bytes, below_chars, is_order, order_above, order_below, order_same}
 

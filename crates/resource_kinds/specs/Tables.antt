@@ -1,5 +1,5 @@
 -- The kinds of resources, and the table of each: its properties, and what their values may be. Names compare by fold.
-use Rattle.std.specs.Prelude.{ℕ, Bool, true, false, not, ◌&&◌, ◌||◌, if◌then◌else◌, List, [], ◌∷◌, Option, Some, None, is_some, option_and_then, find, codes}
+use Rattle.std.specs.Prelude.{ℕ, Bool, true, false, not, ◌&&◌, ◌||◌, if◌then◌else◌, List, [], ◌∷◌, Option, Some, None, is_some, find, codes}
 use Rattle.std.specs.List.{list_any}
 use Rattle.std.specs.Option.{option_map_or}
 use Rattle.mof_values.specs.declared.instance.Instance.{Instance}
@@ -7,8 +7,8 @@ use Rattle.mof_values.specs.declared.instance.Property.{Property}
 use Rattle.mof_values.specs.declared.value.Value.{Value}
 use Rattle.mof_values.specs.declared.value.Value.TheVariants.{One}
 use Rattle.mof_values.specs.declared.value.Scalar.TheVariants as scalars
-use Rattle.dsc_document.specs.Names.{same_name}
-use Rattle.dsc_document.specs.Declarations.{text_of, value_named}
+use Rattle.mof_values.specs.Fold.{same_name}
+use Rattle.mof_values.specs.Values.{text_of, text_named, value_named}
 use Rattle.resource_kinds.specs.declared.tables.Kind.{Kind}
 use Rattle.resource_kinds.specs.declared.tables.Kind.TheVariants.{File, Environment, Log}
 
@@ -54,9 +54,6 @@ is_yes (One (scalars.Bool b)) = b
 is_yes _ = false
 
 -- ---- what an instance says
-
-abbrev pub text_named : List ℕ → Instance → Option (List ℕ)
-text_named name instance = option_and_then text_of (value_named name instance)
 
 -- its property of that name is this word
 abbrev pub says : List ℕ → List ℕ → Instance → Bool

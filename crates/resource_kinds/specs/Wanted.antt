@@ -13,7 +13,8 @@ use Rattle.resource_kinds.specs.declared.wanted.Wanted.TheVariants.{File, Folder
 use Rattle.resource_kinds.specs.declared.wanted.WantedError.{WantedError}
 use Rattle.resource_kinds.specs.declared.wanted.WantedError.TheVariants as errors
 use Rattle.resource_kinds.specs.Paths.{path_of}
-use Rattle.resource_kinds.specs.Tables.{first_wrong, is_absent, is_directory, key_of, kind_of, rows_of, says_yes, text_named}
+use Rattle.mof_values.specs.Values.{text_named}
+use Rattle.resource_kinds.specs.Tables.{first_wrong, is_absent, is_directory, key_of, kind_of, rows_of, says_yes}
 
 -- a name as a host has it
 abbrev pub folded_utf8 : List ℕ → List ℕ

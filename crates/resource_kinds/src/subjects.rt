@@ -4,13 +4,14 @@ ghost use Rattle.std.specs.Result.{is_err, result_ok};
 ghost use Rattle.resource_kinds.specs.Paths.{path_of};
 ghost use Rattle.resource_kinds.specs.Apart.{MattersMeet, matter_of};
 ghost use Rattle.resource_kinds.specs.Subjects.{AsksMeeting, entry_matter, is_closed, path_matter, subject_matter, variable_matter};
-ghost use Rattle.resource_kinds.specs.Tables.{key_of, text_named};
+ghost use Rattle.mof_values.specs.Values.{text_named};
+ghost use Rattle.resource_kinds.specs.Tables.{key_of};
 ghost use Rattle.resource_kinds.specs.Wanted.{by_key, by_table, on_path, wanted_of};
 
 use crate::path_order::{PathOrder, PathRest, compare, path_in};
 use crate::paths::is_path;
 use crate::tables::{Kind, first_wrong, key_of, kind_of};
-use crate::values::{says, text_named};
+use crate::values::says;
 use dsc_document::Resource;
 use mof_values::{Instance, Text, same_text};
 
@@ -66,7 +67,7 @@ fn has_fault(resource: &Resource) -> bool
 fn lacks_key(kind: Kind, resource: &Resource) -> bool
     ensures { result ≡ is_err (by_table kind resource.now None (text_named (key_of kind) resource.now.instance)) }
 {
-    match text_named(&resource.instance, key_of(kind)) {
+    match resource.instance.text_named(key_of(kind)) {
         Some(text) => kind == Kind::File && !is_path(text),
         None => true,
     }
@@ -77,7 +78,7 @@ fn named_subject<'a>(resource: &'a Resource) -> Option<Subject<'a>>
     ensures { IfOk (wanted_of resource.now) (λ wanted. option_map subject_matter result ≡ Some (matter_of wanted)) }
 {
     match kind_of(&resource.instance) {
-        Some(kind) => match text_named(&resource.instance, key_of(kind)) {
+        Some(kind) => match resource.instance.text_named(key_of(kind)) {
             Some(text) => by_key(kind, resource, text),
             None => None,
         },

@@ -2,12 +2,12 @@
 ghost use Rattle.std.specs.Prelude.{◌≡◌, ◌≢◌, IfOk, not, find};
 ghost use Rattle.std.specs.List.{list_any};
 ghost use Rattle.std.specs.Option.{option_copied};
-ghost use Rattle.dsc_document.specs.Names.{same_name};
+ghost use Rattle.mof_values.specs.Fold.{same_name};
 ghost use Rattle.mof_values.specs.Ident.{IsIdent};
 ghost use Rattle.resource_kinds.specs.Tables.{common, directory_rows, environment_rows, file_rows, first_wrong, fits_row, is_directory, key_of, kind_of, log_rows, may_stand, rows_of};
 
 use crate::values::{
-    has_name, is_filled_text, is_kind_of_file, is_null, is_presence, is_text, is_truth_value, says,
+    is_filled_text, is_kind_of_file, is_null, is_presence, is_text, is_truth_value, says,
 };
 use mof_values::{Ident, IdentError, Instance, Property};
 use std::alloc::{AllocError, Global};
@@ -26,11 +26,11 @@ pub fn kind_of(instance: &Instance) -> Option<Kind>
     ensures { result ≡ kind_of instance.now }
 {
     let class = &instance.class;
-    if has_name(class, "MSFT_FileDirectoryConfiguration") {
+    if class.is_named("MSFT_FileDirectoryConfiguration") {
         Some(Kind::File)
-    } else if has_name(class, "MSFT_EnvironmentResource") {
+    } else if class.is_named("MSFT_EnvironmentResource") {
         Some(Kind::Environment)
-    } else if has_name(class, "MSFT_LogResource") {
+    } else if class.is_named("MSFT_LogResource") {
         Some(Kind::Log)
     } else {
         None
@@ -96,7 +96,7 @@ fn fits_a_row(kind: Kind, instance: &Instance, property: &Property) -> bool
     match kind {
         Kind::File => fits_file_row(instance, property),
         Kind::Environment => fits_environment_row(property),
-        Kind::Log => has_name(&property.name, "Message") && is_text(&property.value),
+        Kind::Log => property.name.is_named("Message") && is_text(&property.value),
     }
 }
 
@@ -107,38 +107,37 @@ fn fits_file_row(instance: &Instance, property: &Property) -> bool
     if says(instance, "Type", "Directory") {
         return fits_directory_row(property);
     }
-    (has_name(&property.name, "Contents") && is_text(&property.value))
-        || fits_directory_row(property)
+    (property.name.is_named("Contents") && is_text(&property.value)) || fits_directory_row(property)
 }
 
 fn fits_directory_row(property: &Property) -> bool
     ensures { result ≡ list_any (fits_row property.now) directory_rows }
 {
     let (name, value) = (&property.name, &property.value);
-    (has_name(name, "DestinationPath") && is_text(value))
-        || (has_name(name, "Type") && is_kind_of_file(value))
-        || (has_name(name, "Ensure") && is_presence(value))
-        || (has_name(name, "Force") && is_truth_value(value))
+    (name.is_named("DestinationPath") && is_text(value))
+        || (name.is_named("Type") && is_kind_of_file(value))
+        || (name.is_named("Ensure") && is_presence(value))
+        || (name.is_named("Force") && is_truth_value(value))
 }
 
 fn fits_environment_row(property: &Property) -> bool
     ensures { result ≡ list_any (fits_row property.now) environment_rows }
 {
     let (name, value) = (&property.name, &property.value);
-    (has_name(name, "Name") && is_filled_text(value))
-        || (has_name(name, "Value") && is_text(value))
-        || (has_name(name, "Ensure") && is_presence(value))
-        || (has_name(name, "Path") && is_truth_value(value))
+    (name.is_named("Name") && is_filled_text(value))
+        || (name.is_named("Value") && is_text(value))
+        || (name.is_named("Ensure") && is_presence(value))
+        || (name.is_named("Path") && is_truth_value(value))
 }
 
 // Returns whether every kind has the property.
 fn is_common(name: &Ident) -> bool
     ensures { result ≡ list_any (same_name name.now) common }
 {
-    has_name(name, "ResourceID")
-        || has_name(name, "ModuleName")
-        || has_name(name, "ModuleVersion")
-        || has_name(name, "SourceInfo")
-        || has_name(name, "ConfigurationName")
-        || has_name(name, "DependsOn")
+    name.is_named("ResourceID")
+        || name.is_named("ModuleName")
+        || name.is_named("ModuleVersion")
+        || name.is_named("SourceInfo")
+        || name.is_named("ConfigurationName")
+        || name.is_named("DependsOn")
 }

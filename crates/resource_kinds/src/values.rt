@@ -1,9 +1,9 @@
 //! The values of properties, and what an instance says by them.
 ghost use Rattle.std.specs.Prelude.{◌≡◌, Some};
 ghost use Rattle.std.specs.Option.{option_copied};
-ghost use Rattle.dsc_document.specs.Names.{same_name};
-ghost use Rattle.dsc_document.specs.Declarations.{text_of, value_named};
-ghost use Rattle.resource_kinds.specs.Tables.{is_absent, is_directory, is_either, is_filled, is_filled_text, is_kind_of_file, is_null, is_presence, is_text, is_truth_value, is_word, is_yes, says, says_yes, text_named};
+ghost use Rattle.mof_values.specs.Fold.{same_name};
+ghost use Rattle.mof_values.specs.Values.{text_of, value_named, text_named};
+ghost use Rattle.resource_kinds.specs.Tables.{is_absent, is_directory, is_either, is_filled, is_filled_text, is_kind_of_file, is_null, is_presence, is_text, is_truth_value, is_word, is_yes, says, says_yes};
 
 use mof_values::{Ident, Instance, Scalar, Text, Value, is_named};
 
@@ -16,13 +16,13 @@ pub fn is_null(value: &Value) -> bool
 pub fn is_text(value: &Value) -> bool
     ensures { result ≡ is_text value.now }
 {
-    text_of(value).is_some()
+    value.as_text().is_some()
 }
 
 pub fn is_filled_text(value: &Value) -> bool
     ensures { result ≡ is_filled_text value.now }
 {
-    match text_of(value) {
+    match value.as_text() {
         Some(text) => is_filled(text),
         None => false,
     }
@@ -52,7 +52,7 @@ pub fn is_presence(value: &Value) -> bool
 fn is_either(value: &Value, first: &str, second: &str) -> bool
     ensures { result ≡ is_either first.now second.now value.now }
 {
-    is_word(text_of(value), first) || is_word(text_of(value), second)
+    is_word(value.as_text(), first) || is_word(value.as_text(), second)
 }
 
 pub fn is_truth_value(value: &Value) -> bool
@@ -65,14 +65,14 @@ pub fn is_truth_value(value: &Value) -> bool
 pub fn says(instance: &Instance, name: &str, word: &str) -> bool
     ensures { result ≡ says name.now word.now instance.now }
 {
-    is_word(text_named(instance, name), word)
+    is_word(instance.text_named(name), word)
 }
 
 /// Returns whether the property of that name is true.
 pub fn says_yes(instance: &Instance, name: &str) -> bool
     ensures { result ≡ says_yes name.now instance.now }
 {
-    match value_named(instance, name) {
+    match instance.value_named(name) {
         Some(value) => is_yes(value),
         None => false,
     }
@@ -87,40 +87,6 @@ fn is_yes(value: &Value) -> bool
     }
 }
 
-/// The text of the first property of that name, where it is a single text.
-pub fn text_named<'a>(instance: &'a Instance, name: &str) -> Option<&'a Text>
-    ensures { option_copied result ≡ text_named name.now instance.now }
-{
-    match value_named(instance, name) {
-        Some(value) => text_of(value),
-        None => None,
-    }
-}
-
-// The value of the first property of that name.
-fn value_named<'a>(instance: &'a Instance, name: &str) -> Option<&'a Value>
-    ensures { option_copied result ≡ value_named name.now instance.now }
-{
-    let mut left = instance.properties.as_slice();
-    while let [property, rest @ ..] = left {
-        if has_name(&property.name, name) {
-            return Some(&property.value);
-        }
-        left = rest;
-    }
-    None
-}
-
-// The single text that a value is.
-fn text_of<'a>(value: &'a Value) -> Option<&'a Text>
-    ensures { option_copied result ≡ text_of value.now }
-{
-    match value {
-        Value::One(Scalar::Text(text)) => Some(text),
-        _ => None,
-    }
-}
-
 fn is_word(text: Option<&Text>, word: &str) -> bool
     ensures { result ≡ is_word word.now (option_copied text.entry) }
 {
@@ -128,11 +94,4 @@ fn is_word(text: Option<&Text>, word: &str) -> bool
         Some(text) => is_named(text.as_slice(), word),
         None => false,
     }
-}
-
-/// Returns whether the name is this word, by fold.
-pub fn has_name(name: &Ident, word: &str) -> bool
-    ensures { result ≡ same_name name.now word.now }
-{
-    is_named(name.as_slice(), word)
 }

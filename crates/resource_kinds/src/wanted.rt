@@ -1,7 +1,7 @@
 //! What a resource asks for, by the table of its kind, or its fault.
 ghost use Rattle.std.specs.Prelude.{◌≡◌, Ok, Err, MatchResult, IfOk, option_map, unwrap_or, [], encode_utf8_all};
 ghost use Rattle.std.specs.Option.{option_copied};
-ghost use Rattle.dsc_document.specs.Declarations.{text_of};
+ghost use Rattle.mof_values.specs.Values.{text_of};
 ghost use Rattle.resource_kinds.specs.Paths.{path_of};
 ghost use Rattle.resource_kinds.specs.Tables.{kind_of, says_yes};
 ghost use Rattle.resource_kinds.specs.Wanted.{IsWhy, a_variable, by_key, contents_of, folded_utf8, no_variable, of_kind, on_path, standing_at, value_of, variable_of, wanted_of};
@@ -10,7 +10,7 @@ use crate::entry::Failure;
 use crate::paths::path_of;
 use crate::tables::{Kind, first_wrong, key_name, key_of, kind_of};
 use crate::utf8::Utf8;
-use crate::values::{says, says_yes, text_named};
+use crate::values::{says, says_yes};
 use dsc_document::Resource;
 use mof_values::{Ident, Instance, Text};
 use std::alloc::{AllocError, Global};
@@ -77,7 +77,7 @@ fn of_kind(alloc: Global, kind: Kind, resource: &Resource) -> Result<Wanted, Wan
     if let Some(property) = first_wrong(kind, &resource.instance) {
         return Err(out_of_profile(property.name.clone()));
     }
-    match text_named(&resource.instance, key_of(kind)) {
+    match resource.instance.text_named(key_of(kind)) {
         Some(text) => by_key(alloc, kind, resource, text),
         None => Err(out_of_profile(key_name(alloc, kind))),
     }
@@ -143,7 +143,7 @@ fn standing_at(alloc: Global, instance: &Instance, path: Utf8) -> Result<Wanted,
 fn contents_of(alloc: Global, instance: &Instance) -> Result<Option<Utf8>, AllocError>
     ensures { IfOk result (λ contents. contents ≡ contents_of instance.now) }
 {
-    match text_named(instance, "Contents") {
+    match instance.text_named("Contents") {
         Some(text) => Ok(Some(Utf8::encoded(alloc, text.as_slice())?)),
         None => Ok(None),
     }
@@ -183,7 +183,7 @@ fn a_variable(alloc: Global, instance: &Instance, name: Utf8) -> Result<Wanted, 
 fn value_of(alloc: Global, instance: &Instance) -> Result<Utf8, AllocError>
     ensures { IfOk result (λ value. value ≡ value_of instance.now) }
 {
-    match text_named(instance, "Value") {
+    match instance.text_named("Value") {
         Some(text) => Utf8::encoded(alloc, text.as_slice()),
         None => Utf8::encoded(alloc, &[]),
     }

@@ -1,7 +1,7 @@
 use Rattle.std.proofs.Common.{sym, refl, ◌∙◌}
 use Rattle.mof_values.specs.declared.instance.Instance.{Instance}
 use Rattle.dsc_document.specs.Rules.{Applies, StandsBefore, alias_at, indexes_of}
-use Rattle.dsc_document.proofs.OneCondition.{only_two_aliases}
+use Rattle.dsc_document.proofs.RefusalsOfRules.{only_two_aliases}
 use Rattle.dsc_document.proofs.Placed.{at_item, at_past, pair_at, ShareName-never, HoldsNames-all, Indexes-put_any}
 use Rattle.dsc_document.proofs.aliases.alias_places.Goals as goal
 

@@ -2,11 +2,11 @@ use Rattle.std.proofs.Common.{◌≡◌, ℕ, List, Any, Option, Some, None, IsT
 use Rattle.std.proofs.lemmas.Bool.{both_ways}
 use Rattle.mof_values.specs.declared.instance.Instance.{Instance}
 use Rattle.dsc_document.specs.Conditions.{HoldsUnplaced}
-use Rattle.dsc_document.specs.Declarations.{scalars_of}
+use Rattle.mof_values.specs.Values.{scalars_of}
 use Rattle.dsc_document.specs.Places.{HoldsNames, place_of}
 use Rattle.dsc_document.specs.Rules.{Applies, NamesNoAlias, StandsBefore, alias_at, indexes_of}
 use Rattle.dsc_document.specs.declared.places.Places.{Places}
-use Rattle.dsc_document.proofs.OneCondition.{HasAt-here, HasAt-before, HasAt-never, each_more, earlier, only_alias_unknown}
+use Rattle.dsc_document.proofs.RefusalsOfRules.{HasAt-here, HasAt-before, HasAt-never, each_more, earlier, only_alias_unknown}
 use Rattle.dsc_document.proofs.aliases.check_aliases.Goals as goal
 
 none_unless : (o : Option ℕ) → (IsTrue (is_some o) → ⊥) → o ≡ None

@@ -2,11 +2,12 @@ use Rattle.std.proofs.Common.{◌≡◌, ℕ, List, [], ◌∷◌, ◌++◌, All
 use Rattle.std.proofs.lemmas.Option.{MatchOption-at_some, MatchOption-at_none}
 use Rattle.mof_values.specs.declared.instance.Instance.{Instance}
 use Rattle.dsc_document.specs.Conditions.{IsFirstUnplaced}
-use Rattle.dsc_document.specs.Declarations.{depends_of, text_of_scalar}
+use Rattle.mof_values.specs.Values.{text_of_scalar}
+use Rattle.dsc_document.specs.Declarations.{depends_of}
 use Rattle.dsc_document.specs.Places.{HoldsNames, place_of}
 use Rattle.dsc_document.specs.Rules.{Applies, IsFirstUnknown, StandsBefore, id_at, indexes_of}
 use Rattle.dsc_document.specs.declared.places.Places.{Places}
-use Rattle.dsc_document.proofs.OneCondition.{HasAt-here, HasAt-before, HasAt-never, each_more, earlier, only_depends_unknown}
+use Rattle.dsc_document.proofs.RefusalsOfRules.{HasAt-here, HasAt-before, HasAt-never, each_more, earlier, only_depends_unknown}
 use Rattle.dsc_document.proofs.depends.check_known.Goals as goal
 
 at_seam : (known rest : List (List ℕ)) (name : List ℕ) → get_or (known ++ name ∷ rest) (length known) name ≡ name

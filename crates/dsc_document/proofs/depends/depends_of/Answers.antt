@@ -3,7 +3,7 @@ use Rattle.std.specs.List.{cons_option}
 use Rattle.std.proofs.lemmas.List.{take_more}
 use Rattle.std.proofs.lemmas.List.Elements.{filter_map-append}
 use Rattle.mof_values.specs.declared.value.Scalar.{Scalar}
-use Rattle.dsc_document.specs.Declarations.{text_of_scalar}
+use Rattle.mof_values.specs.Values.{text_of_scalar}
 use Rattle.dsc_document.proofs.depends.depends_of.Goals as goal
 
 one : (scalar : Scalar) → filter_map text_of_scalar (scalar ∷ []) ≡ option_to_list (text_of_scalar scalar)

@@ -1,5 +1,5 @@
 use Rattle.std.proofs.Common.{◌≡◌, filter_map, take}
-use Rattle.dsc_document.specs.Declarations.{text_of_scalar}
+use Rattle.mof_values.specs.Values.{text_of_scalar}
 use Rattle.dsc_document.proofs.depends.depends_of.Given as goal
 
 abbrev pub invariant-loop-scalar : goal.invariant-loop-scalar

@@ -2,7 +2,7 @@ use Rattle.std.proofs.Common.{◌≡◌, ℕ, ◌-◌, List, [], ◌∷◌, ◌+
 use Rattle.std.proofs.lemmas.List.Elements.{All-push}
 use Rattle.mof_values.specs.declared.value.Scalar.{Scalar}
 use Rattle.mof_values.specs.declared.value.Scalar.TheVariants.{Text}
-use Rattle.dsc_document.specs.Declarations.{text_of_scalar}
+use Rattle.mof_values.specs.Values.{text_of_scalar}
 use Rattle.dsc_document.specs.Places.{place_of}
 use Rattle.dsc_document.specs.declared.places.Places.{Places}
 use Rattle.dsc_document.proofs.Passing.{front_of}

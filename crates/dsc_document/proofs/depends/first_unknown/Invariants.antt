@@ -1,5 +1,5 @@
 use Rattle.std.proofs.Common.{◌≡◌, List, ℕ, ◌++◌, All, IsTrue, is_some, filter_map, length}
-use Rattle.dsc_document.specs.Declarations.{text_of_scalar}
+use Rattle.mof_values.specs.Values.{text_of_scalar}
 use Rattle.dsc_document.specs.Places.{place_of}
 use Rattle.dsc_document.proofs.depends.first_unknown.Given as goal
 

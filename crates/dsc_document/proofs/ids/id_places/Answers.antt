@@ -1,7 +1,7 @@
 use Rattle.std.proofs.Common.{sym, refl, ◌∙◌}
 use Rattle.dsc_document.specs.Declarations.{id_of}
 use Rattle.dsc_document.specs.Rules.{Applies, StandsBefore, id_at, indexes_of}
-use Rattle.dsc_document.proofs.OneCondition.{only_duplicate_id}
+use Rattle.dsc_document.proofs.RefusalsOfRules.{only_duplicate_id}
 use Rattle.dsc_document.proofs.Placed.{at_item, at_past, pair_at, ShareName-never, HoldsNames-all, Indexes-put_any}
 use Rattle.dsc_document.proofs.ids.id_places.Goals as goal
 

@@ -1,7 +1,7 @@
 use Rattle.std.proofs.Common.{subst, sym}
 use Rattle.dsc_document.specs.Rules.{Applies, RepeatsName, property_name_at}
 use Rattle.dsc_document.specs.Names.{ShareName}
-use Rattle.dsc_document.proofs.OneCondition.{HasAt-never, each_more, only_duplicate_property}
+use Rattle.dsc_document.proofs.RefusalsOfRules.{HasAt-never, each_more, only_duplicate_property}
 use Rattle.dsc_document.proofs.properties.check_properties.Goals as goal
 
 pub loop-index-preserved : goal.loop-index-preserved

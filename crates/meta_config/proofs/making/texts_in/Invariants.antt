@@ -1,5 +1,5 @@
 use Rattle.std.proofs.Common.{◌≡◌, ◌++◌, length, filter_map}
-use Rattle.dsc_document.specs.Declarations.{text_of_scalar}
+use Rattle.mof_values.specs.Values.{text_of_scalar}
 use Rattle.meta_config.proofs.making.texts_in.Given as goal
 
 abbrev pub invariant-loop-left : goal.invariant-loop-left

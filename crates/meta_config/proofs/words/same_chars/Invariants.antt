@@ -1,5 +1,5 @@
 use Rattle.std.proofs.Common.{◌≡◌, length}
-use Rattle.dsc_document.specs.Names.{same_name}
+use Rattle.mof_values.specs.Fold.{same_name}
 use Rattle.meta_config.proofs.words.same_chars.Given as goal
 
 abbrev pub invariant-loop-left : goal.invariant-loop-left

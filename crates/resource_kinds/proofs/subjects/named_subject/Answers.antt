@@ -2,7 +2,7 @@ use Rattle.std.proofs.Common.{◌≡◌, ◌∙◌, Some, ap, sym}
 use Rattle.std.specs.Option.{option_copied, option_map}
 use Rattle.resource_kinds.specs.Apart.{matter_of}
 use Rattle.resource_kinds.specs.Subjects.{subject_matter}
-use Rattle.resource_kinds.specs.Tables.{text_named}
+use Rattle.mof_values.specs.Values.{text_named}
 use Rattle.resource_kinds.proofs.SubjectsMeet.{wanted_by_key}
 use Rattle.resource_kinds.proofs.subjects.named_subject.Goals as goal
 

@@ -1,4 +1,4 @@
--- Refusals of one condition, and of conditions one after another.
+-- Refusals of one rule, and of rules one after another.
 use Rattle.std.proofs.Common.{◌≡◌, ℕ, ◌+◌, ◌<◌, ◌≤◌, List, length, get_or, slice_get, Option, Some, None, IsSomeAnd, refl, sym, ap, subst, ◌∙◌, ⊎_elim, arith}
 use Rattle.std.proofs.lemmas.Bool.{cases_eq}
 use Rattle.std.proofs.lemmas.Option.{slice_get-get_or, slice_get_within, get_or_from_slice_get}
@@ -6,44 +6,44 @@ use Rattle.std.proofs.lemmas.List.{get_or_default}
 use Rattle.mof_values.specs.declared.instance.Instance.{Instance}
 use Rattle.dsc_document.specs.declared.error.DocError.{DocError}
 use Rattle.dsc_document.specs.declared.error.DocError.TheVariants.{DuplicateProperty, TwoAliases, AliasUnknown, NoHeader, TwoHeaders, BadResourceId, DuplicateId, BadDependsOn, DependsUnknown}
-use Rattle.dsc_document.specs.Rules.{HasAt, StandsBefore, condition_of}
+use Rattle.dsc_document.specs.Rules.{HasAt, StandsBefore, rule_of, distinct_property_names, distinct_aliases, known_aliases, some_header, one_header, resource_ids, distinct_ids, texts_to_depend_on, known_dependencies}
 
--- ---- which refusals are of a condition
+-- ---- which refusals are of a rule
 
 module _ (P : DocError → Type 0) where
-  pub only_duplicate_property : ((index : ℕ) (name : List ℕ) → P (DuplicateProperty index name)) → (refusal : DocError) → condition_of refusal ≡ 1 → P refusal
+  pub only_duplicate_property : ((index : ℕ) (name : List ℕ) → P (DuplicateProperty index name)) → (refusal : DocError) → rule_of refusal ≡ distinct_property_names → P refusal
   only_duplicate_property here (DuplicateProperty index name) is = here index name
   only_duplicate_property here _ is = absurd (omega arith)
 
-  pub only_two_aliases : ((first second : ℕ) → P (TwoAliases first second)) → (refusal : DocError) → condition_of refusal ≡ 2 → P refusal
+  pub only_two_aliases : ((first second : ℕ) → P (TwoAliases first second)) → (refusal : DocError) → rule_of refusal ≡ distinct_aliases → P refusal
   only_two_aliases here (TwoAliases first second) is = here first second
   only_two_aliases here _ is = absurd (omega arith)
 
-  pub only_alias_unknown : ((index : ℕ) → P (AliasUnknown index)) → (refusal : DocError) → condition_of refusal ≡ 3 → P refusal
+  pub only_alias_unknown : ((index : ℕ) → P (AliasUnknown index)) → (refusal : DocError) → rule_of refusal ≡ known_aliases → P refusal
   only_alias_unknown here (AliasUnknown index) is = here index
   only_alias_unknown here _ is = absurd (omega arith)
 
-  pub only_no_header : P NoHeader → (refusal : DocError) → condition_of refusal ≡ 4 → P refusal
+  pub only_no_header : P NoHeader → (refusal : DocError) → rule_of refusal ≡ some_header → P refusal
   only_no_header here NoHeader is = here
   only_no_header here _ is = absurd (omega arith)
 
-  pub only_two_headers : ((first second : ℕ) → P (TwoHeaders first second)) → (refusal : DocError) → condition_of refusal ≡ 5 → P refusal
+  pub only_two_headers : ((first second : ℕ) → P (TwoHeaders first second)) → (refusal : DocError) → rule_of refusal ≡ one_header → P refusal
   only_two_headers here (TwoHeaders first second) is = here first second
   only_two_headers here _ is = absurd (omega arith)
 
-  pub only_bad_resource_id : ((index : ℕ) → P (BadResourceId index)) → (refusal : DocError) → condition_of refusal ≡ 6 → P refusal
+  pub only_bad_resource_id : ((index : ℕ) → P (BadResourceId index)) → (refusal : DocError) → rule_of refusal ≡ resource_ids → P refusal
   only_bad_resource_id here (BadResourceId index) is = here index
   only_bad_resource_id here _ is = absurd (omega arith)
 
-  pub only_duplicate_id : ((first second : ℕ) → P (DuplicateId first second)) → (refusal : DocError) → condition_of refusal ≡ 7 → P refusal
+  pub only_duplicate_id : ((first second : ℕ) → P (DuplicateId first second)) → (refusal : DocError) → rule_of refusal ≡ distinct_ids → P refusal
   only_duplicate_id here (DuplicateId first second) is = here first second
   only_duplicate_id here _ is = absurd (omega arith)
 
-  pub only_bad_depends_on : ((index : ℕ) → P (BadDependsOn index)) → (refusal : DocError) → condition_of refusal ≡ 8 → P refusal
+  pub only_bad_depends_on : ((index : ℕ) → P (BadDependsOn index)) → (refusal : DocError) → rule_of refusal ≡ texts_to_depend_on → P refusal
   only_bad_depends_on here (BadDependsOn index) is = here index
   only_bad_depends_on here _ is = absurd (omega arith)
 
-  pub only_depends_unknown : ((index : ℕ) (name : List ℕ) → P (DependsUnknown index name)) → (refusal : DocError) → condition_of refusal ≡ 9 → P refusal
+  pub only_depends_unknown : ((index : ℕ) (name : List ℕ) → P (DependsUnknown index name)) → (refusal : DocError) → rule_of refusal ≡ known_dependencies → P refusal
   only_depends_unknown here (DependsUnknown index name) is = here index name
   only_depends_unknown here _ is = absurd (omega arith)
 
