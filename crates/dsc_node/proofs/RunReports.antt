@@ -24,7 +24,8 @@ use Rattle.report_log.specs.declared.report.Frame.{Frame}
 use Rattle.report_log.specs.declared.report.PartMark.{PartMark}
 use Rattle.report_log.specs.declared.report.Report.{Report}
 use Rattle.report_log.specs.Report.{IsReport}
-use Rattle.report_log.specs.Sizes.{Fits, FrameInSize, PartsInSize, ReportInSize}
+use Rattle.dsc_document.specs.Sizes.{Fits}
+use Rattle.report_log.specs.Sizes.{FrameInSize, PartsInSize, ReportInSize}
 use Rattle.node_state.specs.declared.node.Node.{Node}
 use Rattle.node_state.specs.Lists.{AreNamed, IsStaged}
 use Rattle.node_state.specs.Sound.{Sound}

@@ -1,6 +1,7 @@
 pub mod Bringing
 pub mod Commands
 pub mod Commits
+pub mod Documents
 pub mod Endings
 pub mod Headline
 pub mod HostHeadline

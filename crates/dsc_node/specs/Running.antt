@@ -8,7 +8,7 @@ use Rattle.resource_kinds.specs.declared.resources.Resources.{Ghosts}
 use Rattle.resource_kinds.specs.Apart.{Apart, Overlap}
 use Rattle.lcm_core.specs.declared.modes.RunMode.{RunMode}
 use Rattle.report_log.specs.Room.{IsRoomFor}
-use Rattle.report_log.specs.Sizes.{DocumentInSize}
+use Rattle.dsc_document.specs.Sizes.{DocumentInSize}
 use Rattle.node_state.specs.declared.node.Node.{Node}
 use Rattle.dsc_node.specs.declared.running.Over.{Over}
 use Rattle.dsc_node.specs.declared.running.Ready.{Ready}

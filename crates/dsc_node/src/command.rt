@@ -1,7 +1,10 @@
 //! Commands.
+ghost use Rattle.std.specs.Prelude.{◌≡◌, None};
+
 use meta_config::Meta;
 use mof_values::{Bytes, Text};
 use node_state::{Stage, Staged};
+use partial_merge::OrderedDocument;
 
 /// What a node is asked to do.
 #[derive(Debug, Drop)]
@@ -54,4 +57,23 @@ pub(crate) enum Task {
     Restore,
     Remove(Stage),
     Reports,
+}
+
+/// A task, and for a push the document that its parts are merged to.
+#[derive(Debug, Drop)]
+pub(crate) struct Prepared {
+    pub(crate) task: Task,
+    pub(crate) document: Option<OrderedDocument>,
+}
+
+impl Prepared {
+    /// A task that has no document, or whose document is not known yet.
+    pub(crate) fn plain(task: Task) -> Prepared
+        ensures { result ≡ record { task = task; document = None } }
+    {
+        Prepared {
+            task,
+            document: None,
+        }
+    }
 }

@@ -1,11 +1,12 @@
 //! The run of a start, the event that keeps its report, and the sending of reports.
-ghost use Rattle.std.specs.Prelude.{◌≡◌, ◌≤◌, ◌<◌, true, [], All, Option, length, string_bytes};
+ghost use Rattle.std.specs.Prelude.{◌≡◌, ◌≤◌, ◌<◌, true, [], All, IfSome, Option, length, string_bytes};
 ghost use Rattle.dsc_outside.specs.Clock.{last_moment};
 ghost use Rattle.resource_kinds.specs.Trace.{place_of};
 ghost use Rattle.lcm_core.specs.RunLaws.{EndsAtYes};
 ghost use Rattle.report_log.specs.Sizes.{ReportInSize};
 ghost use Rattle.node_store.specs.Store.{IsKept};
 ghost use Rattle.node_pull.specs.Views.{view_of};
+ghost use Rattle.dsc_node.specs.Documents.{IsOfPending};
 ghost use Rattle.dsc_node.specs.Path.{EndsStart, KeepGoes, NothingGoes};
 ghost use Rattle.dsc_node.specs.Runs.{Run, event_of};
 ghost use Rattle.dsc_node.specs.Work.{Finish, known};
@@ -20,15 +21,17 @@ use lcm_core::RunEnd;
 use mof_values::Memory;
 use node_state::Event;
 use node_store::NodeStore;
+use partial_merge::OrderedDocument;
 use report_log::Report;
 use resource_kinds::{Entry, Machine};
 use std::alloc::Global;
 
-/// The run, the event that keeps its report, and the sending of reports.
+/// The run, the event that keeps its report, and the sending of reports. The document is that of Pending, where it is known already.
 pub(crate) fn finish<D: Disk, M: Machine, L: Link, C: Clock>(
     alloc: Global,
     start: u64,
     stopped: bool,
+    document: Option<OrderedDocument>,
     store: &mut NodeStore,
     disk: &mut D,
     machine: &mut M,
@@ -37,6 +40,7 @@ pub(crate) fn finish<D: Disk, M: Machine, L: Link, C: Clock>(
 ) -> StartEnd
     requires kept { IsKept D.Disk disk.old store.old }
     requires fresh { M.kept machine.old ≡ [] }
+    requires document { IfSome document (IsOfPending store.old.node) }
     requires moment { start ≤ last_moment }
     ensures goes { (run : Option Run) × EndsStart D.Disk disk.old disk.new store.old (λ from counts work committed broken.
         Finish (known D.Disk M.Resources M.Machine.own C.Clock) from counts work store.old.node stopped (C.coming clock.old) (C.coming clock.new) start (view_of L.Link link.old) (view_of L.Link link.new) machine.old machine.new result.status (string_bytes result.lines) run committed broken) }
@@ -45,7 +49,15 @@ pub(crate) fn finish<D: Disk, M: Machine, L: Link, C: Clock>(
     if let Err(Memory) = store.reserve() {
         return StartEnd::silent(alloc, Status::Memory);
     }
-    match run_step(alloc, start, stopped, store.state(), machine, clock) {
+    match run_step(
+        alloc,
+        start,
+        stopped,
+        store.state(),
+        document,
+        machine,
+        clock,
+    ) {
         RunStep::Nothing => end_nothing(alloc, store, disk, link),
         RunStep::Memory => StartEnd::silent(alloc, Status::Memory),
         RunStep::Over(over) => keep(alloc, over, store, disk, link, machine.calls()),

@@ -1,8 +1,9 @@
 //! The run of a start and its report. Neither a store nor a disk is touched here.
-ghost use Rattle.std.specs.Prelude.{◌≡◌, ◌≤◌, ℕ, Bool, Option, Some, [], IfOk};
+ghost use Rattle.std.specs.Prelude.{◌≡◌, ◌≤◌, ℕ, Bool, Option, Some, [], IfOk, IfSome};
 ghost use Rattle.dsc_outside.specs.Clock.{last_moment};
 ghost use Rattle.node_state.specs.Lists.{IsStaged};
 ghost use Rattle.node_state.specs.Sound.{Sound};
+ghost use Rattle.dsc_node.specs.Documents.{IsDocumentOf, IsOfPending};
 ghost use Rattle.dsc_node.specs.Readings.{Gave, Took, end_of};
 ghost use Rattle.dsc_node.specs.Runs.{chosen_of};
 ghost use Rattle.dsc_node.specs.Running.{IsReadyFor, IsRunStep};
@@ -57,17 +58,20 @@ pub(crate) struct Ready {
     pub(crate) marks: Items<PartMark>,
 }
 
-/// Makes the run that the node is to make, if it is to make one, and its report. All memory is taken before the first Test.
+/// Makes the run that the node is to make, if it is to make one, and its report. All memory is taken before the first Test. The document
+/// is that of Pending, where it is known already.
 pub(crate) fn run_step<M: Machine, C: Clock>(
     alloc: Global,
     start: u64,
     stopped: bool,
     node: &Node,
+    document: Option<OrderedDocument>,
     machine: &mut M,
     clock: &mut C,
 ) -> RunStep
     requires fresh { M.kept machine.old ≡ [] }
     requires sound { Sound node.now }
+    requires document { IfSome document (IsOfPending node.now) }
     requires moment { start ≤ last_moment }
     ensures step { IsRunStep M.Resources node.now stopped (C.coming clock.old) (C.coming clock.new) start result machine.old machine.new }
     ensures later { C.faults clock.old ≤ C.faults clock.new }
@@ -75,21 +79,31 @@ pub(crate) fn run_step<M: Machine, C: Clock>(
     let Some(chosen) = chosen_of(node, stopped) else {
         return RunStep::Nothing;
     };
-    match prepared(alloc, chosen.parts) {
+    let known = if chosen.pending { document } else { None };
+    match prepared(alloc, chosen.parts, known) {
         Ok(ready) => run_ready(alloc, start, node, chosen, ready, machine, clock),
         Err(Memory) => RunStep::Memory,
     }
 }
 
-// The document of parts that a node keeps, with all that its run takes.
-fn prepared(alloc: Global, parts: &[Part]) -> Result<Ready, Memory>
+// The document of parts that a node keeps, which may be known already, with all that its run takes.
+fn prepared(alloc: Global, parts: &[Part], known: Option<OrderedDocument>) -> Result<Ready, Memory>
     requires staged { IsStaged parts.now }
+    requires known { IfSome known (IsDocumentOf parts.now) }
     ensures { IfOk result (IsReadyFor parts.now) }
 {
-    let ordered = match merge_ordered(alloc, parts) {
-        Ok(ordered) => ordered,
-        Err(error) => return Err(only_memory(error)),
-    };
+    match known {
+        Some(ordered) => ready_of(alloc, parts, ordered),
+        None => ready_of(alloc, parts, document_of(alloc, parts)?),
+    }
+}
+
+// All that the run of a document takes.
+fn ready_of(alloc: Global, parts: &[Part], ordered: OrderedDocument) -> Result<Ready, Memory>
+    requires staged { IsStaged parts.now }
+    requires document { IsDocumentOf parts.now ordered }
+    ensures { IfOk result (IsReadyFor parts.now) }
+{
     let overlap = overlaps(alloc, &ordered.document)?;
     let room = room_for(alloc, &ordered.document)?;
     let marks = Items::of(marks_of(alloc, parts)?);
@@ -99,6 +113,16 @@ fn prepared(alloc: Global, parts: &[Part]) -> Result<Ready, Memory>
         room,
         marks,
     })
+}
+
+fn document_of(alloc: Global, parts: &[Part]) -> Result<OrderedDocument, Memory>
+    requires staged { IsStaged parts.now }
+    ensures { IfOk result (IsDocumentOf parts.now) }
+{
+    match merge_ordered(alloc, parts) {
+        Ok(ordered) => Ok(ordered),
+        Err(error) => Err(only_memory(error)),
+    }
 }
 
 // Parts that are merged are refused for nothing else.

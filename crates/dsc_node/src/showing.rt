@@ -3,15 +3,15 @@ ghost use Rattle.std.specs.Prelude.{◌≡◌, ◌++◌, IfOk, OnOk, codes, enco
 ghost use Rattle.std.specs.List.{flat_map};
 ghost use Rattle.std.specs.Fmt.{decimal};
 ghost use Rattle.shared_key.specs.Checksum.{checksum_of};
-ghost use Rattle.meta_config.specs.Urls.{scheme_of, url_of};
+ghost use Rattle.meta_config.specs.Urls.{url_of};
 ghost use Rattle.meta_config.specs.Words.{after_name, mode_name, refresh_name};
 ghost use Rattle.meta_config.specs.Writing.{site_at_server};
 ghost use Rattle.dsc_node.specs.Quoted.{quoted};
 ghost use Rattle.dsc_node.specs.Shown.{agent_line, agent_text, line, meta_lines, node_text, outcome_name, part_text, parts_text, report_line, reports_text, sent_word, server_text, slot_line, slot_lines, yes_no};
 
-use meta_config::{AfterReboot, ConfigMode, Meta, RefreshMode, Server};
+use meta_config::{AfterReboot, ConfigMode, Meta, RefreshMode, Server, url_of};
 use mof_codec::push_literal;
-use mof_values::{Items, Text};
+use mof_values::Items;
 use node_state::{Kept, Node};
 use partial_merge::Part;
 use report_log::{Outcome, Report};
@@ -114,37 +114,18 @@ fn push_server(out: &mut String, server: &Option<Server>) -> Result<(), AllocErr
     match server {
         None => push_line(out, "server", "none"),
         Some(server) => {
-            let url = url_of(*out.allocator(), server)?;
+            let url = server_url(*out.allocator(), server)?;
             push_line(out, "server", &url)
         }
     }
 }
 
-// The URL of a server: scheme, host, port and prefix.
-fn url_of(alloc: Global, server: &Server) -> Result<String, AllocError>
+// The URL of a server, in UTF-8.
+fn server_url(alloc: Global, server: &Server) -> Result<String, AllocError>
     ensures { IfOk result (λ url. string_bytes url ≡ encode_utf8_all (url_of (site_at_server server.now))) }
 {
-    let port = server.peer.port;
-    let port = format!(in alloc; ":{port}")?;
-    let mut url = Vec::new(alloc);
-    push_ascii(&mut url, scheme_of(server.https))?;
-    url.extend_from_slice(server.peer.host.as_slice())?;
-    push_ascii(&mut url, &port)?;
-    url.extend_from_slice(server.prefix.as_slice())?;
-    url.iter().copied().collect(alloc)
-}
-
-fn scheme_of(https: bool) -> &'static str
-    ensures { result.now ≡ scheme_of https }
-{
-    if https { "https://" } else { "http://" }
-}
-
-fn push_ascii(chars: &mut Vec<char>, text: &str) -> Result<(), AllocError>
-    ensures { OnOk result (chars.new.items ≡ chars.old.items ++ text.now) }
-{
-    let more = Text::from_latin1(*chars.allocator(), text.as_bytes())?;
-    chars.extend_from_slice(more.as_slice())
+    let url = url_of(alloc, server.https, &server.peer, &server.prefix)?;
+    url.as_slice().iter().copied().collect(alloc)
 }
 
 #[tactic(auto, unfolding(crate::specs::Shown::line))]

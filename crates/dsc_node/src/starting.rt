@@ -1,5 +1,5 @@
 //! One start.
-ghost use Rattle.std.specs.Prelude.{◌≡◌, ◌≤◌, [], IfOk, None, true, string_bytes};
+ghost use Rattle.std.specs.Prelude.{◌≡◌, ◌≤◌, [], IfOk, IfSome, None, true, string_bytes};
 ghost use Rattle.dsc_outside.specs.Clock.{last_moment};
 ghost use Rattle.gate_log.specs.Standing.{AllStand, Any};
 ghost use Rattle.resource_kinds.specs.Kinds.{calls_of};
@@ -7,6 +7,7 @@ ghost use Rattle.node_store.specs.Stands.{Stands};
 ghost use Rattle.node_store.specs.Store.{IsKept};
 ghost use Rattle.node_pull.specs.Views.{view_of};
 ghost use Rattle.dsc_node.specs.Commands.{IsTaken, IsTakenTask, is_run, why_not};
+ghost use Rattle.dsc_node.specs.Documents.{IsOfTask};
 ghost use Rattle.dsc_node.specs.Headline.{HasHeadline};
 ghost use Rattle.dsc_node.specs.HostHeadline.{HasHostHeadline, known_on_host};
 ghost use Rattle.dsc_node.specs.Path.{OpenedGoes, RunGoes};
@@ -17,7 +18,7 @@ ghost use Rattle.dsc_node.specs.Work.{beside, known};
 use crate::allowing::{is_run, reads_clock, stops, waits, why_not};
 use crate::answer::{StartEnd, status_of, status_of_input};
 use crate::bringing::{bring, status_of_pull};
-use crate::command::{Command, Task};
+use crate::command::{Command, Prepared};
 use crate::committing::commit_first;
 use crate::finishing::finish;
 use crate::preparing::task_of;
@@ -48,14 +49,14 @@ pub fn start_over<D: Disk, M: Machine, L: Link, C: Clock>(
     ensures again { AllStand D.Disk disk.old Stands Any → AllStand D.Disk disk.new Stands Any }
     ensures later { C.faults clock.old ≤ C.faults clock.new }
 {
-    let task = match task_of(alloc, command) {
-        Ok(task) => task,
+    let prepared = match task_of(alloc, command) {
+        Ok(prepared) => prepared,
         Err(error) => return StartEnd::silent(alloc, status_of_input(error)),
     };
     match open_store(alloc, disk) {
         Ok(store) => {
             let mut store = store;
-            opened(alloc, task, &mut store, disk, machine, link, clock)
+            opened(alloc, prepared, &mut store, disk, machine, link, clock)
         }
         Err(error) => StartEnd::silent(alloc, status_of(error)),
     }
@@ -88,7 +89,7 @@ pub fn start<D: Disk, H: Host, L: Link, C: Clock>(
 // Does the task in an opened store.
 fn opened<D: Disk, M: Machine, L: Link, C: Clock>(
     alloc: Global,
-    task: Task,
+    prepared: Prepared,
     store: &mut NodeStore,
     disk: &mut D,
     machine: &mut M,
@@ -96,24 +97,25 @@ fn opened<D: Disk, M: Machine, L: Link, C: Clock>(
     clock: &mut C,
 ) -> StartEnd
     requires kept { IsKept D.Disk disk.old store.old }
-    requires taken { IsTakenTask task }
+    requires taken { IsTakenTask prepared.task }
+    requires document { IfSome prepared.document (IsOfTask prepared.task) }
     requires fresh { M.kept machine.old ≡ [] }
-    ensures goes { OpenedGoes (known D.Disk M.Resources M.Machine.own C.Clock) task disk.old disk.new store.old (beside machine.old (view_of L.Link link.old) clock.old) (beside machine.new (view_of L.Link link.new) clock.new) result.status (string_bytes result.lines) }
+    ensures goes { OpenedGoes (known D.Disk M.Resources M.Machine.own C.Clock) prepared.task disk.old disk.new store.old (beside machine.old (view_of L.Link link.old) clock.old) (beside machine.new (view_of L.Link link.new) clock.new) result.status (string_bytes result.lines) }
     ensures later { C.faults clock.old ≤ C.faults clock.new }
 {
-    if let Some(why) = why_not(store.state(), &task) {
+    if let Some(why) = why_not(store.state(), &prepared.task) {
         return StartEnd::silent(alloc, Status::NotAllowed(why));
     }
-    if waits(store.state(), &task) {
+    if waits(store.state(), &prepared.task) {
         return StartEnd::silent(alloc, Status::RebootWaiting);
     }
-    let Ok(start) = started(reads_clock(&task), clock) else {
+    let Ok(start) = started(reads_clock(&prepared.task), clock) else {
         return StartEnd::silent(alloc, Status::ClockFault);
     };
-    if !is_run(&task) {
-        return settle(alloc, task, start, store, disk, link);
+    if !is_run(&prepared.task) {
+        return settle(alloc, prepared.task, start, store, disk, link);
     }
-    run_task(alloc, task, start, store, disk, machine, link, clock)
+    run_task(alloc, prepared, start, store, disk, machine, link, clock)
 }
 
 // The start of a task: the clock's reading, where the task reads it.
@@ -128,7 +130,7 @@ fn started<C: Clock>(reads: bool, clock: &mut C) -> Result<u64, Failed>
 // Brings what the task brings, and then comes to its run.
 fn run_task<D: Disk, M: Machine, L: Link, C: Clock>(
     alloc: Global,
-    task: Task,
+    prepared: Prepared,
     start: u64,
     store: &mut NodeStore,
     disk: &mut D,
@@ -137,13 +139,15 @@ fn run_task<D: Disk, M: Machine, L: Link, C: Clock>(
     clock: &mut C,
 ) -> StartEnd
     requires kept { IsKept D.Disk disk.old store.old }
-    requires allowed { why_not store.old.node task ≡ None }
-    requires runs { is_run task ≡ true }
+    requires allowed { why_not store.old.node prepared.task ≡ None }
+    requires runs { is_run prepared.task ≡ true }
+    requires document { IfSome prepared.document (IsOfTask prepared.task) }
     requires fresh { M.kept machine.old ≡ [] }
     requires moment { start ≤ last_moment }
-    ensures goes { RunGoes (known D.Disk M.Resources M.Machine.own C.Clock) task start disk.old disk.new store.old (beside machine.old (view_of L.Link link.old) clock.old) (beside machine.new (view_of L.Link link.new) clock.new) result.status (string_bytes result.lines) }
+    ensures goes { RunGoes (known D.Disk M.Resources M.Machine.own C.Clock) prepared.task start disk.old disk.new store.old (beside machine.old (view_of L.Link link.old) clock.old) (beside machine.new (view_of L.Link link.new) clock.new) result.status (string_bytes result.lines) }
     ensures later { C.faults clock.old ≤ C.faults clock.new }
 {
+    let Prepared { task, document } = prepared;
     let stopped = stops(store.state(), &task);
     let first = match bring(alloc, task, store.state(), link, machine) {
         Ok(first) => first,
@@ -152,5 +156,7 @@ fn run_task<D: Disk, M: Machine, L: Link, C: Clock>(
     if let Err(error) = commit_first(first, store, disk) {
         return StartEnd::silent(alloc, status_of(error));
     }
-    finish(alloc, start, stopped, store, disk, machine, link, clock)
+    finish(
+        alloc, start, stopped, document, store, disk, machine, link, clock,
+    )
 }

@@ -4,8 +4,7 @@ use Rattle.std.specs.List.{flat_map}
 use Rattle.std.specs.Fmt.{decimal}
 use Rattle.mof_syntax.specs.declared.mof_error.MofError.{MofError}
 use Rattle.mof_syntax.specs.declared.mof_error.MofError.TheVariants as faults
-use Rattle.mof_syntax.specs.declared.mof_error.Form.{Form}
-use Rattle.mof_syntax.specs.declared.mof_error.Form.TheVariants as forms
+use Rattle.mof_syntax.specs.Forms.{form_name}
 use Rattle.dsc_document.specs.declared.error.DocError.{DocError}
 use Rattle.dsc_document.specs.declared.error.DocError.TheVariants as rules
 use Rattle.dsc_document.specs.declared.spot.Spot.{Spot}
@@ -20,14 +19,6 @@ use Rattle.meta_config.specs.declared.error.MetaError.TheVariants as metas
 use Rattle.dsc_node.specs.Quoted.{quoted}
 use Rattle.dsc_node.specs.declared.status.InputError.{InputError}
 use Rattle.dsc_node.specs.declared.status.InputError.TheVariants.{TooLong, Mof, Merge, Meta, Parts}
-
-abbrev pub form_name : Form → List ℕ
-form_name forms.Pragma = codes "pragma"
-form_name forms.Qualifiers = codes "qualifiers"
-form_name forms.Class = codes "class"
-form_name forms.Qualifier = codes "qualifier"
-form_name forms.Character = codes "character"
-form_name forms.Real = codes "real"
 
 -- the name of a text's refusal, and its values; lack of memory has a status of its own, and is never reported so
 abbrev pub mof_words : MofError → List ℕ

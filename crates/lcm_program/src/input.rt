@@ -16,6 +16,7 @@ use mof_codec::{MofError, read};
 use mof_values::{Instance, Text};
 use partial_merge::{MergeError, OrderedDocument, merge_text};
 use std::alloc::{AllocError, AllocFailed, Global};
+use std::mem::forget;
 
 /// The most bytes of a document.
 const LIMIT: usize = 2_097_152;
@@ -61,6 +62,12 @@ pub fn read_ordered<S: Source>(alloc: Global, input: &mut S) -> Result<OrderedDo
         Ok(ordered) => Ok(ordered),
         Err(error) => Err(unmerged(error)),
     }
+}
+
+/// Leaves the memory of a document to the system, at the end of a command: the process ends after it, and to free each text of a
+/// document takes a sixth of the time.
+pub fn leave<T: Drop>(document: T) {
+    forget(document);
 }
 
 /// Reads the input to its end, and the document that it declares.

@@ -1,7 +1,8 @@
 //! The printed names of why a text spells no instances.
 ghost use Rattle.std.specs.Prelude.{◌≡◌, ◌++◌, codes, OnOk, string_bytes};
 ghost use Rattle.std.specs.Fmt.{decimal};
-ghost use Rattle.lcm_program.specs.InputWords.{mof_words, form_name};
+ghost use Rattle.mof_syntax.specs.Forms.{form_name};
+ghost use Rattle.lcm_program.specs.InputWords.{mof_words};
 
 use mof_codec::{Form, MofError};
 use std::alloc::AllocError;
@@ -24,19 +25,6 @@ pub fn push_mof_error(out: &mut String, error: MofError) -> Result<(), AllocErro
 fn push_out_of_profile(out: &mut String, at: usize, what: Form) -> Result<(), AllocError>
     ensures { OnOk result (string_bytes out.new ≡ string_bytes out.old ++ codes "OutOfProfile " ++ decimal at ++ codes " " ++ form_name what) }
 {
-    let name = name_of(what);
+    let name = what.name();
     write!(out, "OutOfProfile {at} {name}")
-}
-
-fn name_of(form: Form) -> &'static str
-    ensures { result.now ≡ form_name form }
-{
-    match form {
-        Form::Pragma => "pragma",
-        Form::Qualifiers => "qualifiers",
-        Form::Class => "class",
-        Form::Qualifier => "qualifier",
-        Form::Character => "character",
-        Form::Real => "real",
-    }
 }

@@ -4,7 +4,7 @@ ghost use Rattle.std.specs.List.{flat_map};
 ghost use Rattle.lcm_program.specs.Input.{IsInput, IsUnread};
 ghost use Rattle.lcm_program.specs.Order.{AnswersOrder, id_line};
 
-use crate::input::{Unread, read_ordered};
+use crate::input::{Unread, leave, read_ordered};
 use dsc_document::Document;
 use dsc_node::id;
 use dsc_outside::Source;
@@ -21,6 +21,7 @@ pub fn read_order<S: Source>(alloc: Global, input: &mut S) -> Result<Vec<u8>, Un
         Err(unread) => return Err(unread),
     };
     let lines = id_lines(alloc, &ordered.document, ordered.order.as_slice())?;
+    leave(ordered);
     Ok(lines.into_bytes())
 }
 

@@ -10,7 +10,7 @@ ghost use Rattle.dsc_node.specs.Lines.{IsRunText, overlap_line, run_lines};
 ghost use Rattle.lcm_program.specs.Further.{nothing_further_of_runs};
 ghost use Rattle.lcm_program.specs.Test.{IsRunOf, IsUntested, Monitored};
 
-use crate::input::{Unread, read_ordered};
+use crate::input::{Unread, leave, read_ordered};
 use dsc_document::Document;
 use dsc_node::{lines_of, run_merged};
 use dsc_outside::Source;
@@ -44,7 +44,9 @@ pub fn read_and_monitor<S: Source, M: Machine>(
         Ok(ordered) => ordered,
         Err(unread) => return Err(unread),
     };
-    match monitor_document(alloc, &ordered, machine) {
+    let outcome = monitor_document(alloc, &ordered, machine);
+    leave(ordered);
+    match outcome {
         Ok(outcome) => Ok(outcome),
         Err(Memory) => Err(Unread::Memory),
     }

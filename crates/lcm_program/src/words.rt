@@ -132,7 +132,7 @@ fn read_generate(rest: &[String]) -> Result<Command<'static>, UsageError>
     let [word, more @ ..] = rest else {
         return Err(UsageError { word: 1 });
     };
-    let Some(count) = read_count(word) else {
+    let Some(count) = parsed_count(word) else {
         return Err(UsageError { word: 1 });
     };
     match more {
@@ -214,7 +214,7 @@ fn read_stage(word: &str) -> Option<Stage>
 }
 
 // The number of resources that the argument is: in decimal, without a sign or a zero in front.
-fn read_count(word: &str) -> Option<u32>
+fn parsed_count(word: &str) -> Option<u32>
     ensures some { IfSome result (IsCount word.now) }
     ensures none { IfNone result ((count : ℕ) → IsCount word.now count → ⊥) }
 {

@@ -28,5 +28,5 @@ pub use laws::{parts_come_from_stages, piece_laws, step_laws};
 pub use list::Staged;
 pub use node::{Kept, Node};
 pub use piece::Piece;
-pub use staging::{staged, stored};
+pub use staging::{staged, staged_in_order, stored};
 pub use supply::{Room, Supply};

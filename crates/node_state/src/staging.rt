@@ -1,7 +1,9 @@
 //! How parts are staged.
 ghost use Rattle.std.specs.Prelude.{◌≡◌, ◌≢◌, ◌<◌, ◌^◌, ◌↔◌, false, All, IsTrue, IfOk, IfErr, IfSome, IfNone, length, vec_len};
-ghost use Rattle.dsc_document.specs.Sizes.{Fits};
+ghost use Rattle.dsc_document.specs.Sizes.{DocumentInSize, Fits};
+ghost use Rattle.depend_order.specs.Ordered.{IsOrdered};
 ghost use Rattle.meta_config.specs.Parts.{IsMeta};
+ghost use Rattle.partial_merge.specs.Merged.{Merged};
 ghost use Rattle.node_state.specs.Lists.{AreNamed, IsMerged, IsStaged, bytes_of};
 ghost use Rattle.node_state.specs.StagedParts.{parts_of};
 ghost use Rattle.node_state.specs.Staging.{AreFitting, AreRefused};
@@ -10,7 +12,7 @@ use crate::limits::{MAX_BYTES, MAX_NAME, MAX_PARTS};
 use crate::{StageError, Staged, fits};
 use meta_config::Meta;
 use mof_values::{Items, Memory};
-use partial_merge::{MergeError, Part, merge};
+use partial_merge::{MergeError, OrderedDocument, Part, merge, merge_ordered};
 use std::alloc::Global;
 
 /// The list of these parts, which are to fit the meta-configuration.
@@ -25,21 +27,43 @@ pub fn staged(alloc: Global, meta: &Meta, parts: Vec<Part>) -> Result<Staged, St
     ensures fits { IfOk result (λ staged. AreFitting meta.now parts.items) }
     ensures refused { IfErr result (AreRefused meta.now parts.items) }
 {
-    let document = match merge(alloc, &parts) {
-        Ok(document) => document,
+    match staged_in_order(alloc, meta, parts) {
+        Ok((staged, _)) => Ok(staged),
+        Err(error) => Err(error),
+    }
+}
+
+/// The list of these parts, as of [`staged`], together with the document that they are merged to and its order.
+pub fn staged_in_order(
+    alloc: Global,
+    meta: &Meta,
+    parts: Vec<Part>,
+) -> Result<(Staged, OrderedDocument), StageError>
+    requires named { AreNamed parts.items }
+    requires meta { IsMeta meta.now }
+    ensures staged { IfOk result (λ pair. parts_of pair.0 ≡ parts.items) }
+    ensures merged { IfOk result (λ pair. Merged parts.items pair.1.document) }
+    ensures ordered { IfOk result (λ pair. IsOrdered pair.1) }
+    ensures in_size { IfOk result (λ pair. DocumentInSize pair.1.document) }
+    ensures fits { IfOk result (λ pair. AreFitting meta.now parts.items) }
+    ensures refused { IfErr result (AreRefused meta.now parts.items) }
+{
+    let ordered = match merge_ordered(alloc, &parts) {
+        Ok(ordered) => ordered,
         Err(MergeError::Memory) => return Err(StageError::Memory),
         Err(refusal) => return Err(StageError::Merge(refusal)),
     };
-    if let Err(misfit) = fits(meta, &document) {
+    if let Err(misfit) = fits(meta, &ordered.document) {
         return Err(StageError::Fit(misfit));
     }
     let bytes = bytes_of(&parts);
     if bytes > MAX_BYTES {
         return Err(StageError::TooLong { bytes });
     }
-    Ok(Staged {
+    let staged = Staged {
         parts: Items::of(parts),
-    })
+    };
+    Ok((staged, ordered))
 }
 
 /// The list of these parts, where they can be one, whether they fit a meta-configuration or not: 1 to 8 parts with names of at

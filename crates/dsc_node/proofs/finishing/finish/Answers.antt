@@ -1,5 +1,5 @@
 use Rattle.std.proofs.Common.{◌<◌, List, inl, refl, true, sym, ap, subst, ◌∙◌}
-use Rattle.std.specs.Prelude.{All, length, string_bytes}
+use Rattle.std.specs.Prelude.{All, IfSome, length, string_bytes}
 use Rattle.resource_kinds.specs.declared.entry.Entry.{Entry}
 use Rattle.resource_kinds.specs.Trace.{place_of}
 use Rattle.lcm_core.specs.RunLaws.{EndsAtYes}
@@ -9,6 +9,7 @@ use Rattle.node_state.specs.declared.node.Node.{Node}
 use Rattle.node_state.specs.Sound.{Sound}
 use Rattle.node_store.specs.Store.{StoreTerm}
 use Rattle.node_pull.specs.Views.{view_of}
+use Rattle.dsc_node.specs.Documents.{IsOfPending}
 use Rattle.dsc_node.specs.Path.{KeepGoes, NothingGoes}
 use Rattle.dsc_node.specs.Readings.{Took}
 use Rattle.dsc_node.specs.Running.{IsOver, IsRunStep}
@@ -30,6 +31,11 @@ pub run_step-requires-clause-sound : goal.run_step-requires-clause-sound
 run_step-requires-clause-sound g c =
     let node = c.state.ensures ∙ ap (λ (s : StoreTerm). s.node) c.in_default.ensures.reserved in
     subst (λ (n : Node). Sound n) (sym node) (kept_sound g.D.Disk c.args.disk.now c.args.store.now c.requires.kept)
+
+pub run_step-requires-clause-document : goal.run_step-requires-clause-document
+run_step-requires-clause-document g c =
+    let node = c.state.ensures ∙ ap (λ (s : StoreTerm). s.node) c.in_default.ensures.reserved in
+    subst (λ (n : Node). IfSome c.args.document (IsOfPending n)) (sym node) c.requires.document
 
 pub keep-requires-clause-known : goal.keep-requires-clause-known
 keep-requires-clause-known g c =

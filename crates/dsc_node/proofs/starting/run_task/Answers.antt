@@ -7,6 +7,7 @@ use Rattle.node_pull.specs.Views.{view_of}
 use Rattle.dsc_node.specs.Bringing.{Brought, events_of}
 use Rattle.dsc_node.specs.Work.{Finish, ReadsBefore, finished, first_refused, known, not_brought}
 use Rattle.dsc_node.proofs.Commits.{ends_as, ends_here, ends_on}
+use Rattle.dsc_node.proofs.KnownDocuments.{known_pending}
 use Rattle.dsc_node.proofs.Nodes.{kept_sound}
 use Rattle.dsc_node.proofs.Tasks.{run_reads, said_stops}
 use Rattle.dsc_node.proofs.starting.run_task.Goals as goal
@@ -16,37 +17,43 @@ bring-requires-clause-sound g c = subst (λ (n : Node). Sound n) (sym c.state-2.
 
 pub returns-in-Err-clause-goes : goal.returns-in-Err-clause-goes
 returns-in-Err-clause-goes g c =
-    let brought = subst (λ (n : Node). Brought g.M.Resources g.M.Machine n c.args.task c.args.start (view_of g.L.Link c.args.link.now) (view_of g.L.Link c.bring.new.link) c.args.machine.now c.bring.new.machine (Err c.in-Err.error)) c.state-2.ensures (c.in-Err.ensures.brought c.args.start) in
+    let brought = subst (λ (n : Node). Brought g.M.Resources g.M.Machine n c.args.prepared.task c.args.start (view_of g.L.Link c.args.link.now) (view_of g.L.Link c.bring.new.link) c.args.machine.now c.bring.new.machine (Err c.in-Err.error)) c.state-2.ensures (c.in-Err.ensures.brought c.args.start) in
     record {
       ready = c.bring.new.machine;
       run = None;
       leaves = record { kept = c.in-Err.ensures.kept; packages = c.in-Err.ensures.packages; later = c.in-Err.ensures.later };
       ends = ends_here g.D.Disk c.requires.kept (λ from counts work unread allowed runs reads.
-          not_brought c.args.start c.in-Err.error allowed (subst (λ (b : Bool). ReadsBefore g.C.Clock b c.args.start unread c.args.clock.now) (sym (run_reads c.args.task runs)) reads) brought
+          not_brought c.args.start c.in-Err.error allowed (subst (λ (b : Bool). ReadsBefore g.C.Clock b c.args.start unread c.args.clock.now) (sym (run_reads c.args.prepared.task runs)) reads) brought
           (c.silent.ensures.status ∙ c.status_of_pull.ensures, c.silent.ensures.lines));
     }
 
 pub returns-in-Err-commit_first-clause-goes : goal.returns-in-Err-commit_first-clause-goes
 returns-in-Err-commit_first-clause-goes g c =
-    let brought = subst (λ (n : Node). Brought g.M.Resources g.M.Machine n c.args.task c.args.start (view_of g.L.Link c.args.link.now) (view_of g.L.Link c.bring.new.link) c.args.machine.now c.bring.new.machine (Ok c.in-Ok.first)) c.state-2.ensures (c.in-Ok.ensures.brought c.args.start) in
+    let brought = subst (λ (n : Node). Brought g.M.Resources g.M.Machine n c.args.prepared.task c.args.start (view_of g.L.Link c.args.link.now) (view_of g.L.Link c.bring.new.link) c.args.machine.now c.bring.new.machine (Ok c.in-Ok.first)) c.state-2.ensures (c.in-Ok.ensures.brought c.args.start) in
     record {
       ready = c.bring.new.machine;
       run = None;
       leaves = record { kept = c.in-Ok.ensures.kept; packages = c.in-Ok.ensures.packages; later = c.in-Ok.ensures.later };
       ends = ends_as g.D.Disk c.in-Err-commit_first.ensures.goes (λ from counts work committed broken t unread allowed runs reads.
           first_refused c.args.start t.0 c.in-Err-commit_first.error committed broken allowed
-          (subst (λ (b : Bool). ReadsBefore g.C.Clock b c.args.start unread c.args.clock.now) (sym (run_reads c.args.task runs)) reads)
-          (subst (λ (f : Option Event). Brought g.M.Resources g.M.Machine c.args.store.now.node c.args.task c.args.start (view_of g.L.Link c.args.link.now) (view_of g.L.Link c.bring.new.link) c.args.machine.now c.bring.new.machine (Ok f)) t.1 brought)
+          (subst (λ (b : Bool). ReadsBefore g.C.Clock b c.args.start unread c.args.clock.now) (sym (run_reads c.args.prepared.task runs)) reads)
+          (subst (λ (f : Option Event). Brought g.M.Resources g.M.Machine c.args.store.now.node c.args.prepared.task c.args.start (view_of g.L.Link c.args.link.now) (view_of g.L.Link c.bring.new.link) c.args.machine.now c.bring.new.machine (Ok f)) t.1 brought)
           t.2 (c.silent-in-Err-commit_first.ensures.status ∙ c.status_of.ensures, c.silent-in-Err-commit_first.ensures.lines));
     }
 
+pub finish-requires-clause-document : goal.finish-requires-clause-document
+finish-requires-clause-document g c =
+    let brought = subst (λ (n : Node). Brought g.M.Resources g.M.Machine n c.args.prepared.task c.args.start (view_of g.L.Link c.args.link.now) (view_of g.L.Link c.bring.new.link) c.args.machine.now c.bring.new.machine (Ok c.in-Ok.first)) c.state-2.ensures (c.in-Ok.ensures.brought c.args.start) in
+    known_pending g.M.Resources g.M.Machine c.args.store.now.node c.commit_first.new.store.node c.args.start (view_of g.L.Link c.args.link.now) (view_of g.L.Link c.bring.new.link) c.args.machine.now c.bring.new.machine c.in-Ok.first
+    c.args.prepared.task c.args.prepared.document c.requires.document brought c.in_default.ensures.goes.steps
+
 pub returns : goal.returns
 returns g c =
-    let brought = subst (λ (n : Node). Brought g.M.Resources g.M.Machine n c.args.task c.args.start (view_of g.L.Link c.args.link.now) (view_of g.L.Link c.bring.new.link) c.args.machine.now c.bring.new.machine (Ok c.in-Ok.first)) c.state-2.ensures (c.in-Ok.ensures.brought c.args.start) in
+    let brought = subst (λ (n : Node). Brought g.M.Resources g.M.Machine n c.args.prepared.task c.args.start (view_of g.L.Link c.args.link.now) (view_of g.L.Link c.bring.new.link) c.args.machine.now c.bring.new.machine (Ok c.in-Ok.first)) c.state-2.ensures (c.in-Ok.ensures.brought c.args.start) in
     let first = c.in_default.ensures.goes in
     let mid = c.commit_first.new.store.node in
     let ran = c.finish.ensures.goes in
-    let stopped = said_stops c.args.store.now.node c.state.result.now c.args.task c.stops-stopped.result c.state.ensures c.stops-stopped.ensures in
+    let stopped = said_stops c.args.store.now.node c.state.result.now c.args.prepared.task c.stops-stopped.result c.state.ensures c.stops-stopped.ensures in
     record {
       goes = record {
         ready = c.bring.new.machine;

@@ -19,7 +19,7 @@ returns-in-Ok-open_store-clause-start g c =
     let store = c.in-Ok-open_store.store in
     let goes = c.opened.ensures.goes in
     opened (record {
-      task = c.in-Ok.task;
+      task = c.in-Ok.prepared.task;
       is_task = c.in-Ok.ensures.ok;
       from = store.node;
       ready = goes.ready;
@@ -41,7 +41,7 @@ returns-in-Ok-open_store-clause-again g c =
     let before = outside begin c.args.machine.now (view_of g.L.Link c.args.link.now) c.args.clock.now in
     let after = outside c.opened.new.disk c.opened.new.machine (view_of g.L.Link c.opened.new.link) c.opened.new.clock in
     let start : Start (known g.D.Disk g.M.Resources g.M.Machine g.C.Clock) c.args.command before after status lines = opened (record {
-      task = c.in-Ok.task;
+      task = c.in-Ok.prepared.task;
       is_task = c.in-Ok.ensures.ok;
       from = store.node;
       ready = goes.ready;
@@ -55,7 +55,7 @@ returns-in-Ok-open_store-clause-again g c =
 
 pub returns-in-Err-open_store-clause-start : goal.returns-in-Err-open_store-clause-start
 returns-in-Err-open_store-clause-start g c =
-    unopened c.in-Ok.task c.in-Err-open_store.error c.in-Ok.ensures.ok c.in-Err-open_store.ensures.count c.in-Err-open_store.ensures.cause refl c.in-Err-open_store.ensures.any_moment
+    unopened c.in-Ok.prepared.task c.in-Err-open_store.error c.in-Ok.ensures.ok c.in-Err-open_store.ensures.count c.in-Err-open_store.ensures.cause refl c.in-Err-open_store.ensures.any_moment
     (c.silent-in-Err-open_store.ensures.status ∙ c.status_of.ensures, c.silent-in-Err-open_store.ensures.lines)
 
 -- the headline follows from the table, whatever that says

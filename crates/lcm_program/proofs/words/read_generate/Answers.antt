@@ -9,12 +9,12 @@ pub returns-in_default-clause-usage : goal.returns-in_default-clause-usage
 returns-in_default-clause-usage c =
     rw (no_texts string_bytes c.args.rest.now c.in_default.len_below) (stands_alone (codes "generate") IsAnyCount generate_form some_generate)
 
-pub returns-in_default-read_count-clause-usage : goal.returns-in_default-read_count-clause-usage
-returns-in_default-read_count-clause-usage c =
+pub returns-in_default-parsed_count-clause-usage : goal.returns-in_default-parsed_count-clause-usage
+returns-in_default-parsed_count-clause-usage c =
     subst (λ (words : List (List ℕ)). IsUsage (codes "generate" ∷ words) 1)
     (first_and_rest string_bytes c.args.rest.now c.word-item.result c.deref.result.now c.in-len1-up.len_at_least c.word-item.is c.deref.ensures)
     (wrong_other (codes "generate") IsAnyCount generate_form some_generate c.deref.result.now _
-    (λ counted. c.in_default-read_count.ensures.none counted.0 counted.1))
+    (λ counted. c.in_default-parsed_count.ensures.none counted.0 counted.1))
 
 pub returns-in_default-more-clause-usage : goal.returns-in_default-more-clause-usage
 returns-in_default-more-clause-usage c =

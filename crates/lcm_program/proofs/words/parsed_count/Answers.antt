@@ -1,6 +1,6 @@
 use Rattle.std.proofs.Common.{length, get_or, ap, sym, arith}
 use Rattle.lcm_program.proofs.Counts.{above_is_none, count_begins, fault_is_none, read_is}
-use Rattle.lcm_program.proofs.words.read_count.Goals as goal
+use Rattle.lcm_program.proofs.words.parsed_count.Goals as goal
 
 pub returns-in_default-clause-none : goal.returns-in_default-clause-none
 returns-in_default-clause-none c = λ count counted.
