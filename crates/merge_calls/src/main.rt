@@ -14,6 +14,7 @@ mod parts;
 use ids::id_lines;
 use partial_merge::{MergeError, merge_ordered};
 use parts::read_parts;
+use std::mem::forget;
 use std::process::ExitCode;
 use std::{env, io};
 
@@ -54,6 +55,7 @@ fn print_merged(rt: &HostRuntime, files: &[String]) -> io::Result<u8>
     match merge_ordered(rt.alloc(), &parts) {
         Ok(merged) => {
             print!(rt; "{}", id_lines(rt.alloc(), &merged)?)?;
+            forget(merged); // the process ends, and the system takes its memory back
             Ok(0)
         }
         Err(MergeError::Memory) => Ok(4),

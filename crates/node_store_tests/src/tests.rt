@@ -1,7 +1,10 @@
 //! What no clause of a store says.
+mod banks;
 mod damaged;
 mod openings;
+mod rewrites;
 mod sizes;
+mod staging;
 mod stops;
 mod table;
 mod written;

@@ -2,9 +2,9 @@
 ghost use Rattle.node_store.specs.Store.{IsReady};
 
 use super::banks::filled;
+use crate::{body_of, commit_body, kept_in, shown};
 use dsc_outside::{Disk, DiskCall, DiskPart, DiskStop, MemoryDisk, RecordedCall};
 use node_store::{NodeStore, StoreError, open_store};
-use node_store_tests::{body_of, commit_body, kept_in, shown};
 use std::alloc::{AllocError, Global};
 use std::test::Fail;
 

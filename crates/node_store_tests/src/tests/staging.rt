@@ -1,10 +1,10 @@
 //! Many large documents, one after the other.
 ghost use Rattle.node_store.specs.Store.{IsReady};
 
+use crate::{INIT, commit_body, new_disk};
 use dsc_outside::{Disk, MemoryDisk};
 use mof_values::Text;
 use node_store::{NodeStore, StoreError, open_store};
-use node_store_tests::{INIT, commit_body, new_disk};
 use partial_merge::part_of;
 use std::alloc::{AllocError, Global};
 use std::test::Fail;

@@ -2,9 +2,9 @@
 ghost use Rattle.pull_store.specs.Store.{IsReady};
 
 use super::full_disk::FullDisk;
+use crate::{ask, new_shelf};
 use dsc_outside::Disk;
 use pull_outside::Shelf;
-use pull_server_tests::{ask, new_shelf};
 use pull_store::{PullError, PullStore, open_pull};
 use std::alloc::{AllocError, Global};
 use std::rt::HostRuntime;

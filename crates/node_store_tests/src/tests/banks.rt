@@ -1,5 +1,5 @@
 //! Files whose live bank is full but for a few bytes.
-use node_store_tests::{HEAD, body_of, push_cell};
+use crate::{HEAD, body_of, push_cell};
 use std::alloc::{AllocError, Global};
 
 // The bytes of a bank.

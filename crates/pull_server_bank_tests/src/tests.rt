@@ -1,2 +1,0 @@
-mod full;
-mod full_disk;
