@@ -9,7 +9,7 @@ use Rattle.mof_syntax.specs.Scanning.{hex_tail, BeginsWithDigit}
 use Rattle.mof_syntax.proofs.Scans.{clash, hex-read, read-hex, escape-read}
 use Rattle.mof_syntax.proofs.Literals.{SameLiteral-start, goes_on_plain, goes_on_escaped}
 use Rattle.mof_syntax.proofs.Suffixes.{EndsWithin-length, escape_ends}
-use Rattle.mof_codec.specs.Values.{HexEscape, NoHexEscape, NoEscape, GoesOnBy}
+use Rattle.mof_codec.specs.Values.{HexEscape, NoHexEscape, NoEscape, GoesOnByOne}
 
 -- digits of an escape are below 16 ^ 4
 
@@ -105,17 +105,15 @@ x_absent c others e h = absurd (clash (sym h ∙ e))
 
 -- the characters of a literal
 
-pub goes_on_by_plain : (cs rest : List ℕ) (c : ℕ) → cs ≡ c ∷ rest → (c == quote) ≡ false → (c == backslash) ≡ false → GoesOnBy cs c rest
-goes_on_by_plain cs rest c e no_quote no_escape = subst (λ (xs : List ℕ). GoesOnBy xs c rest) (sym e) (record {
+pub goes_on_by_plain : (cs rest : List ℕ) (c : ℕ) → cs ≡ c ∷ rest → (c == quote) ≡ false → (c == backslash) ≡ false → GoesOnByOne cs c rest
+goes_on_by_plain cs rest c e no_quote no_escape = subst (λ (xs : List ℕ). GoesOnByOne xs c rest) (sym e) (record {
   on = λ text behind q. plain c rest text behind no_quote no_escape q;
   only = λ text behind q. (goes_on_plain (c ∷ rest) rest c no_quote no_escape (SameLiteral-start (c ∷ rest))).only behind (text, q);
-  shorter = omega arith;
-})
+}, omega arith)
 
-pub goes_on_by_escape : (cs others rest : List ℕ) (c value : ℕ) → cs ≡ c ∷ others → c ≡ backslash → Escape others value rest → GoesOnBy cs value rest
-goes_on_by_escape cs others rest c value e is i = subst (λ (xs : List ℕ). GoesOnBy xs value rest) (sym (e ∙ ap (λ (d : ℕ). d ∷ others) is)) (record {
+pub goes_on_by_escape : (cs others rest : List ℕ) (c value : ℕ) → cs ≡ c ∷ others → c ≡ backslash → Escape others value rest → GoesOnByOne cs value rest
+goes_on_by_escape cs others rest c value e is i = subst (λ (xs : List ℕ). GoesOnByOne xs value rest) (sym (e ∙ ap (λ (d : ℕ). d ∷ others) is)) (record {
   on = λ text behind q. escaped value others rest text behind i q;
   only = λ text behind q.
       (goes_on_escaped (backslash ∷ others) others rest (escape-read others value rest i) (SameLiteral-start (backslash ∷ others))).only behind (text, q);
-  shorter = let less : length rest < length others = EndsWithin-length others rest (escape_ends others value rest i) in omega arith;
-})
+}, (let less : length rest < length others = EndsWithin-length others rest (escape_ends others value rest i) in omega arith))

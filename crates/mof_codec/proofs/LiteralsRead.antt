@@ -1,6 +1,7 @@
 -- String literals, as far as they were read.
-use Rattle.std.proofs.Common.{◌≡◌, ◌<◌, ◌≤◌, ℕ, List, [], ◌∷◌, ◌++◌, length, Some, None, refl, sym, ap, subst, ◌∙◌, arith, append_assoc, append-nil}
-use Rattle.mof_syntax.specs.Characters.{quote}
+use Rattle.std.proofs.Common.{◌≡◌, ◌<◌, ◌≤◌, ℕ, List, [], ◌∷◌, ◌++◌, length, take, Some, None, Bool, true, false, ◌-◌, ◌+◌, ◌==◌, ◌||◌, not, refl, sym, ap, subst, ◌∙◌, arith, append_assoc, append-nil, length-append}
+use Rattle.std.proofs.Math.Seq.{take-append_seam}
+use Rattle.mof_syntax.specs.Characters.{quote, backslash}
 use Rattle.mof_syntax.specs.Separators.{Separator, Separators}
 use Rattle.mof_syntax.specs.Strings.{Quoted, closed}
 use Rattle.mof_syntax.specs.Tokens.{Lexeme, Literal, IsToken, literal, Lexes, end, separator, token}
@@ -11,36 +12,79 @@ use Rattle.mof_syntax.proofs.FirstTokens.{token_stands}
 use Rattle.mof_syntax.proofs.Suffixes.{EndsWith-length, EndsWithin-length, separators_end, token_ends}
 use Rattle.mof_syntax.proofs.UniqueRules.{string_same, string_first}
 use Rattle.mof_codec.specs.Reading.{Begins, Only, BeginsWith, Lacks}
-use Rattle.mof_codec.specs.Values.{behind_char, BeginsQuote, NoLiteralFirst, AddsQuoted, NoQuoted, GoesOnBy, OnlyQuoteFirst, AnyText}
+use Rattle.mof_codec.specs.Values.{behind_char, BeginsQuote, NoLiteralFirst, AddsQuoted, NoQuoted, is_plain, GoesOnBy, GoesOnByOne, OnlyQuoteFirst, AnyText}
 use Rattle.mof_codec.proofs.MarkFronts.{behind_char-split, behind_char-none}
+use Rattle.mof_codec.proofs.Escapes.{goes_on_by_plain}
 use Rattle.mof_codec.proofs.TokenFronts.{begins_token, begins_as, begins_at, Joined, begins_join, first_of, skip_only}
 
--- the characters of a literal
-
+-- the characters of a literal: what was added so far
 pub record QuotedSoFar (before all done left : List ℕ) : Type 0 where
   pub text : List ℕ
   pub added : done ≡ before ++ text
-  pub on : (more rest : List ℕ) → Quoted left more rest → Quoted all (text ++ more) rest
-  pub only : (whole rest : List ℕ) → Quoted all whole rest → (more : List ℕ) × Quoted left more rest
+  pub goes : GoesOnBy all text left
+
+pub goes_on_at_start : (cs : List ℕ) → GoesOnBy cs [] cs
+goes_on_at_start cs = record { on = λ more behind q. q; only = λ whole behind q. (whole, q) }
+
+pub goes_on_further : (cs text left more rest : List ℕ) → GoesOnBy cs text left → GoesOnBy left more rest → GoesOnBy cs (text ++ more) rest
+goes_on_further cs text left more rest first then = record {
+  on = λ others behind q. subst (λ (xs : List ℕ). Quoted cs xs behind) (sym (append_assoc text more others)) (first.on (more ++ others) behind (then.on others behind q));
+  only = λ whole behind q. let x = first.only whole behind q in then.only x.0 behind x.1;
+}
 
 pub quoted_start : (before all : List ℕ) → QuotedSoFar before all before all
-quoted_start before all = record { text = []; added = sym (append-nil before); on = λ more rest q. q; only = λ whole rest q. (whole, q) }
+quoted_start before all = record { text = []; added = sym (append-nil before); goes = goes_on_at_start all }
 
-pub quoted_next : (before all done left rest : List ℕ) (c : ℕ) → QuotedSoFar before all done left → GoesOnBy left c rest → QuotedSoFar before all (done ++ c ∷ []) rest
-quoted_next before all done left rest c s g = record {
-  text = s.text ++ c ∷ [];
-  added = ap (λ (xs : List ℕ). xs ++ c ∷ []) s.added ∙ append_assoc before s.text (c ∷ []);
-  on = λ more behind q. subst (λ (xs : List ℕ). Quoted all xs behind) (sym (append_assoc s.text (c ∷ []) more)) (s.on (c ∷ more) behind (g.on more behind q));
-  only = λ whole behind q. let x = s.only whole behind q in g.only x.0 behind x.1;
+pub quoted_next : (before all done left text rest : List ℕ) → QuotedSoFar before all done left → GoesOnBy left text rest → QuotedSoFar before all (done ++ text) rest
+quoted_next before all done left text rest s g = record {
+  text = s.text ++ text;
+  added = ap (λ (xs : List ℕ). xs ++ text) s.added ∙ append_assoc before s.text text;
+  goes = goes_on_further all s.text left text rest s.goes g;
 }
 
 pub quoted_end : (before all done left rest : List ℕ) → QuotedSoFar before all done left → behind_char quote left ≡ Some rest → AddsQuoted before all done rest
 quoted_end before all done left rest s e =
     let q : Quoted left [] rest = subst (λ (xs : List ℕ). Quoted xs [] rest) (sym (behind_char-split quote left rest e)) (closed rest) in
-    (s.text, subst (λ (xs : List ℕ). Quoted all xs rest) (append-nil s.text) (s.on [] rest q), s.added)
+    (s.text, subst (λ (xs : List ℕ). Quoted all xs rest) (append-nil s.text) (s.goes.on [] rest q), s.added)
 
 pub quoted_stuck : (before all done left : List ℕ) → QuotedSoFar before all done left → behind_char quote left ≡ None → OnlyQuoteFirst left → NoQuoted all
-quoted_stuck before all done left s e absent text rest q = let x = s.only text rest q in behind_char-none quote left rest e (absent x.0 rest x.1)
+quoted_stuck before all done left s e absent text rest q = let x = s.goes.only text rest q in behind_char-none quote left rest e (absent x.0 rest x.1)
+
+-- the characters that a literal goes on by as they stand
+
+pub record PlainSoFar (all left : List ℕ) : Type 0 where
+  pub front : List ℕ
+  pub split : all ≡ front ++ left
+  pub goes : GoesOnBy all front left
+
+neither : (a b : Bool) → not (a || b) ≡ true → (a ≡ false) × (b ≡ false)
+neither false false h = (refl, refl)
+neither false true h = absurd cc
+neither true b h = absurd cc
+
+pub plain_start : (all : List ℕ) → PlainSoFar all all
+plain_start all = record { front = []; split = refl; goes = goes_on_at_start all }
+
+pub plain_next : (all left rest : List ℕ) (c : ℕ) → PlainSoFar all left → left ≡ c ∷ rest → is_plain c ≡ true → PlainSoFar all rest
+plain_next all left rest c s e plain =
+    let special = neither (c == quote) (c == backslash) plain in
+    let one : GoesOnByOne left c rest = goes_on_by_plain left rest c e special.0 special.1 in
+  record {
+  front = s.front ++ c ∷ [];
+  split = s.split ∙ ap (λ (xs : List ℕ). s.front ++ xs) e ∙ sym (append_assoc s.front (c ∷ []) rest);
+  goes = goes_on_further all s.front left (c ∷ []) rest s.goes one.0;
+}
+
+pub plain_taken : (all left : List ℕ) (s : PlainSoFar all left) → s.front ≡ take (length all - length left) all
+plain_taken all left s =
+    let long : length all ≡ length s.front + length left = ap length s.split ∙ length-append s.front left in
+    let many : length all - length left ≡ length s.front = omega arith in
+    sym (ap (λ (n : ℕ). take n all) many ∙ ap (take (length s.front)) s.split ∙ take-append_seam s.front left)
+
+pub shorter_behind : (left front behind rest : List ℕ) → left ≡ front ++ behind → length rest < length behind → length rest < length left
+shorter_behind left front behind rest split less =
+    let long : length left ≡ length front + length behind = ap length split ∙ length-append front behind in
+    omega arith
 
 -- literals as tokens
 

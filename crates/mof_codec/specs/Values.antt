@@ -1,5 +1,5 @@
 -- The parts of the grammar that the reader of values reads one by one (DSP0004, the grammar of its annex).
-use Rattle.std.specs.Prelude.{◌≡◌, ℕ, ℤ, Bool, true, false, ◌==◌, ◌||◌, if◌then◌else◌, pos, neg_ℤ, ◌≤◌, ◌<◌, ◌^◌, ◌⊎◌, List, [], ◌∷◌, ◌++◌, length, Option, Some, None, codes, IfSome, ⊤}
+use Rattle.std.specs.Prelude.{◌≡◌, ℕ, ℤ, Bool, true, false, ◌==◌, ◌||◌, not, if◌then◌else◌, pos, neg_ℤ, ◌≤◌, ◌<◌, ◌^◌, ◌⊎◌, List, [], ◌∷◌, ◌++◌, length, Option, Some, None, codes, IfSome, ⊤}
 use Rattle.std.specs.List.{AllByRecursion}
 use Rattle.std.specs.Char.{digit_value}
 use Rattle.mof_values.specs.Fold.{SameName}
@@ -7,7 +7,7 @@ use Rattle.mof_values.specs.declared.instance.Instance.{Instance}
 use Rattle.mof_values.specs.declared.instance.Property.{Property}
 use Rattle.mof_values.specs.declared.value.Scalar.{Scalar}
 use Rattle.mof_values.specs.declared.value.Value.TheVariants.{Many}
-use Rattle.mof_syntax.specs.Characters.{digit_of, quote, dollar, plus_sign, minus_sign, comma, semicolon, equals_sign, left_brace, right_brace}
+use Rattle.mof_syntax.specs.Characters.{digit_of, quote, backslash, dollar, plus_sign, minus_sign, comma, semicolon, equals_sign, left_brace, right_brace}
 use Rattle.mof_syntax.specs.Separators.{Separators}
 use Rattle.mof_syntax.specs.Strings.{is_surrogate, HexDigits, Escape, Quoted}
 use Rattle.mof_syntax.specs.Tokens.{Identifier, Lexeme, Word, AliasName, Number, LeftBrace, RightBrace, EqualsSign, Semicolon, Comma, Lexes}
@@ -101,11 +101,18 @@ AddsQuoted before cs after rest = (text : List ℕ) × Quoted cs text rest × (a
 abbrev pub NoQuoted : List ℕ → Type 0
 NoQuoted cs = (text rest : List ℕ) → Quoted cs text rest → ⊥
 
--- a literal goes on by the character, and then the rest
-pub record GoesOnBy (cs : List ℕ) (c : ℕ) (rest : List ℕ) : Type 0 where
-  pub on : (text behind : List ℕ) → Quoted rest text behind → Quoted cs (c ∷ text) behind
-  pub only : (text behind : List ℕ) → Quoted cs text behind → (more : List ℕ) × Quoted rest more behind
-  pub shorter : length rest < length cs
+-- a character that stands in a literal for itself
+abbrev pub is_plain : ℕ → Bool
+is_plain c = not ((c == quote) || (c == backslash))
+
+-- a literal goes on by the characters of a text, and then the rest
+pub record GoesOnBy (cs text rest : List ℕ) : Type 0 where
+  pub on : (more behind : List ℕ) → Quoted rest more behind → Quoted cs (text ++ more) behind
+  pub only : (whole behind : List ℕ) → Quoted cs whole behind → (more : List ℕ) × Quoted rest more behind
+
+-- a literal goes on by one character, itself or by an escape
+abbrev pub GoesOnByOne : List ℕ → ℕ → List ℕ → Type 0
+GoesOnByOne cs c rest = GoesOnBy cs (c ∷ []) rest × (length rest < length cs)
 
 -- a literal goes on by its quote alone
 abbrev pub OnlyQuoteFirst : List ℕ → Type 0

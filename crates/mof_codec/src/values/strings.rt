@@ -1,10 +1,10 @@
 //! String literals, joined, and their escapes.
-ghost use Rattle.std.specs.Prelude.{◌≡◌, IfOk, IfSome, IfNone};
+ghost use Rattle.std.specs.Prelude.{◌≡◌, ◌++◌, IfOk, IfSome, IfNone};
 ghost use Rattle.mof_syntax.specs.Characters.{is_x};
 ghost use Rattle.mof_syntax.specs.Strings.{short_escape, Escape};
 ghost use Rattle.mof_syntax.specs.Grammar.{StringValue};
 ghost use Rattle.mof_codec.specs.Reading.{BeginsWith, Lacks};
-ghost use Rattle.mof_codec.specs.Values.{AnyText, BeginsQuote, NoLiteralFirst, AddsQuoted, NoQuoted, GoesOnBy, OnlyQuoteFirst, NoEscape, HexEscape, NoHexEscape};
+ghost use Rattle.mof_codec.specs.Values.{AnyText, BeginsQuote, NoLiteralFirst, AddsQuoted, NoQuoted, is_plain, GoesOnBy, GoesOnByOne, OnlyQuoteFirst, NoEscape, HexEscape, NoHexEscape};
 
 use crate::values::marks::behind_char;
 use mof_syntax::scan::{hex_digit, hex_tail};
@@ -52,10 +52,12 @@ fn push_quoted<'a>(
 {
     let mut left = chars;
     loop {
-        if let Some(rest) = behind_char(left, '"') {
+        let (plain, behind) = plain_front(left);
+        text.extend_from_slice(plain)?;
+        if let Some(rest) = behind_char(behind, '"') {
             return Ok(Some(rest));
         }
-        let Some((c, rest)) = literal_char(left) else {
+        let Some((c, rest)) = literal_char(behind) else {
             return Ok(None);
         };
         text.push(c)?;
@@ -63,9 +65,31 @@ fn push_quoted<'a>(
     }
 }
 
+// The characters before the first quote or backslash, and what is after them.
+fn plain_front(chars: &[char]) -> (&[char], &[char])
+    ensures front { GoesOnBy chars.now result.0.now result.1.now }
+    ensures split { chars.now ≡ result.0.now ++ result.1.now }
+{
+    let mut left = chars;
+    while let [c, rest @ ..] = left {
+        if !is_plain(*c) {
+            break;
+        }
+        left = rest;
+    }
+    (&chars[..chars.len() - left.len()], left)
+}
+
+// Returns whether the character stands in a literal for itself.
+fn is_plain(c: char) -> bool
+    ensures { result ≡ is_plain c }
+{
+    !matches!(c, '"' | '\\')
+}
+
 // A character of a literal, itself or by an escape, and what is after.
 fn literal_char(chars: &[char]) -> Option<(char, &[char])>
-    ensures some { IfSome result (λ found. GoesOnBy chars.now found.0 found.1.now) }
+    ensures some { IfSome result (λ found. GoesOnByOne chars.now found.0 found.1.now) }
     ensures none { IfNone result (OnlyQuoteFirst chars.now) }
 {
     let [c, rest @ ..] = chars else {
