@@ -1,15 +1,13 @@
 -- The resources of a document whose dependencies are resources have an order or a cycle.
-use Rattle.std.proofs.Common.{◌≡◌, ◌⊎◌, inl, inr, ℕ, zero, suc, ◌<◌, List, [], ◌∷◌, All, Option, Some, None, length, refl, sym, ◌∙◌, ap, subst, arith}
+use Rattle.std.proofs.Common.{◌≡◌, inl, inr, ℕ, zero, suc, ◌<◌, List, [], ◌∷◌, All, Option, Some, None, length, refl, ◌∙◌, ap, subst, arith}
 use Rattle.std.proofs.lemmas.List.Elements.{All-tail}
 use Rattle.std.proofs.lemmas.Option.{none-some, same_Some, get_or_from_slice_get, slice_get-get_or, slice_get_within}
 use Rattle.std.specs.Prelude.{IsSomeAnd, slice_get}
 use Rattle.mof_values.specs.Fold.{SameName}
 use Rattle.dsc_document.specs.declared.document.Document.{Document}
 use Rattle.dsc_document.specs.declared.document.Resource.{Resource}
-use Rattle.dsc_document.specs.Dependencies.{HasDistinctIds, IsDependency, IsId, Means, Names, NamesResources}
-use Rattle.depend_order.specs.Cycle.{DependsOn, IsCycle}
+use Rattle.dsc_document.specs.Dependencies.{HasDistinctIds, IsId, Means, Names, NamesResources}
 use Rattle.depend_order.specs.Laws.{OrderOrCycle}
-use Rattle.depend_order.specs.Order.{IsOrder}
 use Rattle.depend_order.proofs.Existing.{NumbersName, order_or_cycle}
 use Rattle.depend_order.proofs.Options.{some_of, some_is}
 use Rattle.depend_order.proofs.Resolved.{means_one}

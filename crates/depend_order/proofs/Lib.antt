@@ -12,10 +12,13 @@ pub mod Orders
 pub mod Placing
 pub mod Ready
 pub mod Releasing
+pub mod Repeated
 pub mod Resolved
 pub mod Resolving
 pub mod SameNames
 pub mod Splits
+pub mod Spots
 pub mod Stuck
 pub mod Times
+pub mod Unknown
 pub mod Walks

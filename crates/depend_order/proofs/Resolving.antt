@@ -2,18 +2,18 @@
 use Rattle.std.proofs.Common.{◌≡◌, inl, inr, ℕ, ◌+◌, ◌<◌, Bool, true, false, cond, List, [], ◌∷◌, ◌++◌, Some, None, is_some, length, take, get_or, length-take-le, refl, sym, ◌∙◌, ap, subst, arith}
 use Rattle.std.proofs.lemmas.Bool.{cases_Bool, both_ways, false≢true}
 use Rattle.std.proofs.lemmas.List.{take_more}
-use Rattle.std.proofs.lemmas.Option.{same_Some, slice_get-get_or}
+use Rattle.std.proofs.lemmas.Option.{same_Some, get_or_from_slice_get, slice_get-get_or}
 use Rattle.std.proofs.lemmas.Slice.Zip.{all_zipped_more}
 use Rattle.std.proofs.lemmas.Slice.Eq.{bytes_eq-Decides}
 use Rattle.std.specs.Cmp.Lexicographic.{pointwise}
 use Rattle.std.specs.Global.{Vec}
 use Rattle.std.specs.HashMap.{Updates}
 use Rattle.std.specs.List.{AllZip}
-use Rattle.std.specs.Prelude.{All, Any, IsSome, IsSomeAnd, nat_eq, slice_get}
+use Rattle.std.specs.Prelude.{IsSome, IsSomeAnd, nat_eq, slice_get}
 use Rattle.std.specs.Str.{bytes_eq}
 use Rattle.dsc_document.specs.declared.document.Resource.{Resource}
 use Rattle.mof_values.specs.Fold.{fold_case, SameName}
-use Rattle.dsc_document.specs.Dependencies.{Means}
+use Rattle.dsc_document.specs.Dependencies.{IsId, Means}
 use Rattle.depend_order.specs.Index.{Index, IsIndex, IsKnown, IsKept, AreResolved, place_at}
 use Rattle.depend_order.proofs.Options.{some_of, some_is, get_push, get-push_left, get-push_last}
 
@@ -67,9 +67,11 @@ IsIndex-more resources index new i resource key lt read is so_far updates =
 
 -- what the index says of the next name of a list
 module _ (index : Index) (names : List (List ℕ)) where
-  pub none_known : (i : ℕ) (name : List ℕ) (fold : Vec ℕ) → All (IsKnown index) names → i < length names → name ≡ get_or names i name → fold.items ≡ fold_case name → None ≡ place_at index fold → ⊥
-  none_known i name fold known lt read is none =
-      let some = known i name lt fold (is ∙ ap fold_case read) in
+  pub none_known : (i : ℕ) (item : List ℕ) (fold : Vec ℕ) → item ≡ get_or names i item → fold.items ≡ fold_case item → None ≡ place_at index fold
+      → (name : List ℕ) → slice_get names i ≡ Some name → IsKnown index name → ⊥
+  none_known i item fold read is none name at known =
+      let same : name ≡ item = sym (get_or_from_slice_get names i name item at) ∙ sym read in
+      let some = known fold (is ∙ ap fold_case (sym same)) in
       let h : is_some {T = ℕ} None ≡ true = rw (← none) at some in
       false≢true h
 
@@ -79,15 +81,14 @@ module _ (index : Index) (names : List (List ℕ)) where
       rw (take_more names i name lt, ← read) (all_zipped_more (IsKept index) (take i names) places name q so_far (fold, is, sym kept))
 
 module _ (resources : List Resource) (index : Index) (all : IsIndex resources index) where
-  kept_means : (name : List ℕ) (q : ℕ) → IsKept index name q → Means resources name q
+  pub kept_means : (name : List ℕ) (q : ℕ) → IsKept index name q → Means resources name q
   kept_means name q kept =
       let found = some_of (slice_get resources q) (λ r. kept.0.items ≡ fold_case r.id) (all.sound kept.0 q kept.2) in
       some_is (slice_get resources q) (λ r. SameName name r.id) found.0 found.1 (sym kept.1 ∙ found.2)
 
-  -- names that are ids are known to the index
-  pub known_names : (names : List (List ℕ)) → All (λ name. Any (λ other. SameName name other.id) resources) names → All (IsKnown index) names
-  known_names names ids k d lt fold is =
-      let named = ids k d lt in
+  -- a name that is an id is known to the index
+  pub known_name : (name : List ℕ) → IsId resources name → IsKnown index name
+  known_name name named fold is =
       let there : slice_get resources named.0 ≡ Some named.1 = slice_get-get_or resources named.0 named.1 named.2 ∙ ap Some named.3 in
       all.whole fold named.0 (some_is (slice_get resources named.0) (λ r. fold.items ≡ fold_case r.id) named.1 there (is ∙ named.4))
 

@@ -7,3 +7,5 @@ pub mod Laws
 pub mod Numbers
 pub mod Order
 pub mod Ordered
+pub mod Refused
+pub mod Repeats

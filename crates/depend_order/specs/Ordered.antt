@@ -1,5 +1,5 @@
 -- A document together with what its order is.
-use Rattle.std.specs.Prelude.{ℕ, ◌<◌, ◌^◌, length}
+use Rattle.std.specs.Prelude.{◌<◌, ◌^◌, length}
 use Rattle.dsc_document.specs.Dependencies.{HasDistinctIds, NamesResources}
 use Rattle.depend_order.specs.Documents.{AreDependencies, IsOrderOfDocument}
 use Rattle.depend_order.specs.declared.ordered.OrderedDocument.{OrderedDocument}

@@ -4,7 +4,7 @@ ghost use Rattle.depend_order.specs.Answers.{IfCycle, OnCycle};
 ghost use Rattle.dsc_document.specs.Dependencies.{HasDistinctIds, NamesResources};
 ghost use Rattle.depend_order.specs.Documents.{AreDependencies, IsCycleOfDocument, IsOrderOfDocument, names_in};
 
-use crate::names::{places_counted, places_of_names};
+use crate::names::known_places;
 use crate::numbers::order_of_counted;
 use crate::{OrderError, Steps};
 use dsc_document::Document;
@@ -65,7 +65,7 @@ pub fn order_counted<L: Ledger>(
     ensures no_order { OnCycle result ((order : List ℕ) → IsOrderOfDocument document.now order → ⊥) }
     ensures steps { steps.new ≤ steps.old + (3 * length document.now.resources + 2 * names_in document.now.resources) }
 {
-    let depends = places_counted(alloc, document, steps)?;
+    let depends = known_places(alloc, document, steps)?;
     order_of_counted(alloc, &depends, steps)
 }
 
@@ -76,5 +76,23 @@ pub fn dependencies(alloc: Global, document: &Document) -> Result<Vec<Vec<u32>>,
     requires distinct { HasDistinctIds document.now }
     ensures { IfOk result (λ depends. AreDependencies document.now depends.items) }
 {
-    places_of_names(alloc, document)
+    dependencies_uncounted::<Brand>(alloc, document, Blank::new(1))
+}
+
+// The same, with a ledger for steps that nobody reads.
+fn dependencies_uncounted<L: Ledger>(
+    alloc: Global,
+    document: &Document,
+    blank: Blank,
+) -> Result<Vec<Vec<u32>>, AllocError>
+    requires name { blank.name ≡ L.name }
+    requires parts { blank.parts ≡ L.parts }
+    requires some { 0 < blank.parts }
+    requires few { length document.now.resources < 2 ^ 32 }
+    requires known { NamesResources document.now }
+    requires distinct { HasDistinctIds document.now }
+    ensures { IfOk result (λ depends. AreDependencies document.now depends.items) }
+{
+    let mut steps = Steps::<L>::new(blank);
+    known_places(alloc, document, &mut steps)
 }

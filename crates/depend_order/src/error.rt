@@ -2,13 +2,30 @@
 ghost use Rattle.std.specs.Prelude.{◌≡◌};
 ghost use Rattle.depend_order.specs.declared.error.OrderError.TheVariants.{Memory};
 
-use mof_values::{Items, Memory};
+use dsc_document::Spot;
+use mof_values::{Items, Memory, Text};
 use std::alloc::{AllocError, AllocFailed};
 use std::fmt;
 
 /// Why the places have no order.
 #[derive(Debug, Drop, PartialEq)]
 pub enum OrderError {
+    /// The dependencies form a cycle: each of these places depends on the next, and the last on the first.
+    Cycle(Items<u32>),
+
+    Memory,
+}
+
+/// Why a document has no order, in the order in which the reasons win.
+#[derive(Debug, Drop)]
+pub enum InOrderError {
+    /// Two resources have the same id by fold. Of all such pairs it is the one whose second resource stands first, and then its
+    /// first.
+    DuplicateId { first: Spot, second: Spot },
+
+    /// The first resource that depends on what is no resource's id, and its first such name.
+    DependsUnknown { spot: Spot, name: Text },
+
     /// The dependencies form a cycle: each of these places depends on the next, and the last on the first.
     Cycle(Items<u32>),
 
@@ -28,6 +45,26 @@ impl<T: Drop> From<AllocFailed<T>> for OrderError {
 
     fn from(_: AllocFailed<T>) -> Self {
         OrderError::Memory
+    }
+}
+
+impl From<AllocError> for InOrderError {
+    ghost use Rattle.depend_order.specs.declared.error.InOrderError.TheVariants as errors;
+
+    ghost from_gives = { λ _ e. e ≡ errors.Memory };
+
+    fn from(_: AllocError) -> Self {
+        InOrderError::Memory
+    }
+}
+
+impl<T: Drop> From<AllocFailed<T>> for InOrderError {
+    ghost use Rattle.depend_order.specs.declared.error.InOrderError.TheVariants as errors;
+
+    ghost from_gives = { λ _ e. e ≡ errors.Memory };
+
+    fn from(_: AllocFailed<T>) -> Self {
+        InOrderError::Memory
     }
 }
 

@@ -1,11 +1,9 @@
 //! A document together with what its order is.
-ghost use Rattle.std.specs.Prelude.{◌≡◌, ◌<◌, ◌^◌, ℕ, List, IfOk, length};
-ghost use Rattle.depend_order.specs.Answers.{IfCycle, OnCycle};
-ghost use Rattle.dsc_document.specs.Dependencies.{HasDistinctIds, NamesResources};
-ghost use Rattle.depend_order.specs.Documents.{IsCycleOfDocument, IsOrderOfDocument};
+ghost use Rattle.std.specs.Prelude.{◌≡◌, ◌<◌, ◌^◌, IfErr, IfOk, length};
 ghost use Rattle.depend_order.specs.Ordered.{IsOrdered};
+ghost use Rattle.depend_order.specs.Refused.{HasNoOrder};
 
-use crate::OrderError;
+use crate::{InOrderError, OrderError};
 use crate::names::places_of_names;
 use crate::numbers::order_of;
 use dsc_document::Document;
@@ -24,23 +22,24 @@ pub struct OrderedDocument {
     pub depends: Items<Vec<u32>>,
 }
 
-/// The document with its order, or the cycle that leaves it without one; see [`order`](crate::order).
-pub fn in_order(alloc: Global, document: Document) -> Result<OrderedDocument, OrderError>
+/// The document with its order, or why it has none: equal ids, an unknown one, or a cycle, as [`order`](crate::order) finds it.
+pub fn in_order(alloc: Global, document: Document) -> Result<OrderedDocument, InOrderError>
     requires few { length document.resources < 2 ^ 32 }
-    requires known { NamesResources document }
-    requires distinct { HasDistinctIds document }
     ensures same { IfOk result (λ ordered. ordered.document ≡ document) }
     ensures ordered { IfOk result IsOrdered }
-    ensures cycle { IfCycle result (IsCycleOfDocument document) }
-    ensures no_order { OnCycle result ((order : List ℕ) → IsOrderOfDocument document order → ⊥) }
+    ensures refused { IfErr result (HasNoOrder document) }
 {
-    let depends = places_of_names(alloc, &document)?;
+    let depends = match places_of_names(alloc, &document) {
+        Ok(depends) => depends,
+        Err(error) => return Err(error),
+    };
     match order_of(alloc, &depends) {
         Ok(order) => Ok(OrderedDocument {
             document,
             order: Items::of(order),
             depends: Items::of(depends),
         }),
-        Err(error) => Err(error),
+        Err(OrderError::Cycle(cycle)) => Err(InOrderError::Cycle(cycle)),
+        Err(OrderError::Memory) => Err(InOrderError::Memory),
     }
 }

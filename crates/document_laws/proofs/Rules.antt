@@ -2,7 +2,7 @@
 use Rattle.std.proofs.Common.{◌≡◌, ◌⊎◌, inl, inr, ℕ, ◌+◌, ◌<◌, List, refl, arith}
 use Rattle.std.proofs.lemmas.Bool.{cases_eq}
 use Rattle.mof_values.specs.declared.instance.Instance.{Instance}
-use Rattle.dsc_document.specs.Conditions.{IsFirstOf}
+use Rattle.dsc_document.specs.Tests.{IsFirstOf}
 use Rattle.dsc_document.specs.Rules.{Applies, IsRefusal, WinsOver, rule_of}
 use Rattle.dsc_document.specs.declared.error.DocError.{DocError}
 use Rattle.dsc_document.specs.declared.error.DocError.TheVariants.{AliasUnknown, BadDependsOn, BadResourceId, DependsUnknown, DuplicateId, DuplicateProperty, Memory, NoHeader, TwoAliases, TwoHeaders}
@@ -50,17 +50,17 @@ module _ (instances : List Instance) where
   all_rules : KeepsBelow 10 ⊎ BreaksBelow 10
   all_rules = with_next 9 (known_ids instances) part_rules
 
-condition_below : (refusal : DocError) → rule_of refusal < 10
-condition_below (DuplicateProperty index name) = omega arith
-condition_below (TwoAliases first second) = omega arith
-condition_below (AliasUnknown index) = omega arith
-condition_below NoHeader = omega arith
-condition_below (TwoHeaders first second) = omega arith
-condition_below (BadResourceId index) = omega arith
-condition_below (DuplicateId first second) = omega arith
-condition_below (BadDependsOn index) = omega arith
-condition_below (DependsUnknown index name) = omega arith
-condition_below Memory = omega arith
+rule_below : (refusal : DocError) → rule_of refusal < 10
+rule_below (DuplicateProperty index name) = omega arith
+rule_below (TwoAliases first second) = omega arith
+rule_below (AliasUnknown index) = omega arith
+rule_below NoHeader = omega arith
+rule_below (TwoHeaders first second) = omega arith
+rule_below (BadResourceId index) = omega arith
+rule_below (DuplicateId first second) = omega arith
+rule_below (BadDependsOn index) = omega arith
+rule_below (DependsUnknown index name) = omega arith
+rule_below Memory = omega arith
 
 pub part_kept_or_broken : PartsHaveAnAnswer
 part_kept_or_broken instances = elim (part_rules instances) [
@@ -70,6 +70,6 @@ part_kept_or_broken instances = elim (part_rules instances) [
 
 pub document_kept_or_broken : DocumentsHaveAnAnswer
 document_kept_or_broken instances = elim (all_rules instances) [
-  | inl kept ↦ inl (record { kept = λ refusal applies. kept refusal (condition_below refusal) applies; made = refl })
+  | inl kept ↦ inl (record { kept = λ refusal applies. kept refusal (rule_below refusal) applies; made = refl })
   | inr broken ↦ inr (broken.0, broken.1)
 ]

@@ -9,11 +9,12 @@ use Rattle.mof_values.specs.declared.value.Scalar.{Scalar}
 use Rattle.mof_values.specs.declared.value.Scalar.TheVariants as scalars
 use Rattle.mof_values.specs.declared.value.Scalar.TheVariants.{Alias}
 use Rattle.mof_values.specs.declared.value.Value.{Value}
-use Rattle.dsc_document.specs.Conditions.{IsFirstOf, NoneApplies}
+use Rattle.dsc_document.specs.Tests.{IsFirstOf, NoneApplies}
 use Rattle.mof_values.specs.Values.{scalars_of, text_of}
 use Rattle.dsc_document.specs.Declarations.{IsResourceId, depends_of, depends_value, id_of, id_value, is_header, is_list_of_texts}
 use Rattle.dsc_document.specs.Names.{IsName}
-use Rattle.dsc_document.specs.Rules.{Applies, HasAt, HasBadDependsOn, HasBadId, IsFirstUnknown, IsIdValue, NamesNoAlias, RepeatsName, StandsBefore, alias_at, id_at, indexes_of, property_name_at}
+use Rattle.dsc_document.specs.Rules.{Applies, HasAt, HasBadDependsOn, HasBadId, IsFirstUnknown, IsIdValue, NamesNoAlias, RepeatsName, StandsBefore, alias_at, distinct_aliases, distinct_ids, distinct_property_names, id_at, indexes_of, known_dependencies, one_header, property_name_at, resource_ids, some_header, texts_to_depend_on}
+use Rattle.dsc_document.specs.Rules as rules
 use Rattle.dsc_document.specs.declared.error.DocError.{DocError}
 use Rattle.dsc_document.specs.declared.error.DocError.TheVariants.{AliasUnknown, BadDependsOn, BadResourceId, DependsUnknown, DuplicateId, DuplicateProperty, Memory, NoHeader, TwoAliases, TwoHeaders}
 use Rattle.dsc_document.proofs.RefusalsOfRules.{earlier, only_alias_unknown, only_bad_depends_on, only_bad_resource_id, only_depends_unknown, only_duplicate_id, only_duplicate_property, only_no_header, only_two_aliases, only_two_headers}
@@ -78,7 +79,7 @@ module _ (instances : List Instance) where
   abbrev Repeats : Instance → List ℕ → Type 0
   Repeats i name = RepeatsName i.properties name
 
-  pub properties : Tested 1
+  pub properties : Tested distinct_property_names
   properties = elim (index_or_none (λ i. (name : List ℕ) × Repeats i name) repeats_decided) [
     | inl found ↦
         let named = name_out Repeats (slice_get instances found.0) found.1.holds in
@@ -99,7 +100,7 @@ module _ (instances : List Instance) where
   within_aliases : (k : ℕ) (name : List ℕ) → alias_at instances k ≡ Some name → k < length instances
   within_aliases k name is = within_list (option_and_then (λ (i : Instance). i.alias)) instances refl k name is
 
-  pub aliases : Tested 2
+  pub aliases : Tested distinct_aliases
   aliases = elim (shared_or_apart (alias_at instances) (length instances) within_aliases) [
     | inl found ↦ inr (
       TwoAliases found.0 found.1,
@@ -155,7 +156,7 @@ module _ (instances : List Instance) where
       })
       (λ names. (names.property, names.declared, (Alias names.alias, names.named, (names.alias, refl, names.unknown))))
 
-  pub known_aliases : Tested 3
+  pub known_aliases : Tested rules.known_aliases
   known_aliases = elim (index_or_none (NamesNoAlias instances) names_no_alias_decided) [
     | inl found ↦ inr (
       AliasUnknown found.0,
@@ -188,7 +189,7 @@ module _ (instances : List Instance) where
       let within = slice_get_within instances k here.0 here.1 in
       both_ways (is_header here.0) (subst (λ (i : Instance). is_header i ≡ false) (get_or_from_slice_get instances k here.0 here.0 here.1) (plain k here.0 within)) here.2
 
-  pub one_header_at_least : Tested 4
+  pub one_header_at_least : Tested some_header
   one_header_at_least = elim (index_or_none IsHeader header_decided) [
     | inl found ↦ inl (only_no_header (λ r. Applies instances r → ⊥) (λ plain. never_a_header plain found.0 found.1.holds))
     | inr none ↦ inr (
@@ -213,7 +214,7 @@ module _ (instances : List Instance) where
       decided_as (both_decided (less_decided first second) (both_decided (some_decided IsHeader header_decided (slice_get instances first)) (some_decided IsHeader header_decided (slice_get instances second))))
       (λ both. (both.0, both.1.0, both.1.1)) (λ are. (are.0, (are.1, are.2)))
 
-  pub one_header_at_most : Tested 5
+  pub one_header_at_most : Tested one_header
   one_header_at_most = elim (pair_or_none AreHeaders headers_decided (λ i j are. are.0) (length instances) within) [
     | inl found ↦ inr (
       TwoHeaders found.0 found.1,
@@ -235,7 +236,7 @@ module _ (instances : List Instance) where
   bad_id_decided i =
       some_decided (λ (value : Value). IsIdValue value → ⊥) (λ value. opposite_decided (some_decided IsResourceId resource_id_decided (text_of value))) (id_value i)
 
-  pub id_forms : Tested 6
+  pub id_forms : Tested resource_ids
   id_forms = elim (index_or_none HasBadId bad_id_decided) [
     | inl found ↦ inr (
       BadResourceId found.0,
@@ -251,7 +252,7 @@ module _ (instances : List Instance) where
   within_ids : (k : ℕ) (name : List ℕ) → id_at instances k ≡ Some name → k < length instances
   within_ids k name is = within_list (option_and_then id_of) instances refl k name is
 
-  pub ids : Tested 7
+  pub ids : Tested distinct_ids
   ids = elim (shared_or_apart (id_at instances) (length instances) within_ids) [
     | inl found ↦ inr (
       DuplicateId found.0 found.1,
@@ -269,7 +270,7 @@ module _ (instances : List Instance) where
   bad_depends_decided : (i : Instance) → Decided (HasBadDependsOn i)
   bad_depends_decided i = some_decided (λ (value : Value). is_list_of_texts value ≡ false) (λ value. false_decided (is_list_of_texts value)) (depends_value i)
 
-  pub depends_forms : Tested 8
+  pub depends_forms : Tested texts_to_depend_on
   depends_forms = elim (index_or_none HasBadDependsOn bad_depends_decided) [
     | inl found ↦ inr (
       BadDependsOn found.0,
@@ -288,7 +289,7 @@ module _ (instances : List Instance) where
   unknown_decided : (i : Instance) → Decided ((name : List ℕ) × HasUnknown i name)
   unknown_decided i = first_without_decided (IsName (id_at instances)) (name_decided (id_at instances) (length instances) within_ids) (depends_of i)
 
-  pub known_ids : Tested 9
+  pub known_ids : Tested known_dependencies
   known_ids = elim (index_or_none (λ i. (name : List ℕ) × HasUnknown i name) unknown_decided) [
     | inl found ↦
         let named = name_out HasUnknown (slice_get instances found.0) found.1.holds in

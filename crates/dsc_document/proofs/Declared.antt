@@ -13,7 +13,7 @@ use Rattle.mof_values.specs.Values.{text_of, value_named}
 use Rattle.dsc_document.specs.Declarations.{depends_of, id_of, is_header}
 use Rattle.dsc_document.specs.Dependencies.{HasDistinctIds, IsId, NamesResources}
 use Rattle.dsc_document.specs.Names.{IsName, ShareName}
-use Rattle.dsc_document.specs.Conditions.{KeepsUpTo, NoneApplies}
+use Rattle.dsc_document.specs.Tests.{KeepsUpTo, NoneApplies}
 use Rattle.dsc_document.specs.Rules.{IsFirstUnknown, document_of, id_at, resource_at, texts_to_depend_on, known_dependencies}
 use Rattle.dsc_document.specs.declared.document.Document.{Document}
 use Rattle.dsc_document.specs.declared.error.DocError.TheVariants.{DependsUnknown, DuplicateId, NoHeader}

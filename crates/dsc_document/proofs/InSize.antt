@@ -7,7 +7,7 @@ use Rattle.std.specs.Option.{option_map_or}
 use Rattle.std.specs.Prelude.{IsSomeAnd, codes, encode_utf8_all, find, unwrap_or}
 use Rattle.mof_values.specs.declared.instance.Instance.{Instance}
 use Rattle.mof_values.specs.declared.value.Value.{Value}
-use Rattle.dsc_document.specs.Conditions.{KeepsUpTo}
+use Rattle.dsc_document.specs.Tests.{KeepsUpTo}
 use Rattle.mof_values.specs.Values.{text_of, value_named}
 use Rattle.dsc_document.specs.Declarations.{IsResourceId, id_value, is_header, version_of}
 use Rattle.dsc_document.specs.Rules.{HasBadId, IsIdValue, document_of, texts_to_depend_on}

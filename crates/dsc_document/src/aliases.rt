@@ -3,7 +3,7 @@ ghost use Rattle.std.specs.Prelude.{◌≡◌, ◌<◌, ◌^◌, ◌↔◌, Any,
 ghost use Rattle.mof_values.specs.Values.{scalars_of};
 ghost use Rattle.dsc_document.specs.Places.{HoldsNames};
 ghost use Rattle.dsc_document.specs.Rules.{alias_at, distinct_aliases, known_aliases};
-ghost use Rattle.dsc_document.specs.Conditions.{Tests, HoldsUnplaced};
+ghost use Rattle.dsc_document.specs.Tests.{Tests, HoldsUnplaced};
 
 use crate::DocError;
 use crate::places::Places;

@@ -5,7 +5,7 @@ ghost use Rattle.mof_values.specs.Values.{text_of_scalar};
 ghost use Rattle.dsc_document.specs.Declarations.{depends_of, is_list_of_texts, is_text};
 ghost use Rattle.dsc_document.specs.Places.{HoldsNames, place_of};
 ghost use Rattle.dsc_document.specs.Rules.{HasBadDependsOn, id_at, texts_to_depend_on, known_dependencies};
-ghost use Rattle.dsc_document.specs.Conditions.{Tests, IsFirstUnplaced};
+ghost use Rattle.dsc_document.specs.Tests.{Tests, IsFirstUnplaced};
 
 use crate::DocError;
 use crate::declarations::depends_value;

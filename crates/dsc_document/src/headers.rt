@@ -1,7 +1,7 @@
 //! There is one header.
 ghost use Rattle.std.specs.Prelude.{◌≡◌, ◌+◌, ◌<◌, ◌≤◌, ◌^◌, ℕ, length, IfOk, MatchOption};
 ghost use Rattle.dsc_document.specs.Rules.{some_header, one_header};
-ghost use Rattle.dsc_document.specs.Conditions.{Tests, IsHeaderAt, IsNextHeader};
+ghost use Rattle.dsc_document.specs.Tests.{Tests, IsHeaderAt, IsNextHeader};
 
 use crate::DocError;
 use crate::declarations::is_header;

@@ -3,7 +3,7 @@ ghost use Rattle.std.specs.Prelude.{◌≡◌, ◌<◌, ◌^◌, ◌↔◌, ◌�
 ghost use Rattle.dsc_document.specs.Declarations.{IsResourceId, HasKindAndName, id_of};
 ghost use Rattle.dsc_document.specs.Places.{HoldsNames};
 ghost use Rattle.dsc_document.specs.Rules.{HasBadId, IsIdValue, id_at, resource_ids, distinct_ids};
-ghost use Rattle.dsc_document.specs.Conditions.{Tests};
+ghost use Rattle.dsc_document.specs.Tests.{Tests};
 
 use crate::declarations::{id_of, id_value};
 use crate::places::Places;

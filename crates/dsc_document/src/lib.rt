@@ -22,7 +22,6 @@ mod places;
 mod properties;
 mod rules;
 mod spot;
-mod unknown;
 
 pub use document::{Document, Resource};
 pub use error::{DocError, write_chars};
@@ -30,4 +29,3 @@ pub use limits::{MAX_ID, MAX_RESOURCES, MAX_VERSION};
 pub use places::Places;
 pub use rules::{check, check_part, one_refusal_wins};
 pub use spot::Spot;
-pub use unknown::{UnknownId, unknown_id};

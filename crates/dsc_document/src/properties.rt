@@ -2,7 +2,7 @@
 ghost use Rattle.std.specs.Prelude.{◌≡◌, ◌<◌, ◌^◌, ◌↔◌, ℕ, length, IsTrue, MatchOption};
 ghost use Rattle.dsc_document.specs.Names.{IsName, ShareName};
 ghost use Rattle.dsc_document.specs.Rules.{RepeatsName, property_name_at, distinct_property_names};
-ghost use Rattle.dsc_document.specs.Conditions.{Tests};
+ghost use Rattle.dsc_document.specs.Tests.{Tests};
 
 use crate::DocError;
 use mof_values::{Ident, Instance, Property, same_name};

@@ -3,7 +3,7 @@ ghost use Rattle.std.specs.Prelude.{◌≡◌, ◌≢◌, ◌+◌, ◌<◌, ◌�
 ghost use Rattle.dsc_document.specs.Dependencies.{HasDistinctIds, NamesResources};
 ghost use Rattle.dsc_document.specs.Places.{HoldsNames};
 ghost use Rattle.dsc_document.specs.Rules.{Rules, PartRules, IsRefusal, Applies, rule_of, id_at, texts_to_depend_on, known_dependencies};
-ghost use Rattle.dsc_document.specs.Conditions.{KeepsUpTo};
+ghost use Rattle.dsc_document.specs.Tests.{KeepsUpTo};
 ghost use Rattle.dsc_document.specs.Sizes.{DocumentInSize};
 
 use crate::aliases::{alias_places, check_aliases};

@@ -1,7 +1,7 @@
 -- The generated document exists.
 use Rattle.std.proofs.Common.{inl, inr, ℕ, ◌≤◌, [], ◌∷◌, refl, arith}
 use Rattle.mof_syntax.specs.Canonical.{canonical_bytes}
-use Rattle.dsc_document.specs.Conditions.{KeepsUpTo}
+use Rattle.dsc_document.specs.Tests.{KeepsUpTo}
 use Rattle.dsc_document.specs.declared.document.Document.{Document}
 use Rattle.dsc_document.specs.Rules.{document_of, texts_to_depend_on}
 use Rattle.dsc_document.proofs.Declared.{document_distinct, document_few}

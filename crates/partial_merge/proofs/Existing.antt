@@ -18,7 +18,7 @@ use Rattle.partial_merge.specs.Parts.{AreJoined, AreParts, IsWhole, NamesDiffer,
 use Rattle.partial_merge.specs.Refused.{HasFault, Refused}
 use Rattle.partial_merge.proofs.KnownIds.{unknown_or_known}
 use Rattle.partial_merge.proofs.Repeating.{repeats_or_apart}
-use Rattle.partial_merge.proofs.Spots.{spot_is}
+use Rattle.depend_order.proofs.Spots.{spot_is}
 
 -- ---- the parts one after another
 

@@ -7,7 +7,8 @@ use Rattle.dsc_document.specs.Places.{place_of, Puts}
 use Rattle.dsc_document.specs.declared.places.Places.{Places}
 use Rattle.dsc_document.proofs.Indexes.{Indexes, Indexes-put}
 use Rattle.dsc_document.proofs.Placed.{ShareName-first, ShareName-never, ShareName-placed}
-use Rattle.partial_merge.specs.Repeats.{IsFirstRepeat}
+use Rattle.depend_order.specs.Repeats.{IsFirstRepeat}
+use Rattle.depend_order.proofs.Repeated.{names_apart}
 
 module _ {A : Type 0} (items : List A) (name_of : A → List ℕ) where
   abbrev name_at : ℕ → Option (List ℕ)
@@ -18,18 +19,6 @@ module _ {A : Type 0} (items : List A) (name_of : A → List ℕ) where
 
   no_more : (n : ℕ) → length items ≤ n → (k : ℕ) → n ≤ k → name_at k ≡ None
   no_more n all k behind = ap (option_map name_of) (slice_get_past items k (omega (arith, all, behind)))
-
-  -- where no two places share a name, the names differ
-  pub names_apart : ((i j : ℕ) → ShareName name_at i j → ⊥) → AllPairs (λ a b. SameName (name_of a) (name_of b) → ⊥) items
-  names_apart none i j d before within same =
-      none i j (
-        before,
-        name_of (slice_index_or items i d),
-        name_of (slice_index_or items j d),
-        ap (option_map name_of) (slice_get-get_or items i d (omega (arith, before, within))),
-        ap (option_map name_of) (slice_get-get_or items j d within),
-        same,
-      )
 
   module _ (n : ℕ) (places : Places) (so_far : Indexes name_at n places) where
     module _ (item : A) (within : n < length items) (is : item ≡ get_or items n item) where
@@ -43,4 +32,4 @@ module _ {A : Type 0} (items : List A) (name_of : A → List ℕ) where
       one_more new free puts = Indexes-put name_at n places new (name_of item) so_far (name_here n item within is) free puts
 
     pub all_apart : length items ≤ n → AllPairs (λ a b. SameName (name_of a) (name_of b) → ⊥) items
-    all_apart all = names_apart (ShareName-never name_at n places so_far (no_more n all))
+    all_apart all = names_apart items name_of (ShareName-never name_at n places so_far (no_more n all))

@@ -9,4 +9,3 @@ pub mod OnePartRefusals
 pub mod Repeating
 pub mod SameParts
 pub mod Sizes
-pub mod Spots

@@ -25,7 +25,7 @@ use Rattle.partial_merge.specs.declared.error.MergeError.TheVariants as refusals
 use Rattle.partial_merge.specs.Laws.{AtMostOneDocument, AtMostOneRefusal, NeverBoth}
 use Rattle.partial_merge.specs.Parts.{AreJoined, AreParts, IsWhole, NamesDiffer, joined, part_name_at}
 use Rattle.partial_merge.specs.Refused.{HasCycle, HasFault, HasSameIds, HasTooMany, HasUnknown, IsFirstFault}
-use Rattle.partial_merge.specs.Repeats.{IsFirstRepeat, IsFirstRepeatedId, id_at, spot_at}
+use Rattle.depend_order.specs.Repeats.{IsFirstRepeat, IsFirstRepeatedId, id_at, spot_at}
 use Rattle.dsc_document.proofs.FirstUnknown.{one_spot, one_unknown, unknown_unknown}
 use Rattle.dsc_document.proofs.OneRule.{one_wins}
 

@@ -2,7 +2,7 @@
 use Rattle.std.proofs.Common.{ℕ, List, [], ◌∷◌, subst, refl, arith}
 use Rattle.std.specs.List.{AllZip}
 use Rattle.dsc_document.specs.Rules.{texts_to_depend_on}
-use Rattle.dsc_document.specs.Conditions.{KeepsUpTo}
+use Rattle.dsc_document.specs.Tests.{KeepsUpTo}
 use Rattle.dsc_document.specs.declared.document.Document.{Document}
 use Rattle.dsc_document.specs.declared.spot.Spot.{Spot}
 use Rattle.dsc_document.proofs.Declared.{document_distinct, document_few}

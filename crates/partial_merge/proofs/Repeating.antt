@@ -5,8 +5,8 @@ use Rattle.std.proofs.lemmas.Option.{none-some, same_Some, slice_get_past}
 use Rattle.mof_values.specs.Fold.{SameName, fold_case}
 use Rattle.dsc_document.specs.Names.{ShareName}
 use Rattle.dsc_document.proofs.FoldKeys.{cases_same_name}
-use Rattle.partial_merge.specs.Repeats.{IsFirstRepeat}
-use Rattle.partial_merge.proofs.FirstNames.{names_apart}
+use Rattle.depend_order.specs.Repeats.{IsFirstRepeat}
+use Rattle.depend_order.proofs.Repeated.{names_apart}
 
 module _ (name_at : ℕ → Option (List ℕ)) where
   shares_or_not : (i j : ℕ) → i < j → ShareName name_at i j ⊎ (ShareName name_at i j → ⊥)

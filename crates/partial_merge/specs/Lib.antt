@@ -2,4 +2,3 @@ pub mod Laws
 pub mod Merged
 pub mod Parts
 pub mod Refused
-pub mod Repeats

@@ -17,7 +17,7 @@ use Rattle.partial_merge.specs.declared.error.PartFault.TheVariants.{Mof, Doc}
 use Rattle.partial_merge.specs.declared.error.MergeError.{MergeError}
 use Rattle.partial_merge.specs.declared.error.MergeError.TheVariants as refusals
 use Rattle.partial_merge.specs.Parts.{AreJoined, AreParts, IsWhole, NamesDiffer, part_name_at}
-use Rattle.partial_merge.specs.Repeats.{IsFirstRepeat, IsFirstRepeatedId}
+use Rattle.depend_order.specs.Repeats.{IsFirstRepeat, IsFirstRepeatedId}
 
 -- the bytes spell no instances and are refused so; never for lack of memory
 pub record IsUnspelled (bytes : List ℕ) (refusal : MofError) : Type 0 where

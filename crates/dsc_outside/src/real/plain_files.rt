@@ -37,6 +37,15 @@ pub fn file_holds<R: Files>(rt: &R, place: &str, bytes: &[u8]) -> Result<bool, H
     }
 }
 
+/// The same where a plain file was found at the place.
+pub fn found_file_holds<R: Files>(rt: &R, place: &str, bytes: &[u8]) -> Result<bool, HostError> {
+    match fs::open(rt, place) {
+        Ok(mut file) => Ok(gives_exactly(&mut file, bytes)?),
+        Err(e) if e.kind() == ErrorKind::NotFound => Ok(false),
+        Err(e) => Err(HostError::from(e)),
+    }
+}
+
 /// Answers whether a plain file is at the place. Anything else there is a failure.
 pub fn is_plain_file<R: Files>(rt: &R, place: &str) -> Result<bool, HostError> {
     match kind_at(rt, place)? {

@@ -5,7 +5,7 @@ ghost use Rattle.dsc_outside.specs.declared.host.HostError.TheVariants as errors
 
 use super::machine_folder::MachineFolder;
 use super::places::{ROOT, folder_of, path_in, root_path};
-use super::plain_files::{file_holds, take_away};
+use super::plain_files::{found_file_holds, take_away};
 use super::walking::{Kind, is_folder, is_inhabited, kind_at, make_folder, sync_folder};
 use crate::{HostError, PathState};
 use std::rt::Files;
@@ -44,7 +44,7 @@ impl<R: Files> MachineFolder<R> {
     {
         let place = root_path(self.alloc(), &self.host, path)?;
         match self.look_for(path)? {
-            Found::At(Kind::File) => file_holds(&self.rt, place.as_str(), bytes),
+            Found::At(Kind::File) => found_file_holds(&self.rt, place.as_str(), bytes),
             _ => Ok(false),
         }
     }

@@ -1,1 +1,0 @@
-use Rattle.depend_order.proofs.counts.first_waiting.Goals as goal

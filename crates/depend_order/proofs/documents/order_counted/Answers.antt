@@ -43,7 +43,7 @@ returns-clause-steps g c =
     let depends = c.in_ok-depends.depends.items in
     omega (
       arith,
-      c.places_counted.ensures.steps,
+      c.known_places.ensures.steps,
       c.order_of_counted.ensures.steps,
       ap length c.deref.ensures.value,
       ap numbers_in c.deref.ensures.value,

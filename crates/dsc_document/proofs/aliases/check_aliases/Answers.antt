@@ -1,7 +1,7 @@
 use Rattle.std.proofs.Common.{◌≡◌, ℕ, List, Any, Option, Some, None, IsTrue, is_some, refl}
 use Rattle.std.proofs.lemmas.Bool.{both_ways}
 use Rattle.mof_values.specs.declared.instance.Instance.{Instance}
-use Rattle.dsc_document.specs.Conditions.{HoldsUnplaced}
+use Rattle.dsc_document.specs.Tests.{HoldsUnplaced}
 use Rattle.mof_values.specs.Values.{scalars_of}
 use Rattle.dsc_document.specs.Places.{HoldsNames, place_of}
 use Rattle.dsc_document.specs.Rules.{Applies, NamesNoAlias, StandsBefore, alias_at, indexes_of}

@@ -1,6 +1,6 @@
 use Rattle.std.proofs.Common.{◌≡◌, ℕ, ◌<◌, get_or}
 use Rattle.mof_values.specs.declared.instance.Property.{Property}
-use Rattle.dsc_document.specs.Conditions.{HoldsUnplaced}
+use Rattle.dsc_document.specs.Tests.{HoldsUnplaced}
 use Rattle.mof_values.specs.Values.{scalars_of}
 use Rattle.dsc_document.proofs.aliases.names_no_alias.Given as goal
 

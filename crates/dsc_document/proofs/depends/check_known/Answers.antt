@@ -1,7 +1,7 @@
 use Rattle.std.proofs.Common.{◌≡◌, ℕ, List, [], ◌∷◌, ◌++◌, All, length, get_or, IsTrue, is_some, filter_map, refl, sym, ap, subst, ◌∙◌, arith, length-append}
 use Rattle.std.proofs.lemmas.Option.{MatchOption-at_some, MatchOption-at_none}
 use Rattle.mof_values.specs.declared.instance.Instance.{Instance}
-use Rattle.dsc_document.specs.Conditions.{IsFirstUnplaced}
+use Rattle.dsc_document.specs.Tests.{IsFirstUnplaced}
 use Rattle.mof_values.specs.Values.{text_of_scalar}
 use Rattle.dsc_document.specs.Declarations.{depends_of}
 use Rattle.dsc_document.specs.Places.{HoldsNames, place_of}

@@ -1,5 +1,5 @@
 use Rattle.std.proofs.Common.{ℕ, ◌<◌, ◌≤◌}
-use Rattle.dsc_document.specs.Conditions.{IsHeaderAt}
+use Rattle.dsc_document.specs.Tests.{IsHeaderAt}
 use Rattle.dsc_document.proofs.headers.header_from.Given as goal
 
 abbrev pub invariant-loop-index : goal.invariant-loop-index

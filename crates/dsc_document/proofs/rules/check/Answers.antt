@@ -1,6 +1,6 @@
 use Rattle.std.proofs.Common.{◌≡◌, length, ap, subst, arith}
 use Rattle.dsc_document.specs.Rules.{texts_to_depend_on, known_dependencies}
-use Rattle.dsc_document.specs.Conditions.{KeepsUpTo, NoneApplies}
+use Rattle.dsc_document.specs.Tests.{KeepsUpTo, NoneApplies}
 use Rattle.dsc_document.proofs.InSize.{in_size}
 use Rattle.dsc_document.proofs.Declared.{document_distinct, document_few, document_known}
 use Rattle.dsc_document.proofs.rules.check.Goals as goal

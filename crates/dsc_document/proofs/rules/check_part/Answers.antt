@@ -1,6 +1,6 @@
 use Rattle.std.proofs.Common.{◌≡◌, length, ap, subst, arith}
 use Rattle.dsc_document.specs.Rules.{texts_to_depend_on}
-use Rattle.dsc_document.specs.Conditions.{KeepsUpTo}
+use Rattle.dsc_document.specs.Tests.{KeepsUpTo}
 use Rattle.dsc_document.proofs.InSize.{in_size}
 use Rattle.dsc_document.proofs.Declared.{document_distinct, document_few}
 use Rattle.dsc_document.proofs.rules.check_part.Goals as goal

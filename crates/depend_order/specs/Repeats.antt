@@ -1,9 +1,11 @@
 -- The first name that stands twice. Names compare by fold.
-use Rattle.std.specs.Prelude.{◌≡◌, ℕ, List, Option, Some, option_map, slice_get}
+use Rattle.std.specs.Prelude.{◌≡◌, ℕ, List, Option, Some, option_map, slice_get, ⊤}
 use Rattle.dsc_document.specs.Names.{ShareName}
 use Rattle.dsc_document.specs.Rules.{StandsBefore}
 use Rattle.dsc_document.specs.declared.document.Resource.{Resource}
 use Rattle.dsc_document.specs.declared.spot.Spot.{Spot}
+use Rattle.depend_order.specs.declared.error.InOrderError.{InOrderError}
+use Rattle.depend_order.specs.declared.error.InOrderError.TheVariants.{DuplicateId, Memory}
 
 -- two places have the same name: of all such pairs the one with the least second place, and then with the least first
 pub record IsFirstRepeat (name_at : ℕ → Option (List ℕ)) (first second : ℕ) : Type 0 where
@@ -27,3 +29,9 @@ pub record IsFirstRepeatedId (resources : List Resource) (first second : Spot) :
   pub repeats : IsFirstRepeat (id_at resources) earlier later
   pub first_is : spot_at resources earlier ≡ Some first
   pub second_is : spot_at resources later ≡ Some second
+
+-- the refusal names the first two resources with the same id, or is lack of memory
+abbrev pub IsRepeatedId : List Resource → InOrderError → Type 0
+IsRepeatedId resources (DuplicateId first second) = IsFirstRepeatedId resources first second
+IsRepeatedId resources Memory = ⊤
+IsRepeatedId resources _ = ⊥

@@ -3,7 +3,7 @@ use Rattle.std.proofs.Common.{◌≡◌, ◌<◌, ℕ, List, length, Option, Som
 use Rattle.std.proofs.lemmas.Option.{none-some, slice_get-get_or}
 use Rattle.dsc_document.specs.declared.document.Resource.{Resource}
 use Rattle.dsc_document.specs.declared.spot.Spot.{Spot}
-use Rattle.partial_merge.specs.Repeats.{id_at, spot_at, spot_of}
+use Rattle.depend_order.specs.Repeats.{id_at, spot_at, spot_of}
 
 pub spot_here : (resources : List Resource) (n : ℕ) (resource : Resource) → n < length resources → resource ≡ get_or resources n resource
     → spot_at resources n ≡ Some (spot_of resource)
