@@ -1,4 +1,5 @@
-//! Files that are items of a shelf.
+//! Reads an item of a shelf from its file, which is looked at before it is opened, and again once it was read: where it has
+//! changed, it is read anew.
 ghost use Rattle.std.specs.Prelude.{◌≡◌, ◌+◌, ◌≤◌, length};
 ghost use Rattle.std.specs.Io.{StartsWith};
 ghost use Rattle.pull_outside.specs.Shelf.{Leaves};
@@ -11,7 +12,7 @@ use std::io::{ErrorKind, Read};
 use std::os::unix::fs::MetadataExt;
 use std::rt::Files;
 
-// How much is read at once.
+// How much is read at once, at most.
 const BUFFER_SIZE: usize = 16_384;
 
 // How often a file is read that is changed meanwhile.
@@ -84,8 +85,8 @@ fn is_unchanged(before: &Metadata, after: &Metadata) -> bool {
         && before.mtime_nsec() == after.mtime_nsec()
 }
 
-// Appends the first so many bytes that the reader gives, or all where it ends before. Its end is not waited for: that a file
-// grew while it was read shows in its length.
+// Appends the first so many bytes that the reader gives, or all where it ends before; where it fails, a part of them may stand
+// there. It does not look for more after so many: whether the file grew, the caller sees in its length.
 fn append_front<R: Read>(
     reader: &mut R,
     longest: usize,

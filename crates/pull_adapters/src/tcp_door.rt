@@ -1,7 +1,7 @@
 //! A port.
 ghost use Rattle.std.specs.Prelude.{◌≡◌, ◌<◌, ◌≤◌, ◌+◌, IfOk, None, OnErr, OnOk};
 ghost use Rattle.dsc_outside.specs.Causes.{HasCause};
-ghost use Rattle.pull_adapters.specs.Doors.{untold};
+ghost use Rattle.pull_adapters.specs.Doors.{untold, untold_back};
 ghost use Rattle.pull_outside.specs.Door.{TakesFirst};
 
 use crate::tcp_conn::TcpConn;
@@ -39,8 +39,9 @@ pub struct DoorLimits {
 /// each `next` fails, and tries it again. A connection that broke before it was taken is passed over.
 ///
 /// A connection that is handed back to end after its peer is ended so that the peer gets the whole answer, also while it still
-/// sends; one that failed, or that may end at once, is closed at once, and the system sends what was written. A clause sees a
-/// door as how many connections it gave and has not back, and how often a call has failed.
+/// sends; one that failed, or that may end at once, is closed at once: what was written is with the system, and a peer that
+/// still sends may lose what it has not read yet. A clause sees a door as how many connections it gave and has not back, and
+/// how often a call has failed.
 #[derive(Drop)]
 pub struct TcpDoor<'r, R: Net + Clock> {
     port: Port<'r, R>,
@@ -95,7 +96,7 @@ impl<'r, R: Net + Clock> Door for TcpDoor<'r, R> {
 
     ghost coming = { λ d. untold };
 
-    ghost back = { λ d. untold };
+    ghost back = { λ d. untold_back };
 
     ghost out = { λ d. d.out };
 

@@ -1,12 +1,13 @@
 -- A shelf and a door in memory.
-use Rattle.std.specs.Prelude.{◌≡◌, ◌⊎◌, ℕ, Bool, true, false, nat_lt, List, [], ◌∷◌, map, length, Option, Some, None, is_some, Result, Ok, Err, if◌then◌else◌}
+use Rattle.std.specs.Prelude.{◌≡◌, ◌⊎◌, ℕ, Bool, true, false, nat_lt, List, [], ◌∷◌, length, Option, Some, None, is_some, Result, Ok, Err, if◌then◌else◌}
 use Rattle.pull_outside.specs.declared.shelf.ShelfError.{ShelfError}
 use Rattle.pull_outside.specs.declared.shelf.ShelfError.TheVariants as errors
 use Rattle.pull_outside.specs.declared.shelf.TheConstants.{LONGEST_ITEM}
+use Rattle.pull_outside.specs.declared.memory.conn.ClosedConn.{ClosedConn}
 use Rattle.pull_outside.specs.declared.memory.contents.ShelfContents.{ShelfContents}
 use Rattle.pull_outside.specs.Calls.{CallCount, counted, is_to_fail, with_fault}
 use Rattle.pull_outside.specs.Conn.{ConnInMemory}
-use Rattle.pull_outside.specs.Door.{Known}
+use Rattle.pull_outside.specs.Door.{HandedBack, Known}
 use Rattle.pull_outside.specs.Shelf.{Contents}
 
 -- ---- shelves
@@ -36,13 +37,16 @@ pub record DoorInMemory : Type 0 where
   -- the connections that are still to come, in order
   pub coming : List ConnInMemory
   -- those that were handed back, in order
-  pub back : List ConnInMemory
+  pub back : List ClosedConn
   -- how many were given and not handed back
   pub out : ℕ
   pub calls : CallCount
 
 abbrev pub known : ConnInMemory → Known
 known conn = record { left = Some conn.left; held = Some conn.held; faults = conn.calls.faults }
+
+abbrev pub handed_back : ClosedConn → HandedBack
+handed_back closed = record { known = known closed.conn; parting = closed.parting }
 
 abbrev pub is_empty : List ConnInMemory → Bool
 is_empty [] = true

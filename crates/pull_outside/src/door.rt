@@ -1,15 +1,15 @@
 //! Doors through which connections come.
 ghost use Rattle.std.specs.Prelude.{◌≡◌, ◌<◌, ◌≤◌, ◌+◌, ℕ, List, Option, IfOk, OnOk, OnErr};
 ghost use Rattle.dsc_outside.specs.Causes.{HasCause};
-ghost use Rattle.pull_outside.specs.Door.{Known, TakesFirst, GetsBack};
+ghost use Rattle.pull_outside.specs.Door.{GetsBack, HandedBack, Known, TakesFirst};
 
 use dsc_outside::{Failed, Sink, Source};
 
-/// How a connection that is handed back is to end. What was written is sent in either case.
+/// How a connection that is handed back is to end. In either case what was written has been handed to the system.
 #[derive(Clone, Copy, Debug)]
 pub enum Parting {
-    /// Without a wait, where the peer has sent all that it will. Where it sends more all the same, the system may reset the
-    /// connection, and the peer can lose what it has not read yet.
+    /// Without a wait, where the peer has sent all that it will. A peer that still sends may lose what it has not read yet,
+    /// since the system may then reset the connection.
     AtOnce,
 
     /// After the peer has ended its side, or its time for that is over: where it may still send.
@@ -23,8 +23,8 @@ pub trait Door {
     /// The connections that are still to come, in order, where they are exposed.
     ghost coming: { Self → Option (List Known) };
 
-    /// The connections that were handed back, in order, where they are exposed.
-    ghost back: { Self → Option (List Known) };
+    /// The connections that were handed back, in order, each with its parting, where they are exposed.
+    ghost back: { Self → Option (List HandedBack) };
 
     /// How many connections were given and not yet handed back.
     ghost out: { Self → ℕ };
@@ -41,10 +41,10 @@ pub trait Door {
         ensures not_given { OnErr result (out self.new ≡ out self.old) }
         ensures cause { HasCause (faults self.old) (faults self.new) result };
 
-    /// Takes a connection back that was given, and ends it so.
+    /// Takes a connection back that was given, and ends it as the parting says.
     fn close(&mut self, conn: Self::Conn, parting: Parting)
         requires { 0 < out self.old }
-        ensures back { GetsBack (back self.old) (back self.new) (record { left = Self.Conn.left conn; held = Self.Conn.held conn; faults = Self.Conn.faults conn }) }
+        ensures back { GetsBack (back self.old) (back self.new) (record { known = record { left = Self.Conn.left conn; held = Self.Conn.held conn; faults = Self.Conn.faults conn }; parting = parting }) }
         ensures coming { coming self.new ≡ coming self.old }
         ensures out { out self.old ≡ out self.new + 1 }
         ensures count { faults self.old ≤ faults self.new };

@@ -6,7 +6,7 @@ mod contents;
 mod door;
 mod shelf;
 
-pub use conn::MemoryConn;
+pub use conn::{ClosedConn, MemoryConn};
 pub use contents::{Configuration, ShelfContents};
 pub use door::MemoryDoor;
 pub use shelf::MemoryShelf;

@@ -6,7 +6,7 @@ use Rattle.std.proofs.KnownBytes.{Appends-trans}
 use Rattle.dsc_outside.specs.declared.disk.Disk.{Ghosts}
 use Rattle.dsc_outside.proofs.Moments.{started, then_on, weaker}
 use Rattle.gate_log.specs.Standing.{StandsAtAnyMoment, StandsFor}
-use Rattle.pull_outside.specs.Door.{Known, GetsBack, TakesFirst}
+use Rattle.pull_outside.specs.Door.{GetsBack, HandedBack, Known, TakesFirst}
 use Rattle.pull_outside.specs.Shelf.{Contents}
 use Rattle.pull_exchange.specs.declared.exchange.Received.{Received}
 use Rattle.pull_exchange.specs.declared.exchange.Received.TheVariants as received
@@ -18,7 +18,7 @@ use Rattle.pull_store.proofs.Committed.{kept_stands}
 use Rattle.pull_serving.specs.declared.connection.ConnectionEnd.{ConnectionEnd}
 use Rattle.pull_serving.specs.Printing.{IsCutOff, line, lines}
 use Rattle.pull_serving.specs.Turn.{IsTurn, MayLeave, State, Turn, state}
-use Rattle.pull_serving.specs.Turns.{Doorway, Gave, IsRun, IsStep, Lasts, Passes, Runs, Took, Visits, came, went}
+use Rattle.pull_serving.specs.Turns.{Doorway, Gave, IsRun, IsStep, Lasts, Passes, Runs, Took, Visits, came, handed_back}
 
 runs_push : (shelf : Option Contents) (first : State) (ts : List Turn) (mid : State) (t : Turn) → Runs shelf first ts mid → t.before ≡ mid → is_spent mid.store ≡ false → IsTurn shelf t
     → Runs shelf first (ts ++ t ∷ []) t.after
@@ -44,14 +44,14 @@ took_push (Some known) mid new ts t took takes =
     let first = subst (λ (o : Option (List Known)). TakesFirst o new t.came) took.2 takes in
     from_first known took.0 new ts t took.1 first
 
-abbrev some_known : List Known → Option (List Known)
-some_known l = Some l
+abbrev some_handed_back : List HandedBack → Option (List HandedBack)
+some_handed_back l = Some l
 
-gave_push : (old mid new : Option (List Known)) (ts : List Turn) (t : Turn) → Gave old mid ts → GetsBack mid new t.went → Gave old new (ts ++ t ∷ [])
-gave_push None mid new ts t gave gets = subst (λ (o : Option (List Known)). GetsBack o new t.went) gave gets
-gave_push (Some known) mid new ts t gave gets =
-    let now : new ≡ Some ((known ++ map went ts) ++ t.went ∷ []) = subst (λ (o : Option (List Known)). GetsBack o new t.went) gave gets in
-    now ∙ ap some_known (append_assoc known (map went ts) (t.went ∷ []) ∙ ap (λ (l : List Known). known ++ l) (sym (map_push went ts t)))
+gave_push : (old mid new : Option (List HandedBack)) (ts : List Turn) (t : Turn) → Gave old mid ts → GetsBack mid new (handed_back t) → Gave old new (ts ++ t ∷ [])
+gave_push None mid new ts t gave gets = subst (λ (o : Option (List HandedBack)). GetsBack o new (handed_back t)) gave gets
+gave_push (Some before) mid new ts t gave gets =
+    let now : new ≡ Some ((before ++ map handed_back ts) ++ handed_back t ∷ []) = subst (λ (o : Option (List HandedBack)). GetsBack o new (handed_back t)) gave gets in
+    now ∙ ap some_handed_back (append_assoc before (map handed_back ts) (handed_back t ∷ []) ∙ ap (λ (l : List HandedBack). before ++ l) (sym (map_push handed_back ts t)))
 
 lines_push : (n : ℕ) (ts : List Turn) (t : Turn) → lines n (ts ++ t ∷ []) ≡ lines n ts ++ line (n + length ts) t.end
 lines_push n [] t = append-nil (line n t.end) ∙ ap (λ (m : ℕ). line m t.end) (omega arith)
@@ -100,9 +100,9 @@ took_none : (coming : Option (List Known)) → Took coming coming []
 took_none None = refl
 took_none (Some known) = (known, refl, refl)
 
-gave_none : (back : Option (List Known)) → Gave back back []
+gave_none : (back : Option (List HandedBack)) → Gave back back []
 gave_none None = refl
-gave_none (Some known) = ap some_known (sym (append-nil known))
+gave_none (Some before) = ap some_handed_back (sym (append-nil before))
 
 -- no turn yet
 pub run_start : {D : Type 0} (d : Ghosts D) (disk : D) (store : StoreTerm) (shelf : Option Contents) (shelf_faults : ℕ) (door : Doorway) (Printed : List Turn → Type 0)

@@ -1,11 +1,12 @@
 -- One turn, from what its calls answered.
 use Rattle.std.proofs.Common.{◌≡◌, ℕ, List, Option, refl}
 use Rattle.dsc_outside.specs.declared.disk.Disk.{Ghosts}
-use Rattle.pull_outside.specs.Door.{GetsBack, Known, TakesFirst}
+use Rattle.pull_outside.specs.Door.{GetsBack, HandedBack, Known, TakesFirst}
 use Rattle.pull_outside.specs.Shelf.{Contents}
 use Rattle.pull_store.specs.Store.{IsKept, IsReady, StoreTerm}
 use Rattle.pull_store.proofs.Committed.{is_kept, kept_stands}
 use Rattle.pull_serving.specs.declared.connection.ConnectionEnd.{ConnectionEnd}
+use Rattle.pull_serving.specs.Parting.{parting_of}
 use Rattle.pull_serving.specs.Turn.{IsServed, state}
 use Rattle.pull_serving.specs.Turns.{IsStep, doorway}
 
@@ -13,7 +14,8 @@ pub stepped : {D : Type 0} (d : Ghosts D) (old new : D) (shelf : Option Contents
     → IsKept d old store → IsReady d new store_after
     → IsServed d old new shelf came went (state d old store shelf_faults) (state d new store_after shelf_faults_after) end
     → ((c : List ℕ) → d.left_since new (d.moment new) c → d.images new c)
-    → (coming coming_after back back_after : Option (List Known)) (out out_after : ℕ) → TakesFirst coming coming_after came → GetsBack back back_after went → out_after ≡ out
+    → (coming coming_after : Option (List Known)) (back back_after : Option (List HandedBack)) (out out_after : ℕ)
+    → TakesFirst coming coming_after came → GetsBack back back_after (record { known = went; parting = parting_of end }) → out_after ≡ out
     → IsStep d old new shelf (state d old store shelf_faults) (state d new store_after shelf_faults_after) (doorway coming back out) (doorway coming_after back_after out_after) end
 stepped d old new shelf store store_after shelf_faults shelf_faults_after came went end kept ready served now coming coming_after back back_after out out_after took gave none_out = record {
   turn = record {

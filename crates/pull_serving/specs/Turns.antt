@@ -3,11 +3,12 @@ use Rattle.std.specs.Prelude.{◌≡◌, ◌⊎◌, ℕ, ◌≤◌, false, List,
 use Rattle.dsc_outside.specs.declared.disk.Disk.{Ghosts}
 use Rattle.gate_log.specs.Log.{AtAnyMoment}
 use Rattle.gate_log.specs.Standing.{StandsAtAnyMoment, StandsFor}
-use Rattle.pull_outside.specs.Door.{Known, GetsBack, TakesFirst}
+use Rattle.pull_outside.specs.Door.{GetsBack, HandedBack, Known, TakesFirst}
 use Rattle.pull_outside.specs.Shelf.{Contents}
 use Rattle.pull_store.specs.Stands.{Stands}
 use Rattle.pull_store.specs.Store.{IsReady, is_spent}
 use Rattle.pull_serving.specs.declared.connection.ConnectionEnd.{ConnectionEnd}
+use Rattle.pull_serving.specs.Parting.{parting_of}
 use Rattle.pull_serving.specs.Turn.{IsTurn, MayLeave, State, Turn, state}
 
 -- each was served in its turn over what the one before it left, while the store was not spent
@@ -18,18 +19,19 @@ Runs shelf first (t ∷ ts) last = (t.before ≡ first) × (is_spent first.store
 abbrev pub came : Turn → Known
 came t = t.came
 
-abbrev pub went : Turn → Known
-went t = t.went
+-- the connection as it was left, with the parting of the turn's end
+abbrev pub handed_back : Turn → HandedBack
+handed_back t = record { known = t.went; parting = parting_of t.end }
 
 -- they were the first that were to come
 abbrev pub Took : Option (List Known) → Option (List Known) → List Turn → Type 0
 Took None new turns = new ≡ None
 Took (Some known) new turns = (rest : List Known) × (known ≡ map came turns ++ rest) × (new ≡ Some rest)
 
--- they were handed back in order
-abbrev pub Gave : Option (List Known) → Option (List Known) → List Turn → Type 0
+-- they were handed back in order, each with the parting of its turn's end
+abbrev pub Gave : Option (List HandedBack) → Option (List HandedBack) → List Turn → Type 0
 Gave None new turns = new ≡ None
-Gave (Some known) new turns = new ≡ Some (known ++ map went turns)
+Gave (Some before) new turns = new ≡ Some (before ++ map handed_back turns)
 
 -- the image stands for the rows that were there first, or for rows that one of the turns may leave
 abbrev pub Visits : Option Contents → State → List Turn → List ℕ → Type 0
@@ -49,16 +51,16 @@ Passes {D = D} d shelf old (t ∷ ts) new =
     (mid : D) × (t.after ≡ state d mid t.after.store t.after.shelf_faults) × IsReady d mid t.after.store
     × StandsAtAnyMoment d old mid Stands (MayLeave shelf t.received t.before.store) × Passes d shelf mid ts new
 
--- what is known of the door: the connections that are still to come, those that were handed back, and how many were given and not handed back
+-- what is known of the door: the connections that are still to come, those that were handed back, each with its parting, and how many were given and not handed back
 pub record Doorway : Type 0 where
   pub coming : Option (List Known)
-  pub back : Option (List Known)
+  pub back : Option (List HandedBack)
   pub out : ℕ
 
-abbrev pub doorway : Option (List Known) → Option (List Known) → ℕ → Doorway
+abbrev pub doorway : Option (List Known) → Option (List HandedBack) → ℕ → Doorway
 doorway coming back out = record { coming = coming; back = back; out = out }
 
--- one turn: the next connection was taken, served, and handed back
+-- one turn: the next connection was taken, served, and handed back with the parting of the turn's end
 pub record IsStep {D : Type 0} (d : Ghosts D) (old new : D) (shelf : Option Contents) (first last : State) (door door_after : Doorway) (end : ConnectionEnd) : Type 0 where
   pub turn : Turn
   pub starts : turn.before ≡ first
@@ -67,7 +69,7 @@ pub record IsStep {D : Type 0} (d : Ghosts D) (old new : D) (shelf : Option Cont
   pub fresh : is_spent first.store ≡ false
   pub is_turn : IsTurn shelf turn
   pub took : TakesFirst door.coming door_after.coming turn.came
-  pub gave : GetsBack door.back door_after.back turn.went
+  pub gave : GetsBack door.back door_after.back (handed_back turn)
   pub none_out : door_after.out ≡ door.out
   pub any_moment : StandsAtAnyMoment d old new Stands (MayLeave shelf turn.received turn.before.store)
   pub is_state : turn.after ≡ state d new turn.after.store turn.after.shelf_faults

@@ -2,9 +2,9 @@
 //!
 //! `serve_connection` reads one request, answers it by the answer table, and writes the answer; `serve` does so for as many
 //! connections as its arguments say, over one store, and prints a line for each. A layer above may rely on this: each connection is
-//! answered over what the one before it left, and nothing but its answer is written to it; a registration or a report that was
-//! acknowledged is on the disk from then on; and a crash at any moment leaves the rows before a connection, or those after the
-//! change that the table makes.
+//! answered over what the one before it left, nothing but its answer is written to it, and it is handed back to end at once only
+//! where its request was done; a registration or a report that was acknowledged is on the disk from then on; and a crash at any
+//! moment leaves the rows before a connection, or those after the change that the table makes.
 #![tactic(auto)]
 
 mod connection;

@@ -48,7 +48,7 @@ pub fn serve_turns<G: Door, S: Shelf, D: Disk, K: Sink>(
     ServeStatus::Done
 }
 
-// Takes the next connection, serves it, and hands it back.
+// Takes the next connection, serves it, and hands it back with the parting of its end.
 fn serve_next<G: Door, S: Shelf, D: Disk>(
     alloc: Global,
     store: &mut PullStore,

@@ -1,7 +1,7 @@
 //! Runs of a server, and what is seen of them.
 use dsc_outside::{MemoryDisk, MemorySink};
 use mof_values::{Bytes, Items, Memory};
-use pull_outside::{Configuration, MemoryConn, MemoryDoor, MemoryShelf, ShelfContents};
+use pull_outside::{ClosedConn, Configuration, MemoryConn, MemoryDoor, MemoryShelf, ShelfContents};
 use pull_serving::serve;
 use std::alloc::{AllocError, Global};
 
@@ -96,15 +96,15 @@ fn seen(
     alloc: Global,
     number: u8,
     printed: &[u8],
-    back: &[MemoryConn],
+    back: &[ClosedConn],
 ) -> Result<Vec<u8>, AllocError> {
     let mut text = Vec::new(alloc);
     let number = format!(in alloc; "{number}|")?;
     text.extend_from_slice(number.as_bytes())?;
     text.extend_from_slice(printed)?;
-    for conn in back {
+    for closed in back {
         text.push(b'|')?;
-        text.extend_from_slice(first_line(conn.taken()))?;
+        text.extend_from_slice(first_line(closed.conn.taken()))?;
     }
     Ok(text)
 }

@@ -7,6 +7,7 @@ ghost use Rattle.pull_outside.specs.Calls.{counted, is_to_fail, uncalled};
 ghost use Rattle.pull_outside.specs.Conn.{ConnWrites};
 
 use super::calls::Calls;
+use crate::door::Parting;
 use dsc_outside::{Ends, Failed, Sink, Source};
 use std::alloc::Global;
 use std::marker::Model;
@@ -114,6 +115,13 @@ impl Sink for MemoryConn {
             }
         }
     }
+}
+
+/// A connection that was handed back, and how it is to end.
+#[derive(Drop)]
+pub struct ClosedConn {
+    pub conn: MemoryConn,
+    pub parting: Parting,
 }
 
 // Copies the front of the bytes as far as there is room, and at most so many, and answers how many.

@@ -2,22 +2,22 @@
 ghost use Rattle.std.specs.Prelude.{◌≡◌, ◌<◌, ◌≤◌, ◌+◌, [], Some, false, not, map, IfOk, OnOk, OnErr};
 ghost use Rattle.dsc_outside.specs.Causes.{HasCause};
 ghost use Rattle.pull_outside.specs.Calls.{uncalled};
-ghost use Rattle.pull_outside.specs.Door.{Known, TakesFirst, GetsBack};
-ghost use Rattle.pull_outside.specs.Memory.{counted_with, is_empty, known};
+ghost use Rattle.pull_outside.specs.Door.{GetsBack, TakesFirst};
+ghost use Rattle.pull_outside.specs.Memory.{counted_with, handed_back, is_empty, known};
 
 use super::calls::Calls;
-use super::conn::MemoryConn;
+use super::conn::{ClosedConn, MemoryConn};
 use crate::door::{Door, Parting};
 use dsc_outside::Failed;
 use mof_values::Memory;
 use std::alloc::Global;
 use std::marker::Model;
 
-/// A door through which these connections come, and which keeps those that are handed back.
+/// A door through which these connections come, and which keeps those that are handed back, each with its parting.
 #[derive(Drop)]
 pub struct MemoryDoor {
     coming: Vec<MemoryConn>,
-    back: Vec<MemoryConn>,
+    back: Vec<ClosedConn>,
     out: usize,
     calls: Calls,
 }
@@ -51,8 +51,8 @@ impl MemoryDoor {
         })
     }
 
-    /// The connections that were handed back, in order.
-    pub fn back(&self) -> &[MemoryConn]
+    /// The connections that were handed back, in order, and how each is to end.
+    pub fn back(&self) -> &[ClosedConn]
         ensures { result.now ≡ self.now.back }
     {
         &self.back
@@ -71,7 +71,7 @@ impl Door for MemoryDoor {
 
     ghost coming = { λ d. Some (map known d.coming) };
 
-    ghost back = { λ d. Some (map known d.back) };
+    ghost back = { λ d. Some (map handed_back d.back) };
 
     ghost out = { λ d. d.out };
 
@@ -80,7 +80,7 @@ impl Door for MemoryDoor {
     fn next(&mut self) -> Result<MemoryConn, Failed>
         ensures taken { IfOk result (λ conn. TakesFirst (Some (map known self.old.coming)) (Some (map known self.new.coming)) (known conn)) }
         ensures kept { OnErr result (Some (map known self.new.coming) ≡ Some (map known self.old.coming)) }
-        ensures back { Some (map known self.new.back) ≡ Some (map known self.old.back) }
+        ensures back { Some (map handed_back self.new.back) ≡ Some (map handed_back self.old.back) }
         ensures given { OnOk result (self.new.out ≡ self.old.out + 1) }
         ensures not_given { OnErr result (self.new.out ≡ self.old.out) }
         ensures cause { HasCause self.old.calls.faults self.new.calls.faults result }
@@ -97,15 +97,15 @@ impl Door for MemoryDoor {
         Ok(self.coming.remove(0))
     }
 
-    fn close(&mut self, conn: MemoryConn, _parting: Parting)
+    fn close(&mut self, conn: MemoryConn, parting: Parting)
         requires { 0 < self.old.out }
-        ensures back { GetsBack (Some (map known self.old.back)) (Some (map known self.new.back)) (known conn) }
+        ensures back { GetsBack (Some (map handed_back self.old.back)) (Some (map handed_back self.new.back)) (record { known = known conn; parting = parting }) }
         ensures coming { Some (map known self.new.coming) ≡ Some (map known self.old.coming) }
         ensures out { self.old.out ≡ self.new.out + 1 }
         ensures count { self.old.calls.faults ≤ self.new.calls.faults }
     {
         self.out -= 1;
-        match self.back.push(conn) {
+        match self.back.push(ClosedConn { conn, parting }) {
             Ok(()) => {}
             Err(_) => unreachable!(),
         }

@@ -1,5 +1,6 @@
 use Rattle.std.proofs.Common.{sym, subst, arith, List, Option}
-use Rattle.pull_outside.specs.Door.{GetsBack, Known, TakesFirst}
+use Rattle.pull_outside.specs.Door.{GetsBack, HandedBack, Known, TakesFirst}
+use Rattle.pull_outside.specs.declared.door.Parting.{Parting}
 use Rattle.pull_serving.specs.Turn.{known_by}
 use Rattle.pull_serving.proofs.Stepped.{stepped}
 use Rattle.pull_serving.proofs.turns.serve_next.Goals as goal
@@ -11,7 +12,8 @@ returns-clause-step g c =
     let came = known_by (g.G.Conn.Ends.left conn) (g.G.Conn.Ends.held conn) (g.G.Conn.Ends.faults conn) in
     let went = known_by (g.G.Conn.Ends.left after) (g.G.Conn.Ends.held after) (g.G.Conn.Ends.faults after) in
     let took = subst (λ (o : Option (List Known)). TakesFirst (g.G.Door.coming c.args.door.now) o came) (sym c.close.ensures.coming) c.in_ok-conn.ensures.taken in
-    let gave = subst (λ (o : Option (List Known)). GetsBack o (g.G.Door.back c.close.new.self) went) c.in_ok-conn.ensures.back c.close.ensures.back in
+    let back = subst (λ (o : Option (List HandedBack)). GetsBack o (g.G.Door.back c.close.new.self) (record { known = went; parting = c.parting.result })) c.in_ok-conn.ensures.back c.close.ensures.back in
+    let gave = subst (λ (p : Parting). GetsBack (g.G.Door.back c.args.door.now) (g.G.Door.back c.close.new.self) (record { known = went; parting = p })) c.parting.ensures back in
     stepped g.D.Disk c.args.disk.now c.serve_connection-end.new.disk (g.S.Shelf.holds c.args.shelf.now) c.args.store.now c.serve_connection-end.new.store
     (g.S.Shelf.faults c.args.shelf.now) (g.S.Shelf.faults c.serve_connection-end.new.shelf) came went c.serve_connection-end.result c.requires
     c.serve_connection-end.ensures.ready c.serve_connection-end.ensures.served (g.met.D.Disk.only_now c.serve_connection-end.new.disk)
