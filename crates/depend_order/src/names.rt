@@ -45,6 +45,7 @@ fn places_uncounted<L: Ledger>(
 }
 
 /// The same as [`places_of_names`], and its steps are counted.
+#[tactic(auto, using(crate::proofs::Counting::names_at_most))]
 pub fn places_counted<L: Ledger>(
     alloc: Global,
     document: &Document,

@@ -3,9 +3,9 @@ ghost use Rattle.std.specs.Prelude.{◌≡◌, ◌<◌, ◌^◌, IfErr, IfOk, le
 ghost use Rattle.depend_order.specs.Ordered.{IsOrdered};
 ghost use Rattle.depend_order.specs.Refused.{HasNoOrder};
 
-use crate::{InOrderError, OrderError};
 use crate::names::places_of_names;
 use crate::numbers::order_of;
+use crate::{InOrderError, OrderError};
 use dsc_document::Document;
 use mof_values::Items;
 use std::alloc::Global;

@@ -55,10 +55,21 @@ impl<T: Drop> From<AllocFailed<T>> for DocError {
 
 impl fmt::Display for DocError {
     fn fmt<W: fmt::Write>(&self, f: &mut fmt::Formatter<W>) -> fmt::Result {
+        self.write_rule(f)?;
         match self {
-            DocError::DuplicateProperty { index, name } => {
-                write!(f, "instance {index} has two properties named ")?;
-                write_chars(f, name.as_slice())
+            DocError::DuplicateProperty { name, .. } => write_chars(f, name.as_slice()),
+            DocError::DependsUnknown { name, .. } => write_chars(f, name.as_slice()),
+            _ => Ok(()),
+        }
+    }
+}
+
+impl DocError {
+    // Writes which rule is broken, up to the name of what breaks it.
+    fn write_rule<W: fmt::Write>(&self, f: &mut fmt::Formatter<W>) -> fmt::Result {
+        match self {
+            DocError::DuplicateProperty { index, .. } => {
+                write!(f, "instance {index} has two properties named ")
             }
             DocError::TwoAliases { first, second } => {
                 write!(f, "instances {first} and {second} have the same alias")
@@ -88,12 +99,11 @@ impl fmt::Display for DocError {
             DocError::BadDependsOn { index } => {
                 write!(f, "the DependsOn of instance {index} is no list of texts")
             }
-            DocError::DependsUnknown { index, name } => {
+            DocError::DependsUnknown { index, .. } => {
                 write!(
                     f,
                     "no resource has the id that instance {index} depends on: "
-                )?;
-                write_chars(f, name.as_slice())
+                )
             }
             DocError::Memory => write!(f, "{Memory}"),
         }

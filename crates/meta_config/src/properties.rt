@@ -7,9 +7,8 @@ ghost use Rattle.mof_values.specs.Values.{scalars_of, text_of};
 ghost use Rattle.meta_config.specs.Making.{text_given};
 ghost use Rattle.meta_config.specs.Properties.{first_name, from_given, given, is_given, is_given_as};
 
-use mof_values::{Ident, IdentError, Property, Scalar, Text, Value, is_named};
+use mof_values::{Ident, IdentError, Property, Scalar, Text, Value};
 use std::alloc::{AllocError, Global};
-use std::slice;
 
 /// The properties from the first one of this name on that has a value.
 pub fn from_given<'a>(properties: &'a [Property], name: &str) -> &'a [Property]

@@ -1,5 +1,5 @@
 -- Of each text and of all bytes one answer stands: the instances that they spell, or the refusal that wins.
-use Rattle.std.proofs.Common.{◌≡◌, ◌≢◌, ◌<◌, ◌≤◌, ◌⊎◌, inl, inr, ℕ, List, Option, Some, None, length, refl, subst, arith}
+use Rattle.std.proofs.Common.{◌≡◌, ◌≢◌, ◌≤◌, ◌⊎◌, inl, inr, ℕ, List, Option, Some, None, length, refl, subst, arith}
 use Rattle.std.proofs.lemmas.Bool.{cases_lt}
 use Rattle.mof_values.specs.declared.instance.Instance.{Instance}
 use Rattle.mof_syntax.specs.declared.mof_error.MofError.{MofError}
@@ -9,7 +9,7 @@ use Rattle.mof_syntax.specs.declared.mof_error.Form.{Form}
 use Rattle.mof_syntax.specs.Fronts.{IsSyntaxFault}
 use Rattle.mof_syntax.specs.Grammar.{WideSpells}
 use Rattle.mof_syntax.specs.Limits.{Spells, document_limit}
-use Rattle.mof_syntax.specs.Refusals.{Reads, Refuses, RefusesText, Wins}
+use Rattle.mof_syntax.specs.Refusals.{Reads, Refuses, Wins}
 use Rattle.mof_syntax.proofs.Decoded.{no_fault, one_text}
 use Rattle.mof_syntax.proofs.Divided.{chars_or_fault}
 use Rattle.mof_codec.proofs.Searches.{refusal_in}

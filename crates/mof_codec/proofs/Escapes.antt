@@ -106,14 +106,20 @@ x_absent c others e h = absurd (clash (sym h ∙ e))
 -- the characters of a literal
 
 pub goes_on_by_plain : (cs rest : List ℕ) (c : ℕ) → cs ≡ c ∷ rest → (c == quote) ≡ false → (c == backslash) ≡ false → GoesOnByOne cs c rest
-goes_on_by_plain cs rest c e no_quote no_escape = subst (λ (xs : List ℕ). GoesOnByOne xs c rest) (sym e) (record {
-  on = λ text behind q. plain c rest text behind no_quote no_escape q;
-  only = λ text behind q. (goes_on_plain (c ∷ rest) rest c no_quote no_escape (SameLiteral-start (c ∷ rest))).only behind (text, q);
-}, omega arith)
+goes_on_by_plain cs rest c e no_quote no_escape = subst (λ (xs : List ℕ). GoesOnByOne xs c rest) (sym e) (
+  record {
+    on = λ text behind q. plain c rest text behind no_quote no_escape q;
+    only = λ text behind q. (goes_on_plain (c ∷ rest) rest c no_quote no_escape (SameLiteral-start (c ∷ rest))).only behind (text, q);
+  },
+  omega arith,
+)
 
 pub goes_on_by_escape : (cs others rest : List ℕ) (c value : ℕ) → cs ≡ c ∷ others → c ≡ backslash → Escape others value rest → GoesOnByOne cs value rest
-goes_on_by_escape cs others rest c value e is i = subst (λ (xs : List ℕ). GoesOnByOne xs value rest) (sym (e ∙ ap (λ (d : ℕ). d ∷ others) is)) (record {
-  on = λ text behind q. escaped value others rest text behind i q;
-  only = λ text behind q.
-      (goes_on_escaped (backslash ∷ others) others rest (escape-read others value rest i) (SameLiteral-start (backslash ∷ others))).only behind (text, q);
-}, (let less : length rest < length others = EndsWithin-length others rest (escape_ends others value rest i) in omega arith))
+goes_on_by_escape cs others rest c value e is i = subst (λ (xs : List ℕ). GoesOnByOne xs value rest) (sym (e ∙ ap (λ (d : ℕ). d ∷ others) is)) (
+  record {
+    on = λ text behind q. escaped value others rest text behind i q;
+    only = λ text behind q.
+        (goes_on_escaped (backslash ∷ others) others rest (escape-read others value rest i) (SameLiteral-start (backslash ∷ others))).only behind (text, q);
+  },
+  (let less : length rest < length others = EndsWithin-length others rest (escape_ends others value rest i) in omega arith),
+)

@@ -69,11 +69,11 @@ pub plain_next : (all left rest : List ℕ) (c : ℕ) → PlainSoFar all left �
 plain_next all left rest c s e plain =
     let special = neither (c == quote) (c == backslash) plain in
     let one : GoesOnByOne left c rest = goes_on_by_plain left rest c e special.0 special.1 in
-  record {
-  front = s.front ++ c ∷ [];
-  split = s.split ∙ ap (λ (xs : List ℕ). s.front ++ xs) e ∙ sym (append_assoc s.front (c ∷ []) rest);
-  goes = goes_on_further all s.front left (c ∷ []) rest s.goes one.0;
-}
+    record {
+      front = s.front ++ c ∷ [];
+      split = s.split ∙ ap (λ (xs : List ℕ). s.front ++ xs) e ∙ sym (append_assoc s.front (c ∷ []) rest);
+      goes = goes_on_further all s.front left (c ∷ []) rest s.goes one.0;
+    }
 
 pub plain_taken : (all left : List ℕ) (s : PlainSoFar all left) → s.front ≡ take (length all - length left) all
 plain_taken all left s =

@@ -7,7 +7,7 @@ use Rattle.std.proofs.lemmas.List.{drop-drop}
 use Rattle.std.specs.Char.{digit_value, to_ascii_lowercase}
 use Rattle.mof_values.specs.Fold.{fold_case}
 use Rattle.mof_values.specs.Ident.{is_first, is_next}
-use Rattle.mof_syntax.specs.Characters.{digit_of, is_x, is_b, Run, stop, more, is_sign}
+use Rattle.mof_syntax.specs.Characters.{digit_of, is_x, is_b, Run, stop, more}
 use Rattle.mof_syntax.specs.Separators.{at_end, at_feed, over, NoEnd, shut, inside, blank, line, block}
 use Rattle.mof_syntax.specs.Strings.{short_escape, is_surrogate, full, ended, digit, short, hexadecimal, Quoted, closed, plain, escaped}
 use Rattle.mof_syntax.specs.Integers.{Magnitude, octal_value, hex_value, binary_value}

@@ -3,7 +3,7 @@
 use Rattle.std.specs.Prelude.{◌==◌, ℕ, zero, suc, ◌+◌, ◌*◌, Bool, true, false, ◌||◌, nat_le, List, [], ◌∷◌, Option, Some, None, is_some, drop, codes, if◌then◌else◌}
 use Rattle.std.specs.Char.{digit_value, to_ascii_lowercase}
 use Rattle.mof_values.specs.Ident.{is_first, is_next}
-use Rattle.mof_syntax.specs.Characters.{line_feed, quote, dollar, star, comma, plus_sign, minus_sign, slash, digit_zero, semicolon, equals_sign, backslash, left_brace, right_brace, is_blank, digit_of, is_x, is_b, is_sign}
+use Rattle.mof_syntax.specs.Characters.{line_feed, quote, dollar, star, comma, slash, digit_zero, semicolon, equals_sign, backslash, left_brace, right_brace, is_blank, digit_of, is_x, is_b, is_sign}
 use Rattle.mof_syntax.specs.Strings.{short_escape, is_surrogate}
 use Rattle.mof_codec.specs.declared.machine.state.Keyword.{Keyword}
 use Rattle.mof_codec.specs.declared.machine.state.Keyword.TheVariants as keywords

@@ -1,8 +1,7 @@
 -- The names of a list, put at their places one after another.
-use Rattle.std.proofs.Common.{◌≡◌, ◌<◌, ◌≤◌, ◌+◌, ℕ, List, length, AllPairs, Option, Some, None, option_map, slice_get, slice_index_or, get_or, sym, ap, ◌∙◌, arith}
+use Rattle.std.proofs.Common.{◌≡◌, ◌<◌, ◌≤◌, ◌+◌, ℕ, List, length, AllPairs, Option, Some, None, option_map, slice_get, get_or, sym, ap, ◌∙◌, arith}
 use Rattle.std.proofs.lemmas.Option.{slice_get-get_or, slice_get_past}
 use Rattle.mof_values.specs.Fold.{SameName}
-use Rattle.dsc_document.specs.Names.{ShareName}
 use Rattle.dsc_document.specs.Places.{place_of, Puts}
 use Rattle.dsc_document.specs.declared.places.Places.{Places}
 use Rattle.dsc_document.proofs.Indexes.{Indexes, Indexes-put}

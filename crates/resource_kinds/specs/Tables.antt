@@ -11,6 +11,8 @@ use Rattle.mof_values.specs.Fold.{same_name}
 use Rattle.mof_values.specs.Values.{text_of, text_named, value_named}
 use Rattle.resource_kinds.specs.declared.tables.Kind.{Kind}
 use Rattle.resource_kinds.specs.declared.tables.Kind.TheVariants.{File, Environment, Log}
+use Rattle.resource_kinds.specs.declared.tables.Table.{Table}
+use Rattle.resource_kinds.specs.declared.tables.Table.TheVariants as tables
 
 -- ---- values
 
@@ -130,6 +132,13 @@ abbrev pub rows_of : Kind → Instance → List Row
 rows_of File instance = if is_directory instance then directory_rows else file_rows
 rows_of Environment instance = environment_rows
 rows_of Log instance = log_rows
+
+-- the rows of a table
+abbrev pub rows_in : Table → List Row
+rows_in tables.Directory = directory_rows
+rows_in tables.File = file_rows
+rows_in tables.Environment = environment_rows
+rows_in tables.Log = log_rows
 
 -- ---- properties
 

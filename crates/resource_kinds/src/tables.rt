@@ -4,7 +4,7 @@ ghost use Rattle.std.specs.List.{list_any};
 ghost use Rattle.std.specs.Option.{option_copied};
 ghost use Rattle.mof_values.specs.Fold.{same_name};
 ghost use Rattle.mof_values.specs.Ident.{IsIdent};
-ghost use Rattle.resource_kinds.specs.Tables.{common, directory_rows, environment_rows, file_rows, first_wrong, fits_row, is_directory, key_of, kind_of, log_rows, may_stand, rows_of};
+ghost use Rattle.resource_kinds.specs.Tables.{common, directory_rows, environment_rows, first_wrong, fits_row, key_of, kind_of, may_stand, rows_in, rows_of};
 
 use crate::values::{
     is_filled_text, is_kind_of_file, is_null, is_presence, is_text, is_truth_value, says,
@@ -70,13 +70,35 @@ fn ident(alloc: Global, word: &[u8]) -> Result<Ident, AllocError>
     }
 }
 
+// The table that an instance has by its kind.
+#[derive(Clone, Copy)]
+enum Table {
+    // a file's, but that it has no contents
+    Directory,
+    File,
+    Environment,
+    Log,
+}
+
+fn table_of(kind: Kind, instance: &Instance) -> Table
+    ensures { rows_in result ≡ rows_of kind instance.now }
+{
+    match kind {
+        Kind::File if says(instance, "Type", "Directory") => Table::Directory,
+        Kind::File => Table::File,
+        Kind::Environment => Table::Environment,
+        Kind::Log => Table::Log,
+    }
+}
+
 /// The first property that may not stand in an instance of the kind.
 pub fn first_wrong<'a>(kind: Kind, instance: &'a Instance) -> Option<&'a Property>
     ensures { option_copied result ≡ first_wrong (rows_of kind instance.now) instance.now }
 {
+    let table = table_of(kind, instance);
     let mut left = instance.properties.as_slice();
     while let [property, rest @ ..] = left {
-        if !may_stand(kind, instance, property) {
+        if !may_stand(table, property) {
             return Some(property);
         }
         left = rest;
@@ -84,30 +106,24 @@ pub fn first_wrong<'a>(kind: Kind, instance: &'a Instance) -> Option<&'a Propert
     None
 }
 
-fn may_stand(kind: Kind, instance: &Instance, property: &Property) -> bool
-    ensures { result ≡ may_stand (rows_of kind instance.now) property.now }
+fn may_stand(table: Table, property: &Property) -> bool
+    ensures { result ≡ may_stand (rows_in table) property.now }
 {
-    is_null(&property.value) || is_common(&property.name) || fits_a_row(kind, instance, property)
+    is_null(&property.value) || is_common(&property.name) || fits_a_row(table, property)
 }
 
-fn fits_a_row(kind: Kind, instance: &Instance, property: &Property) -> bool
-    ensures { result ≡ list_any (fits_row property.now) (rows_of kind instance.now) }
+fn fits_a_row(table: Table, property: &Property) -> bool
+    ensures { result ≡ list_any (fits_row property.now) (rows_in table) }
 {
-    match kind {
-        Kind::File => fits_file_row(instance, property),
-        Kind::Environment => fits_environment_row(property),
-        Kind::Log => property.name.is_named("Message") && is_text(&property.value),
+    let (name, value) = (&property.name, &property.value);
+    match table {
+        Table::Directory => fits_directory_row(property),
+        Table::File => {
+            (name.is_named("Contents") && is_text(value)) || fits_directory_row(property)
+        }
+        Table::Environment => fits_environment_row(property),
+        Table::Log => name.is_named("Message") && is_text(value),
     }
-}
-
-// A directory has no contents.
-fn fits_file_row(instance: &Instance, property: &Property) -> bool
-    ensures { result ≡ list_any (fits_row property.now) (rows_of Kind.File instance.now) }
-{
-    if says(instance, "Type", "Directory") {
-        return fits_directory_row(property);
-    }
-    (property.name.is_named("Contents") && is_text(&property.value)) || fits_directory_row(property)
 }
 
 fn fits_directory_row(property: &Property) -> bool

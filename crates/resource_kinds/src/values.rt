@@ -5,7 +5,7 @@ ghost use Rattle.mof_values.specs.Fold.{same_name};
 ghost use Rattle.mof_values.specs.Values.{text_of, value_named, text_named};
 ghost use Rattle.resource_kinds.specs.Tables.{is_absent, is_directory, is_either, is_filled, is_filled_text, is_kind_of_file, is_null, is_presence, is_text, is_truth_value, is_word, is_yes, says, says_yes};
 
-use mof_values::{Ident, Instance, Scalar, Text, Value, is_named};
+use mof_values::{Instance, Scalar, Text, Value, is_named};
 
 pub fn is_null(value: &Value) -> bool
     ensures { result ≡ is_null value.now }

@@ -4,10 +4,12 @@ ghost use Rattle.dsc_outside.specs.Folders.{is_plain_path};
 ghost use Rattle.dsc_outside.specs.declared.host.HostError.TheVariants as errors;
 
 use super::machine_folder::MachineFolder;
+use super::paths::is_plain_path;
 use super::places::{ROOT, folder_of, path_in, root_path};
 use super::plain_files::{found_file_holds, take_away};
 use super::walking::{Kind, is_folder, is_inhabited, kind_at, make_folder, sync_folder};
 use crate::{HostError, PathState};
+use std::path::PathBuf;
 use std::rt::Files;
 
 /// Where the names of a path lead to.
@@ -27,8 +29,8 @@ impl<R: Files> MachineFolder<R> {
     pub fn path_state(&self, path: &str) -> Result<PathState, HostError>
         ensures { is_plain_path path.now ≡ false → result ≡ Err errors.Failed }
     {
-        let place = root_path(self.alloc(), &self.host, path)?;
-        match self.look_for(path)? {
+        let (found, place) = self.look_for(path)?;
+        match found {
             Found::Missing | Found::Blocked | Found::At(Kind::Nothing) => Ok(PathState::Nothing),
             Found::At(Kind::File) => Ok(PathState::File),
             Found::At(Kind::Other) => Ok(PathState::Other),
@@ -42,8 +44,8 @@ impl<R: Files> MachineFolder<R> {
     pub fn file_equals(&self, path: &str, bytes: &[u8]) -> Result<bool, HostError>
         ensures { is_plain_path path.now ≡ false → result ≡ Err errors.Failed }
     {
-        let place = root_path(self.alloc(), &self.host, path)?;
-        match self.look_for(path)? {
+        let (found, place) = self.look_for(path)?;
+        match found {
             Found::At(Kind::File) => found_file_holds(&self.rt, place.as_str(), bytes),
             _ => Ok(false),
         }
@@ -68,8 +70,8 @@ impl<R: Files> MachineFolder<R> {
     pub fn remove(&self, path: &str) -> Result<(), HostError>
         ensures { is_plain_path path.now ≡ false → result ≡ Err errors.Failed }
     {
-        let place = root_path(self.alloc(), &self.host, path)?;
-        match self.look_for(path)? {
+        let (found, place) = self.look_for(path)?;
+        match found {
             Found::Missing | Found::At(Kind::Nothing) => Ok(()),
             Found::Blocked => Err(HostError::Failed),
             Found::At(Kind::Folder) => self.remove_folder(place.as_str()),
@@ -82,23 +84,28 @@ impl<R: Files> MachineFolder<R> {
         Ok(sync_folder(&self.rt, folder_of(place))?)
     }
 
-    // Looks name by name, from the root on.
-    fn look_for(&self, path: &str) -> Result<Found, HostError> {
+    // Looks name by name, from the root on, and gives the place where it came to an end: that of the path where it is found.
+    fn look_for(&self, path: &str) -> Result<(Found, PathBuf), HostError>
+        ensures { is_plain_path path.now ≡ false → result ≡ Err errors.Failed }
+    {
+        if !is_plain_path(path) {
+            return Err(HostError::Failed);
+        }
         let mut place = path_in(self.alloc(), &self.host, ROOT)?;
         if !is_folder(&self.rt, place.as_str())? {
-            return Ok(Found::Missing);
+            return Ok((Found::Missing, place));
         }
         let mut kind = Kind::Folder;
         for name in path.split('/') {
             match kind {
                 Kind::Folder => {}
-                Kind::Nothing => return Ok(Found::Missing),
-                Kind::File | Kind::Other => return Ok(Found::Blocked),
+                Kind::Nothing => return Ok((Found::Missing, place)),
+                Kind::File | Kind::Other => return Ok((Found::Blocked, place)),
             }
             place.push(name)?;
             kind = kind_at(&self.rt, place.as_str())?;
         }
-        Ok(Found::At(kind))
+        Ok((Found::At(kind), place))
     }
 
     // Makes the folders above the path that are missing, the host's folder and the root among them.

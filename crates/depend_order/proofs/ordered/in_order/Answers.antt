@@ -23,8 +23,7 @@ returns-in-Ok-order_of-clause-ordered c =
 pub returns-in-Err-Cycle-clause-refused : goal.returns-in-Err-Cycle-clause-refused
 returns-in-Err-Cycle-clause-refused c =
     let document = c.args.document in
-    let depends = c.in-Ok.depends.items in
-    (
+    let depends = c.in-Ok.depends.items in (
       c.in-Ok.ensures.distinct,
       names_resources document depends c.in-Ok.ensures.places,
       cycle_resolved document depends c.in-Ok.ensures.places c.in-Ok.ensures.distinct c.in-Err-Cycle.cycle (rw (c.deref.ensures.value, c.in-Err-Cycle.field-0-is) at c.in-Err-Cycle.ensures.cycle),

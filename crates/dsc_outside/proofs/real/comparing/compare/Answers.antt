@@ -8,7 +8,7 @@ pub returns-then-count-eq0 : goal.returns-then-count-eq0
 returns-then-count-eq0 g c =
     let so_far = c.loop.invariant in
     let read = c.in_ok-count.ensures.bytes in
-    same_at_end _ _ _ so_far.0 _ _ _ _ so_far.2 read.0 (read.1 c.if-count-eq0.true so_far.3) (ap (λ n. take n c.read_some.new.into) c.if-count-eq0.true) so_far.1 c.is_empty.ensures
+    same_at_end _ _ _ so_far.0 _ _ _ _ so_far.2 read.0 (read.1 c.if-count-eq0.true (omega (arith, so_far.3, c.read_some.auto.into))) (ap (λ n. take n c.read_some.new.into) c.if-count-eq0.true) so_far.1 c.is_empty.ensures
 
 pub returns-in-None : goal.returns-in-None
 returns-in-None g c =
@@ -18,8 +18,7 @@ returns-in-None g c =
 pub loop-preserved : goal.loop-preserved
 loop-preserved g c =
     let so_far = c.loop.invariant in
-    let read = c.in_ok-count.ensures.bytes in
-    (
+    let read = c.in_ok-count.ensures.bytes in (
       so_far.0 ++ take c.in_ok-count.count c.read_some.new.into,
       moved so_far.0 _ _ _ _ so_far.1 c.in-Some.ensures.cases.0 c.in-Some.ensures.cases.1,
       Consumes-trans _ _ _ so_far.0 _ so_far.2 read.0,

@@ -1,6 +1,6 @@
 use Rattle.std.proofs.Common.{◌∙◌, sym}
 use Rattle.mof_syntax.proofs.Slices.{first_and_rest}
-use Rattle.mof_codec.proofs.LiteralsRead.{plain_start, plain_next, plain_taken}
+use Rattle.mof_codec.proofs.LiteralsRead.{plain_next}
 use Rattle.mof_codec.proofs.values.strings.plain_front.Goals as goal
 
 pub loop-left-preserved : goal.loop-left-preserved
