@@ -21,6 +21,10 @@ pub length-behind : (body : List ℕ) → length (behind body) ≡ 4 + length bo
 unfolding behind
 length-behind body = omega arith
 
+-- a cell but for its gate, with a closed gate after it
+pub cell_size : (cell body : List ℕ) → cell ≡ behind body ++ 0 ∷ [] → length cell ≡ need_of body
+cell_size cell body is = omega (arith, ap length is, length-append (behind body) (0 ∷ []), length-behind body)
+
 pub length-cells-push : (bodies : List (List ℕ)) (body : List ℕ) → length (cells (bodies ++ body ∷ [])) ≡ length (cells bodies) + need_of body
 length-cells-push bodies body = omega (arith, ap length (cells-push bodies body), length-append (cells bodies) (165 ∷ behind body), length-behind body)
 

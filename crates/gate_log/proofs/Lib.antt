@@ -1,6 +1,8 @@
 pub mod Holds
 pub mod Cells
 pub mod Steps
+pub mod InPlace
+pub mod Appends
 pub mod Switch
 pub mod Rewrites
 pub mod WhatIsRead

@@ -3,7 +3,7 @@ ghost use Rattle.std.specs.Prelude.{◌≡◌, [], ◌∷◌, ◌++◌, ℕ, ◌
 ghost use Rattle.dsc_outside.specs.Causes.{HasCause};
 ghost use Rattle.dsc_outside.specs.Disk.{Each, AnyMoment};
 ghost use Rattle.gate_log.specs.declared.shape.Shape.{Shape};
-ghost use Rattle.gate_log.specs.Text.{IsText, behind, begin, need_of};
+ghost use Rattle.gate_log.specs.Text.{IsText, behind, begin, body_in, need_of};
 ghost use Rattle.gate_log.specs.Steps.{TextBeforeOrAfter};
 
 use crate::through::write_through;
@@ -44,6 +44,41 @@ pub(crate) fn append_cell<D: Disk>(
 {
     let size = fill(buffer, body);
     write_cell(disk, closed, &buffer[..size])
+}
+
+/// Adds the cell of the body that stands in the buffer after the closed gate at this place, once its length and a closed gate
+/// are written there.
+pub(crate) fn append_cell_in_place<D: Disk>(
+    disk: &mut D,
+    closed: u64,
+    cell: &mut [u8],
+) -> Result<(), Failed>
+    requires fits { closed + 1 < 2 ^ 64 }
+    requires whole { 5 ≤ length cell.old }
+    requires size { length cell.old < 2 ^ 32 + 5 }
+    requires room { IfSome (D.seen disk.old) (λ held. closed + 1 ≤ length held) }
+    ensures ok { (shape : Shape) (second : Bool) (bodies : List (List ℕ)) → length (body_in cell.old) ≤ shape.largest → closed + 1 + need_of (body_in cell.old) ≤ begin shape second + shape.bank → Each (D.images disk.old) (λ c. IsText shape second closed c bodies)
+        → OnOk result (Each (D.images disk.new) (λ c. IsText shape second (closed + need_of (body_in cell.old)) c (bodies ++ body_in cell.old ∷ []))) }
+    ensures any_moment { (shape : Shape) (second : Bool) (bodies : List (List ℕ)) → length (body_in cell.old) ≤ shape.largest → closed + 1 + need_of (body_in cell.old) ≤ begin shape second + shape.bank → Each (D.images disk.old) (λ c. IsText shape second closed c bodies)
+        → AnyMoment D.moment D.left_since disk.old disk.new (TextBeforeOrAfter shape second closed bodies (body_in cell.old)) }
+    ensures long { (n : ℕ) → IfSome (D.seen disk.old) (λ held. n ≡ length held)
+        → OnOk result (IfSome (D.seen disk.new) (λ now. max n (closed + 1 + need_of (body_in cell.old)) ≡ length now)) }
+    ensures cause { HasCause (D.faults disk.old) (D.faults disk.new) result }
+    ensures left { cell.new ≡ behind (body_in cell.old) ++ 0 ∷ [] }
+{
+    enclose(cell);
+    write_cell(disk, closed, cell)
+}
+
+// The length of the body is written before it, and a closed gate after it.
+fn enclose(cell: &mut [u8])
+    requires whole { 5 ≤ length cell.old }
+    requires size { length cell.old < 2 ^ 32 + 5 }
+    ensures { cell.new ≡ behind (body_in cell.old) ++ 0 ∷ [] }
+{
+    let end = cell.len() - 1;
+    cell[..4].copy_from_slice(&((end - 4) as u32).to_be_bytes());
+    cell[end] = 0;
 }
 
 // The cell is written after the closed gate, and its own gate is opened once it is on the disk.

@@ -1,8 +1,8 @@
 //! A log of bodies in the live one of two banks.
 ghost use Rattle.std.specs.Prelude.{◌≡◌, [], ◌∷◌, ◌++◌, ℕ, ◌+◌, ◌-◌, ◌≤◌, ◌<◌, ◌^◌, leb, List, length, OnOk, true, false};
-ghost use Rattle.gate_log.specs.Text.{need_of, IsLive};
+ghost use Rattle.gate_log.specs.Text.{behind, body_in, need_of, IsLive};
 
-use crate::appending::append_cell;
+use crate::appending::{append_cell, append_cell_in_place};
 use crate::error::LogError;
 use crate::reading::lengthen;
 use crate::rewriting::{finish_cells, put_cell, with_zeros};
@@ -96,6 +96,38 @@ impl Log {
         self.spent = true; // until the cell is on the disk
         lengthen(&mut self.buffer, body.len() + 5);
         append_cell(disk, self.closed, &mut self.buffer, body)?;
+        self.spent = false;
+        self.filled = None;
+        self.long = max(self.long, self.closed + 1 + need);
+        self.closed += need;
+        Ok(())
+    }
+
+    /// Adds the body that stands in `cell` after its first four bytes and before its last one to the live bank, as `append` does,
+    /// but without a copy of it: the cell is written from there.
+    ///
+    /// Whatever the answer, the body's length stands in those four bytes afterwards and a closed gate in the last one, and the
+    /// body is as it was.
+    pub fn append_in_place<D: Disk>(
+        &mut self,
+        disk: &mut D,
+        cell: &mut [u8],
+    ) -> Result<(), LogError>
+        requires whole { 5 ≤ length cell.old }
+        requires size { length cell.old ≤ self.old.shape.largest + 5 }
+        requires room { length cell.old ≤ room_in self.old }
+        requires unspent { self.old.spent ≡ false }
+        requires of { (bodies : List (List ℕ)) × IsLogOf D.Disk disk.old self.old bodies }
+        ensures answer { Appended self.old (body_in cell.old) (D.faults disk.old) (D.faults disk.new) result self.new }
+        ensures ok { (bodies : List (List ℕ)) → IsLogOf D.Disk disk.old self.old bodies → OnOk result (IsLogOf D.Disk disk.new self.new (bodies ++ body_in cell.old ∷ [])) }
+        ensures any_moment { (bodies : List (List ℕ)) → IsLogOf D.Disk disk.old self.old bodies → AtAnyMoment D.Disk disk.old disk.new (BeforeOrAfter self.old.shape bodies (body_in cell.old)) }
+        ensures same_bank { (bodies : List (List ℕ)) → IsLogOf D.Disk disk.old self.old bodies → AtAnyMoment D.Disk disk.old disk.new (IsLive self.old.second) }
+        ensures count { D.faults disk.old ≤ D.faults disk.new }
+        ensures left { cell.new ≡ behind (body_in cell.old) ++ 0 ∷ [] }
+    {
+        let need = cell.len() as u64;
+        self.spent = true; // until its gate is open
+        append_cell_in_place(disk, self.closed, cell)?;
         self.spent = false;
         self.filled = None;
         self.long = max(self.long, self.closed + 1 + need);

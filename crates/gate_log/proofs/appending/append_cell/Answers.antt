@@ -1,12 +1,9 @@
-use Rattle.std.proofs.Common.{◌≡◌, ◌+◌, ◌∷◌, [], ◌++◌, ℕ, List, length, arith, length-append, ap, subst, max, OnOk}
+use Rattle.std.proofs.Common.{◌≡◌, ◌+◌, ◌∷◌, [], ◌++◌, ℕ, length, subst, max, OnOk}
 use Rattle.std.specs.Prelude.{IfSome}
 use Rattle.dsc_outside.specs.Disk.{Each}
-use Rattle.gate_log.specs.Text.{IsText, behind, need_of}
-use Rattle.gate_log.proofs.Cells.{length-behind}
+use Rattle.gate_log.specs.Text.{IsText}
+use Rattle.gate_log.proofs.Cells.{cell_size}
 use Rattle.gate_log.proofs.appending.append_cell.Goals as goal
-
-cell_size : (cell body : List ℕ) → cell ≡ behind body ++ 0 ∷ [] → length cell ≡ need_of body
-cell_size cell body is = omega (arith, ap length is, length-append (behind body) (0 ∷ []), length-behind body)
 
 pub returns-clause-any_moment : goal.returns-clause-any_moment
 returns-clause-any_moment g c = λ shape second bodies le room texts. c.write_cell.ensures.any_moment shape second bodies c.args.body.now texts le room c.fill-size.ensures.cell

@@ -1,0 +1,21 @@
+use Rattle.std.proofs.Common.{◌≡◌, ◌+◌, ◌∷◌, [], ◌++◌, ℕ, length, subst, max, OnOk}
+use Rattle.std.specs.Prelude.{IfSome}
+use Rattle.dsc_outside.specs.Disk.{Each}
+use Rattle.gate_log.specs.Text.{IsText, body_in}
+use Rattle.gate_log.proofs.Cells.{cell_size}
+use Rattle.gate_log.proofs.appending.append_cell_in_place.Goals as goal
+
+pub returns-clause-any_moment : goal.returns-clause-any_moment
+returns-clause-any_moment g c = λ shape second bodies le room texts. c.write_cell.ensures.any_moment shape second bodies (body_in c.args.cell.now) texts le room c.enclose.ensures
+
+pub returns-clause-ok : goal.returns-clause-ok
+returns-clause-ok g c = λ shape second bodies le room texts.
+    subst (λ (n : ℕ). OnOk c.write_cell.result (Each (g.D.Disk.images c.write_cell.new.disk) (λ f. IsText shape second (c.args.closed + n) f (bodies ++ body_in c.args.cell.now ∷ []))))
+    (cell_size _ (body_in c.args.cell.now) c.enclose.ensures)
+    (c.write_cell.ensures.ok shape second bodies (body_in c.args.cell.now) texts le room c.enclose.ensures)
+
+pub returns-clause-long : goal.returns-clause-long
+returns-clause-long g c = λ n long.
+    subst (λ (m : ℕ). OnOk c.write_cell.result (IfSome (g.D.Disk.seen c.write_cell.new.disk) (λ now. max n (c.args.closed + 1 + m) ≡ length now)))
+    (cell_size _ (body_in c.args.cell.now) c.enclose.ensures)
+    (c.write_cell.ensures.long n long)
