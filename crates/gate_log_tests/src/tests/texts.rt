@@ -22,11 +22,31 @@ fn comes_back(alloc: Global, size: usize) -> Result<bool, LogError> {
         return Ok(false);
     }
     log.append(&mut disk, &body)?;
+    is_found(alloc, disk, &body)
+}
+
+// The same, where the body stands in a buffer between four bytes and one.
+fn comes_back_in_place(alloc: Global, size: usize) -> Result<bool, LogError> {
+    if size > 196_608 {
+        return Ok(false);
+    }
+    let mut cell = vec![in alloc; 7u8; size + 5]?;
+    let mut disk = with_memory(MemoryDisk::new(Vec::new(alloc), Vec::new(alloc)))?;
+    let mut log = replay_log(alloc, &mut disk, LARGE, &mut Bodies::new(alloc))?;
+    if !log.has_room(size as u32) {
+        return Ok(false);
+    }
+    log.append_in_place(&mut disk, &mut cell)?;
+    is_found(alloc, disk, &vec![in alloc; 7u8; size]?)
+}
+
+// Whether the next opening finds this body first.
+fn is_found(alloc: Global, disk: MemoryDisk, body: &[u8]) -> Result<bool, LogError> {
     let mut disk = with_memory(MemoryDisk::new(with_memory(disk.after_stop())?, Vec::new(alloc)))?;
     let mut bodies = Bodies::new(alloc);
     replay_log(alloc, &mut disk, LARGE, &mut bodies)?;
     match bodies.as_slice().first() {
-        Some(found) => Ok(found.as_slice() == body.as_slice()),
+        Some(found) => Ok(found.as_slice() == body),
         None => Ok(false),
     }
 }
@@ -35,6 +55,7 @@ fn comes_back(alloc: Global, size: usize) -> Result<bool, LogError> {
 fn a_body_of_each_size_comes_back(rt: HostRuntime) -> Result<(), Fail> {
     for size in SIZES {
         assert!(rt; comes_back(rt.alloc(), *size)?, "{size}");
+        assert!(rt; comes_back_in_place(rt.alloc(), *size)?, "{size} in place");
     }
     Ok(())
 }
