@@ -33,7 +33,7 @@ use Rattle.node_state.specs.Metas.{IsNodeMeta}
 use Rattle.node_state.specs.Pieces.{base_of, front, report_of, slot_of}
 use Rattle.node_state.specs.Sound.{Sound}
 use Rattle.node_state.specs.Table.{IsWithin}
-use Rattle.node_store.specs.Bodies.{body_of_event, body_of_piece, bytes_of_base, HasDigests, HaveDigests, IsEventInRange}
+use Rattle.node_store.specs.Bodies.{body_of_event, body_of_piece, bytes_of_base, HasDigests, HaveDigests, IsEventInRange, with_room}
 use Rattle.node_store.specs.Parts.{bytes_of_part, bytes_of_parts}
 use Rattle.node_store.specs.Reports.{bytes_of_missed, bytes_of_mark, bytes_of_reason, bytes_of_outcome, bytes_of_report, bytes_of_job, bytes_of_run, bytes_of_result, bytes_of_lists, IsMark, IsReport}
 use Rattle.gate_log.proofs.Cells.{length-behind}
@@ -220,18 +220,22 @@ event_fits (events.Remove stage) range = omega arith
 event_fits events.Restore range = omega arith
 
 -- the same of an event that is to be written
-pub event_small : (event : Event) → IsWithin event → HaveDigests event → length (body_of_event event) ≤ 16842752
-event_small (events.Init agent) within digests = omega (arith, long_128 agent)
-event_small (events.SetMeta meta) within digests = omega (arith, text_fits meta within.is)
-event_small events.Registered within digests = omega arith
-event_small (events.Stage staged) within digests = omega (arith, staged_long staged.parts staged.whole)
-event_small (events.Promote report) within digests = omega (arith, report_long report within digests)
-event_small (events.Note report) within digests = omega (arith, report_long report within digests)
-event_small (events.AskReboot report) within digests = omega (arith, report_long report within digests)
-event_small events.Boot within digests = omega arith
-event_small (events.Sent job) within digests = omega (arith, long_64 job)
-event_small (events.Remove stage) within digests = omega arith
-event_small events.Restore within digests = omega arith
+event_long : (event : Event) → IsWithin event → HaveDigests event → length (body_of_event event) ≤ 16842747
+event_long (events.Init agent) within digests = omega (arith, long_128 agent)
+event_long (events.SetMeta meta) within digests = omega (arith, text_fits meta within.is)
+event_long events.Registered within digests = omega arith
+event_long (events.Stage staged) within digests = omega (arith, staged_long staged.parts staged.whole)
+event_long (events.Promote report) within digests = omega (arith, report_long report within digests)
+event_long (events.Note report) within digests = omega (arith, report_long report within digests)
+event_long (events.AskReboot report) within digests = omega (arith, report_long report within digests)
+event_long events.Boot within digests = omega arith
+event_long (events.Sent job) within digests = omega (arith, long_64 job)
+event_long (events.Remove stage) within digests = omega arith
+event_long events.Restore within digests = omega arith
+
+-- with the five bytes around its body, whose places the log fills
+pub event_small : (event : Event) → IsWithin event → HaveDigests event → length (with_room (body_of_event event)) ≤ 16842752
+event_small event within digests = omega (arith, event_long event within digests, length-append (body_of_event event) (0 ∷ []))
 
 -- ---- pieces
 

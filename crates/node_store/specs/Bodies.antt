@@ -52,6 +52,10 @@ abbrev pub base_body : ℕ → Bool → Bool → ℕ → List ℕ → List ℕ
 base_body agent registered reboot next_job text =
     12 ∷ (bytes_of_base (agent, registered, reboot, next_job) ++ text)
 
+-- a body as the log takes it without a copy: after four bytes and before one, whose places the log fills
+abbrev pub with_room : List ℕ → List ℕ
+with_room body = 0 ∷ 0 ∷ 0 ∷ 0 ∷ (body ++ 0 ∷ [])
+
 abbrev pub body_of_piece : Piece → List ℕ
 body_of_piece (pieces.Base agent registered reboot next_job meta) = base_body agent registered reboot next_job (text_of_meta meta)
 body_of_piece (pieces.Slot stage parts) = 13 ∷ (bytes_of_stage stage ++ bytes_of_parts parts)

@@ -11,7 +11,7 @@ ghost use Rattle.node_state.specs.declared.piece.Piece.TheVariants as pieces;
 ghost use Rattle.report_log.specs.Sizes.{ReportInSize};
 ghost use Rattle.node_state.specs.Table.{IsWithin};
 ghost use Rattle.node_store.specs.Reports.{bytes_of_report, IsReport};
-ghost use Rattle.node_store.specs.Bodies.{base_body, body_of_event, body_of_piece, bytes_of_base, byte_of_stage, bytes_of_stage, BringsText, IsEventInRange, IsPieceInRange};
+ghost use Rattle.node_store.specs.Bodies.{base_body, body_of_event, body_of_piece, bytes_of_base, byte_of_stage, bytes_of_stage, BringsText, IsEventInRange, IsPieceInRange, with_room};
 
 use crate::reports::{NodeForm, put_report};
 use mof_values::Memory;
@@ -40,6 +40,22 @@ pub fn put_event(into: &mut Vec<u8>, event: &Event, text: &[u8]) -> Result<(), M
         Event::Remove(stage) => put_removed(into, *stage),
         Event::Restore => put_byte(into, 11),
     }
+}
+
+/// Appends the body of an event as the log takes it without a copy, with room before it and after it.
+pub(crate) fn put_event_with_room(
+    into: &mut Vec<u8>,
+    event: &Event,
+    text: &[u8],
+) -> Result<(), Memory>
+    requires within { IsWithin event.now }
+    requires text { BringsText event.now text.now }
+    ensures writes { Writes (with_room (body_of_event event.now)) into.old into.new result }
+    ensures in_range { OnOk result (IsEventInRange event.now) }
+{
+    put_bytes(into, &[0; 4])?;
+    put_event(into, event, text)?;
+    put_byte(into, 0)
 }
 
 fn put_agent(into: &mut Vec<u8>, agent: u128) -> Result<(), Memory>
