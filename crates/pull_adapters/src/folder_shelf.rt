@@ -1,9 +1,11 @@
 //! The shelf that is a folder.
 ghost use Rattle.std.specs.Prelude.{◌≡◌, None, Ok, false};
+ghost use Rattle.sha2.specs.Sha256.{sha256};
 ghost use Rattle.dsc_outside.specs.Causes.{HasCauseOf};
 ghost use Rattle.pull_adapters.specs.Shelves.{is_shelf_name};
 ghost use Rattle.pull_outside.specs.Shelf.{Leaves};
 
+use crate::last_digest::LastDigest;
 use crate::shelf_folder::ShelfFolder;
 use pull_outside::{Shelf, ShelfError};
 use std::marker::Model;
@@ -21,12 +23,14 @@ use std::rt::Files;
 /// else but a plain file in an item's place is a failure, and so is a file of more than 62,914,560 bytes, that of the keys
 /// too, and one that is changed each time while it is read. FOLDER and its two folders may be links.
 ///
-/// Nothing is touched before the first call, and nothing is kept from one call to the next: what an administrator puts in
-/// place counts from the next call on. Put a file in place by a rename, so that none is seen that is half written. A clause
-/// sees a shelf as the number of its calls that failed.
+/// Nothing is touched before the first call, and each look reads its file anew: what an administrator puts in place counts from
+/// the next call on. Put a file in place by a rename, so that none is seen that is half written. All that is kept from one call
+/// to the next is the digest that was computed last of an item of at most 2,097,152 bytes, with a copy of the item; it is given
+/// again for equal bytes alone. A clause sees a shelf as the number of its calls that failed.
 #[derive(Drop)]
 pub struct FolderShelf<R: Files> {
     folder: ShelfFolder<R>,
+    last: LastDigest,
     faults: u64,
 }
 
@@ -45,6 +49,7 @@ impl<R: Files> FolderShelf<R> {
     {
         FolderShelf {
             folder: ShelfFolder { rt, path: folder },
+            last: LastDigest::new(),
             faults: 0,
         }
     }
@@ -95,5 +100,12 @@ impl<R: Files> Shelf for FolderShelf<R> {
     {
         let outcome = self.folder.key(index, into);
         self.counted(outcome)
+    }
+
+    fn digest(&mut self, item: &[u8]) -> [u8; 32]
+        ensures digest { result ≡ sha256 item.now }
+        ensures faults { self.new ≡ self.old }
+    {
+        self.last.digest(self.folder.alloc(), item)
     }
 }

@@ -9,6 +9,7 @@
 mod folder_shelf;
 mod item_files;
 mod keys;
+mod last_digest;
 mod places;
 mod shelf_folder;
 mod tcp_conn;

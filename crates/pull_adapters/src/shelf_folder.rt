@@ -61,7 +61,8 @@ impl<R: Files> ShelfFolder<R> {
         }
     }
 
-    fn alloc(&self) -> Global {
+    /// Where its memory comes from.
+    pub fn alloc(&self) -> Global {
         *self.path.allocator()
     }
 }

@@ -1,5 +1,6 @@
 //! Shelves of what a server hands out.
 ghost use Rattle.std.specs.Prelude.{◌≡◌, ℕ, Option, option_map};
+ghost use Rattle.sha2.specs.Sha256.{sha256};
 ghost use Rattle.dsc_outside.specs.Causes.{HasCauseOf};
 ghost use Rattle.pull_outside.specs.Shelf.{Contents, Finds, Leaves, configuration_of, key_of, package_of};
 ghost use Rattle.pull_outside.specs.declared.shelf.ShelfError.TheVariants.{Memory};
@@ -44,8 +45,8 @@ impl fmt::Display for ShelfError {
 
 /// What an administrator puts out for agents: configurations by name, packages of modules by name and version, and keys in order.
 ///
-/// Each call answers whether the item is there, and then appends it. Where it is not there, or the call failed, the buffer stays
-/// as it was. An item has at most 62,914,560 bytes; one that is longer counts as a failure.
+/// A look for an item answers whether it is there, and then appends it. Where it is not there, or the call failed, the buffer
+/// stays as it was. An item has at most 62,914,560 bytes; one that is longer counts as a failure.
 pub trait Shelf {
     /// What stands on the shelf, where it is exposed.
     ghost holds: { Self → Option Contents };
@@ -73,4 +74,11 @@ pub trait Shelf {
         ensures leaves { Leaves result into.old.items into.new.items }
         ensures same { holds self.new ≡ holds self.old }
         ensures cause { HasCauseOf ShelfError.Failed (faults self.old) (faults self.new) result };
+
+    /// The SHA-256 digest of these bytes (FIPS 180-4), those of an item that was found. It never fails. A shelf may remember
+    /// the digest of the item that it was asked for last.
+    fn digest(&mut self, item: &[u8]) -> [u8; 32]
+        ensures digest { result ≡ sha256 item.now }
+        ensures same { holds self.new ≡ holds self.old }
+        ensures faults { faults self.new ≡ faults self.old };
 }

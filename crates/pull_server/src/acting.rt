@@ -9,7 +9,7 @@ use crate::fetching::content;
 use mof_values::{Items, Text, is_spelled};
 use pull_messages::{ActionAnswer, ActionQuery, Client, Detail};
 use pull_outside::{Shelf, ShelfError};
-use shared_key::{digest, read_checksum};
+use shared_key::read_checksum;
 use std::alloc::{AllocError, Global};
 
 /// Whether a client has an empty name, and the agent's names are not one.
@@ -143,7 +143,7 @@ fn detail_for<S: Shelf>(
     ensures cause { HasCauseOf ShelfError.Failed (S.faults shelf.old) (S.faults shelf.new) result }
 {
     let found = content(alloc, shelf, names, &client.name)?;
-    let status = status_with(&client.checksum, &found)?;
+    let status = status_with(shelf, &client.checksum, &found)?;
     Ok(Detail {
         name: client.name.clone()?,
         status: status_text(alloc, status)?,
@@ -151,25 +151,33 @@ fn detail_for<S: Shelf>(
 }
 
 // The status of a content that the agent may have, or of none, where it holds one of this checksum.
-fn status_with(checksum: &Text, content: &Option<Vec<u8>>) -> Result<&'static str, AllocError>
-    ensures { IfOk result (λ status. status.now ≡ status_with checksum.now (option_map (λ v. v.items) content.now)) }
+fn status_with<S: Shelf>(
+    shelf: &mut S,
+    checksum: &Text,
+    content: &Option<Vec<u8>>,
+) -> Result<&'static str, AllocError>
+    ensures status { IfOk result (λ status. status.now ≡ status_with checksum.now (option_map (λ v. v.items) content.now)) }
+    ensures same { S.holds shelf.new ≡ S.holds shelf.old }
+    ensures faults { S.faults shelf.new ≡ S.faults shelf.old }
 {
     let Some(content) = content else {
         return Ok("RETRY");
     };
     let text = checksum.to_utf8()?;
-    if is_digest(read_checksum(text.as_bytes()), content) {
+    if is_digest(shelf, read_checksum(text.as_bytes()), content) {
         Ok("Ok")
     } else {
         Ok("GetConfiguration")
     }
 }
 
-fn is_digest(held: Option<[u8; 32]>, content: &[u8]) -> bool
-    ensures { result ≡ is_digest held content.now }
+fn is_digest<S: Shelf>(shelf: &mut S, held: Option<[u8; 32]>, content: &[u8]) -> bool
+    ensures is { result ≡ is_digest held content.now }
+    ensures same { S.holds shelf.new ≡ S.holds shelf.old }
+    ensures faults { S.faults shelf.new ≡ S.faults shelf.old }
 {
     match held {
-        Some(held) => held == digest(content),
+        Some(held) => held == shelf.digest(content),
         None => false,
     }
 }

@@ -224,7 +224,7 @@ fn judge_content<S: Shelf>(
         return Ok(Verdict::Says(plain(alloc, 404)));
     };
     let found = content(alloc, shelf, row.registration.names.as_slice(), name);
-    Ok(Verdict::Says(item_reply(alloc, store.is_spent(), found)?))
+    Ok(Verdict::Says(item_reply(alloc, shelf, store.is_spent(), found)?))
 }
 
 fn judge_package<S: Shelf>(
@@ -241,7 +241,7 @@ fn judge_package<S: Shelf>(
     ensures count { S.faults shelf.old ≤ S.faults shelf.new }
 {
     let found = package(alloc, shelf, name, version);
-    Ok(Verdict::Says(item_reply(alloc, store.is_spent(), found)?))
+    Ok(Verdict::Says(item_reply(alloc, shelf, store.is_spent(), found)?))
 }
 
 fn is_of_version_if_named(header: &Header) -> bool
@@ -281,16 +281,19 @@ fn judge_query<S: Shelf>(
 }
 
 // What was found of what is fetched.
-fn item_reply(
+fn item_reply<S: Shelf>(
     alloc: Global,
+    shelf: &mut S,
     spent: bool,
     found: Result<Option<Vec<u8>>, ShelfError>,
 ) -> Result<Reply, Memory>
-    ensures { IfOk result (ItemReply spent found) }
+    ensures reply { IfOk result (ItemReply spent found) }
+    ensures same { S.holds shelf.new ≡ S.holds shelf.old }
+    ensures faults { S.faults shelf.new ≡ S.faults shelf.old }
 {
     match found {
         Ok(Some(_)) if spent => Ok(plain(alloc, 500)),
-        Ok(Some(bytes)) => content_reply(alloc, bytes),
+        Ok(Some(bytes)) => content_reply(alloc, shelf, bytes),
         Ok(None) => Ok(plain(alloc, 404)),
         Err(ShelfError::Failed) => Ok(plain(alloc, 500)),
         Err(ShelfError::Memory) => Err(Memory),

@@ -9,7 +9,8 @@ ghost use Rattle.pull_server.specs.Replies.{content_reply, header, message_reply
 use http_frames::{Header, Reply};
 use mof_values::{Bytes, Items, Memory};
 use pull_messages::MessageError;
-use shared_key::{checksum_text, digest};
+use pull_outside::Shelf;
+use shared_key::checksum_text;
 use std::alloc::{AllocError, Global};
 
 /// A reply without a body; takes no memory.
@@ -66,12 +67,18 @@ pub fn message_reply(alloc: Global, body: Vec<u8>) -> Result<Reply, Memory>
     })
 }
 
-/// A content under its checksum.
+/// A content under its checksum, of which the shelf gives the digest.
 #[tactic(auto, unfolding(crate::specs::Replies::content_reply))]
-pub fn content_reply(alloc: Global, content: Vec<u8>) -> Result<Reply, Memory>
-    ensures { IfOk result (λ reply. reply ≡ content_reply content.items) }
+pub fn content_reply<S: Shelf>(
+    alloc: Global,
+    shelf: &mut S,
+    content: Vec<u8>,
+) -> Result<Reply, Memory>
+    ensures reply { IfOk result (λ reply. reply ≡ content_reply content.items) }
+    ensures same { S.holds shelf.new ≡ S.holds shelf.old }
+    ensures faults { S.faults shelf.new ≡ S.faults shelf.old }
 {
-    let checksum = checksum_text(&digest(&content));
+    let checksum = checksum_text(&shelf.digest(&content));
     let mut headers = Vec::new(alloc);
     headers.push(header(alloc, "Content-Type", b"application/octet-stream")?)?;
     headers.push(header(alloc, "Checksum", &checksum)?)?;

@@ -1,6 +1,7 @@
 //! A shelf in memory.
 ghost use Rattle.std.specs.Prelude.{◌≡◌, ◌≤◌, false, Some, OnErr, length, option_map, slice_get};
 ghost use Rattle.std.specs.Option.{option_copied};
+ghost use Rattle.sha2.specs.Sha256.{sha256};
 ghost use Rattle.dsc_outside.specs.Causes.{HasCauseOf};
 ghost use Rattle.pull_outside.specs.Calls.{uncalled};
 ghost use Rattle.pull_outside.specs.Memory.{Looks};
@@ -11,6 +12,7 @@ use super::calls::Calls;
 use super::contents::{Configuration, ShelfContents};
 use crate::shelf::{LONGEST_ITEM, Shelf, ShelfError};
 use dsc_outside::Package;
+use sha2::{Digest, Sha256};
 use std::marker::Model;
 
 /// A shelf that holds these contents.
@@ -96,6 +98,15 @@ impl Shelf for MemoryShelf {
             None => None,
         };
         look(&mut self.calls, item, into)
+    }
+
+    fn digest(&mut self, item: &[u8]) -> [u8; 32]
+        ensures digest { result ≡ sha256 item.now }
+
+        // It is no call that is counted, and nothing is kept.
+        ensures still { self.new ≡ self.old }
+    {
+        Sha256::digest(item)
     }
 }
 

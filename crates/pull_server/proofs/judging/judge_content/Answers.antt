@@ -23,9 +23,9 @@ returns-clause-judged g c =
     let has : row_of c.args.agent store.rows ≡ Some row = search rules in
     let state : is_spent store ≡ c.is_spent.result = sym c.is_spent.ensures in
     let finds : IfOk c.content-found.result (λ f. (shelf : Contents) → g.S.Shelf.holds c.args.shelf.now ≡ Some shelf → Shown f ≡ content_for shelf row.registration.names c.args.name.now) = search rules in
-    item_said store request (Content c.args.agent c.args.name.now) (g.S.Shelf.holds c.args.shelf.now) (g.S.Shelf.faults c.args.shelf.now) (g.S.Shelf.faults c.content-found.new.shelf)
+    item_said store request (Content c.args.agent c.args.name.now) (g.S.Shelf.holds c.args.shelf.now) (g.S.Shelf.faults c.args.shelf.now) (g.S.Shelf.faults c.item_reply.new.shelf)
     c.requires.past refl (λ shelf. content_for shelf row.registration.names c.args.name.now)
     (λ shelf none. no_content store shelf request c.args.agent c.args.name.now row has none)
     (λ shelf bytes is spent. spent_content store shelf request c.args.agent c.args.name.now row bytes has is spent)
     (λ shelf bytes is unspent. found_content store shelf request c.args.agent c.args.name.now row bytes has is unspent)
-    c.is_spent.result c.content-found.result c.in_ok-item_reply.field-0 state finds c.content-found.ensures.cause c.in_ok-item_reply.ensures
+    c.is_spent.result c.content-found.result c.in_ok-item_reply.field-0 state finds (rw c.item_reply.ensures.faults c.content-found.ensures.cause) c.in_ok-item_reply.ensures.reply
