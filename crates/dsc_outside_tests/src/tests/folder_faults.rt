@@ -70,7 +70,7 @@ const CASES: &[Case<'_>] = &[
     ((State("b"), Folder), &[Look, Look, List], &[], &[]),
     (
         (Same("a/file", b"old"), Yes),
-        &[Look, Look, Look, Look, Open, Read, Read],
+        &[Look, Look, Look, Open, Read, Read],
         &[],
         &[],
     ),
@@ -230,7 +230,7 @@ const DENIED: &[(Row<'_>, usize)] = &[
     ((State("a/file"), Failed), 0),
     ((State("a/file"), Failed), 1),
     ((State("a/file"), Failed), 2),
-    ((Same("a/file", b"old"), Failed), 4),
+    ((Same("a/file", b"old"), Failed), 3),
     ((State("b/c"), Folder), 3),
     ((Value("path", b""), Failed), 0),
     ((Value("path", b""), Failed), 1),
