@@ -16,7 +16,9 @@ int main(int count, char **words) {
     if (count != 4) return 2;
     int file = open(words[1], O_RDWR | O_CREAT, 0666);
     long times = atol(words[2]), size = atol(words[3]), least = -1;
-    char *cell = calloc(1, size + 1);
+    char *cell = malloc(size + 1);
+    /* pages that were never written would all be one page of zeros to the system */
+    for (long i = 0; i <= size; i++) cell[i] = 'a' + i % 23;
     off_t closed = 8;
     if (pwrite(file, "DSCSTOR1", 9, 0) != 9 || fsync(file)) return 4;
     for (long i = 0; i < times; i++, closed += size + 1) {
