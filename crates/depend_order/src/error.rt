@@ -71,17 +71,22 @@ impl<T: Drop> From<AllocFailed<T>> for InOrderError {
 impl fmt::Display for OrderError {
     fn fmt<W: fmt::Write>(&self, f: &mut fmt::Formatter<W>) -> fmt::Result {
         match self {
-            OrderError::Cycle(walk) => write_cycle(f, walk.as_slice()),
+            OrderError::Cycle(walk) => write!(f, "{}", Cycle(walk.as_slice())),
             OrderError::Memory => write!(f, "{Memory}"),
         }
     }
 }
 
-/// Writes that the dependencies form a cycle, and its places.
-pub fn write_cycle<W: fmt::Write>(f: &mut fmt::Formatter<W>, walk: &[u32]) -> fmt::Result {
-    f.write_str("the dependencies form a cycle:")?;
-    for place in walk {
-        write!(f, " {place}")?;
+/// The places of a cycle, one after the other: its Display says that the dependencies form it.
+#[derive(Clone, Copy, Debug)]
+pub struct Cycle<'a>(pub &'a [u32]);
+
+impl<'a> fmt::Display for Cycle<'a> {
+    fn fmt<W: fmt::Write>(&self, f: &mut fmt::Formatter<W>) -> fmt::Result {
+        f.write_str("the dependencies form a cycle:")?;
+        for place in self.0 {
+            write!(f, " {place}")?;
+        }
+        Ok(())
     }
-    Ok(())
 }

@@ -19,7 +19,7 @@ mod steps;
 mod walk;
 
 pub use documents::{dependencies, order, order_counted};
-pub use error::{InOrderError, OrderError, write_cycle};
+pub use error::{Cycle, InOrderError, OrderError};
 pub use laws::{order_laws, order_of_laws};
 pub use numbers::order_of;
 pub use ordered::{OrderedDocument, in_order};

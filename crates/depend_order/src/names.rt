@@ -66,7 +66,7 @@ pub fn places_counted<L: Ledger>(
         if places.len() < names.len() {
             return Err(InOrderError::DependsUnknown {
                 spot: spot_of(resource),
-                name: copy_of(&names[places.len()])?,
+                name: names[places.len()].copy()?,
             });
         }
         depends.push(places)?;
@@ -156,12 +156,6 @@ fn places_in<L: Ledger>(
         }
     }
     Ok(places)
-}
-
-fn copy_of(text: &Text) -> Result<Text, AllocError>
-    ensures { IfOk result (λ copy. copy ≡ text.now) }
-{
-    text.clone()
 }
 
 // Writes the fold of the text in place of what there was.

@@ -69,7 +69,7 @@ pub fn check_known(instances: &[Instance], ids: &Places) -> Result<(), DocError>
         if let Some(name) = first_unknown(depends_scalars(instance), ids)? {
             return Err(DocError::DependsUnknown {
                 index: index as u32,
-                name: copy_of(name)?,
+                name: name.copy()?,
             });
         }
     }
@@ -107,15 +107,9 @@ fn push_text(names: &mut Vec<Text>, scalar: &Scalar) -> Result<(), AllocError>
     ensures { OnOk result (names.new.items ≡ names.old.items ++ option_to_list (text_of_scalar scalar.now)) }
 {
     if let Scalar::Text(name) = scalar {
-        names.push(copy_of(name)?)?;
+        names.push(name.copy()?)?;
     }
     Ok(())
-}
-
-pub fn copy_of(name: &Text) -> Result<Text, AllocError>
-    ensures { IfOk result (λ copy. copy ≡ name.now) }
-{
-    name.clone()
 }
 
 // The scalars of the DependsOn, where there is one.

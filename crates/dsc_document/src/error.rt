@@ -55,21 +55,9 @@ impl<T: Drop> From<AllocFailed<T>> for DocError {
 
 impl fmt::Display for DocError {
     fn fmt<W: fmt::Write>(&self, f: &mut fmt::Formatter<W>) -> fmt::Result {
-        self.write_rule(f)?;
         match self {
-            DocError::DuplicateProperty { name, .. } => write_chars(f, name.as_slice()),
-            DocError::DependsUnknown { name, .. } => write_chars(f, name.as_slice()),
-            _ => Ok(()),
-        }
-    }
-}
-
-impl DocError {
-    // Writes which rule is broken, up to the name of what breaks it.
-    fn write_rule<W: fmt::Write>(&self, f: &mut fmt::Formatter<W>) -> fmt::Result {
-        match self {
-            DocError::DuplicateProperty { index, .. } => {
-                write!(f, "instance {index} has two properties named ")
+            DocError::DuplicateProperty { index, name } => {
+                write!(f, "instance {index} has two properties named {name}")
             }
             DocError::TwoAliases { first, second } => {
                 write!(f, "instances {first} and {second} have the same alias")
@@ -99,21 +87,13 @@ impl DocError {
             DocError::BadDependsOn { index } => {
                 write!(f, "the DependsOn of instance {index} is no list of texts")
             }
-            DocError::DependsUnknown { index, .. } => {
+            DocError::DependsUnknown { index, name } => {
                 write!(
                     f,
-                    "no resource has the id that instance {index} depends on: "
+                    "no resource has the id that instance {index} depends on: {name}"
                 )
             }
             DocError::Memory => write!(f, "{Memory}"),
         }
     }
-}
-
-/// Writes the characters as they are.
-pub fn write_chars<W: fmt::Write>(f: &mut fmt::Formatter<W>, chars: &[char]) -> fmt::Result {
-    for c in chars {
-        f.write_char(*c)?;
-    }
-    Ok(())
 }

@@ -24,7 +24,7 @@ mod rules;
 mod spot;
 
 pub use document::{Document, Resource};
-pub use error::{DocError, write_chars};
+pub use error::DocError;
 pub use limits::{MAX_ID, MAX_RESOURCES, MAX_VERSION};
 pub use places::Places;
 pub use rules::{check, check_part, one_refusal_wins};

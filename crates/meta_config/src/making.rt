@@ -9,7 +9,7 @@ ghost use Rattle.meta_config.specs.Properties.{given, texts_of};
 ghost use Rattle.meta_config.specs.Tables.{is_manager, is_of};
 
 use crate::partials::partials_of;
-use crate::properties::{copy_of, given, text_given};
+use crate::properties::{given, text_given};
 use crate::tables::{Class, is_manager, is_of};
 use crate::urls::site_named;
 use crate::words::{after_of, boolean_of, minutes_of, mode_of, refresh_of};
@@ -226,7 +226,7 @@ fn put_name(names: &mut Vec<Text>, name: &Text) -> Result<(), AllocError>
     ensures { OnOk result (names.new.items ≡ with_name names.old.items name.now) }
 {
     if !is_among(names, name) {
-        names.push(copy_of(name)?)?;
+        names.push(name.copy()?)?;
     }
     Ok(())
 }
@@ -267,7 +267,7 @@ fn push_text(texts: &mut Vec<Text>, scalar: &Scalar) -> Result<(), AllocError>
     ensures { OnOk result (texts.new.items ≡ texts.old.items ++ option_to_list (text_of_scalar scalar.now)) }
 {
     if let Scalar::Text(text) = scalar {
-        texts.push(copy_of(text)?)?;
+        texts.push(text.copy()?)?;
     }
     Ok(())
 }

@@ -77,9 +77,3 @@ pub fn ident(alloc: Global, name: &str) -> Result<Ident, AllocError>
         Err(IdentError::NotAnIdent) => unreachable!(),
     }
 }
-
-pub fn copy_of(text: &Text) -> Result<Text, AllocError>
-    ensures { IfOk result (λ copy. copy ≡ text.now) }
-{
-    text.clone()
-}

@@ -5,7 +5,7 @@ ghost use Rattle.mof_values.specs.Ident.{IsIdent};
 ghost use Rattle.meta_config.specs.Words.{refresh_name};
 ghost use Rattle.meta_config.specs.Writing.{boolean_property, download_instance, instance, instances_of, integer_property, key_property, list_property, manager_instances, managers_of, partial_instance, property, reference_to, refresh_properties, report_instance, resource_instance, settings_instance, site_at_server, text_of_meta, text_property, text_scalar, url_property};
 
-use crate::properties::{copy_of, ident};
+use crate::properties::ident;
 use crate::tables::Class;
 use crate::urls::{push_ascii, url_of};
 use crate::{Meta, Partial, RefreshMode, Server};
@@ -178,7 +178,7 @@ fn url_property(alloc: Global, server: &Server) -> Result<Property, AllocError>
 fn key_property(alloc: Global, server: &Server) -> Result<Property, AllocError>
     ensures { IfOk result (λ p. p ≡ key_property server.now) }
 {
-    let key = copy_of(&server.key)?;
+    let key = server.key.copy()?;
     property(alloc, "RegistrationKey", Value::One(Scalar::Text(key)))
 }
 
@@ -218,7 +218,7 @@ fn scalars_of(alloc: Global, texts: &[Text]) -> Result<Vec<Scalar>, AllocError>
     let mut scalars = Vec::new(alloc);
     let mut left = texts;
     while let [text, rest @ ..] = left {
-        scalars.push(Scalar::Text(copy_of(text)?))?;
+        scalars.push(Scalar::Text(text.copy()?))?;
         left = rest;
     }
     Ok(scalars)

@@ -1,11 +1,13 @@
 //! Identifiers.
 ghost use Rattle.std.specs.Prelude.{◌≡◌, IfOk, IsErrOf, false};
 ghost use Rattle.std.specs.List.{list_all};
+ghost use Rattle.std.specs.Str.{chars};
 ghost use Rattle.mof_values.specs.Fold.{same_name};
 ghost use Rattle.mof_values.specs.Ident.{IsIdent, is_ident, is_first, is_next};
 ghost use Rattle.mof_values.specs.declared.ident.IdentError.TheVariants.{Memory};
 
 use crate::fold::is_named;
+use crate::text::char_count;
 use crate::{MAX_IDENTIFIER, Text};
 use std::alloc::{AllocError, Global};
 use std::fmt;
@@ -77,6 +79,22 @@ impl Ident {
         })
     }
 
+    /// The identifier that the text spells.
+    pub fn parse(alloc: Global, text: &str) -> Result<Ident, IdentError>
+        ensures ok { IfOk result (λ ident. ident ≡ chars text.now) }
+        ensures valid { IfOk result (λ _. IsIdent (chars text.now)) }
+        ensures refused { IsErrOf result IdentError.NotAnIdent → is_ident (chars text.now) ≡ false }
+    {
+        if char_count(text) > MAX_IDENTIFIER {
+            return Err(IdentError::NotAnIdent);
+        }
+        let chars = Text::from_utf8(alloc, text)?;
+        if !spells_ident(chars.as_slice()) {
+            return Err(IdentError::NotAnIdent);
+        }
+        Ok(Ident { chars })
+    }
+
     /// The identifier that the characters with these codes spell (ISO 8859-1).
     pub fn from_latin1(alloc: Global, codes: &[u8]) -> Result<Ident, IdentError>
         ensures ok { IfOk result (λ ident. ident ≡ codes.now) }
@@ -138,6 +156,12 @@ pub fn may_follow(c: char) -> bool
     ensures { result ≡ is_next c }
 {
     may_begin(c) || c.is_ascii_digit()
+}
+
+impl fmt::Display for Ident {
+    fn fmt<W: fmt::Write>(&self, f: &mut fmt::Formatter<W>) -> fmt::Result {
+        write!(f, "{}", self.chars)
+    }
 }
 
 impl PartialEq for Ident {

@@ -22,5 +22,5 @@ pub use instance::{Instance, Property};
 pub use items::Items;
 pub use limits::MAX_IDENTIFIER;
 pub use memory::Memory;
-pub use text::Text;
+pub use text::{Text, char_count};
 pub use value::{Scalar, Value};

@@ -1,8 +1,10 @@
 //! Texts.
 ghost use Rattle.std.specs.Prelude.{◌≡◌, ◌<◌, ◌≤◌, ◌↔◌, ℕ, All, IfOk, IsTrue, length, slice_index, encode_utf8_all, string_bytes};
 ghost use Rattle.std.specs.Char.{IsScalar};
+ghost use Rattle.std.specs.Str.{chars};
 
 use std::alloc::{AllocError, Global};
+use std::fmt;
 use std::marker::Model;
 
 /// A list of characters.
@@ -38,6 +40,13 @@ impl Text {
         Ok(Text::of(codes.iter().map(|code| char::from(*code)).collect(alloc)?))
     }
 
+    /// The characters of a text in UTF-8.
+    pub fn from_utf8(alloc: Global, text: &str) -> Result<Text, AllocError>
+        ensures { IfOk result (λ t. t ≡ chars text.now) }
+    {
+        Ok(Text::of(text.chars().collect(alloc)?))
+    }
+
     pub fn as_slice(&self) -> &[char]
         ensures value { result.now ≡ self.now }
         ensures scalars { All IsScalar self.now }
@@ -49,6 +58,13 @@ impl Text {
         ensures { result.items ≡ self }
     {
         self.chars
+    }
+
+    /// The same text once more.
+    pub fn copy(&self) -> Result<Text, AllocError>
+        ensures { IfOk result (λ copy. copy ≡ self.now) }
+    {
+        self.clone()
     }
 
     /// The characters in UTF-8.
@@ -76,12 +92,28 @@ impl Text {
     }
 }
 
+/// How many characters the text has.
+pub fn char_count(text: &str) -> usize
+    ensures { result ≡ length (chars text.now) }
+{
+    text.chars().count()
+}
+
 // Reads each character, so that it is known to be a scalar value.
 fn look_at(chars: &[char])
     ensures { (k : ℕ) → k < length chars.now → IsScalar (slice_index chars.now k) }
 {
     for c in chars {
         let _code = *c as u32;
+    }
+}
+
+impl fmt::Display for Text {
+    fn fmt<W: fmt::Write>(&self, f: &mut fmt::Formatter<W>) -> fmt::Result {
+        for c in self.as_slice() {
+            f.write_char(*c)?;
+        }
+        Ok(())
     }
 }
 

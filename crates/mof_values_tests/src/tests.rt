@@ -69,6 +69,7 @@ fn names_compare_without_the_case_of_ascii_letters(rt: HostRuntime) -> Result<()
 fn is_answered(rt: &impl AllocGlobal, size: usize) -> Result<bool, Fail> {
     let codes = vec![in rt.alloc(); b'a'; size]?;
     let text = Text::from_latin1(rt.alloc(), &codes)?;
+    let bytes = text.to_utf8()?;
     let wanted = if 1 <= size && size <= 255 {
         None
     } else {
@@ -77,8 +78,10 @@ fn is_answered(rt: &impl AllocGlobal, size: usize) -> Result<bool, Fail> {
     Ok(
         Ident::make(rt.alloc(), &text).err() == wanted
             && Ident::spell(rt.alloc(), text.as_slice()).err() == wanted
+            && Ident::parse(rt.alloc(), &bytes).err() == wanted
             && Ident::from_latin1(rt.alloc(), &codes).err() == wanted
-            && text.to_utf8().is_ok(),
+            && Text::from_utf8(rt.alloc(), &bytes)? == text
+            && text.copy()? == text,
     )
 }
 
@@ -90,8 +93,21 @@ fn ample_memory_is_enough_for_each_size(rt: HostRuntime) -> Result<(), Fail> {
     Ok(())
 }
 
-fn prints(rt: &impl AllocGlobal, error: &impl Display, words: &str) -> Result<bool, Fail> {
-    Ok(error.to_string(rt.alloc())?.as_str() == words)
+fn prints(rt: &impl AllocGlobal, value: &impl Display, words: &str) -> Result<bool, Fail> {
+    Ok(value.to_string(rt.alloc())?.as_str() == words)
+}
+
+#[test]
+fn texts_and_identifiers_are_printed_as_they_are(rt: HostRuntime) -> Result<(), Fail> {
+    for (row, words) in ["", "a b", "\u{e9}\u{20ac}\u{1f600}\"\\"]
+        .iter()
+        .enumerate()
+    {
+        let text = Text::from_utf8(rt.alloc(), words)?;
+        holds(prints(&rt, &text, words)?, row)?;
+    }
+    let name = Ident::parse(rt.alloc(), "\u{e9}_9")?;
+    holds(prints(&rt, &name, "\u{e9}_9")?, 3)
 }
 
 #[test]

@@ -2,7 +2,6 @@
 ghost use Rattle.std.specs.Prelude.{◌≡◌, IfOk, map};
 ghost use Rattle.node_pull.specs.Marks.{mark_of, same_marks};
 
-use crate::names::copy_of;
 use partial_merge::Part;
 use report_log::PartMark;
 use std::alloc::{AllocError, Global};
@@ -14,7 +13,7 @@ pub fn marks_of(alloc: Global, parts: &[Part]) -> Result<Vec<PartMark>, AllocErr
     let mut marks = Vec::new(alloc);
     for part in parts {
         marks.push(PartMark {
-            name: copy_of(&part.name)?,
+            name: part.name.copy()?,
             digest: part.digest,
         })?;
     }

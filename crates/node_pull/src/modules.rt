@@ -4,7 +4,6 @@ ghost use Rattle.std.specs.List.{list_any};
 ghost use Rattle.meta_config.specs.Words.{is_name};
 ghost use Rattle.node_pull.specs.Packages.{is_own, module_by, module_of, modules_of, same_module};
 
-use crate::names::copy_of;
 use dsc_document::{Document, Resource};
 use mof_values::{Text, is_named};
 use std::alloc::{AllocError, Global};
@@ -73,8 +72,8 @@ fn copied(name: &Text, version: &Text) -> Result<Module, AllocError>
     ensures { IfOk result (λ found. found ≡ record { name = name.now; version = version.now }) }
 {
     Ok(Module {
-        name: copy_of(name)?,
-        version: copy_of(version)?,
+        name: name.copy()?,
+        version: version.copy()?,
     })
 }
 

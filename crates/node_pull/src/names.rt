@@ -18,7 +18,7 @@ pub(crate) fn registered_names(alloc: Global, meta: &Meta) -> Result<Vec<Text>, 
     let mut left = meta.partials.as_slice();
     while let [partial, rest @ ..] = left {
         if !is_among(own, &partial.name) {
-            names.push(copy_of(&partial.name)?)?;
+            names.push(partial.name.copy()?)?;
         }
         left = rest;
     }
@@ -64,7 +64,7 @@ fn names_at(alloc: Global, partials: &[Partial], places: &[u32]) -> Result<Vec<T
 {
     let mut names = Vec::new(alloc);
     for place in places {
-        names.push(copy_of(&partials[*place as usize].name)?)?;
+        names.push(partials[*place as usize].name.copy()?)?;
     }
     Ok(names)
 }
@@ -73,10 +73,4 @@ fn copies(alloc: Global, texts: &[Text]) -> Result<Vec<Text>, AllocError>
     ensures { IfOk result (λ copies. copies.items ≡ texts.now) }
 {
     texts.to_vec(alloc)
-}
-
-pub(crate) fn copy_of(name: &Text) -> Result<Text, AllocError>
-    ensures { IfOk result (λ copy. copy ≡ name.now) }
-{
-    name.clone()
 }

@@ -2,8 +2,8 @@
 ghost use Rattle.std.specs.Prelude.{◌≡◌};
 ghost use Rattle.partial_merge.specs.declared.error.MergeError.TheVariants.{Memory};
 
-use depend_order::write_cycle;
-use dsc_document::{DocError, MAX_RESOURCES, Spot, write_chars};
+use depend_order::Cycle;
+use dsc_document::{DocError, MAX_RESOURCES, Spot};
 use mof_codec::MofError;
 use mof_values::{Items, Memory, Text};
 use std::alloc::{AllocError, AllocFailed};
@@ -85,10 +85,9 @@ impl fmt::Display for MergeError {
                 write!(f, "{first} and {second} have the same ResourceID")
             }
             MergeError::DependsUnknown { spot, name } => {
-                write!(f, "no resource has the id that {spot} depends on: ")?;
-                write_chars(f, name.as_slice())
+                write!(f, "no resource has the id that {spot} depends on: {name}")
             }
-            MergeError::Cycle(walk) => write_cycle(f, walk.as_slice()),
+            MergeError::Cycle(walk) => write!(f, "{}", Cycle(walk.as_slice())),
             MergeError::Memory => write!(f, "{Memory}"),
         }
     }

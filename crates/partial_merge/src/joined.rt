@@ -5,7 +5,6 @@ ghost use Rattle.mof_syntax.specs.Refusals.{Reads};
 ghost use Rattle.partial_merge.specs.Parts.{AreJoined, Declares, NamesDiffer, in_part, joined, named, text_part, with_part};
 ghost use Rattle.partial_merge.specs.Refused.{IsFault, IsFirstFault, IsPartFault};
 
-use crate::part::copy_of_name;
 use crate::{MergeError, Part, PartFault};
 use dsc_document::{DocError, Document, Resource, check_part};
 use mof_codec::{MofError, read};
@@ -50,7 +49,7 @@ fn named(alloc: Global, document: Document, name: &Text) -> Result<Document, All
     ensures { IfOk result (λ with_name. with_name ≡ named document (name.now ∷ [])) }
 {
     let mut document = document;
-    document.parts = Items::of(vec![in alloc; copy_of_name(name)?]?);
+    document.parts = Items::of(vec![in alloc; name.copy()?]?);
     Ok(document)
 }
 
@@ -68,7 +67,7 @@ fn with_part(
     let mut others = whole.others.into_vec();
     others.append(&mut part.others.into_vec())?;
     let mut parts = whole.parts.into_vec();
-    parts.push(copy_of_name(name)?)?;
+    parts.push(name.copy()?)?;
     Ok(Document {
         version: whole.version,
         resources: Items::of(resources),

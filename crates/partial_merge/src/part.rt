@@ -39,18 +39,11 @@ impl Part {
         ensures { IfOk result (λ copy. copy ≡ self.now) }
     {
         Ok(Part {
-            name: copy_of_name(&self.name)?,
+            name: self.name.copy()?,
             digest: self.digest,
             bytes: copy_of_bytes(&self.bytes)?,
         })
     }
-}
-
-/// The same name.
-pub fn copy_of_name(name: &Text) -> Result<Text, AllocError>
-    ensures { IfOk result (λ copy. copy ≡ name.now) }
-{
-    name.clone()
 }
 
 fn copy_of_bytes(bytes: &Bytes) -> Result<Bytes, AllocError>

@@ -26,7 +26,7 @@ pub fn room_for(alloc: Global, document: &Document) -> Result<ReportRoom, AllocE
 {
     let resources = document.resources.as_slice();
     Ok(ReportRoom {
-        version: copy_of(&document.version)?,
+        version: document.version.copy()?,
         ids: ids_of(alloc, resources)?,
         marks: vec![in alloc; Mark::NotCalled; resources.len()]?,
         listed: Vec::with_capacity(alloc, LISTED_LIMIT)?,
@@ -38,13 +38,7 @@ fn ids_of(alloc: Global, resources: &[Resource]) -> Result<Vec<Text>, AllocError
 {
     let mut ids = Vec::new(alloc);
     for resource in resources {
-        ids.push(copy_of(&resource.id)?)?;
+        ids.push(resource.id.copy()?)?;
     }
     Ok(ids)
-}
-
-fn copy_of(text: &Text) -> Result<Text, AllocError>
-    ensures { IfOk result (λ copy. copy ≡ text.now) }
-{
-    text.clone()
 }

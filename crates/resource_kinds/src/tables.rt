@@ -73,7 +73,7 @@ fn ident(alloc: Global, word: &[u8]) -> Result<Ident, AllocError>
 // The table that an instance has by its kind.
 #[derive(Clone, Copy)]
 enum Table {
-    // a file's, but that it has no contents
+    // that of a file, without the contents
     Directory,
     File,
     Environment,

@@ -19,7 +19,7 @@ returns-then-len-names-clause-refused g c =
     let within : count < length c.as_slice-names.result.now = omega (arith, c.if-len-names.true) in
     let at = rw c.as_slice-names.ensures at (slice_get-get_or c.as_slice-names.result.now count name within ∙ ap Some (sym (c.index-names-len.is ∙ ap (λ n. get_or c.as_slice-names.result.now n name) long))) in (
       rw c.as_slice-resources.ensures at c.in_ok-index.ensures.apart,
-      rw (c.spot_of.ensures, c.in_ok-copy_of.ensures) (first_unknown document c.in_ok-index.index index c.loop-resource.resource-index c.resource-item.result c.loop-resource.depends.items c.in_ok-places.places.items name
+      rw (c.spot_of.ensures, c.in_ok-copy.ensures) (first_unknown document c.in_ok-index.index index c.loop-resource.resource-index c.resource-item.result c.loop-resource.depends.items c.in_ok-places.places.items name
           lt read c.loop-resource.invariant.places kept at (unknown name at)),
     )
 

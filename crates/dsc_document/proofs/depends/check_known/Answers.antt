@@ -37,8 +37,8 @@ returns-in-Some c = λ not_memory.
     subst (λ names. IsFirstUnplaced c.args.ids.now names c.in-Some.name.now) c.depends_scalars.ensures placed in
     record {
       is = refl;
-      applies = HasAt-here c.args.instances.now (λ i. IsFirstUnknown c.args.instances.now (depends_of i) c.in_ok-copy_of.field-0) c.loop-index.index c.index-instances-index.result c.loop-index-test.true c.index-instances-index.is
-          (subst (λ n. IsFirstUnknown c.args.instances.now (depends_of c.index-instances-index.result) n) (sym c.in_ok-copy_of.ensures)
+      applies = HasAt-here c.args.instances.now (λ i. IsFirstUnknown c.args.instances.now (depends_of i) c.in_ok-copy.field-0) c.loop-index.index c.index-instances-index.result c.loop-index-test.true c.index-instances-index.is
+          (subst (λ n. IsFirstUnknown c.args.instances.now (depends_of c.index-instances-index.result) n) (sym c.in_ok-copy.ensures)
           (first_unknown c.args.instances.now c.args.ids.now c.requires.places (depends_of c.index-instances-index.result) c.in-Some.name.now first));
       first = only_depends_unknown (λ r. StandsBefore (indexes_of r) (c.loop-index.index, 0) → Applies c.args.instances.now r → ⊥)
           (λ k name before has. HasAt-before c.args.instances.now (λ i. IsFirstUnknown c.args.instances.now (depends_of i) name) c.loop-index.index (c.loop-index.invariant name) k (earlier k c.loop-index.index before) has);
