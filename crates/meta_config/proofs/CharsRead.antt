@@ -13,12 +13,12 @@ use Rattle.mof_values.specs.declared.value.Scalar.{Scalar}
 use Rattle.mof_values.specs.declared.value.Scalar.TheVariants as scalars
 use Rattle.mof_values.specs.declared.value.Value.{Value}
 use Rattle.mof_values.specs.declared.value.Value.TheVariants.{One, Many}
-use Rattle.mof_syntax.specs.Characters.{digit_of}
+use Rattle.mof_syntax.specs.Characters.{EndsWith, digit_of}
 use Rattle.mof_syntax.specs.Grammar.{StringValue, last, joined, ConstantValue, string_value, integer_value, true_value, false_value, null_value, alias_identifier, Elements, closing, element, Initializer, constant, empty_array, array, ValueInitializers, done, value_initializer, AliasClause, unnamed, named, InstanceDeclarations, nothing, instance_declaration}
 use Rattle.mof_syntax.specs.Refusals.{Reads}
 use Rattle.mof_syntax.specs.Strings.{short_escape, is_surrogate, HexDigits, full, ended, digit, Escape, short, hexadecimal, Quoted, closed, plain, escaped}
 use Rattle.mof_syntax.specs.Tokens.{Lexeme, Literal, LeftBrace, Semicolon, IsToken, word, alias, literal, integer, left_brace_mark, right_brace_mark, equals_mark, semicolon_mark, comma_mark, Lexes, end, separator, token}
-use Rattle.mof_syntax.proofs.Suffixes.{EndsWith, weak, separator_ends, escape_ends, token_ends}
+use Rattle.mof_syntax.proofs.Suffixes.{weak, separator_ends, escape_ends, token_ends}
 use Rattle.mof_codec.specs.Written.{AreChars}
 use Rattle.std.proofs.lemmas.Option.{same_Some}
 

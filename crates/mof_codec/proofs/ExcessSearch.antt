@@ -1,6 +1,6 @@
 -- The search for the first part past its limit.
-use Rattle.std.proofs.Common.{◌≡◌, ◌⊎◌, inl, inr, ℕ, suc, ◌+◌, ◌-◌, ◌<◌, ◌≤◌, Bool, true, false, List, [], ◌∷◌, ◌++◌, Some, None, length, take, drop, refl, sym, ◌∙◌, ap, subst, arith}
-use Rattle.std.specs.Prelude.{slice_index, slice_index_or}
+use Rattle.std.proofs.Common.{◌≡◌, ◌⊎◌, inl, inr, ℕ, suc, ◌+◌, ◌-◌, ◌<◌, ◌≤◌, Bool, true, false, List, [], ◌∷◌, ◌++◌, Some, None, length, take, refl, sym, ◌∙◌, ap, subst, arith}
+use Rattle.std.specs.Prelude.{slice_index}
 use Rattle.std.proofs.lemmas.List.{take_more}
 use Rattle.std.proofs.lemmas.Bool.{cases_lt}
 use Rattle.std.specs.List.{AllByRecursion}
@@ -28,7 +28,7 @@ use Rattle.mof_codec.proofs.Walking.{walked-more}
 use Rattle.mof_codec.proofs.Fronts.{is_front, events_here}
 use Rattle.mof_codec.proofs.CountsFit.{declared, are_within, have_few_parts, tells-counted, within-counted}
 use Rattle.mof_codec.proofs.Excess.{counts_excess, long_excess, too_many_told, LongName}
-use Rattle.mof_codec.proofs.Stepping.{Stepped, stepped_none, stepped_more, behind_of, place_is, place_within, left_is, walked_there, char_is, stuck_fault, end_behind, rest_is, nothing_left}
+use Rattle.mof_codec.proofs.Stepping.{Stepped, stepped_none, stepped_more, behind_of, place_is, place_within, left_is, walked_there, char_is, stuck_fault, end_behind}
 
 -- identifiers
 
@@ -201,48 +201,32 @@ module _ (chars : List ℕ) (state : State) (counts : Counts) (s : Searched char
   pub end_parts : (is : List Instance) → WideSpells chars is → AllByRecursion HasFewParts is
   end_parts is w = (have_few_parts is [] (subst (λ (es : List Event). WereWithin es) (begun_is is w) s.within)).0
 
--- the same, as the patterns of slices say it
+-- the same, where the next character is told by an equation
 
-module _ (chars left : List ℕ) (state : State) (counts : Counts) (c d : ℕ) where
-  pub found_at : (next : State) → Searched chars left state counts → 1 ≤ length left → c ≡ slice_index_or left 0 d → Some next ≡ step state.half state.place c → IsPast state counts next.begun left
+module _ (chars left rest : List ℕ) (state : State) (counts : Counts) (c : ℕ) where
+  searched_here : left ≡ c ∷ rest → Searched chars left state counts → Searched chars (c ∷ rest) state counts
+  searched_here is s = subst (λ (l : List ℕ). Searched chars l state counts) is s
+
+  pub found_at : (next : State) → Searched chars left state counts → left ≡ c ∷ rest → Some next ≡ step state.half state.place c → IsPast state counts next.begun left
       → IsFirstExcess chars (length chars - length left)
-  found_at next s le is e past = on left s le is past
-    where
-      on : (left : List ℕ) → Searched chars left state counts → 1 ≤ length left → c ≡ slice_index_or left 0 d → IsPast state counts next.begun left → IsFirstExcess chars (length chars - length left)
-      on [] s le is past = nothing_left le
-      on (x ∷ rest) s le is past = first_found chars x rest state counts s next (e ∙ ap (λ (y : ℕ). step state.half state.place y) is) past
+  found_at next s is e past =
+      subst (λ (l : List ℕ). IsFirstExcess chars (length chars - length l)) (sym is)
+      (first_found chars c rest state counts (searched_here is s) next e (subst (λ (l : List ℕ). IsPast state counts next.begun l) is past))
 
-  pub searched_on : (next : State) → Searched chars left state counts → 1 ≤ length left → c ≡ slice_index_or left 0 d → Some next ≡ step state.half state.place c → (IsPast state counts next.begun left → ⊥)
-      → Searched chars (take (length left - 1) (drop 1 left)) next (counted next.begun counts)
-  searched_on next s le is e not_past = on left s le is not_past
-    where
-      on : (left : List ℕ) → Searched chars left state counts → 1 ≤ length left → c ≡ slice_index_or left 0 d → (IsPast state counts next.begun left → ⊥) → Searched chars (take (length left - 1) (drop 1 left)) next (counted next.begun counts)
-      on [] s le is not_past = nothing_left le
-      on (x ∷ rest) s le is not_past =
-          subst (λ (r : List ℕ). Searched chars r next (counted next.begun counts)) (sym (rest_is x rest)) (searched_more chars x rest state counts s next (e ∙ ap (λ (y : ℕ). step state.half state.place y) is) not_past)
+  pub searched_on : (next : State) (after : Counts) → Searched chars left state counts → left ≡ c ∷ rest → Some next ≡ step state.half state.place c → (IsPast state counts next.begun left → ⊥)
+      → after ≡ counted next.begun counts → Searched chars rest next after
+  searched_on next after s is e not_past same =
+      subst (λ (n : Counts). Searched chars rest next n) (sym same)
+      (searched_more chars c rest state counts (searched_here is s) next e (λ past. not_past (subst (λ (l : List ℕ). IsPast state counts next.begun l) (sym is) past)))
 
-  pub searched_to : (next : State) (after : Counts) → Searched chars left state counts → 1 ≤ length left → c ≡ slice_index_or left 0 d → Some next ≡ step state.half state.place c → (IsPast state counts next.begun left → ⊥)
-      → after ≡ counted next.begun counts → Searched chars (take (length left - 1) (drop 1 left)) next after
-  searched_to next after s le is e not_past same =
-      subst (λ (n : Counts). Searched chars (take (length left - 1) (drop 1 left)) next n) (sym same) (searched_on next s le is e not_past)
+  pub stuck_none_at : Searched chars left state counts → left ≡ c ∷ rest → None ≡ step state.half state.place c → HasNoExcess chars
+  stuck_none_at s is e = stuck_none chars c rest state counts (searched_here is s) e
 
-  pub stuck_none_at : Searched chars left state counts → 1 ≤ length left → c ≡ slice_index_or left 0 d → None ≡ step state.half state.place c → HasNoExcess chars
-  stuck_none_at s le is e = on left s le is
-    where
-      on : (left : List ℕ) → Searched chars left state counts → 1 ≤ length left → c ≡ slice_index_or left 0 d → HasNoExcess chars
-      on [] s le is = nothing_left le
-      on (x ∷ rest) s le is = stuck_none chars x rest state counts s (e ∙ ap (λ (y : ℕ). step state.half state.place y) is)
+  pub stuck_wide_at : Searched chars left state counts → left ≡ c ∷ rest → None ≡ step state.half state.place c → (is : List Instance) → WideSpells chars is → ⊥
+  stuck_wide_at s is e = stuck_wide chars c rest state counts (searched_here is s) e
 
-  pub stuck_wide_at : Searched chars left state counts → 1 ≤ length left → c ≡ slice_index_or left 0 d → None ≡ step state.half state.place c → (is : List Instance) → WideSpells chars is → ⊥
-  stuck_wide_at s le is e = on left s le is
-    where
-      on : (left : List ℕ) → Searched chars left state counts → 1 ≤ length left → c ≡ slice_index_or left 0 d → (is : List Instance) → WideSpells chars is → ⊥
-      on [] s le is = nothing_left le
-      on (x ∷ rest) s le is = stuck_wide chars x rest state counts s (e ∙ ap (λ (y : ℕ). step state.half state.place y) is)
-
-pub all_searched : (chars left : List ℕ) (state : State) (counts : Counts) → Searched chars left state counts → length left < 1 → Searched chars [] state counts
-all_searched chars [] state counts s lt = s
-all_searched chars (x ∷ rest) state counts s lt = absurd (omega (arith, lt))
+pub all_searched : (chars left : List ℕ) (state : State) (counts : Counts) → Searched chars left state counts → left ≡ [] → Searched chars [] state counts
+all_searched chars left state counts s nothing = subst (λ (l : List ℕ). Searched chars l state counts) nothing s
 
 pub few : (chars left : List ℕ) (state : State) (counts : Counts) → Searched chars left state counts → (counts.declarations < 9223372036854775808) × (counts.properties < 9223372036854775808) × (counts.elements < 9223372036854775808)
 few chars left state counts s =

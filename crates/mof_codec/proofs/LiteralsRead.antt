@@ -1,6 +1,6 @@
 -- String literals, as far as they were read.
-use Rattle.std.proofs.Common.{◌≡◌, ◌<◌, ◌≤◌, ℕ, List, [], ◌∷◌, ◌++◌, length, take, Some, None, Bool, true, false, ◌-◌, ◌+◌, ◌==◌, ◌||◌, not, refl, sym, ap, subst, ◌∙◌, arith, append_assoc, append-nil, length-append}
-use Rattle.std.proofs.Math.Seq.{take-append_seam}
+use Rattle.std.proofs.Common.{◌≡◌, ◌<◌, ◌≤◌, ℕ, List, [], ◌∷◌, ◌++◌, length, Some, None, Bool, true, false, ◌+◌, ◌==◌, ◌||◌, not, refl, sym, ap, subst, ◌∙◌, arith, append_assoc, append-nil, length-append}
+use Rattle.std.proofs.lemmas.List.{append_cancel_right}
 use Rattle.mof_syntax.specs.Characters.{quote, backslash}
 use Rattle.mof_syntax.specs.Separators.{Separator, Separators}
 use Rattle.mof_syntax.specs.Strings.{Quoted, closed}
@@ -12,7 +12,7 @@ use Rattle.mof_syntax.proofs.FirstTokens.{token_stands}
 use Rattle.mof_syntax.proofs.Suffixes.{EndsWith-length, EndsWithin-length, separators_end, token_ends}
 use Rattle.mof_syntax.proofs.UniqueRules.{string_same, string_first}
 use Rattle.mof_codec.specs.Reading.{Begins, Only, BeginsWith, Lacks}
-use Rattle.mof_codec.specs.Values.{behind_char, BeginsQuote, NoLiteralFirst, AddsQuoted, NoQuoted, is_plain, GoesOnBy, GoesOnByOne, OnlyQuoteFirst, AnyText}
+use Rattle.mof_codec.specs.Values.{behind_char, BeginsQuote, NoLiteralFirst, AddsQuoted, NoQuoted, is_plain, IsPlainTo, GoesOnBy, GoesOnByOne, OnlyQuoteFirst, AnyText}
 use Rattle.mof_codec.proofs.MarkFronts.{behind_char-split, behind_char-none}
 use Rattle.mof_codec.proofs.Escapes.{goes_on_by_plain}
 use Rattle.mof_codec.proofs.TokenFronts.{begins_token, begins_as, begins_at, Joined, begins_join, first_of, skip_only}
@@ -52,20 +52,15 @@ quoted_stuck before all done left s e absent text rest q = let x = s.goes.only t
 
 -- the characters that a literal goes on by as they stand
 
-pub record PlainSoFar (all left : List ℕ) : Type 0 where
-  pub front : List ℕ
-  pub split : all ≡ front ++ left
-  pub goes : GoesOnBy all front left
-
 neither : (a b : Bool) → not (a || b) ≡ true → (a ≡ false) × (b ≡ false)
 neither false false h = (refl, refl)
 neither false true h = absurd cc
 neither true b h = absurd cc
 
-pub plain_start : (all : List ℕ) → PlainSoFar all all
+pub plain_start : (all : List ℕ) → IsPlainTo all all
 plain_start all = record { front = []; split = refl; goes = goes_on_at_start all }
 
-pub plain_next : (all left rest : List ℕ) (c : ℕ) → PlainSoFar all left → left ≡ c ∷ rest → is_plain c ≡ true → PlainSoFar all rest
+pub plain_next : (all left rest : List ℕ) (c : ℕ) → IsPlainTo all left → left ≡ c ∷ rest → is_plain c ≡ true → IsPlainTo all rest
 plain_next all left rest c s e plain =
     let special = neither (c == quote) (c == backslash) plain in
     let one : GoesOnByOne left c rest = goes_on_by_plain left rest c e special.0 special.1 in
@@ -75,11 +70,10 @@ plain_next all left rest c s e plain =
       goes = goes_on_further all s.front left (c ∷ []) rest s.goes one.0;
     }
 
-pub plain_taken : (all left : List ℕ) (s : PlainSoFar all left) → s.front ≡ take (length all - length left) all
-plain_taken all left s =
-    let long : length all ≡ length s.front + length left = ap length s.split ∙ length-append s.front left in
-    let many : length all - length left ≡ length s.front = omega arith in
-    sym (ap (λ (n : ℕ). take n all) many ∙ ap (take (length s.front)) s.split ∙ take-append_seam s.front left)
+-- the characters before the rest are those that the literal goes on by
+pub plain_front : (all front left : List ℕ) → IsPlainTo all left → all ≡ front ++ left → GoesOnBy all front left
+plain_front all front left p split =
+    subst (λ (xs : List ℕ). GoesOnBy all xs left) (append_cancel_right p.front front left (sym p.split ∙ split)) p.goes
 
 pub shorter_behind : (left front behind rest : List ℕ) → left ≡ front ++ behind → length rest < length behind → length rest < length left
 shorter_behind left front behind rest split less =

@@ -1,12 +1,12 @@
 -- Identifiers as words and aliases.
-use Rattle.std.proofs.Common.{◌≡◌, ◌≤◌, ◌+◌, ◌-◌, ℕ, Bool, true, false, List, [], ◌∷◌, ◌++◌, length, take, Some, None, refl, sym, ap, subst, ◌∙◌, arith, length-append}
+use Rattle.std.proofs.Common.{◌≡◌, ℕ, Bool, true, false, List, [], ◌∷◌, ◌++◌, length, Some, None, refl, sym, ap, subst, ◌∙◌, arith}
 use Rattle.std.specs.Prelude.{nat_le}
 use Rattle.std.specs.List.{list_all}
-use Rattle.std.proofs.lemmas.List.{take_at}
+use Rattle.std.proofs.lemmas.List.{append_cancel_right}
 use Rattle.std.proofs.lemmas.Bool.Decides.{nat_tests}
 use Rattle.mof_values.specs.Fold.{SameName}
 use Rattle.mof_values.specs.Ident.{is_next, is_ident, IsIdent}
-use Rattle.mof_syntax.specs.Characters.{Run, stop, more}
+use Rattle.mof_syntax.specs.Characters.{EndsWith, Run, stop, more}
 use Rattle.mof_syntax.specs.Separators.{Separators}
 use Rattle.mof_syntax.specs.Scanning.{separator_rest, identifier_rest}
 use Rattle.mof_syntax.specs.Limits.{IsShortName}
@@ -23,21 +23,15 @@ run_split p cs run rest (more c us v r e on) = ap (λ (xs : List ℕ). c ∷ xs)
 identifier_split : (cs name rest : List ℕ) → Identifier cs name rest → cs ≡ name ++ rest
 identifier_split cs name rest (identifier c us tail r e run s) = ap (λ (xs : List ℕ). c ∷ xs) (run_split is_next us tail r run)
 
-front_taken : (cs name rest : List ℕ) → cs ≡ name ++ rest → take (length cs - length rest) cs ≡ name
-front_taken cs name rest e =
-    let sum : length cs ≡ length name + length rest = ap length e ∙ length-append name rest in
-    let at : length name ≡ length cs - length rest = omega arith in
-    ap (λ (xs : List ℕ). take (length cs - length rest) xs) e ∙ take_at name rest (length cs - length rest) at
-
-pub identifier_front : (cs rest : List ℕ) → Some rest ≡ identifier_rest cs → Identifier cs (take (length cs - length rest) cs) rest
-identifier_front cs rest e =
+pub identifier_end : (cs rest : List ℕ) → Some rest ≡ identifier_rest cs → EndsWith cs rest
+identifier_end cs rest e =
     let i = read-identifier cs rest (sym e) in
-    subst (λ (xs : List ℕ). Identifier cs xs rest) (sym (front_taken cs i.0 rest (identifier_split cs i.0 rest i.1))) i.1
+    (i.0, identifier_split cs i.0 rest i.1)
 
-pub identifier_shorter : (cs rest : List ℕ) → Some rest ≡ identifier_rest cs → length rest ≤ length cs
-identifier_shorter cs rest e =
+pub identifier_front : (cs name rest : List ℕ) → Some rest ≡ identifier_rest cs → cs ≡ name ++ rest → Identifier cs name rest
+identifier_front cs name rest e split =
     let i = read-identifier cs rest (sym e) in
-    omega (arith, ap length (identifier_split cs i.0 rest i.1), length-append i.0 rest)
+    subst (λ (xs : List ℕ). Identifier cs xs rest) (append_cancel_right i.0 name rest (sym (identifier_split cs i.0 rest i.1) ∙ split)) i.1
 
 pub no_identifier_there : (cs : List ℕ) → identifier_rest cs ≡ None → NoIdentifier cs
 no_identifier_there cs e name rest i = apart rest (sym e ∙ identifier-read cs name rest i)

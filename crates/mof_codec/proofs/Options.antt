@@ -1,13 +1,14 @@
--- What an option of a slice holds.
+-- What an option of a text holds.
 use Rattle.std.proofs.Common.{◌≡◌, ℕ, Bool, true, false, List, Option, Some, None, Result, Ok, Err, sym, subst, Bor}
 use Rattle.std.specs.Prelude.{IfSome, IfNone, IfOk, IsTrue}
-use Rattle.std.specs.Option.{option_copied}
+use Rattle.std.specs.Str.{chars}
+use Rattle.mof_syntax.specs.Scanning.{left_of}
 
-pub if_some : (o : Option (Bor (List ℕ))) (f : Option (List ℕ)) (P : List ℕ → Type 0) → option_copied o ≡ f → ((rest : List ℕ) → f ≡ Some rest → P rest) → IfSome o (λ b. P b.now)
+pub if_some : (o : Option (Bor (List ℕ))) (f : Option (List ℕ)) (P : List ℕ → Type 0) → left_of o ≡ f → ((rest : List ℕ) → f ≡ Some rest → P rest) → IfSome o (λ b. P (chars b.now))
 if_some None f P e from = tt
-if_some (Some b) f P e from = from b.now (sym e)
+if_some (Some b) f P e from = from (chars b.now) (sym e)
 
-pub if_none : (o : Option (Bor (List ℕ))) (f : Option (List ℕ)) (Q : Type 0) → option_copied o ≡ f → (f ≡ None → Q) → IfNone o Q
+pub if_none : (o : Option (Bor (List ℕ))) (f : Option (List ℕ)) (Q : Type 0) → left_of o ≡ f → (f ≡ None → Q) → IfNone o Q
 if_none (Some b) f Q e from = tt
 if_none None f Q e from = from (sym e)
 

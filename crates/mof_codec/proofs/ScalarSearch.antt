@@ -1,6 +1,6 @@
 -- The search for the first literal of a kind.
-use Rattle.std.proofs.Common.{◌≡◌, ◌⊎◌, inl, inr, ℕ, ◌-◌, ◌<◌, ◌≤◌, Bool, true, false, List, [], ◌∷◌, Some, None, length, take, drop, refl, sym, ◌∙◌, ap, subst, arith}
-use Rattle.std.specs.Prelude.{slice_index_or, ◌&&◌}
+use Rattle.std.proofs.Common.{◌≡◌, ◌⊎◌, inl, inr, ℕ, ◌-◌, ◌<◌, ◌≤◌, Bool, true, false, List, [], ◌∷◌, Some, None, length, refl, sym, ◌∙◌, ap, subst, arith}
+use Rattle.std.specs.Prelude.{◌&&◌}
 use Rattle.std.specs.List.{list_all}
 use Rattle.std.proofs.lemmas.Bool.{cases_lt}
 use Rattle.std.proofs.lemmas.Bool.Decides.{nat_tests}
@@ -17,7 +17,7 @@ use Rattle.mof_codec.specs.Walked.{Behind, walked}
 use Rattle.mof_codec.specs.Beginnings.{begins_scalar}
 use Rattle.mof_codec.specs.Searching.{FirstOf, IsWanted, ScalarStands, is_real}
 use Rattle.mof_codec.proofs.Standing.{scalar_begins, scalar_there, front_walked}
-use Rattle.mof_codec.proofs.Stepping.{Stepped, stepped_none, stepped_more, behind_of, place_is, place_within, left_is, walked_there, stuck_walk, rest_is, nothing_left}
+use Rattle.mof_codec.proofs.Stepping.{Stepped, stepped_none, stepped_more, behind_of, place_is, place_within, left_is, walked_there, stuck_behind}
 
 -- fronts of floating-point constants
 
@@ -123,29 +123,23 @@ none_some b e = cc
 pub never_stuck : (front : List ℕ) → IsFront front → walked front ≡ None → ⊥
 never_stuck front f e = let w = front_walked front f in none_some w.0 (sym e ∙ w.1)
 
--- the same, as the patterns of slices say it
+-- the same, where the next character is told by an equation
 
-module _ (front left : List ℕ) (state : State) (wanted : Wanted) (c d : ℕ) where
-  pub scalar_on : (next : State) → ScalarSearched front left state wanted → (StandsHere state wanted left → ⊥) → 1 ≤ length left → c ≡ slice_index_or left 0 d → Some next ≡ step state.half state.place c
-      → ScalarSearched front (take (length left - 1) (drop 1 left)) next wanted
-  scalar_on next s not_here le is e = on left s not_here le is
-    where
-      on : (left : List ℕ) → ScalarSearched front left state wanted → (StandsHere state wanted left → ⊥) → 1 ≤ length left → c ≡ slice_index_or left 0 d → ScalarSearched front (take (length left - 1) (drop 1 left)) next wanted
-      on [] s not_here le is = nothing_left le
-      on (x ∷ rest) s not_here le is =
-          subst (λ (r : List ℕ). ScalarSearched front r next wanted) (sym (rest_is x rest)) (scalar_more front x rest state next wanted s not_here (e ∙ ap (λ (y : ℕ). step state.half state.place y) is))
+module _ (front left rest : List ℕ) (state : State) (wanted : Wanted) (c : ℕ) where
+  pub scalar_on : (next : State) → ScalarSearched front left state wanted → (StandsHere state wanted left → ⊥) → left ≡ c ∷ rest → Some next ≡ step state.half state.place c
+      → ScalarSearched front rest next wanted
+  scalar_on next s not_here is e =
+      scalar_more front c rest state next wanted (subst (λ (l : List ℕ). ScalarSearched front l state wanted) is s)
+      (λ here. not_here (subst (λ (l : List ℕ). StandsHere state wanted l) (sym is) here)) e
 
-  pub scalar_stuck : ScalarSearched front left state wanted → 1 ≤ length left → c ≡ slice_index_or left 0 d → None ≡ step state.half state.place c → IsFront front → ⊥
-  scalar_stuck s le is e f = on left s le is
-    where
-      on : (left : List ℕ) → ScalarSearched front left state wanted → 1 ≤ length left → c ≡ slice_index_or left 0 d → ⊥
-      on [] s le is = nothing_left le
-      on (x ∷ rest) s le is = never_stuck front f (stuck_walk front x rest state s.stepped (e ∙ ap (λ (y : ℕ). step state.half state.place y) is))
+  pub scalar_stuck : ScalarSearched front left state wanted → left ≡ c ∷ rest → None ≡ step state.half state.place c → IsFront front → ⊥
+  scalar_stuck s is e f = never_stuck front f (stuck_behind front left rest state c s.stepped is e)
 
-pub scalar_end : (front left : List ℕ) (state : State) (wanted : Wanted) → ScalarSearched front left state wanted → length left < 1 → (StandsHere state wanted left → ⊥) → (n : ℕ) → ScalarStands wanted front n → ⊥
-scalar_end front left state wanted s lt not_here n stands = scalar_up_to front left state wanted s not_here n (omega (arith, lt, stands.within)) stands
+pub scalar_end : (front left : List ℕ) (state : State) (wanted : Wanted) → ScalarSearched front left state wanted → left ≡ [] → (StandsHere state wanted left → ⊥) → (n : ℕ) → ScalarStands wanted front n → ⊥
+scalar_end front left state wanted s nothing not_here n stands =
+    scalar_up_to front left state wanted s not_here n (omega (arith, ap (λ (l : List ℕ). length l) nothing, stands.within)) stands
 
-pub scalar_last : (front left : List ℕ) (state : State) (wanted : Wanted) → ScalarSearched front left state wanted → length left < 1 → StandsHere state wanted left → FirstOf (ScalarStands wanted front) (length front)
-scalar_last front left state wanted s lt here =
-    let same : length front - length left ≡ length front = omega (arith, lt) in
+pub scalar_last : (front left : List ℕ) (state : State) (wanted : Wanted) → ScalarSearched front left state wanted → left ≡ [] → StandsHere state wanted left → FirstOf (ScalarStands wanted front) (length front)
+scalar_last front left state wanted s nothing here =
+    let same : length front - length left ≡ length front = omega (arith, ap (λ (l : List ℕ). length l) nothing) in
     subst (λ (n : ℕ). FirstOf (ScalarStands wanted front) n) same (scalar_found front left state wanted s here)

@@ -189,8 +189,8 @@ module _ (wanted : Wanted) (test : List ℕ → Bool) (decides : (cs : List ℕ)
 
   scalar_told : (left : List ℕ) (state : State) → ScalarSearched front left state wanted → ToldScalar (scalar_in test front left state)
   scalar_told [] state s = when_is ToldScalar (stands test state []) (λ _. Some (length front)) (λ _. None)
-      (λ e. (scalar_last front [] state wanted s (omega arith) (stands_is state [] e), tt))
-      (λ e. (tt, scalar_end front [] state wanted s (omega arith) (is_stands state [] e)))
+      (λ e. (scalar_last front [] state wanted s refl (stands_is state [] e), tt))
+      (λ e. (tt, scalar_end front [] state wanted s refl (is_stands state [] e)))
   scalar_told (c ∷ cs) state s =
       when_is ToldScalar (stands test state (c ∷ cs)) (λ _. Some (length front - length (c ∷ cs))) (λ _. next (step state.half state.place c) (λ _. None) (λ n. scalar_in test front cs n))
       (λ e. (scalar_found front (c ∷ cs) state wanted s (stands_is state (c ∷ cs) e), tt))

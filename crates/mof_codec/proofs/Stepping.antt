@@ -1,7 +1,7 @@
 -- A loop that steps over the characters of a text.
-use Rattle.std.proofs.Common.{◌≡◌, ℕ, ◌+◌, ◌-◌, ◌<◌, ◌≤◌, List, [], ◌∷◌, ◌++◌, Some, None, length, take, drop, refl, sym, ◌∙◌, ap, subst, arith, append_assoc, append-nil}
-use Rattle.std.specs.Prelude.{slice_index, slice_index_or}
-use Rattle.std.proofs.lemmas.List.{take_all}
+use Rattle.std.proofs.Common.{◌≡◌, ℕ, ◌+◌, ◌-◌, List, [], ◌∷◌, ◌++◌, Some, None, length, take, drop, refl, sym, ◌∙◌, ap, subst, arith, append_assoc, append-nil}
+use Rattle.std.specs.Prelude.{slice_index}
+use Rattle.mof_syntax.specs.Characters.{EndsWith}
 use Rattle.mof_syntax.specs.Grammar.{Wide}
 use Rattle.mof_syntax.specs.Fronts.{IsSyntaxFault}
 use Rattle.mof_codec.specs.declared.machine.state.State.{State}
@@ -93,36 +93,21 @@ end_wide chars state s w = whole_here chars (behind_of state s.begun) (end_behin
 pub end_fault : (chars : List ℕ) (state : State) → Stepped chars [] state → (Whole state.half state.place → ⊥) → IsSyntaxFault chars (length chars)
 end_fault chars state s n = fault_end chars (behind_of state s.begun) (end_behind chars state s) n
 
--- the same, as the patterns of slices say it
+-- the same, where the next character is told by an equation
 
-pub rest_is : (c : ℕ) (rest : List ℕ) → take (length (c ∷ rest) - 1) (drop 1 (c ∷ rest)) ≡ rest
-rest_is c rest = take_all (length (c ∷ rest) - 1) rest (omega arith)
+module _ (chars left rest : List ℕ) (state : State) (c : ℕ) where
+  pub stepped_on : (next : State) → Stepped chars left state → left ≡ c ∷ rest → Some next ≡ step state.half state.place c → Stepped chars rest next
+  stepped_on next s is e = stepped_more chars c rest state next (subst (λ (l : List ℕ). Stepped chars l state) is s) e
 
-pub nothing_left : {X : Type 0} → 1 ≤ length {A = ℕ} [] → X
-nothing_left le = absurd (omega (arith, le))
+  pub stuck_at : Stepped chars left state → left ≡ c ∷ rest → None ≡ step state.half state.place c → IsSyntaxFault chars (length chars - length left)
+  stuck_at s is e =
+      subst (λ (l : List ℕ). IsSyntaxFault chars (length chars - length l)) (sym is) (stuck_fault chars c rest state (subst (λ (l : List ℕ). Stepped chars l state) is s) e)
 
-module _ (chars left : List ℕ) (state : State) (c d : ℕ) where
-  pub stepped_on : (next : State) → Stepped chars left state → 1 ≤ length left → c ≡ slice_index_or left 0 d → Some next ≡ step state.half state.place c → Stepped chars (take (length left - 1) (drop 1 left)) next
-  stepped_on next s le is e = on left s le is
-    where
-      on : (left : List ℕ) → Stepped chars left state → 1 ≤ length left → c ≡ slice_index_or left 0 d → Stepped chars (take (length left - 1) (drop 1 left)) next
-      on [] s le is = nothing_left le
-      on (x ∷ rest) s le is = subst (λ (r : List ℕ). Stepped chars r next) (sym (rest_is x rest)) (stepped_more chars x rest state next s (e ∙ ap (λ (y : ℕ). step state.half state.place y) is))
+  pub stuck_behind : Stepped chars left state → left ≡ c ∷ rest → None ≡ step state.half state.place c → walked chars ≡ None
+  stuck_behind s is e = stuck_walk chars c rest state (subst (λ (l : List ℕ). Stepped chars l state) is s) e
 
-  pub stuck_at : Stepped chars left state → 1 ≤ length left → c ≡ slice_index_or left 0 d → None ≡ step state.half state.place c → IsSyntaxFault chars (length chars - length left)
-  stuck_at s le is e = on left s le is
-    where
-      on : (left : List ℕ) → Stepped chars left state → 1 ≤ length left → c ≡ slice_index_or left 0 d → IsSyntaxFault chars (length chars - length left)
-      on [] s le is = nothing_left le
-      on (x ∷ rest) s le is = stuck_fault chars x rest state s (e ∙ ap (λ (y : ℕ). step state.half state.place y) is)
+pub all_read : (chars left : List ℕ) (state : State) → Stepped chars left state → left ≡ [] → Stepped chars [] state
+all_read chars left state s nothing = subst (λ (l : List ℕ). Stepped chars l state) nothing s
 
-  pub stuck_behind : Stepped chars left state → 1 ≤ length left → c ≡ slice_index_or left 0 d → None ≡ step state.half state.place c → walked chars ≡ None
-  stuck_behind s le is e = on left s le is
-    where
-      on : (left : List ℕ) → Stepped chars left state → 1 ≤ length left → c ≡ slice_index_or left 0 d → walked chars ≡ None
-      on [] s le is = nothing_left le
-      on (x ∷ rest) s le is = stuck_walk chars x rest state s (e ∙ ap (λ (y : ℕ). step state.half state.place y) is)
-
-pub all_read : (chars left : List ℕ) (state : State) → Stepped chars left state → length left < 1 → Stepped chars [] state
-all_read chars [] state s lt = s
-all_read chars (x ∷ rest) state s lt = absurd (omega (arith, lt))
+pub ends_with : (chars left : List ℕ) (state : State) → Stepped chars left state → EndsWith chars left
+ends_with chars left state s = (s.front, s.split)

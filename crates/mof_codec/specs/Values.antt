@@ -110,6 +110,12 @@ pub record GoesOnBy (cs text rest : List ℕ) : Type 0 where
   pub on : (more behind : List ℕ) → Quoted rest more behind → Quoted cs (text ++ more) behind
   pub only : (whole behind : List ℕ) → Quoted cs whole behind → (more : List ℕ) × Quoted rest more behind
 
+-- a literal goes on by the characters up to the rest
+pub record IsPlainTo (cs rest : List ℕ) : Type 0 where
+  pub front : List ℕ
+  pub split : cs ≡ front ++ rest
+  pub goes : GoesOnBy cs front rest
+
 -- a literal goes on by one character, itself or by an escape
 abbrev pub GoesOnByOne : List ℕ → ℕ → List ℕ → Type 0
 GoesOnByOne cs c rest = GoesOnBy cs (c ∷ []) rest × (length rest < length cs)

@@ -1,5 +1,6 @@
 //! Bytes to instances.
 ghost use Rattle.std.specs.Prelude.{◌≡◌, ◌≢◌, List, IfOk, IfErr};
+ghost use Rattle.std.specs.Str.{chars};
 ghost use Rattle.mof_values.specs.declared.instance.Instance.{Instance};
 ghost use Rattle.mof_syntax.specs.declared.mof_error.MofError.TheVariants.{Memory};
 ghost use Rattle.mof_syntax.specs.Limits.{Spells};
@@ -25,19 +26,20 @@ pub fn read(alloc: Global, bytes: &[u8]) -> Result<Vec<Instance>, MofError>
         Err(TextError::TextFault { at }) => return Err(MofError::Text { at }),
         Err(TextError::Memory) => return Err(MofError::Memory),
     };
-    match instances_of(alloc, text.as_slice()) {
+    let text = text.as_str();
+    match instances_of(alloc, text) {
         Ok(Some(instances)) => Ok(instances),
-        Ok(None) => Err(refusal(text.as_slice())),
+        Ok(None) => Err(refusal(text)),
         Err(_) => Err(MofError::Memory),
     }
 }
 
-// Why characters that spell no instances are refused.
-fn refusal(chars: &[char]) -> MofError
-    requires { (is : List Instance) → Spells chars.now is → ⊥ }
-    ensures { Wins chars.now result }
+// Why a text that spells no instances is refused.
+fn refusal(text: &str) -> MofError
+    requires { (is : List Instance) → Spells (chars text.now) is → ⊥ }
+    ensures { Wins (chars text.now) result }
 {
-    match refusal_of(chars) {
+    match refusal_of(text) {
         Some(refusal) => refusal,
         None => unreachable!(),
     }

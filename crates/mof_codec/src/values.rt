@@ -13,3 +13,4 @@ mod words;
 
 pub(crate) use declarations::instances_of;
 pub(crate) use integers::is_out_of_range;
+pub(crate) use words::is_word;

@@ -4,10 +4,10 @@ use Rattle.std.proofs.lemmas.List.{take_at, drop_at, append-nil}
 use Rattle.std.proofs.Math.Seq.{take-append-add, drop-append-add}
 use Rattle.std.proofs.lemmas.Grind.{flat_map-append, common_steps}
 use Rattle.std.proofs.Math.Seq.{take-add}
-use Rattle.std.proofs.lemmas.Str.{encode_ascii, encodes_same, IsUtf8-append, IsUtf8-encode, length-encode, len_utf8_bounds}
+use Rattle.std.proofs.lemmas.Str.{encode_ascii, encodes_same, encodes-chars, chars-nil, chars-append, chars_past_char, IsUtf8-append, IsUtf8-encode, length-encode, len_utf8_bounds}
 use Rattle.std.specs.Prelude.{encode_utf8, encode_utf8_all, IsUtf8}
 use Rattle.std.specs.Char.{IsScalar}
-use Rattle.std.specs.Str.{all_scalars, IsValidUpTo}
+use Rattle.std.specs.Str.{all_scalars, chars, IsValidUpTo}
 use Rattle.std.specs.List.{flat_map}
 use lib.Utf8.{scalar}
 use Rattle.mof_syntax.specs.declared.text_error.TextError.{TextError}
@@ -32,6 +32,9 @@ IsBody-from_utf8 body chars u e =
       scalars = rw same u.1.0;
       spelled = sym e ∙ sym (body_bytes-utf8 chars);
     }
+
+pub IsBody-from_str : (body text : List ℕ) → text ≡ body → IsUtf8 body → IsBody Utf8 body (chars text)
+IsBody-from_str body text is u = IsBody-from_utf8 body (chars text) u (encodes-chars text (subst IsUtf8 (sym is) u) ∙ is)
 
 no_char-after : (body : List ℕ) (n c : ℕ) (rest : List ℕ) → IsValidUpTo body n → IsScalar c → drop n body ≡ encode_utf8 c ++ rest → ⊥
 no_char-after body n c rest v s e =
@@ -78,6 +81,12 @@ ReadsBody-next order body chars left rest c r s = record {
   split = r.split ∙ ap (λ bs. body_bytes (Utf16 order) chars ++ bs) s.spelled ∙ sym (append_assoc (body_bytes (Utf16 order) chars) (char_bytes (Utf16 order) c) rest)
       ∙ ap (λ bs. bs ++ rest) (sym (flat_map-append (char_bytes (Utf16 order)) chars (c ∷ []) ∙ ap (λ bs. body_bytes (Utf16 order) chars ++ bs) (append-nil (char_bytes (Utf16 order) c))));
 }
+
+-- a text and one more character
+pub chars-push : (bytes : List ℕ) (c : ℕ) → IsUtf8 bytes → IsScalar c → chars (bytes ++ encode_utf8 c) ≡ chars bytes ++ c ∷ []
+chars-push bytes c u s =
+    let one : chars (encode_utf8 c) ≡ c ∷ [] = chars_past_char (encode_utf8 c) [] c (IsUtf8-encode c s) (sym (append-nil (encode_utf8 c))) ∙ ap (λ cs. c ∷ cs) chars-nil in
+    chars-append bytes (encode_utf8 c) u ∙ ap (λ cs. chars bytes ++ cs) one
 
 pub some_units : (order : ByteOrder) (b : Bool) (u v w : ℕ) → 0 < length (flat_map (unit_bytes order) (cond b (u ∷ []) (v ∷ w ∷ [])))
 some_units LittleEndian true u v w = omega arith
@@ -139,7 +148,7 @@ RefusesBytes-from_body bytes body marked e Memory is split m r = tt
 
 -- the answers of the two readers of bodies
 
-pub refused_behind_utf16 : (bytes body : List ℕ) (marked : ℕ) (order : ByteOrder) (e : Encoding) (r : Result (List ℕ) TextError) → e ≡ Utf16 order → e ≡ encoding_of bytes
+pub refused_behind_utf16 : {T : Type 0} (bytes body : List ℕ) (marked : ℕ) (order : ByteOrder) (e : Encoding) (r : Result T TextError) → e ≡ Utf16 order → e ≡ encoding_of bytes
     → bytes ≡ mark_of e ++ body → marked ≡ length bytes - length body → IfErr r (λ error. RefusesBody (Utf16 order) body marked error) → IfErr r (λ error. RefusesBytes bytes error)
 refused_behind_utf16 bytes body marked order e (Ok chars) one is split m h = tt
 refused_behind_utf16 bytes body marked order e (Err error) one is split m h =
@@ -154,16 +163,16 @@ marked_refusal : (body : List ℕ) (marked : ℕ) (error : TextError) → Refuse
 marked_refusal body marked (TextFault at) r = (r.0, r.1, record { before = r.2.before; is = marked_body _ _ r.2.is; within = r.2.within; no_char = r.2.no_char })
 marked_refusal body marked Memory r = tt
 
-pub ok_behind_utf8 : (bytes body : List ℕ) (e : Encoding) (r : Result (List ℕ) TextError) → (e ≡ Utf8) ⊎ (e ≡ Utf8Marked) → e ≡ encoding_of bytes
-    → bytes ≡ mark_of e ++ body → IfOk r (λ chars. IsBody Utf8 body chars) → IfOk r (λ chars. Chars bytes chars)
-ok_behind_utf8 bytes body e (Err error) one is split h = tt
-ok_behind_utf8 bytes body e (Ok chars) one is split h = Chars-from_body bytes body chars e is split (either one)
+pub ok_behind_utf8 : {T : Type 0} (view : T → List ℕ) (bytes body : List ℕ) (e : Encoding) (r : Result T TextError) → (e ≡ Utf8) ⊎ (e ≡ Utf8Marked) → e ≡ encoding_of bytes
+    → bytes ≡ mark_of e ++ body → IfOk r (λ t. IsBody Utf8 body (view t)) → IfOk r (λ t. Chars bytes (view t))
+ok_behind_utf8 view bytes body e (Err error) one is split h = tt
+ok_behind_utf8 view bytes body e (Ok t) one is split h = Chars-from_body bytes body (view t) e is split (either one)
   where
-    either : (e ≡ Utf8) ⊎ (e ≡ Utf8Marked) → IsBody e body chars
-    either (inl u) = subst (λ (f : Encoding). IsBody f body chars) (sym u) h
-    either (inr m) = subst (λ (f : Encoding). IsBody f body chars) (sym m) (marked_body body chars h)
+    either : (e ≡ Utf8) ⊎ (e ≡ Utf8Marked) → IsBody e body (view t)
+    either (inl u) = subst (λ (f : Encoding). IsBody f body (view t)) (sym u) h
+    either (inr m) = subst (λ (f : Encoding). IsBody f body (view t)) (sym m) (marked_body body (view t) h)
 
-pub refused_behind_utf8 : (bytes body : List ℕ) (marked : ℕ) (e : Encoding) (r : Result (List ℕ) TextError) → (e ≡ Utf8) ⊎ (e ≡ Utf8Marked) → e ≡ encoding_of bytes
+pub refused_behind_utf8 : {T : Type 0} (bytes body : List ℕ) (marked : ℕ) (e : Encoding) (r : Result T TextError) → (e ≡ Utf8) ⊎ (e ≡ Utf8Marked) → e ≡ encoding_of bytes
     → bytes ≡ mark_of e ++ body → marked ≡ length bytes - length body → IfErr r (λ error. RefusesBody Utf8 body marked error) → IfErr r (λ error. RefusesBytes bytes error)
 refused_behind_utf8 bytes body marked e (Ok chars) one is split m h = tt
 refused_behind_utf8 bytes body marked e (Err error) one is split m h = RefusesBytes-from_body bytes body marked e error is split m (either one)

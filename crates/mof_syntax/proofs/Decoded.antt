@@ -195,8 +195,8 @@ one_fault bytes m n f g =
     omega (arith, f.within, g.within)
 
 -- bytes that are refused, not for lack of memory, are no characters
-pub only_refused : (bytes : List ℕ) (r : Result (List ℕ) TextError) → IfErr r (λ e. RefusesBytes bytes e)
+pub only_refused : {T : Type 0} (bytes : List ℕ) (r : Result T TextError) → IfErr r (λ e. RefusesBytes bytes e)
     → IfErr r (λ e. e ≢ Memory → (chars : List ℕ) → Chars bytes chars → ⊥)
-only_refused bytes (Ok chars) h = tt
+only_refused bytes (Ok t) h = tt
 only_refused bytes (Err (TextFault at)) h = λ other chars c. no_fault bytes chars at c h
 only_refused bytes (Err Memory) h = λ other chars c. other refl

@@ -1,7 +1,7 @@
 -- Bytes are characters, or go wrong somewhere.
-use Rattle.std.proofs.Common.{◌≡◌, ◌≢◌, ◌<◌, ◌≤◌, ◌+◌, ◌⊎◌, inl, inr, ℕ, zero, suc, Bool, true, false, List, [], ◌∷◌, ◌++◌, length, take, drop, refl, sym, ap, subst, ◌∙◌, append_assoc, length-append, arith}
+use Rattle.std.proofs.Common.{◌≡◌, ◌≢◌, ◌<◌, ◌+◌, ◌⊎◌, inl, inr, ℕ, zero, suc, Bool, true, false, List, [], ◌∷◌, ◌++◌, length, take, drop, refl, sym, ap, subst, ◌∙◌, append_assoc, length-append, arith}
 use Rattle.std.specs.Prelude.{nat_eq}
-use Rattle.std.specs.List.{starts_with, flat_map}
+use Rattle.std.specs.List.{starts_with}
 use Rattle.std.proofs.lemmas.Bool.{cases_lt}
 use Rattle.std.proofs.lemmas.Bool.Decides.{Decides-eqb}
 use Rattle.std.proofs.lemmas.List.{append-nil, take_at, drop_at}
@@ -10,10 +10,10 @@ use Rattle.std.specs.Char.{IsScalar}
 use Rattle.std.specs.Str.{all_scalars}
 use lib.Utf8.{scalar, scalar_cases}
 use Rattle.mof_syntax.specs.declared.encoding.Encoding.{Encoding}
-use Rattle.mof_syntax.specs.declared.encoding.Encoding.TheVariants.{Utf8, Utf8Marked, Utf16}
+use Rattle.mof_syntax.specs.declared.encoding.Encoding.TheVariants.{Utf8Marked, Utf16}
 use Rattle.mof_syntax.specs.declared.encoding.ByteOrder.TheVariants.{LittleEndian, BigEndian}
 use Rattle.mof_syntax.specs.Encodings.{char_bytes, body_bytes, mark_of, encoding_of, Chars, IsTextFault, StartsNoChar}
-use Rattle.mof_syntax.specs.Decoding.{StartsChar, IsBody, IsBodyFault}
+use Rattle.mof_syntax.specs.Decoding.{StartsChar, IsBodyFault}
 use Rattle.mof_syntax.proofs.Bodies.{and_both, Chars-from_body, fault_behind}
 use Rattle.mof_syntax.proofs.Decoded.{some_bytes}
 

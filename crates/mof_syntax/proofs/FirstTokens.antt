@@ -1,6 +1,6 @@
 -- The token that the first character announces is the one that stands there.
-use Rattle.std.proofs.Common.{◌≡◌, ◌⊎◌, inl, inr, ◌<◌, ℕ, Bool, true, false, cond, List, [], ◌∷◌, length, Option, Some, None, refl, sym, subst, ◌∙◌, arith, Bor}
-use Rattle.std.specs.Option.{option_copied}
+use Rattle.std.proofs.Common.{◌≡◌, ◌⊎◌, inl, inr, ℕ, Bool, true, false, cond, List, [], ◌∷◌, Option, Some, None, refl, sym, subst, ◌∙◌, arith, Bor}
+use Rattle.std.specs.Str.{chars}
 use Rattle.std.specs.Prelude.{◌==◌, ◌||◌, IfSome, IfNone, ℤ, pos, neg_ℤ}
 use Rattle.std.proofs.lemmas.Bool.Decides.{nat_tests}
 use Rattle.mof_values.specs.Ident.{is_first, is_next}
@@ -11,7 +11,7 @@ use Rattle.mof_syntax.specs.declared.token.TokenKind.{TokenKind}
 use Rattle.mof_syntax.specs.declared.token.TokenKind.TheVariants as kinds
 use Rattle.mof_syntax.specs.declared.lead.Lead.{Lead}
 use Rattle.mof_syntax.specs.declared.lead.Lead.TheVariants as leads
-use Rattle.mof_syntax.specs.Scanning.{IsOnly, StandsQuoted}
+use Rattle.mof_syntax.specs.Scanning.{left_of, IsOnly, StandsQuoted}
 use Rattle.mof_syntax.specs.Leads.{is_mark, lead_of, kind_by, StandsMagnitude, StandsBy, OnlyBy, NoneBy}
 use Rattle.mof_syntax.specs.Walk.{token_kind, StandsToken, NoToken}
 use Rattle.mof_syntax.proofs.Scans.{some_same, digit_wider}
@@ -162,9 +162,8 @@ NoToken-by chars others c lead cut is n = λ t rest i.
     let i' : IsToken (c ∷ others) t rest = subst (λ (xs : List ℕ). IsToken xs t rest) cut i in
     n rest (subst (λ (xs : List ℕ). StandsBy lead xs others rest) (sym cut) (subst (λ (l : Lead). StandsBy l (c ∷ others) others rest) (sym is) (token_stands c others t rest i')))
 
-pub NoToken-short : (chars : List ℕ) → length chars < 1 → NoToken chars
-NoToken-short (c ∷ cs) h t rest i = absurd (omega arith)
-NoToken-short [] h t rest i = absurd (none_begins t rest i)
+pub NoToken-none : (chars : List ℕ) → chars ≡ [] → NoToken chars
+NoToken-none chars h t rest i = absurd (none_begins t rest (subst (λ (xs : List ℕ). IsToken xs t rest) h i))
   where
     no_identifier : (name r : List ℕ) → Identifier [] name r → ⊥
     no_identifier name r e = elim e [ ]
@@ -184,29 +183,29 @@ NoToken-short [] h t rest i = absurd (none_begins t rest i)
 
 -- the steps after the first character
 
-pub some_behind : (lead L : Lead) (chars others : List ℕ) (f : Option (List ℕ)) (r : Option (Bor (List ℕ))) → lead ≡ L → option_copied r ≡ f
-    → ((rest : List ℕ) → StandsBy L chars others rest → f ≡ Some rest) → ((rest : List ℕ) → f ≡ Some rest → StandsBy L chars others rest)
-    → IfSome r (λ rest. OnlyBy lead chars others rest.now)
-some_behind lead L chars others f None is e to from = tt
-some_behind lead L chars others f (Some b) is e to from = subst (λ (l : Lead). OnlyBy l chars others b.now) (sym is) (record {
-  stands = from b.now (sym e);
-  only = λ other s. some_same other b.now (sym (to other s) ∙ sym e);
+pub some_behind : (lead L : Lead) (cs others : List ℕ) (f : Option (List ℕ)) (r : Option (Bor (List ℕ))) → lead ≡ L → left_of r ≡ f
+    → ((rest : List ℕ) → StandsBy L cs others rest → f ≡ Some rest) → ((rest : List ℕ) → f ≡ Some rest → StandsBy L cs others rest)
+    → IfSome r (λ rest. OnlyBy lead cs others (chars rest.now))
+some_behind lead L cs others f None is e to from = tt
+some_behind lead L cs others f (Some b) is e to from = subst (λ (l : Lead). OnlyBy l cs others (chars b.now)) (sym is) (record {
+  stands = from (chars b.now) (sym e);
+  only = λ other s. some_same other (chars b.now) (sym (to other s) ∙ sym e);
 })
 
-pub none_behind : (lead L : Lead) (chars others : List ℕ) (f : Option (List ℕ)) (r : Option (Bor (List ℕ))) → lead ≡ L → option_copied r ≡ f
-    → ((rest : List ℕ) → StandsBy L chars others rest → f ≡ Some rest) → IfNone r (NoneBy lead chars others)
-none_behind lead L chars others f (Some b) is e to = tt
-none_behind lead L chars others f None is e to = subst (λ (l : Lead). NoneBy l chars others) (sym is) (λ rest s. absurd (apart rest (e ∙ to rest s)))
+pub none_behind : (lead L : Lead) (cs others : List ℕ) (f : Option (List ℕ)) (r : Option (Bor (List ℕ))) → lead ≡ L → left_of r ≡ f
+    → ((rest : List ℕ) → StandsBy L cs others rest → f ≡ Some rest) → IfNone r (NoneBy lead cs others)
+none_behind lead L cs others f (Some b) is e to = tt
+none_behind lead L cs others f None is e to = subst (λ (l : Lead). NoneBy l cs others) (sym is) (λ rest s. absurd (apart rest (e ∙ to rest s)))
   where
     apart : (xs : List ℕ) → None ≡ Some xs → ⊥
     apart xs h = cc
 
-pub quoted_behind : (lead : Lead) (chars others : List ℕ) (r : Option (Bor (List ℕ))) → lead ≡ leads.Quote
-    → IfSome r (λ rest. IsOnly StandsQuoted others rest.now) → IfSome r (λ rest. OnlyBy lead chars others rest.now)
-quoted_behind lead chars others None is h = tt
-quoted_behind lead chars others (Some b) is h = subst (λ (l : Lead). OnlyBy l chars others b.now) (sym is) (record { stands = h.stands; only = h.only })
+pub quoted_behind : (lead : Lead) (cs others : List ℕ) (r : Option (Bor (List ℕ))) → lead ≡ leads.Quote
+    → IfSome r (λ rest. IsOnly StandsQuoted others (chars rest.now)) → IfSome r (λ rest. OnlyBy lead cs others (chars rest.now))
+quoted_behind lead cs others None is h = tt
+quoted_behind lead cs others (Some b) is h = subst (λ (l : Lead). OnlyBy l cs others (chars b.now)) (sym is) (record { stands = h.stands; only = h.only })
 
-pub no_quoted_behind : (lead : Lead) (chars others : List ℕ) (r : Option (Bor (List ℕ))) → lead ≡ leads.Quote
-    → IfNone r ((rest : List ℕ) → StandsQuoted others rest → ⊥) → IfNone r (NoneBy lead chars others)
-no_quoted_behind lead chars others (Some b) is h = tt
-no_quoted_behind lead chars others None is h = subst (λ (l : Lead). NoneBy l chars others) (sym is) h
+pub no_quoted_behind : (lead : Lead) (cs others : List ℕ) (r : Option (Bor (List ℕ))) → lead ≡ leads.Quote
+    → IfNone r ((rest : List ℕ) → StandsQuoted others rest → ⊥) → IfNone r (NoneBy lead cs others)
+no_quoted_behind lead cs others (Some b) is h = tt
+no_quoted_behind lead cs others None is h = subst (λ (l : Lead). NoneBy l cs others) (sym is) h

@@ -1,6 +1,6 @@
 pub mod Bodies
 pub mod Scans
-pub mod Slices
+pub mod Texts
 pub mod Literals
 pub mod Suffixes
 pub mod FirstTokens

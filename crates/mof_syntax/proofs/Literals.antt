@@ -93,9 +93,8 @@ no_escape_there all cs rest is s q =
 pub at_char : (all left others : List ℕ) (c d : ℕ) → left ≡ c ∷ others → c ≡ d → SameLiteral all left → SameLiteral all (d ∷ others)
 at_char all left others c d split is s = subst (λ (xs : List ℕ). SameLiteral all xs) (split ∙ ap (λ (x : ℕ). x ∷ others) is) s
 
-pub no_short : (cs rest : List ℕ) → length cs < 1 → StandsQuoted cs rest → ⊥
-no_short [] rest short_is q = no_quoted rest q
-no_short (c ∷ cs) rest short_is q = absurd (omega arith)
+pub nothing_quoted : (cs rest : List ℕ) → cs ≡ [] → StandsQuoted cs rest → ⊥
+nothing_quoted cs rest nothing q = no_quoted rest (subst (λ (xs : List ℕ). StandsQuoted xs rest) nothing q)
 
 pub ne_test : (a b : ℕ) → (a ≡ b → ⊥) → (a == b) ≡ false
 ne_test a b h = elim (test_or (a == b)) [ inl is ↦ absurd (h (same a b is)) | inr other ↦ other ]

@@ -2,17 +2,13 @@
 use Rattle.std.proofs.Common.{◌≡◌, ◌<◌, ◌≤◌, ◌+◌, ◌-◌, ℕ, Bool, List, [], ◌∷◌, ◌++◌, length, drop, refl, sym, ap, ◌∙◌, append_assoc, length-append, arith}
 use Rattle.std.proofs.lemmas.List.{drop_at}
 use Rattle.mof_values.specs.Ident.{is_next}
-use Rattle.mof_syntax.specs.Characters.{digit_of, Run, stop, more}
+use Rattle.mof_syntax.specs.Characters.{EndsWith, digit_of, Run, stop, more}
 use Rattle.mof_syntax.specs.Separators.{LineComment, at_end, at_feed, over, BlockComment, shut, inside, Separator, blank, line, block, Separators, none, another}
 use Rattle.mof_syntax.specs.Strings.{HexDigits, full, ended, digit, Escape, short, hexadecimal, Quoted, closed, plain, escaped}
 use Rattle.mof_syntax.specs.Integers.{Magnitude, decimal_value, octal_value, hex_value, binary_value, IntegerValue, unsigned, plus, minus}
 use Rattle.mof_syntax.specs.Tokens.{Identifier, identifier, Lexeme, IsToken, word, alias, literal, integer, left_brace_mark, right_brace_mark, equals_mark, semicolon_mark, comma_mark}
 
--- the rest is the end of the characters
-abbrev pub EndsWith : List ℕ → List ℕ → Type 0
-EndsWith cs rest = (front : List ℕ) × (cs ≡ front ++ rest)
-
--- and some characters stand before it
+-- some characters, and then the rest
 abbrev pub EndsWithin : List ℕ → List ℕ → Type 0
 EndsWithin cs rest = (c : ℕ) × (front : List ℕ) × (cs ≡ c ∷ (front ++ rest))
 

@@ -1,13 +1,14 @@
 -- The steps of a walk.
-use Rattle.std.proofs.Common.{◌≡◌, ◌<◌, ◌≤◌, ◌+◌, ◌-◌, ℕ, List, length, take, drop, Some, None, sym, ap, subst, ◌∙◌, length-drop, arith}
-use Rattle.std.proofs.lemmas.List.{drop-drop}
-use Rattle.std.proofs.Math.Seq.{take-length}
+use Rattle.std.proofs.Common.{◌≡◌, ◌<◌, ◌+◌, ◌-◌, ◌^◌, ℕ, List, ◌++◌, length, take, drop, Some, None, refl, sym, ap, subst, ◌∙◌, length-append, length-drop, arith}
+use Rattle.std.proofs.lemmas.List.{drop-drop, take_at, drop_at}
+use Rattle.std.specs.Prelude.{slice_range}
+use Rattle.mof_syntax.specs.Characters.{EndsWith}
 use Rattle.mof_syntax.specs.Separators.{Separator, Separators, none, another}
 use Rattle.mof_syntax.specs.Scanning.{separator_rest}
-use Rattle.mof_syntax.specs.Walk.{NoSeparator, NoToken, StandsToken, Skips, TokenStands}
+use Rattle.mof_syntax.specs.Walk.{IsPlace, NoSeparator, NoToken, StandsToken, Skips, TokenStands}
 use Rattle.mof_syntax.specs.declared.token.TokenKind.{TokenKind}
 use Rattle.mof_syntax.proofs.Scans.{separator-read, read-separator}
-use Rattle.mof_syntax.proofs.Suffixes.{weak, EndsWith, EndsWith-drop, EndsWith-length, EndsWithin-length, separator_ends, separators_end, token_ends}
+use Rattle.mof_syntax.proofs.Suffixes.{weak, EndsWithin-length, separator_ends, separators_end, token_ends}
 
 separators_then : (cs mid rest : List ℕ) → Separators cs mid → Separator mid rest → Separators cs rest
 separators_then cs mid rest (none r) s = another r rest rest s (none rest)
@@ -27,60 +28,63 @@ NoSeparator-from_rest cs e rest s = apart rest (sym e ∙ separator-read cs rest
 
 -- places
 
-pub tail_is : (cs : List ℕ) (n : ℕ) → n ≤ length cs → take (length cs - n) (drop n cs) ≡ drop n cs
-tail_is cs n h =
-    let count : length cs - n ≡ length (drop n cs) = sym (length-drop n cs) in
-    ap (λ (k : ℕ). take k (drop n cs)) count ∙ take-length (drop n cs)
+pub IsPlace-next : (text left over rest : List ℕ) (place : ℕ) → IsPlace text left place → left ≡ over ++ rest → IsPlace text rest (place + length over)
+IsPlace-next text left over rest place p split =
+    let sum : length left ≡ length over + length rest = ap length split ∙ length-append over rest in
+    let long : length left ≡ length text - place = ap length p.rest ∙ length-drop place text in
+    record {
+      rest = sym (drop_at over rest (length over) refl) ∙ ap (drop (length over)) (sym split ∙ p.rest) ∙ drop-drop (length over) place text;
+      within = omega (arith, p.within);
+    }
 
-place_is : (cs rest : List ℕ) (place : ℕ) → place ≤ length cs → EndsWith (drop place cs) rest → drop (length cs - length rest) cs ≡ rest
-place_is cs rest place h e =
-    let long : length (drop place cs) ≡ length cs - place = length-drop place cs in
-    let short_rest : length rest ≤ length (drop place cs) = EndsWith-length (drop place cs) rest e in
-    let sum : place + (length (drop place cs) - length rest) ≡ length cs - length rest = omega arith in
-    sym (EndsWith-drop (drop place cs) rest e ∙ drop-drop (length (drop place cs) - length rest) place cs ∙ ap (λ (k : ℕ). drop k cs) sum)
-
-pub skipped : (cs left : List ℕ) (place : ℕ) → place ≤ length cs → Separators (take (length cs - place) (drop place cs)) left → separator_rest left ≡ None
-    → Skips cs place (length cs - length left)
-skipped cs left place h s stops =
-    let at : Separators (drop place cs) left = subst (λ (xs : List ℕ). Separators xs left) (tail_is cs place h) s in
-    let ends = separators_end (drop place cs) left at in
-    let there : left ≡ drop (length cs - length left) cs = sym (place_is cs left place h ends) in
-    let long : length (drop place cs) ≡ length cs - place = length-drop place cs in
-    let short_left : length left ≤ length (drop place cs) = EndsWith-length (drop place cs) left ends in
+pub skipped : (text left over rest : List ℕ) (place : ℕ) → IsPlace text left place → left ≡ over ++ rest → Separators left rest → separator_rest rest ≡ None
+    → Skips text place (place + length over)
+skipped text left over rest place p split s stops =
+    let next = IsPlace-next text left over rest place p split in
     record {
       from = omega arith;
-      within = omega arith;
-      separators = subst (λ (xs : List ℕ). Separators (drop place cs) xs) there at;
-      no_separator = subst (λ (xs : List ℕ). NoSeparator xs) there (NoSeparator-from_rest left stops);
+      within = next.within;
+      separators = subst (λ (xs : List ℕ). Separators xs (drop (place + length over) text)) p.rest (subst (λ (xs : List ℕ). Separators left xs) next.rest s);
+      no_separator = subst (λ (xs : List ℕ). NoSeparator xs) next.rest (NoSeparator-from_rest rest stops);
     }
 
-pub found : (cs rest : List ℕ) (from : ℕ) (kind : TokenKind) → from ≤ length cs → StandsToken (take (length cs - from) (drop from cs)) kind rest
-    → TokenStands cs kind from (length cs - length rest)
-found cs rest from kind h s =
-    let at : StandsToken (drop from cs) kind rest = subst (λ (xs : List ℕ). StandsToken xs kind rest) (tail_is cs from h) s in
-    let ends = token_ends (drop from cs) at.lexeme rest at.stands in
-    let long : length (drop from cs) ≡ length cs - from = length-drop from cs in
-    let short_rest : length rest < length (drop from cs) = EndsWithin-length (drop from cs) rest ends in
-    let there : rest ≡ drop (length cs - length rest) cs = sym (place_is cs rest from h (weak (drop from cs) rest ends)) in
+pub found : (text left over rest : List ℕ) (from : ℕ) (kind : TokenKind) → IsPlace text left from → left ≡ over ++ rest → StandsToken left kind rest
+    → TokenStands text kind from (from + length over)
+found text left over rest from kind p split s =
+    let next = IsPlace-next text left over rest from p split in
+    let sum : length left ≡ length over + length rest = ap length split ∙ length-append over rest in
+    let short_rest : length rest < length left = EndsWithin-length left rest (token_ends left s.lexeme rest s.stands) in
     record {
       rises = omega arith;
-      within = omega arith;
-      token = subst (λ (xs : List ℕ). StandsToken (drop from cs) kind xs) there at;
+      within = next.within;
+      token = subst (λ (xs : List ℕ). StandsToken xs kind (drop (from + length over) text)) p.rest (subst (λ (xs : List ℕ). StandsToken left kind xs) next.rest s);
     }
 
-pub none_found : (cs : List ℕ) (from : ℕ) → from ≤ length cs → NoToken (take (length cs - from) (drop from cs)) → NoToken (drop from cs)
-none_found cs from h n = subst (λ (xs : List ℕ). NoToken xs) (tail_is cs from h) n
+pub slice_is : (text left over rest : List ℕ) (from : ℕ) → IsPlace text left from → left ≡ over ++ rest → over ≡ slice_range text from (from + length over)
+slice_is text left over rest from p split =
+    sym (take_at over rest (from + length over - from) (omega arith)) ∙ ap (take (from + length over - from)) (sym split ∙ p.rest)
 
-pub left_shorter : (cs left : List ℕ) (place : ℕ) → place ≤ length cs → Separators (take (length cs - place) (drop place cs)) left → length left ≤ length cs
-left_shorter cs left place h s =
-    let at : Separators (drop place cs) left = subst (λ (xs : List ℕ). Separators xs left) (tail_is cs place h) s in
-    let long : length (drop place cs) ≡ length cs - place = length-drop place cs in
-    let short_left : length left ≤ length (drop place cs) = EndsWith-length (drop place cs) left (separators_end (drop place cs) left at) in
-    omega arith
+pub separators_before : (left rest : List ℕ) → Separators left rest → EndsWith left rest
+separators_before left rest s = separators_end left rest s
 
-pub rest_shorter : (cs rest : List ℕ) (from : ℕ) (kind : TokenKind) → from ≤ length cs → StandsToken (take (length cs - from) (drop from cs)) kind rest → length rest ≤ length cs
-rest_shorter cs rest from kind h s =
-    let at : StandsToken (drop from cs) kind rest = subst (λ (xs : List ℕ). StandsToken xs kind rest) (tail_is cs from h) s in
-    let long : length (drop from cs) ≡ length cs - from = length-drop from cs in
-    let short_rest : length rest < length (drop from cs) = EndsWithin-length (drop from cs) rest (token_ends (drop from cs) at.lexeme rest at.stands) in
-    omega arith
+pub token_before : (left rest : List ℕ) (kind : TokenKind) → StandsToken left kind rest → EndsWith left rest
+token_before left rest kind s = weak left rest (token_ends left s.lexeme rest s.stands)
+
+-- a number of characters of a text of fewer than 2^32
+pub fits : (text left over rest : List ℕ) (place : ℕ) → IsPlace text left place → left ≡ over ++ rest → length text < 2 ^ 32 → place + length over < 2 ^ 32
+fits text left over rest place p split small = omega (arith, (IsPlace-next text left over rest place p split).within)
+
+-- no token stands at the place after the characters
+pub none_found : (text left over rest : List ℕ) (place : ℕ) → IsPlace text left place → left ≡ over ++ rest → NoToken rest → NoToken (drop (place + length over) text)
+none_found text left over rest place p split none_is = subst (λ (xs : List ℕ). NoToken xs) (IsPlace-next text left over rest place p split).rest none_is
+
+-- a step over separators and a token leaves fewer characters
+pub nearer : (text left over behind token rest : List ℕ) (place : ℕ) (kind : TokenKind) → IsPlace text left place → left ≡ over ++ behind
+    → behind ≡ token ++ rest → StandsToken behind kind rest → length text - (place + length over + length token) < length text - place
+nearer text left over behind token rest place kind p split cut s =
+    let next = IsPlace-next text left over behind place p split in
+    let t = found text behind token rest (place + length over) kind next cut s in
+    omega (arith, next.within, t.rises, t.within)
+
+pub count_fits : (text left over rest : List ℕ) (place : ℕ) → IsPlace text left place → left ≡ over ++ rest → length text < 2 ^ 32 → length over < 2 ^ 32
+count_fits text left over rest place p split small = omega (arith, fits text left over rest place p split small)

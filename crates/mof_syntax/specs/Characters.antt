@@ -1,6 +1,6 @@
 -- Classes of characters, and the characters that DSP0004 gives a meaning of their own ("Value constants", "Comments",
 -- and the grammar of its annex).
-use Rattle.std.specs.Prelude.{◌≡◌, ℕ, Bool, true, false, ◌||◌, ◌==◌, List, [], ◌∷◌}
+use Rattle.std.specs.Prelude.{◌≡◌, ℕ, Bool, true, false, ◌||◌, ◌==◌, List, [], ◌∷◌, ◌++◌}
 use Rattle.std.specs.Char.{is_digit, to_ascii_lowercase}
 
 abbrev pub line_feed : ℕ
@@ -73,3 +73,7 @@ Stops p (c ∷ cs) = p c ≡ false
 pub data Run (p : ℕ → Bool) : List ℕ → List ℕ → List ℕ → Type 0 where
   stop : (rest : List ℕ) → Run p rest [] rest
   more : (c : ℕ) (cs run rest : List ℕ) → p c ≡ true → Run p cs run rest → Run p (c ∷ cs) (c ∷ run) rest
+
+-- the characters end with the rest
+abbrev pub EndsWith : List ℕ → List ℕ → Type 0
+EndsWith cs rest = (front : List ℕ) × (cs ≡ front ++ rest)

@@ -1,13 +1,20 @@
 -- What the steps of the scanner compute: the characters after a construct, where it stands. That they stand after what
 -- the definitions of separators and tokens say is proved of them in proofs/.
 use Rattle.std.specs.Prelude.{◌≡◌, ◌<◌, ℕ, zero, suc, ◌+◌, ◌*◌, Bool, true, not, ◌&&◌, ◌==◌, if◌then◌else◌, List, [], ◌∷◌, Option, Some, None, is_some}
+use Rattle.std.specs.Borrow.{Bor}
 use Rattle.std.specs.Char.{digit_value}
+use Rattle.std.specs.Option.{option_map}
+use Rattle.std.specs.Str.{chars}
 use Rattle.std.specs.Str.Parse.{digits_value}
 use Rattle.mof_values.specs.Ident.{is_first, is_next}
 use Rattle.mof_syntax.specs.declared.scan.Class.{Class}
 use Rattle.mof_syntax.specs.declared.scan.Class.TheVariants as classes
 use Rattle.mof_syntax.specs.Characters.{line_feed, slash, star, digit_zero, is_blank, is_x, is_b, digit_of}
 use Rattle.mof_syntax.specs.Strings.{short_escape, is_surrogate, Quoted}
+
+-- what is left of a text, as characters
+abbrev pub left_of : Option (Bor (List ℕ)) → Option (List ℕ)
+left_of rest = option_map (λ t. chars t.now) rest
 
 -- the characters that a comment's line goes on with
 abbrev pub is_in_line : ℕ → Bool

@@ -1,5 +1,6 @@
 -- A walk over the tokens of a text: what each step of it gives.
 use Rattle.std.specs.Prelude.{◌≡◌, ◌≤◌, ◌<◌, ℕ, List, Option, Some, None, length, drop, slice_range}
+use Rattle.std.specs.Str.{chars}
 use Rattle.mof_syntax.specs.declared.token.Token.{Token}
 use Rattle.mof_syntax.specs.declared.token.TokenKind.{TokenKind}
 use Rattle.mof_syntax.specs.declared.token.TokenKind.TheVariants as kinds
@@ -44,6 +45,11 @@ pub record TokenStands (text : List ℕ) (kind : TokenKind) (from to : ℕ) : Ty
   pub within : to ≤ length text
   pub token : StandsToken (drop from text) kind (drop to text)
 
+-- so many characters of the text come before what is left of it
+pub record IsPlace (text left : List ℕ) (place : ℕ) : Type 0 where
+  pub rest : left ≡ drop place text
+  pub within : place ≤ length text
+
 -- a text, and how far it was walked
 pub record Walk : Type 0 where
   pub text : List ℕ
@@ -55,7 +61,7 @@ pub record Takes (before : Walk) (token : Token) (now : Walk) : Type 0 where
   pub place : now.place ≡ token.to
   pub skips : Skips before.text before.place token.from
   pub stands : TokenStands before.text token.kind token.from token.to
-  pub slice : token.text.now ≡ slice_range before.text token.from token.to
+  pub slice : chars token.text.now ≡ slice_range before.text token.from token.to
 
 -- the walk goes on over separators to where neither a token nor a separator stands, as at the end of the text
 pub record Ends (before now : Walk) : Type 0 where

@@ -1,5 +1,7 @@
-//! Bytes to characters.
-ghost use Rattle.std.specs.Prelude.{◌≡◌, ◌≢◌, ℕ, List, ◌++◌, ◌+◌, ◌^◌, ◌<◌, length, IfOk, IfErr, IfSome, IfNone, MatchOption, encode_utf8_all};
+//! Bytes to texts.
+ghost use Rattle.std.specs.Prelude.{◌≡◌, ◌≢◌, ℕ, List, ◌++◌, ◌+◌, ◌^◌, ◌<◌, length, IfOk, IfErr, IfSome, IfNone};
+ghost use Rattle.std.specs.Str.{chars};
+ghost use Rattle.std.specs.Cow.{cow_str_bytes};
 ghost use Rattle.mof_syntax.specs.Encodings.{Chars, unit_bytes, StartsNoChar, RefusesBytes};
 ghost use Rattle.mof_syntax.specs.Decoding.{RefusesBody, IsBody, StartsChar};
 ghost use Rattle.mof_syntax.specs.declared.encoding.Encoding.TheVariants.{Utf8, Utf16};
@@ -7,41 +9,36 @@ ghost use Rattle.mof_syntax.specs.declared.text_error.TextError.TheVariants.{Mem
 
 use crate::encoding::{ByteOrder, Encoding, behind_mark};
 use crate::text_error::TextError;
-use mof_values::Text;
-use std::alloc::{AllocError, Global};
+use std::alloc::Global;
+use std::borrow::CowStr;
 
-/// The characters that the bytes are: UTF-8, or UTF-16 with a mark. The mark is no character of the text.
-pub fn decode_text(alloc: Global, bytes: &[u8]) -> Result<Text, TextError>
-    ensures ok { IfOk result (λ text. Chars bytes.now text) }
+/// The text that the bytes are: UTF-8 as it stands there, or UTF-16 with a mark, rewritten in UTF-8. The mark is no
+/// character of the text.
+pub fn decode_text(alloc: Global, bytes: &[u8]) -> Result<CowStr<'_, Global>, TextError>
+    ensures ok { IfOk result (λ text. Chars bytes.now (chars (cow_str_bytes text))) }
     ensures refused { IfErr result (λ e. RefusesBytes bytes.now e) }
-    ensures only { IfErr result (λ e. e ≢ Memory → (chars : List ℕ) → Chars bytes.now chars → ⊥) }
+    ensures only { IfErr result (λ e. e ≢ Memory → (cs : List ℕ) → Chars bytes.now cs → ⊥) }
 {
     let (encoding, body) = behind_mark(bytes);
     let marked = bytes.len() - body.len();
     match encoding {
-        Encoding::Utf8 | Encoding::Utf8Marked => decode_utf8(alloc, body, marked),
+        Encoding::Utf8 | Encoding::Utf8Marked => decode_utf8(body, marked),
         Encoding::Utf16(order) => decode_utf16(alloc, order, body, marked),
     }
 }
 
 // Places count the bytes before the body too.
-fn decode_utf8(alloc: Global, body: &[u8], marked: usize) -> Result<Text, TextError>
+fn decode_utf8(body: &[u8], marked: usize) -> Result<CowStr<'_, Global>, TextError>
     requires { marked + length body.now < 2 ^ 64 }
-    ensures ok { IfOk result (λ text. IsBody Encoding.Utf8 body.now text) }
+    ensures ok { IfOk result (λ text. IsBody Encoding.Utf8 body.now (chars (cow_str_bytes text))) }
     ensures refused { IfErr result (λ e. RefusesBody Encoding.Utf8 body.now marked e) }
 {
     match str::from_utf8(body) {
-        Ok(text) => Ok(chars_of(alloc, text)?),
+        Ok(text) => Ok(CowStr::Borrowed(text)),
         Err(e) => Err(TextError::TextFault {
             at: marked + e.valid_up_to(),
         }),
     }
-}
-
-fn chars_of(alloc: Global, text: &str) -> Result<Text, AllocError>
-    ensures { IfOk result (λ chars. encode_utf8_all chars ≡ text.now) }
-{
-    Ok(Text::of(text.chars().collect(alloc)?))
 }
 
 fn decode_utf16(
@@ -49,12 +46,12 @@ fn decode_utf16(
     order: ByteOrder,
     body: &[u8],
     marked: usize,
-) -> Result<Text, TextError>
+) -> Result<CowStr<'_, Global>, TextError>
     requires { marked + length body.now < 2 ^ 64 }
-    ensures ok { IfOk result (λ text. IsBody (Encoding.Utf16 order) body.now text) }
+    ensures ok { IfOk result (λ text. IsBody (Encoding.Utf16 order) body.now (chars (cow_str_bytes text))) }
     ensures refused { IfErr result (λ e. RefusesBody (Encoding.Utf16 order) body.now marked e) }
 {
-    let mut chars = Vec::new(alloc);
+    let mut text = String::new(alloc);
     let mut left = body;
     while !left.is_empty() {
         let Some((c, rest)) = first_char(order, left) else {
@@ -62,10 +59,10 @@ fn decode_utf16(
                 at: marked + (body.len() - left.len()),
             });
         };
-        chars.push(c)?;
+        text.push(c)?;
         left = rest;
     }
-    Ok(Text::of(chars))
+    Ok(CowStr::Owned(text))
 }
 
 // The character that begins the bytes of UTF-16, and the rest.

@@ -1,10 +1,12 @@
 //! The token that a character begins.
 ghost use Rattle.std.specs.Prelude.{◌≡◌, IfSome, IfNone, List, ℕ};
+ghost use Rattle.std.specs.Str.{chars};
 ghost use Rattle.mof_syntax.specs.Scanning.{IsOnly, StandsQuoted};
 ghost use Rattle.mof_syntax.specs.Leads.{lead_of, kind_by, OnlyBy, NoneBy};
 ghost use Rattle.mof_syntax.specs.Walk.{StandsToken, NoToken};
 
 use crate::scan::{escape_rest, identifier_rest, magnitude_rest};
+use crate::text::first_char;
 use crate::token::TokenKind;
 
 /// What begins with a character.
@@ -18,16 +20,14 @@ pub(crate) enum Lead {
     Other,
 }
 
-/// The kind of the token that begins the characters, and what is after it.
-pub(crate) fn first_token(chars: &[char]) -> Option<(TokenKind, &[char])>
-    ensures some { IfSome result (λ found. StandsToken chars.now found.0 found.1.now) }
-    ensures none { IfNone result (NoToken chars.now) }
+/// The kind of the token that begins the text, and what is after it.
+pub(crate) fn first_token(text: &str) -> Option<(TokenKind, &str)>
+    ensures some { IfSome result (λ found. StandsToken (chars text.now) found.0 (chars found.1.now)) }
+    ensures none { IfNone result (NoToken (chars text.now)) }
 {
-    let [c, others @ ..] = chars else {
-        return None;
-    };
-    let lead = lead_of(*c);
-    Some((lead.kind(), behind(lead, chars, others)?))
+    let (c, others) = first_char(text)?;
+    let lead = lead_of(c);
+    Some((lead.kind(), behind(lead, text, others)?))
 }
 
 fn lead_of(c: char) -> Lead
@@ -57,32 +57,32 @@ impl Lead {
     }
 }
 
-// Behind the token, of which the first character is known; `others` are those after it.
-fn behind<'a>(lead: Lead, chars: &'a [char], others: &'a [char]) -> Option<&'a [char]>
-    ensures some { IfSome result (λ rest. OnlyBy lead chars.now others.now rest.now) }
-    ensures none { IfNone result (NoneBy lead chars.now others.now) }
+// After the token, of which the first character is known; `others` is what is after that.
+fn behind<'a>(lead: Lead, text: &'a str, others: &'a str) -> Option<&'a str>
+    ensures some { IfSome result (λ rest. OnlyBy lead (chars text.now) (chars others.now) (chars rest.now)) }
+    ensures none { IfNone result (NoneBy lead (chars text.now) (chars others.now)) }
 {
     match lead {
         Lead::Mark => Some(others),
         Lead::Quote => literal_rest(others),
         Lead::Dollar => identifier_rest(others),
         Lead::Sign => magnitude_rest(others),
-        Lead::Digit => magnitude_rest(chars),
-        Lead::Other => identifier_rest(chars),
+        Lead::Digit => magnitude_rest(text),
+        Lead::Other => identifier_rest(text),
     }
 }
 
-// Behind a literal, of which the quote was read.
-fn literal_rest(chars: &[char]) -> Option<&[char]>
-    ensures some { IfSome result (λ rest. IsOnly StandsQuoted chars.now rest.now) }
-    ensures none { IfNone result ((rest : List ℕ) → StandsQuoted chars.now rest → ⊥) }
+// After a literal, of which the quote was read.
+fn literal_rest(text: &str) -> Option<&str>
+    ensures some { IfSome result (λ rest. IsOnly StandsQuoted (chars text.now) (chars rest.now)) }
+    ensures none { IfNone result ((rest : List ℕ) → StandsQuoted (chars text.now) rest → ⊥) }
 {
-    let mut left = chars;
-    while let [c, others @ ..] = left {
-        if *c == '"' {
+    let mut left = text;
+    while let Some((c, others)) = first_char(left) {
+        if c == '"' {
             return Some(others);
         }
-        if *c == '\\' {
+        if c == '\\' {
             left = escape_rest(others)?;
             continue;
         }

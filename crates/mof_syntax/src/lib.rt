@@ -12,6 +12,7 @@ mod lead;
 mod limits;
 mod mof_error;
 pub mod scan;
+pub mod text;
 mod text_error;
 mod token;
 mod tokenize;

@@ -1,9 +1,10 @@
-//! What is after a construct in a slice of characters.
+//! What is after a construct at the front of a text.
 ghost use Rattle.std.specs.Prelude.{◌≡◌, ◌<◌, IfSome, IfNone};
-ghost use Rattle.std.specs.Option.{option_copied};
+ghost use Rattle.std.specs.Str.{chars};
 ghost use Rattle.mof_syntax.specs.Characters.{digit_of, Stops};
-ghost use Rattle.mof_syntax.specs.Scanning.{BeginsWithDigit, is_in, after, block_rest, comment_rest, separator_rest, identifier_rest, hex_tail, hex_escape_rest, escape_rest, stopped, behind_b, binary_rest, behind_x, zero_rest, unmarked_rest, magnitude_rest};
+ghost use Rattle.mof_syntax.specs.Scanning.{left_of, BeginsWithDigit, is_in, after, block_rest, comment_rest, separator_rest, identifier_rest, hex_tail, hex_escape_rest, escape_rest, stopped, behind_b, binary_rest, behind_x, zero_rest, unmarked_rest, magnitude_rest};
 
+use crate::text::first_char;
 use mof_values::{may_begin, may_follow};
 
 /// A class of characters.
@@ -32,13 +33,13 @@ impl Class {
     }
 }
 
-/// Behind the characters of the class, as many as there are.
-pub(crate) fn after(chars: &[char], class: Class) -> &[char]
-    ensures { result.now ≡ after (is_in class) chars.now }
+/// After the characters of the class, as many as there are.
+pub(crate) fn after(text: &str, class: Class) -> &str
+    ensures { chars result.now ≡ after (is_in class) (chars text.now) }
 {
-    let mut left = chars;
-    while let [c, rest @ ..] = left {
-        if !class.contains(*c) {
+    let mut left = text;
+    while let Some((c, rest)) = first_char(left) {
+        if !class.contains(c) {
             return left;
         }
         left = rest;
@@ -46,34 +47,34 @@ pub(crate) fn after(chars: &[char], class: Class) -> &[char]
     left
 }
 
-/// Behind a separator.
-pub(crate) fn separator_rest(chars: &[char]) -> Option<&[char]>
-    ensures { option_copied result ≡ separator_rest chars.now }
+/// After a separator.
+pub(crate) fn separator_rest(text: &str) -> Option<&str>
+    ensures { left_of result ≡ separator_rest (chars text.now) }
 {
-    match chars {
-        [' ' | '\t' | '\n' | '\r', rest @ ..] => Some(rest),
-        ['/', rest @ ..] => comment_rest(rest),
+    match first_char(text)? {
+        (' ' | '\t' | '\n' | '\r', rest) => Some(rest),
+        ('/', rest) => comment_rest(rest),
         _ => None,
     }
 }
 
-fn comment_rest(chars: &[char]) -> Option<&[char]>
-    ensures { option_copied result ≡ comment_rest chars.now }
+fn comment_rest(text: &str) -> Option<&str>
+    ensures { left_of result ≡ comment_rest (chars text.now) }
 {
-    match chars {
-        ['/', rest @ ..] => Some(after(rest, Class::Line)),
-        ['*', rest @ ..] => block_rest(rest),
+    match first_char(text)? {
+        ('/', rest) => Some(after(rest, Class::Line)),
+        ('*', rest) => block_rest(rest),
         _ => None,
     }
 }
 
-fn block_rest(chars: &[char]) -> Option<&[char]>
-    ensures { option_copied result ≡ block_rest chars.now }
+fn block_rest(text: &str) -> Option<&str>
+    ensures { left_of result ≡ block_rest (chars text.now) }
 {
-    let mut left = chars;
-    while let [first, rest @ ..] = left {
-        if let ['/', behind @ ..] = rest
-            && *first == '*'
+    let mut left = text;
+    while let Some((first, rest)) = first_char(left) {
+        if first == '*'
+            && let Some(('/', behind)) = first_char(rest)
         {
             return Some(behind);
         }
@@ -82,105 +83,101 @@ fn block_rest(chars: &[char]) -> Option<&[char]>
     None
 }
 
-/// Behind an identifier.
-pub fn identifier_rest(chars: &[char]) -> Option<&[char]>
-    ensures { option_copied result ≡ identifier_rest chars.now }
+/// After an identifier.
+pub fn identifier_rest(text: &str) -> Option<&str>
+    ensures { left_of result ≡ identifier_rest (chars text.now) }
 {
-    match chars {
-        [c, rest @ ..] if may_begin(*c) => Some(after(rest, Class::Name)),
+    match first_char(text)? {
+        (c, rest) if may_begin(c) => Some(after(rest, Class::Name)),
         _ => None,
     }
 }
 
-/// Behind the digits of an integer and the marks of its base.
-pub fn magnitude_rest(chars: &[char]) -> Option<&[char]>
-    ensures { option_copied result ≡ magnitude_rest chars.now }
+/// After the digits of an integer and the marks of its base.
+pub fn magnitude_rest(text: &str) -> Option<&str>
+    ensures { left_of result ≡ magnitude_rest (chars text.now) }
 {
-    match binary_rest(chars) {
+    match binary_rest(text) {
         Some(rest) => Some(rest),
-        None => unmarked_rest(chars),
+        None => unmarked_rest(text),
     }
 }
 
-/// Behind the digits of an integer of base 2 and its mark.
-pub fn binary_rest(chars: &[char]) -> Option<&[char]>
-    ensures { option_copied result ≡ binary_rest chars.now }
+/// After the digits of an integer of base 2 and its mark.
+pub fn binary_rest(text: &str) -> Option<&str>
+    ensures { left_of result ≡ binary_rest (chars text.now) }
 {
-    let [c, rest @ ..] = chars else {
-        return None;
-    };
-    if !Class::Binary.contains(*c) {
+    let (c, rest) = first_char(text)?;
+    if !Class::Binary.contains(c) {
         return None;
     }
     behind_b(after(rest, Class::Binary))
 }
 
-fn behind_b(chars: &[char]) -> Option<&[char]>
-    ensures { option_copied result ≡ behind_b chars.now }
+fn behind_b(text: &str) -> Option<&str>
+    ensures { left_of result ≡ behind_b (chars text.now) }
 {
-    match chars {
-        ['b' | 'B', rest @ ..] => stopped(rest),
+    match first_char(text)? {
+        ('b' | 'B', rest) => stopped(rest),
         _ => None,
     }
 }
 
 // The digits of a base that no letter after them marks.
-fn unmarked_rest(chars: &[char]) -> Option<&[char]>
-    ensures { option_copied result ≡ unmarked_rest chars.now }
+fn unmarked_rest(text: &str) -> Option<&str>
+    ensures { left_of result ≡ unmarked_rest (chars text.now) }
 {
-    match chars {
-        ['0', rest @ ..] => zero_rest(rest),
-        [c, rest @ ..] if Class::Decimal.contains(*c) => stopped(after(rest, Class::Decimal)),
+    match first_char(text)? {
+        ('0', rest) => zero_rest(rest),
+        (c, rest) if Class::Decimal.contains(c) => stopped(after(rest, Class::Decimal)),
         _ => None,
     }
 }
 
-fn zero_rest(chars: &[char]) -> Option<&[char]>
-    ensures { option_copied result ≡ zero_rest chars.now }
+fn zero_rest(text: &str) -> Option<&str>
+    ensures { left_of result ≡ zero_rest (chars text.now) }
 {
-    match chars {
-        ['x' | 'X', rest @ ..] => behind_x(rest),
-        _ => stopped(after(chars, Class::Octal)),
+    match first_char(text) {
+        Some(('x' | 'X', rest)) => behind_x(rest),
+        _ => stopped(after(text, Class::Octal)),
     }
 }
 
-fn behind_x(chars: &[char]) -> Option<&[char]>
-    ensures { option_copied result ≡ behind_x chars.now }
+fn behind_x(text: &str) -> Option<&str>
+    ensures { left_of result ≡ behind_x (chars text.now) }
 {
-    let [c, rest @ ..] = chars else {
-        return None;
-    };
-    if !Class::Hexadecimal.contains(*c) {
+    let (c, rest) = first_char(text)?;
+    if !Class::Hexadecimal.contains(c) {
         return None;
     }
     stopped(after(rest, Class::Hexadecimal))
 }
 
 // All of it, where no identifier character comes first.
-fn stopped(chars: &[char]) -> Option<&[char]>
-    ensures { option_copied result ≡ stopped chars.now }
+fn stopped(text: &str) -> Option<&str>
+    ensures { left_of result ≡ stopped (chars text.now) }
 {
-    match chars {
-        [c, ..] if Class::Name.contains(*c) => None,
-        _ => Some(chars),
+    match first_char(text) {
+        Some((c, _)) if Class::Name.contains(c) => None,
+        _ => Some(text),
     }
 }
 
-/// Behind an escape, of which the backslash was read.
-pub(crate) fn escape_rest(chars: &[char]) -> Option<&[char]>
-    ensures { option_copied result ≡ escape_rest chars.now }
+/// After an escape, of which the backslash was read.
+pub(crate) fn escape_rest(text: &str) -> Option<&str>
+    ensures { left_of result ≡ escape_rest (chars text.now) }
 {
-    match chars {
-        ['b' | 't' | 'n' | 'f' | 'r' | '"' | '\'' | '\\', rest @ ..] => Some(rest),
-        ['x' | 'X', rest @ ..] => hex_escape_rest(rest),
+    match first_char(text)? {
+        ('b' | 't' | 'n' | 'f' | 'r' | '"' | '\'' | '\\', rest) => Some(rest),
+        ('x' | 'X', rest) => hex_escape_rest(rest),
         _ => None,
     }
 }
 
-fn hex_escape_rest(chars: &[char]) -> Option<&[char]>
-    ensures { option_copied result ≡ hex_escape_rest chars.now }
+fn hex_escape_rest(text: &str) -> Option<&str>
+    ensures { left_of result ≡ hex_escape_rest (chars text.now) }
 {
-    let (first, behind) = hex_digit(chars)?;
+    let (first, behind) = hex_digit(text)?;
     let (value, rest) = hex_tail(behind, first);
     match value {
         0xd800..=0xdfff => None,
@@ -189,13 +186,13 @@ fn hex_escape_rest(chars: &[char]) -> Option<&[char]>
 }
 
 /// Up to three further digits after the value of a first: the value with them, and what is after.
-pub fn hex_tail(chars: &[char], first: u32) -> (u32, &[char])
+pub fn hex_tail(text: &str, first: u32) -> (u32, &str)
     requires { first < 16 }
-    ensures value { result.0 ≡ (hex_tail 3 first chars.now).0 }
-    ensures rest { result.1.now ≡ (hex_tail 3 first chars.now).1 }
+    ensures value { result.0 ≡ (hex_tail 3 first (chars text.now)).0 }
+    ensures rest { chars result.1.now ≡ (hex_tail 3 first (chars text.now)).1 }
 {
-    let Some((second, behind)) = hex_digit(chars) else {
-        return (first, chars);
+    let Some((second, behind)) = hex_digit(text) else {
+        return (first, text);
     };
     let two = first * 16 + second;
     let Some((third, after)) = hex_digit(behind) else {
@@ -209,12 +206,10 @@ pub fn hex_tail(chars: &[char], first: u32) -> (u32, &[char])
 }
 
 /// The value of the digit that comes first, and what is after.
-pub fn hex_digit(chars: &[char]) -> Option<(u32, &[char])>
-    ensures some { IfSome result (λ found. BeginsWithDigit chars.now found.0 found.1.now) }
-    ensures none { IfNone result (Stops (digit_of 16) chars.now) }
+pub fn hex_digit(text: &str) -> Option<(u32, &str)>
+    ensures some { IfSome result (λ found. BeginsWithDigit (chars text.now) found.0 (chars found.1.now)) }
+    ensures none { IfNone result (Stops (digit_of 16) (chars text.now)) }
 {
-    let [c, rest @ ..] = chars else {
-        return None;
-    };
+    let (c, rest) = first_char(text)?;
     Some((c.to_digit(16)?, rest))
 }

@@ -6,7 +6,7 @@ pub struct Token<'a> {
     pub kind: TokenKind,
 
     /// The characters from `from` up to `to`.
-    pub text: &'a [char],
+    pub text: &'a str,
 
     pub from: u32,
     pub to: u32,

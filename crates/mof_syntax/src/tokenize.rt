@@ -1,13 +1,14 @@
-//! Characters to tokens.
+//! Texts to tokens.
 ghost use Rattle.std.specs.Prelude.{◌≡◌, ◌<◌, ◌^◌, length};
+ghost use Rattle.std.specs.Str.{chars};
 
 use crate::walk::Tokens;
 
-/// The tokens of the characters, of which there are fewer than 2^32.
-pub fn tokens(chars: &[char]) -> Tokens<'_>
-    requires { length chars.now < 2 ^ 32 }
-    ensures text { result.text ≡ chars.now }
+/// The tokens of a text of fewer than 2^32 characters.
+pub fn tokens(text: &str) -> Tokens<'_>
+    requires { length (chars text.now) < 2 ^ 32 }
+    ensures text { result.text ≡ chars text.now }
     ensures place { result.place ≡ 0 }
 {
-    Tokens::of(chars)
+    Tokens::of(text)
 }

@@ -1,40 +1,49 @@
 //! A walk over the tokens of a text.
-ghost use Rattle.std.specs.Prelude.{◌≡◌, ◌<◌, ◌^◌, ◌≤◌, None, length, drop, IfSome, IfNone};
+ghost use Rattle.std.specs.Prelude.{◌≡◌, ◌<◌, ◌^◌, None, length};
+ghost use Rattle.std.specs.Str.{chars};
 ghost use Rattle.mof_syntax.specs.Separators.{Separators};
 ghost use Rattle.mof_syntax.specs.Scanning.{separator_rest};
-ghost use Rattle.mof_syntax.specs.Walk.{Skips, TokenStands, NoToken};
 
 use crate::lead::first_token;
 use crate::scan::separator_rest;
-use crate::token::{Token, TokenKind};
+use crate::text::{before, char_count};
+use crate::token::Token;
 use std::marker::Model;
 
-/// The tokens of some characters, in order. It ends at the end of the characters, or where neither a token nor a
-/// separator stands.
+/// The tokens of a text, in order. It ends at the end of the text, or where neither a token nor a separator stands.
 #[derive(Drop)]
 pub struct Tokens<'a> {
-    chars: &'a [char],
+    text: &'a str,
+
+    // What is after the place.
+    left: &'a str,
+
     place: u32,
 }
 
 impl<'a> Model for Tokens<'a> {
-    ghost use Rattle.std.specs.Prelude.{◌≤◌, ◌<◌, ◌^◌, length};
-    ghost use Rattle.mof_syntax.specs.Walk.{Walk};
+    ghost use Rattle.std.specs.Prelude.{◌<◌, ◌^◌, length};
+    ghost use Rattle.std.specs.Str.{chars};
+    ghost use Rattle.mof_syntax.specs.Walk.{IsPlace, Walk};
 
     ghost Value = { Walk };
 
-    ghost view = { λ t. record { text = t.chars.now; place = t.place } };
+    ghost view = { λ t. record { text = chars t.text.now; place = t.place } };
 
-    ghost invariant = { λ t. (t.place ≤ length t.chars.now) × (length t.chars.now < 2 ^ 32) };
+    ghost invariant = { λ t. IsPlace (chars t.text.now) (chars t.left.now) t.place × (length (chars t.text.now) < 2 ^ 32) };
 }
 
 impl<'a> Tokens<'a> {
-    pub(crate) fn of(chars: &'a [char]) -> Tokens<'a>
-        requires { length chars.now < 2 ^ 32 }
-        ensures text { result.text ≡ chars.now }
+    pub(crate) fn of(text: &'a str) -> Tokens<'a>
+        requires { length (chars text.now) < 2 ^ 32 }
+        ensures text { result.text ≡ chars text.now }
         ensures place { result.place ≡ 0 }
     {
-        Tokens { chars, place: 0 }
+        Tokens {
+            text,
+            left: text,
+            place: 0,
+        }
     }
 
     /// How far the walk has come: after the token that it gave last, and once it ended where it ended.
@@ -57,44 +66,30 @@ impl<'a> Iterator for Tokens<'a> {
     ghost remaining = { λ t. at_most (length t.text - t.place) };
 
     fn next(&mut self) -> Option<Token<'a>> {
-        let from = skip(self.chars, self.place as usize);
-        self.place = from as u32;
-        let (kind, to) = token_at(self.chars, from)?;
-        self.place = to as u32;
+        let behind = separators_rest(self.left);
+        let from = self.place + char_count(before(self.left, behind)) as u32;
+        self.left = behind;
+        self.place = from;
+        let (kind, rest) = first_token(behind)?;
+        let text = before(behind, rest);
+        let to = from + char_count(text) as u32;
+        self.left = rest;
+        self.place = to;
         Some(Token {
             kind,
-            text: &self.chars[from..to],
-            from: from as u32,
-            to: to as u32,
+            text,
+            from,
+            to,
         })
     }
 }
 
-// Where the separators end that stand at the place.
-fn skip(chars: &[char], place: usize) -> usize
-    requires { place ≤ length chars.now }
-    ensures { Skips chars.now place result }
+/// After all the separators that come first.
+pub fn separators_rest(text: &str) -> &str
+    ensures stands { Separators (chars text.now) (chars result.now) }
+    ensures stops { separator_rest (chars result.now) ≡ None }
 {
-    let left = separators_rest(&chars[place..]);
-    chars.len() - left.len()
-}
-
-// The kind of the token that stands at the place, and where it ends.
-fn token_at(chars: &[char], from: usize) -> Option<(TokenKind, usize)>
-    requires { from ≤ length chars.now }
-    ensures some { IfSome result (λ found. TokenStands chars.now found.0 from found.1) }
-    ensures none { IfNone result (NoToken (drop from chars.now)) }
-{
-    let (kind, rest) = first_token(&chars[from..])?;
-    Some((kind, chars.len() - rest.len()))
-}
-
-/// Behind all the separators that come first.
-pub fn separators_rest(chars: &[char]) -> &[char]
-    ensures stands { Separators chars.now result.now }
-    ensures stops { separator_rest result.now ≡ None }
-{
-    let mut left = chars;
+    let mut left = text;
     while let Some(rest) = separator_rest(left) {
         left = rest;
     }

@@ -23,7 +23,7 @@ fn encoded(rt: &impl AllocGlobal, mark: &[u8], unit: &[u8], count: usize) -> Res
 
 fn are_decoded(rt: &impl AllocGlobal, bytes: &[u8], count: usize) -> bool {
     match decode_text(rt.alloc(), bytes) {
-        Ok(text) => text.as_slice().len() == count,
+        Ok(text) => text.as_str().chars().count() == count,
         Err(_) => false,
     }
 }
@@ -48,12 +48,11 @@ fn ample_memory_is_enough_for_each_size(rt: HostRuntime) -> Result<(), Fail> {
 
 // Each token as the letter of its kind, where it begins and where it ends; then where the walk ended.
 fn walked(rt: &impl AllocGlobal, text: &str) -> Result<String, Fail> {
-    let chars: Vec<char> = text.chars().collect(rt.alloc())?;
-    if chars.len() > 1000 {
+    if text.len() > 1000 {
         return Err("a text for a table is short".into());
     }
     let mut out = String::new(rt.alloc());
-    let mut all = tokens(&chars);
+    let mut all = tokens(text);
     while let Some(token) = all.next() {
         let letter = match token.kind {
             TokenKind::Word => "W",

@@ -1,5 +1,6 @@
 //! Where a text goes wrong.
 ghost use Rattle.std.specs.Prelude.{◌≡◌, ◌↔◌, true, None, IfSome, IfNone};
+ghost use Rattle.std.specs.Str.{chars};
 ghost use Rattle.mof_syntax.specs.Grammar.{Wide};
 ghost use Rattle.mof_syntax.specs.Fronts.{IsSyntaxFault};
 ghost use Rattle.mof_codec.specs.declared.machine.state.Place.TheVariants as places;
@@ -9,17 +10,18 @@ ghost use Rattle.mof_codec.specs.Searching.{StandsBehind};
 
 use crate::machine::state::{Place, START, State};
 use crate::machine::step::{is_whole, step};
+use mof_syntax::text::{char_count, first_char, place_of};
 
 /// The length of the longest prefix with which a text of the wide grammar begins, or none where the text is one.
-pub(crate) fn fault(chars: &[char]) -> Option<usize>
-    ensures fault { IfSome result (λ at. IsSyntaxFault chars.now at) }
-    ensures wide { IfNone result (Wide chars.now) }
+pub(crate) fn fault(text: &str) -> Option<usize>
+    ensures fault { IfSome result (λ at. IsSyntaxFault (chars text.now) at) }
+    ensures wide { IfNone result (Wide (chars text.now)) }
 {
     let mut state = START;
-    let mut left = chars;
-    while let [c, rest @ ..] = left {
-        let Some(next) = step(state, *c) else {
-            return Some(chars.len() - left.len());
+    let mut left = text;
+    while let Some((c, rest)) = first_char(left) {
+        let Some(next) = step(state, c) else {
+            return Some(place_of(text, left));
         };
         state = next;
         left = rest;
@@ -27,18 +29,18 @@ pub(crate) fn fault(chars: &[char]) -> Option<usize>
     if is_end(state) {
         return None;
     }
-    Some(chars.len())
+    Some(char_count(text))
 }
 
 /// The state after the characters, or none where no text begins with them.
-pub(crate) fn state_behind(chars: &[char]) -> Option<State>
-    ensures some { IfSome result (λ state. StandsBehind chars.now state) }
-    ensures none { IfNone result (walked chars.now ≡ None) }
+pub(crate) fn state_behind(text: &str) -> Option<State>
+    ensures some { IfSome result (λ state. StandsBehind (chars text.now) state) }
+    ensures none { IfNone result (walked (chars text.now) ≡ None) }
 {
     let mut state = START;
-    let mut left = chars;
-    while let [c, rest @ ..] = left {
-        let Some(next) = step(state, *c) else {
+    let mut left = text;
+    while let Some((c, rest)) = first_char(left) {
+        let Some(next) = step(state, c) else {
             return None;
         };
         state = next;

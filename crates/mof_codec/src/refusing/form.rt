@@ -1,5 +1,6 @@
 //! The form of DSP0004 that is left out and stands where a text goes wrong.
 ghost use Rattle.std.specs.Prelude.{◌≡◌, ◌≤◌, ◌↔◌, true, length, IfSome, IfNone};
+ghost use Rattle.std.specs.Str.{chars};
 ghost use Rattle.mof_values.specs.Ident.{is_next};
 ghost use Rattle.mof_syntax.specs.declared.mof_error.Form.{Form};
 ghost use Rattle.mof_syntax.specs.Characters.{Stops};
@@ -10,18 +11,19 @@ use crate::machine::beginnings::{begins_declaration, begins_scalar};
 use crate::machine::state::State;
 use crate::refusing::fault::state_behind;
 use crate::refusing::scalar::{Wanted, first_scalar};
+use crate::values::is_word;
 use mof_syntax::Form;
-use mof_values::{is_named, may_follow};
+use mof_syntax::text::{char_count, first_char, split_chars};
+use mof_values::may_follow;
 
 /// The form that stands in a text which goes wrong at `fault`, and where it begins.
-pub(crate) fn form_at(chars: &[char], fault: usize) -> Option<(usize, Form)>
-    requires within { fault ≤ length chars.now }
-    requires fault { IsSyntaxFault chars.now fault }
-    ensures some { IfSome result (λ found. IsFirstForm chars.now fault found.0 found.1) }
-    ensures none { IfNone result (HasNoForm chars.now fault) }
+pub(crate) fn form_at(text: &str, fault: usize) -> Option<(usize, Form)>
+    requires within { fault ≤ length (chars text.now) }
+    requires fault { IsSyntaxFault (chars text.now) fault }
+    ensures some { IfSome result (λ found. IsFirstForm (chars text.now) fault found.0 found.1) }
+    ensures none { IfNone result (HasNoForm (chars text.now) fault) }
 {
-    let front = &chars[..fault];
-    let left = &chars[fault..];
+    let (front, left) = split_chars(text, fault);
     if begins_with(left, '.') {
         return match first_scalar(front, Wanted::Real) {
             Some(at) => Some((at, Form::Real)),
@@ -36,9 +38,9 @@ pub(crate) fn form_at(chars: &[char], fault: usize) -> Option<(usize, Form)>
 }
 
 // The form that stands where the machine is in the state and these characters come.
-fn form_here(state: State, left: &[char]) -> Option<Form>
-    ensures some { IfSome result (λ form. StandsForm state left.now form) }
-    ensures none { IfNone result ((form : Form) → StandsForm state left.now form → ⊥) }
+fn form_here(state: State, left: &str) -> Option<Form>
+    ensures some { IfSome result (λ form. StandsForm state (chars left.now) form) }
+    ensures none { IfNone result ((form : Form) → StandsForm state (chars left.now) form → ⊥) }
 {
     if begins_scalar(state) && begins_with(left, '\'') {
         return Some(Form::Character);
@@ -50,9 +52,9 @@ fn form_here(state: State, left: &[char]) -> Option<Form>
 }
 
 // The form that stands in place of a declaration.
-fn declared(left: &[char]) -> Option<Form>
-    ensures some { IfSome result (λ form. BeginsForm left.now form) }
-    ensures none { IfNone result ((form : Form) → BeginsForm left.now form → ⊥) }
+fn declared(left: &str) -> Option<Form>
+    ensures some { IfSome result (λ form. BeginsForm (chars left.now) form) }
+    ensures none { IfNone result ((form : Form) → BeginsForm (chars left.now) form → ⊥) }
 {
     if begins_with(left, '#') {
         return Some(Form::Pragma);
@@ -69,29 +71,30 @@ fn declared(left: &[char]) -> Option<Form>
     None
 }
 
-fn begins_with(chars: &[char], c: char) -> bool
-    ensures { result ≡ begins_with chars.now c }
+fn begins_with(text: &str, c: char) -> bool
+    ensures { result ≡ begins_with (chars text.now) c }
 {
-    match chars {
-        [first, ..] => *first == c,
-        [] => false,
+    match first_char(text) {
+        Some((first, _)) => first == c,
+        None => false,
     }
 }
 
-fn begins_word(chars: &[char], word: &str) -> bool
-    ensures { result ≡ true ↔ BeginsWord chars.now word.now }
+fn begins_word(text: &str, word: &str) -> bool
+    ensures { result ≡ true ↔ BeginsWord (chars text.now) word.now }
 {
-    if chars.len() < word.len() {
+    if char_count(text) < word.len() {
         return false;
     }
-    is_named(&chars[..word.len()], word) && stops(&chars[word.len()..])
+    let (front, rest) = split_chars(text, word.len());
+    is_word(front, word) && stops(rest)
 }
 
-fn stops(chars: &[char]) -> bool
-    ensures { result ≡ true ↔ Stops is_next chars.now }
+fn stops(text: &str) -> bool
+    ensures { result ≡ true ↔ Stops is_next (chars text.now) }
 {
-    match chars {
-        [c, ..] => !may_follow(*c),
-        [] => true,
+    match first_char(text) {
+        Some((c, _)) => !may_follow(c),
+        None => true,
     }
 }

@@ -1,5 +1,6 @@
 //! The refusal that wins.
 ghost use Rattle.std.specs.Prelude.{◌≡◌, ◌≤◌, length, None, List, IfSome, IfNone};
+ghost use Rattle.std.specs.Str.{chars};
 ghost use Rattle.mof_values.specs.declared.instance.Instance.{Instance};
 ghost use Rattle.mof_syntax.specs.Limits.{Spells};
 ghost use Rattle.mof_syntax.specs.Fronts.{IsSyntaxFault};
@@ -11,40 +12,42 @@ use crate::refusing::excess::first_excess;
 use crate::refusing::fault::fault;
 use crate::refusing::form::form_at;
 use crate::refusing::scalar::{Wanted, first_scalar};
+use mof_syntax::text::{char_count, split_chars};
 use mof_syntax::{Form, MofError};
 
 /// Why the characters spell no instances within the limits, or none where they do.
-pub(crate) fn refusal_of(chars: &[char]) -> Option<MofError>
-    ensures some { IfSome result (λ e. Wins chars.now e) }
-    ensures none { IfNone result ((is : List Instance) × Spells chars.now is) }
+pub(crate) fn refusal_of(text: &str) -> Option<MofError>
+    ensures some { IfSome result (λ e. Wins (chars text.now) e) }
+    ensures none { IfNone result ((is : List Instance) × Spells (chars text.now) is) }
 {
-    let fault = fault(chars);
-    let form = left_out(chars, fault);
-    let number = first_scalar(&chars[..end_of(chars, fault)], Wanted::ExcessInteger);
-    let part = first_excess(chars);
+    let fault = fault(text);
+    let form = left_out(text, fault);
+    let (front, _) = split_chars(text, end_of(text, fault));
+    let number = first_scalar(front, Wanted::ExcessInteger);
+    let part = first_excess(text);
     let others = sooner(too_many(part), syntax(fault));
     sooner(out_of_profile(form), sooner(number_range(number), others))
 }
 
 // How far the text goes.
-fn end_of(chars: &[char], fault: Option<usize>) -> usize
-    ensures { result ≡ end_of chars.now fault }
+fn end_of(text: &str, fault: Option<usize>) -> usize
+    ensures { result ≡ end_of (chars text.now) fault }
 {
     match fault {
         Some(at) => at,
-        None => chars.len(),
+        None => char_count(text),
     }
 }
 
-fn left_out(chars: &[char], fault: Option<usize>) -> Option<(usize, Form)>
-    requires within { IfSome fault (λ at. at ≤ length chars.now) }
-    requires fault { IfSome fault (λ at. IsSyntaxFault chars.now at) }
-    ensures some { IfSome result (λ found. IfSome fault (λ at. IsFirstForm chars.now at found.0 found.1)) }
+fn left_out(text: &str, fault: Option<usize>) -> Option<(usize, Form)>
+    requires within { IfSome fault (λ at. at ≤ length (chars text.now)) }
+    requires fault { IfSome fault (λ at. IsSyntaxFault (chars text.now) at) }
+    ensures some { IfSome result (λ found. IfSome fault (λ at. IsFirstForm (chars text.now) at found.0 found.1)) }
     ensures wide { IfNone fault (result ≡ None) }
-    ensures none { IfNone result (IfSome fault (λ at. HasNoForm chars.now at)) }
+    ensures none { IfNone result (IfSome fault (λ at. HasNoForm (chars text.now) at)) }
 {
     match fault {
-        Some(at) => form_at(chars, at),
+        Some(at) => form_at(text, at),
         None => None,
     }
 }

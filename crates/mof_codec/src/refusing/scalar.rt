@@ -1,5 +1,6 @@
 //! The first place at which a literal of a kind stands where a single value may begin.
 ghost use Rattle.std.specs.Prelude.{◌≡◌, ◌↔◌, ℕ, true, IfSome, IfNone};
+ghost use Rattle.std.specs.Str.{chars};
 ghost use Rattle.mof_syntax.specs.Fronts.{IsFront};
 ghost use Rattle.std.specs.List.{list_all};
 ghost use Rattle.mof_syntax.specs.Characters.{digit_of};
@@ -10,6 +11,7 @@ use crate::machine::beginnings::begins_scalar;
 use crate::machine::state::{START, State};
 use crate::machine::step::step;
 use crate::values::is_out_of_range;
+use mof_syntax::text::{char_count, first_char, place_of};
 
 /// A literal that is looked for.
 #[derive(Clone, Copy, Debug, PartialEq, Eq)]
@@ -22,56 +24,56 @@ pub(crate) enum Wanted {
 }
 
 /// The first place of such a literal in characters with which some text begins.
-pub(crate) fn first_scalar(front: &[char], wanted: Wanted) -> Option<usize>
-    requires { IsFront front.now }
-    ensures some { IfSome result (λ at. FirstOf (ScalarStands wanted front.now) at) }
-    ensures none { IfNone result ((at : ℕ) → ScalarStands wanted front.now at → ⊥) }
+pub(crate) fn first_scalar(front: &str, wanted: Wanted) -> Option<usize>
+    requires { IsFront (chars front.now) }
+    ensures some { IfSome result (λ at. FirstOf (ScalarStands wanted (chars front.now)) at) }
+    ensures none { IfNone result ((at : ℕ) → ScalarStands wanted (chars front.now) at → ⊥) }
 {
     let mut state = START;
     let mut left = front;
-    while let [c, rest @ ..] = left {
+    while let Some((c, rest)) = first_char(left) {
         if stands(state, wanted, left) {
-            return Some(front.len() - left.len());
+            return Some(place_of(front, left));
         }
-        let Some(next) = step(state, *c) else {
+        let Some(next) = step(state, c) else {
             return None;
         };
         state = next;
         left = rest;
     }
     if stands(state, wanted, left) {
-        return Some(front.len());
+        return Some(char_count(front));
     }
     None
 }
 
-fn stands(state: State, wanted: Wanted, chars: &[char]) -> bool
-    ensures { result ≡ true ↔ (begins_scalar state.half state.place ≡ true) × IsWanted wanted chars.now }
+fn stands(state: State, wanted: Wanted, text: &str) -> bool
+    ensures { result ≡ true ↔ (begins_scalar state.half state.place ≡ true) × IsWanted wanted (chars text.now) }
 {
-    begins_scalar(state) && is_wanted(wanted, chars)
+    begins_scalar(state) && is_wanted(wanted, text)
 }
 
-fn is_wanted(wanted: Wanted, chars: &[char]) -> bool
-    ensures { result ≡ true ↔ IsWanted wanted chars.now }
+fn is_wanted(wanted: Wanted, text: &str) -> bool
+    ensures { result ≡ true ↔ IsWanted wanted (chars text.now) }
 {
     match wanted {
-        Wanted::ExcessInteger => is_out_of_range(chars),
-        Wanted::Real => is_real(chars),
+        Wanted::ExcessInteger => is_out_of_range(text),
+        Wanted::Real => is_real(text),
     }
 }
 
 // An optional sign and decimal digits, and nothing else.
-fn is_real(chars: &[char]) -> bool
-    ensures { result ≡ is_real chars.now }
+fn is_real(text: &str) -> bool
+    ensures { result ≡ is_real (chars text.now) }
 {
-    match chars {
-        ['+' | '-', rest @ ..] => are_digits(rest),
-        _ => are_digits(chars),
+    match first_char(text) {
+        Some(('+' | '-', rest)) => are_digits(rest),
+        _ => are_digits(text),
     }
 }
 
-fn are_digits(chars: &[char]) -> bool
-    ensures { result ≡ list_all (digit_of 10) chars.now }
+fn are_digits(text: &str) -> bool
+    ensures { result ≡ list_all (digit_of 10) (chars text.now) }
 {
-    chars.iter().all(|c| c.is_digit(10))
+    text.chars().all(|c| c.is_digit(10))
 }

@@ -1,5 +1,6 @@
 //! Arrays, and what a property may be given.
 ghost use Rattle.std.specs.Prelude.{◌≡◌, IfOk, IfSome, IfNone};
+ghost use Rattle.std.specs.Str.{chars};
 ghost use Rattle.mof_syntax.specs.Grammar.{Initializer};
 ghost use Rattle.mof_syntax.specs.Limits.{ValueFits};
 ghost use Rattle.mof_codec.specs.Reading.{BeginsWith, Lacks};
@@ -12,35 +13,32 @@ use mof_values::{Items, Scalar, Value};
 use std::alloc::{AllocError, Global};
 
 /// A single value or an array within the limits, and what is after.
-pub(crate) fn initializer(
-    alloc: Global,
-    chars: &[char],
-) -> Result<Option<(Value, &[char])>, AllocError>
-    ensures some { IfOk result (λ found. IfSome found (λ x. BeginsWith Initializer ValueFits chars.now x.0 x.1.now)) }
-    ensures none { IfOk result (λ found. IfNone found (Lacks Initializer ValueFits chars.now)) }
+pub(crate) fn initializer(alloc: Global, text: &str) -> Result<Option<(Value, &str)>, AllocError>
+    ensures some { IfOk result (λ found. IfSome found (λ x. BeginsWith Initializer ValueFits (chars text.now) x.0 (chars x.1.now))) }
+    ensures none { IfOk result (λ found. IfNone found (Lacks Initializer ValueFits (chars text.now))) }
 {
-    if let Some(behind) = behind_mark(chars, Mark::LeftBrace) {
+    if let Some(behind) = behind_mark(text, Mark::LeftBrace) {
         let Some((elements, rest)) = array(alloc, behind)? else {
             return Ok(None);
         };
         return Ok(Some((Value::Many(Items::of(elements)), rest)));
     }
-    let Some((scalar, rest)) = constant(alloc, chars)? else {
+    let Some((scalar, rest)) = constant(alloc, text)? else {
         return Ok(None);
     };
     Ok(Some((Value::One(scalar), rest)))
 }
 
 // The elements of an array, of which the brace was read, and what is after the other.
-fn array(alloc: Global, chars: &[char]) -> Result<Option<(Vec<Scalar>, &[char])>, AllocError>
-    ensures some { IfOk result (λ found. IfSome found (λ x. BeginsWith IsArray ArrayFits chars.now x.0.items x.1.now)) }
-    ensures none { IfOk result (λ found. IfNone found (Lacks IsArray ArrayFits chars.now)) }
+fn array(alloc: Global, text: &str) -> Result<Option<(Vec<Scalar>, &str)>, AllocError>
+    ensures some { IfOk result (λ found. IfSome found (λ x. BeginsWith IsArray ArrayFits (chars text.now) x.0.items (chars x.1.now))) }
+    ensures none { IfOk result (λ found. IfNone found (Lacks IsArray ArrayFits (chars text.now))) }
 {
     let mut elements = Vec::new(alloc);
-    if let Some(behind) = behind_mark(chars, Mark::RightBrace) {
+    if let Some(behind) = behind_mark(text, Mark::RightBrace) {
         return Ok(Some((elements, behind)));
     }
-    let Some((first, rest)) = constant(alloc, chars)? else {
+    let Some((first, rest)) = constant(alloc, text)? else {
         return Ok(None);
     };
     elements.push(first)?;

@@ -1,5 +1,6 @@
 //! Declarations of instances.
 ghost use Rattle.std.specs.Prelude.{◌≡◌, List, IfOk, IfSome, IfNone};
+ghost use Rattle.std.specs.Str.{chars};
 ghost use Rattle.mof_values.specs.declared.instance.Instance.{Instance};
 ghost use Rattle.mof_syntax.specs.Limits.{InstanceFits, IsShortName, Spells};
 ghost use Rattle.mof_codec.specs.Reading.{BeginsWith, Lacks};
@@ -13,15 +14,12 @@ use mof_values::{Ident, Instance, Items};
 use std::alloc::{AllocError, Global};
 
 /// The instances that the characters spell within the limits, or none where they spell none.
-pub(crate) fn instances_of(
-    alloc: Global,
-    chars: &[char],
-) -> Result<Option<Vec<Instance>>, AllocError>
-    ensures spelled { IfOk result (λ found. IfSome found (λ v. Spells chars.now v.items)) }
-    ensures none { IfOk result (λ found. IfNone found ((is : List Instance) → Spells chars.now is → ⊥)) }
+pub(crate) fn instances_of(alloc: Global, text: &str) -> Result<Option<Vec<Instance>>, AllocError>
+    ensures spelled { IfOk result (λ found. IfSome found (λ v. Spells (chars text.now) v.items)) }
+    ensures none { IfOk result (λ found. IfNone found ((is : List Instance) → Spells (chars text.now) is → ⊥)) }
 {
     let mut instances = Vec::new(alloc);
-    let mut left = separators_rest(chars);
+    let mut left = separators_rest(text);
     'declarations: while !left.is_empty() {
         if instances.len() == MAX_INSTANCES {
             return Ok(None);
@@ -36,11 +34,11 @@ pub(crate) fn instances_of(
 }
 
 // A declaration within the limits, and what is after its semicolon.
-fn declaration(alloc: Global, chars: &[char]) -> Result<Option<(Instance, &[char])>, AllocError>
-    ensures some { IfOk result (λ found. IfSome found (λ x. BeginsWith IsDeclaration InstanceFits chars.now x.0 x.1.now)) }
-    ensures none { IfOk result (λ found. IfNone found (Lacks IsDeclaration InstanceFits chars.now)) }
+fn declaration(alloc: Global, text: &str) -> Result<Option<(Instance, &str)>, AllocError>
+    ensures some { IfOk result (λ found. IfSome found (λ x. BeginsWith IsDeclaration InstanceFits (chars text.now) x.0 (chars x.1.now))) }
+    ensures none { IfOk result (λ found. IfNone found (Lacks IsDeclaration InstanceFits (chars text.now))) }
 {
-    let Some((class, named)) = head(alloc, chars)? else {
+    let Some((class, named)) = head(alloc, text)? else {
         return Ok(None);
     };
     let Some((alias, body)) = naming(alloc, named)? else {
@@ -61,11 +59,11 @@ fn declaration(alloc: Global, chars: &[char]) -> Result<Option<(Instance, &[char
 }
 
 // `instance of` and a class, and what is after.
-fn head(alloc: Global, chars: &[char]) -> Result<Option<(Ident, &[char])>, AllocError>
-    ensures some { IfOk result (λ found. IfSome found (λ x. BeginsWith IsHead IsShortName chars.now x.0 x.1.now)) }
-    ensures none { IfOk result (λ found. IfNone found (Lacks IsHead IsShortName chars.now)) }
+fn head(alloc: Global, text: &str) -> Result<Option<(Ident, &str)>, AllocError>
+    ensures some { IfOk result (λ found. IfSome found (λ x. BeginsWith IsHead IsShortName (chars text.now) x.0 (chars x.1.now))) }
+    ensures none { IfOk result (λ found. IfNone found (Lacks IsHead IsShortName (chars text.now))) }
 {
-    let Some(first) = keyword(chars, "instance") else {
+    let Some(first) = keyword(text, "instance") else {
         return Ok(None);
     };
     let Some(second) = keyword(first, "of") else {
@@ -78,14 +76,14 @@ fn head(alloc: Global, chars: &[char]) -> Result<Option<(Ident, &[char])>, Alloc
 }
 
 // An alias, or none, and what is after the opening brace.
-fn naming(alloc: Global, chars: &[char]) -> Result<Option<(Option<Ident>, &[char])>, AllocError>
-    ensures some { IfOk result (λ found. IfSome found (λ x. BeginsWith IsNaming NamingFits chars.now x.0 x.1.now)) }
-    ensures none { IfOk result (λ found. IfNone found (Lacks IsNaming NamingFits chars.now)) }
+fn naming(alloc: Global, text: &str) -> Result<Option<(Option<Ident>, &str)>, AllocError>
+    ensures some { IfOk result (λ found. IfSome found (λ x. BeginsWith IsNaming NamingFits (chars text.now) x.0 (chars x.1.now))) }
+    ensures none { IfOk result (λ found. IfNone found (Lacks IsNaming NamingFits (chars text.now))) }
 {
-    if let Some(rest) = behind_mark(chars, Mark::LeftBrace) {
+    if let Some(rest) = behind_mark(text, Mark::LeftBrace) {
         return Ok(Some((None, rest)));
     }
-    let Some(named) = keyword(chars, "as") else {
+    let Some(named) = keyword(text, "as") else {
         return Ok(None);
     };
     let Some((name, left)) = alias(alloc, named)? else {

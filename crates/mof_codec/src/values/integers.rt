@@ -1,5 +1,6 @@
 //! Integers of each base, after separators.
 ghost use Rattle.std.specs.Prelude.{◌≡◌, ◌≤◌, ◌^◌, ◌↔◌, true, IfSome, IfNone};
+ghost use Rattle.std.specs.Str.{chars};
 ghost use Rattle.std.specs.Str.Parse.{digits_value};
 ghost use Rattle.mof_syntax.specs.Characters.{digit_of};
 ghost use Rattle.mof_syntax.specs.Limits.{IsInRange};
@@ -10,16 +11,17 @@ ghost use Rattle.mof_codec.specs.Values.{IsNumber, IsCapped, signed, is_negative
 
 use mof_syntax::scan::{binary_rest, magnitude_rest};
 use mof_syntax::separators_rest;
+use mof_syntax::text::first_char;
 
 // The first magnitude that no integer has.
 const CAP: u128 = 0x1_0000_0000_0000_0000;
 
 /// An integer from -2^63 to 2^64-1, and what is after.
-pub(crate) fn integer(chars: &[char]) -> Option<(i128, &[char])>
-    ensures some { IfSome result (λ found. BeginsWith IsNumber IsInRange chars.now found.0 found.1.now) }
-    ensures none { IfNone result (Lacks IsNumber IsInRange chars.now) }
+pub(crate) fn integer(text: &str) -> Option<(i128, &str)>
+    ensures some { IfSome result (λ found. BeginsWith IsNumber IsInRange (chars text.now) found.0 (chars found.1.now)) }
+    ensures none { IfNone result (Lacks IsNumber IsInRange (chars text.now)) }
 {
-    let left = separators_rest(chars);
+    let left = separators_rest(text);
     let digits = behind_sign(left);
     let rest = magnitude_rest(digits)?;
     let value = in_range(is_negative(left), magnitude(digits))?;
@@ -27,12 +29,12 @@ pub(crate) fn integer(chars: &[char]) -> Option<(i128, &[char])>
 }
 
 /// Returns whether an integer out of that range comes first, as long as it goes on.
-pub(crate) fn is_out_of_range(chars: &[char]) -> bool
-    ensures { result ≡ true ↔ BeginsExcessInteger chars.now }
+pub(crate) fn is_out_of_range(text: &str) -> bool
+    ensures { result ≡ true ↔ BeginsExcessInteger (chars text.now) }
 {
-    let digits = behind_sign(chars);
+    let digits = behind_sign(text);
     match magnitude_rest(digits) {
-        Some(_) => match in_range(is_negative(chars), magnitude(digits)) {
+        Some(_) => match in_range(is_negative(text), magnitude(digits)) {
             Some(_) => false,
             None => true,
         },
@@ -40,18 +42,18 @@ pub(crate) fn is_out_of_range(chars: &[char]) -> bool
     }
 }
 
-fn is_negative(chars: &[char]) -> bool
-    ensures { result ≡ is_negative chars.now }
+fn is_negative(text: &str) -> bool
+    ensures { result ≡ is_negative (chars text.now) }
 {
-    matches!(chars, ['-', ..])
+    matches!(first_char(text), Some(('-', _)))
 }
 
-fn behind_sign(chars: &[char]) -> &[char]
-    ensures { result.now ≡ behind_sign chars.now }
+fn behind_sign(text: &str) -> &str
+    ensures { chars result.now ≡ behind_sign (chars text.now) }
 {
-    match chars {
-        ['-' | '+', rest @ ..] => rest,
-        _ => chars,
+    match first_char(text) {
+        Some(('-' | '+', rest)) => rest,
+        _ => text,
     }
 }
 
@@ -72,42 +74,42 @@ fn in_range(negative: bool, magnitude: u128) -> Option<i128>
 }
 
 // The value of the digits and the marks of their base, up to the cap.
-fn magnitude(chars: &[char]) -> u128
-    ensures { IsCapped (magnitude_value chars.now) result }
+fn magnitude(text: &str) -> u128
+    ensures { IsCapped (magnitude_value (chars text.now)) result }
 {
-    match binary_rest(chars) {
-        Some(_) => digits(chars, 2),
-        None => unmarked(chars),
+    match binary_rest(text) {
+        Some(_) => digits(text, 2),
+        None => unmarked(text),
     }
 }
 
-fn unmarked(chars: &[char]) -> u128
-    ensures { IsCapped (unmarked_value chars.now) result }
+fn unmarked(text: &str) -> u128
+    ensures { IsCapped (unmarked_value (chars text.now)) result }
 {
-    match chars {
-        ['0', rest @ ..] => behind_zero(rest),
-        _ => digits(chars, 10),
+    match first_char(text) {
+        Some(('0', rest)) => behind_zero(rest),
+        _ => digits(text, 10),
     }
 }
 
-fn behind_zero(chars: &[char]) -> u128
-    ensures { IsCapped (zero_value chars.now) result }
+fn behind_zero(text: &str) -> u128
+    ensures { IsCapped (zero_value (chars text.now)) result }
 {
-    match chars {
-        ['x' | 'X', rest @ ..] => digits(rest, 16),
-        _ => digits(chars, 8),
+    match first_char(text) {
+        Some(('x' | 'X', rest)) => digits(rest, 16),
+        _ => digits(text, 8),
     }
 }
 
 // The value of the digits that come first, up to the cap.
-fn digits(chars: &[char], base: u32) -> u128
+fn digits(text: &str, base: u32) -> u128
     requires least { 2 ≤ base }
     requires greatest { base ≤ 16 }
-    ensures { IsCapped (digits_value base (run_of (digit_of base) chars.now)) result }
+    ensures { IsCapped (digits_value base (run_of (digit_of base) (chars text.now))) result }
 {
     let mut value: u128 = 0;
-    let mut left = chars;
-    while let [c, rest @ ..] = left {
+    let mut left = text;
+    while let Some((c, rest)) = first_char(left) {
         let Some(digit) = c.to_digit(base) else {
             return value;
         };

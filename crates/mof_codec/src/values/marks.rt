@@ -1,10 +1,12 @@
 //! Marks, after separators.
 ghost use Rattle.std.specs.Prelude.{◌≡◌, IfSome, IfNone};
-ghost use Rattle.std.specs.Option.{option_copied};
+ghost use Rattle.std.specs.Str.{chars};
+ghost use Rattle.mof_syntax.specs.Scanning.{left_of};
 ghost use Rattle.mof_codec.specs.Reading.{Begins, BeginsNo};
 ghost use Rattle.mof_codec.specs.Values.{behind_char, code_of, IsMark};
 
 use mof_syntax::separators_rest;
+use mof_syntax::text::first_char;
 
 /// A mark of the syntax.
 #[derive(Clone, Copy, Debug, PartialEq, Eq)]
@@ -30,20 +32,20 @@ impl Mark {
     }
 }
 
-/// Behind the mark.
-pub(crate) fn behind_mark(chars: &[char], mark: Mark) -> Option<&[char]>
-    ensures some { IfSome result (λ rest. Begins (IsMark mark) chars.now rest.now) }
-    ensures none { IfNone result (BeginsNo (IsMark mark) chars.now) }
+/// After the mark.
+pub(crate) fn behind_mark(text: &str, mark: Mark) -> Option<&str>
+    ensures some { IfSome result (λ rest. Begins (IsMark mark) (chars text.now) (chars rest.now)) }
+    ensures none { IfNone result (BeginsNo (IsMark mark) (chars text.now)) }
 {
-    behind_char(separators_rest(chars), mark.code())
+    behind_char(separators_rest(text), mark.code())
 }
 
-/// Behind the character, where it comes first.
-pub(crate) fn behind_char(chars: &[char], code: char) -> Option<&[char]>
-    ensures { option_copied result ≡ behind_char code chars.now }
+/// After the character, where it comes first.
+pub(crate) fn behind_char(text: &str, code: char) -> Option<&str>
+    ensures { left_of result ≡ behind_char code (chars text.now) }
 {
-    match chars {
-        [c, rest @ ..] if *c == code => Some(rest),
+    match first_char(text)? {
+        (c, rest) if c == code => Some(rest),
         _ => None,
     }
 }

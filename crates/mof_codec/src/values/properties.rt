@@ -1,5 +1,6 @@
 //! Properties of an instance.
 ghost use Rattle.std.specs.Prelude.{◌≡◌, IfOk, IfSome, IfNone};
+ghost use Rattle.std.specs.Str.{chars};
 ghost use Rattle.mof_syntax.specs.Grammar.{ValueInitializers};
 ghost use Rattle.mof_syntax.specs.Limits.{PropertyFits};
 ghost use Rattle.mof_codec.specs.Reading.{BeginsWith, Lacks};
@@ -15,13 +16,13 @@ use std::alloc::{AllocError, Global};
 /// The properties up to the closing brace, within the limits, and what is after it.
 pub(crate) fn properties(
     alloc: Global,
-    chars: &[char],
-) -> Result<Option<(Vec<Property>, &[char])>, AllocError>
-    ensures some { IfOk result (λ found. IfSome found (λ x. BeginsWith ValueInitializers PropertiesFit chars.now x.0.items x.1.now)) }
-    ensures none { IfOk result (λ found. IfNone found (Lacks ValueInitializers PropertiesFit chars.now)) }
+    text: &str,
+) -> Result<Option<(Vec<Property>, &str)>, AllocError>
+    ensures some { IfOk result (λ found. IfSome found (λ x. BeginsWith ValueInitializers PropertiesFit (chars text.now) x.0.items (chars x.1.now))) }
+    ensures none { IfOk result (λ found. IfNone found (Lacks ValueInitializers PropertiesFit (chars text.now))) }
 {
     let mut properties = Vec::new(alloc);
-    let mut left = chars;
+    let mut left = text;
     'properties: loop {
         if let Some(behind) = behind_mark(left, Mark::RightBrace) {
             return Ok(Some((properties, behind)));
@@ -38,11 +39,11 @@ pub(crate) fn properties(
 }
 
 // A property within the limits, and what is after its semicolon.
-fn property(alloc: Global, chars: &[char]) -> Result<Option<(Property, &[char])>, AllocError>
-    ensures some { IfOk result (λ found. IfSome found (λ x. BeginsWith IsProperty PropertyFits chars.now x.0 x.1.now)) }
-    ensures none { IfOk result (λ found. IfNone found (Lacks IsProperty PropertyFits chars.now)) }
+fn property(alloc: Global, text: &str) -> Result<Option<(Property, &str)>, AllocError>
+    ensures some { IfOk result (λ found. IfSome found (λ x. BeginsWith IsProperty PropertyFits (chars text.now) x.0 (chars x.1.now))) }
+    ensures none { IfOk result (λ found. IfNone found (Lacks IsProperty PropertyFits (chars text.now))) }
 {
-    let Some((name, named)) = word(alloc, chars)? else {
+    let Some((name, named)) = word(alloc, text)? else {
         return Ok(None);
     };
     let Some(given) = behind_mark(named, Mark::EqualsSign) else {

@@ -1,5 +1,6 @@
 //! Single values.
 ghost use Rattle.std.specs.Prelude.{◌≡◌, IfOk, IfSome, IfNone};
+ghost use Rattle.std.specs.Str.{chars};
 ghost use Rattle.mof_syntax.specs.Grammar.{ConstantValue};
 ghost use Rattle.mof_syntax.specs.Limits.{ScalarFits};
 ghost use Rattle.mof_codec.specs.Reading.{BeginsWith, Lacks};
@@ -12,14 +13,11 @@ use mof_values::Scalar;
 use std::alloc::{AllocError, Global};
 
 /// A single value within the limits, and what is after.
-pub(crate) fn constant(
-    alloc: Global,
-    chars: &[char],
-) -> Result<Option<(Scalar, &[char])>, AllocError>
-    ensures some { IfOk result (λ found. IfSome found (λ x. BeginsWith ConstantValue ScalarFits chars.now x.0 x.1.now)) }
-    ensures none { IfOk result (λ found. IfNone found (Lacks ConstantValue ScalarFits chars.now)) }
+pub(crate) fn constant(alloc: Global, text: &str) -> Result<Option<(Scalar, &str)>, AllocError>
+    ensures some { IfOk result (λ found. IfSome found (λ x. BeginsWith ConstantValue ScalarFits (chars text.now) x.0 (chars x.1.now))) }
+    ensures none { IfOk result (λ found. IfNone found (Lacks ConstantValue ScalarFits (chars text.now))) }
 {
-    let left = separators_rest(chars);
+    let left = separators_rest(text);
     if let Some((text, rest)) = string(alloc, left)? {
         return Ok(Some((Scalar::Text(text), rest)));
     }

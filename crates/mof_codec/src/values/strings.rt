@@ -1,83 +1,102 @@
 //! String literals, joined, and their escapes.
 ghost use Rattle.std.specs.Prelude.{◌≡◌, ◌++◌, IfOk, IfSome, IfNone};
+ghost use Rattle.std.specs.Str.{chars};
 ghost use Rattle.mof_syntax.specs.Characters.{is_x};
 ghost use Rattle.mof_syntax.specs.Strings.{short_escape, Escape};
 ghost use Rattle.mof_syntax.specs.Grammar.{StringValue};
 ghost use Rattle.mof_codec.specs.Reading.{BeginsWith, Lacks};
-ghost use Rattle.mof_codec.specs.Values.{AnyText, BeginsQuote, NoLiteralFirst, AddsQuoted, NoQuoted, is_plain, GoesOnBy, GoesOnByOne, OnlyQuoteFirst, NoEscape, HexEscape, NoHexEscape};
+ghost use Rattle.mof_codec.specs.Values.{AnyText, BeginsQuote, NoLiteralFirst, AddsQuoted, NoQuoted, is_plain, IsPlainTo, GoesOnBy, GoesOnByOne, OnlyQuoteFirst, NoEscape, HexEscape, NoHexEscape};
 
 use crate::values::marks::behind_char;
 use mof_syntax::scan::{hex_digit, hex_tail};
 use mof_syntax::separators_rest;
+use mof_syntax::text::{before, char_count, first_char};
 use mof_values::Text;
 use std::alloc::{AllocError, Global};
 
 /// The text of one or more literals, joined, and what is after: no further literal.
-pub(crate) fn string(alloc: Global, chars: &[char]) -> Result<Option<(Text, &[char])>, AllocError>
-    ensures some { IfOk result (λ found. IfSome found (λ x. BeginsWith StringValue AnyText chars.now x.0 x.1.now)) }
-    ensures none { IfOk result (λ found. IfNone found (Lacks StringValue AnyText chars.now)) }
+pub(crate) fn string(alloc: Global, text: &str) -> Result<Option<(Text, &str)>, AllocError>
+    ensures some { IfOk result (λ found. IfSome found (λ x. BeginsWith StringValue AnyText (chars text.now) x.0 (chars x.1.now))) }
+    ensures none { IfOk result (λ found. IfNone found (Lacks StringValue AnyText (chars text.now))) }
 {
-    let Some(first) = behind_quote(chars) else {
+    let Some(first) = behind_quote(text) else {
         return Ok(None);
     };
-    let mut text = Vec::new(alloc);
-    let Some(rest) = push_quoted(&mut text, first)? else {
+    let mut read = Vec::new(alloc);
+    let Some(rest) = push_quoted(&mut read, first)? else {
         return Ok(None);
     };
     let mut left = rest;
     while let Some(behind) = behind_quote(left) {
-        let Some(rest) = push_quoted(&mut text, behind)? else {
+        let Some(rest) = push_quoted(&mut read, behind)? else {
             return Ok(None);
         };
         left = rest;
     }
-    Ok(Some((Text::of(text), left)))
+    Ok(Some((Text::of(read), left)))
 }
 
-// Behind a quote that stands after separators.
-fn behind_quote(chars: &[char]) -> Option<&[char]>
-    ensures some { IfSome result (λ behind. BeginsQuote chars.now behind.now) }
-    ensures none { IfNone result (NoLiteralFirst chars.now) }
+// After a quote that stands after separators.
+fn behind_quote(text: &str) -> Option<&str>
+    ensures some { IfSome result (λ behind. BeginsQuote (chars text.now) (chars behind.now)) }
+    ensures none { IfNone result (NoLiteralFirst (chars text.now)) }
 {
-    behind_char(separators_rest(chars), '"')
+    behind_char(separators_rest(text), '"')
 }
 
 // Adds the text of a literal, of which the quote was read: what is after it.
-fn push_quoted<'a>(
-    text: &mut Vec<char>,
-    chars: &'a [char],
-) -> Result<Option<&'a [char]>, AllocError>
-    ensures some { IfOk result (λ found. IfSome found (λ rest. AddsQuoted text.old.items chars.now text.new.items rest.now)) }
-    ensures none { IfOk result (λ found. IfNone found (NoQuoted chars.now)) }
+fn push_quoted<'a>(read: &mut Vec<char>, text: &'a str) -> Result<Option<&'a str>, AllocError>
+    ensures some { IfOk result (λ found. IfSome found (λ rest. AddsQuoted read.old.items (chars text.now) read.new.items (chars rest.now))) }
+    ensures none { IfOk result (λ found. IfNone found (NoQuoted (chars text.now))) }
 {
-    let mut left = chars;
+    let mut left = text;
     loop {
         let (plain, behind) = plain_front(left);
-        text.extend_from_slice(plain)?;
+        push_chars(read, plain)?;
         if let Some(rest) = behind_char(behind, '"') {
             return Ok(Some(rest));
         }
         let Some((c, rest)) = literal_char(behind) else {
             return Ok(None);
         };
-        text.push(c)?;
+        read.push(c)?;
         left = rest;
     }
 }
 
-// The characters before the first quote or backslash, and what is after them.
-fn plain_front(chars: &[char]) -> (&[char], &[char])
-    ensures front { GoesOnBy chars.now result.0.now result.1.now }
-    ensures split { chars.now ≡ result.0.now ++ result.1.now }
+fn push_chars(read: &mut Vec<char>, text: &str) -> Result<(), AllocError>
+    ensures { IfOk result (λ _. read.new.items ≡ read.old.items ++ chars text.now) }
 {
-    let mut left = chars;
-    while let [c, rest @ ..] = left {
-        if !is_plain(*c) {
-            break;
+    read.reserve(char_count(text))?;
+    let mut left = text;
+    while let Some((c, rest)) = first_char(left) {
+        read.push(c)?;
+        left = rest;
+    }
+    Ok(())
+}
+
+// The characters before the first quote or backslash, and what is after them.
+fn plain_front(text: &str) -> (&str, &str)
+    ensures front { GoesOnBy (chars text.now) (chars result.0.now) (chars result.1.now) }
+    ensures split { chars text.now ≡ chars result.0.now ++ chars result.1.now }
+{
+    let left = behind_plain(text);
+    (before(text, left), left)
+}
+
+// What begins with the first quote or backslash.
+fn behind_plain(text: &str) -> &str
+    ensures { IsPlainTo (chars text.now) (chars result.now) }
+{
+    let mut left = text;
+    while let Some((c, rest)) = first_char(left) {
+        if !is_plain(c) {
+            return left;
         }
         left = rest;
     }
-    (&chars[..chars.len() - left.len()], left)
+    left
 }
 
 // Returns whether the character stands in a literal for itself.
@@ -88,34 +107,30 @@ fn is_plain(c: char) -> bool
 }
 
 // A character of a literal, itself or by an escape, and what is after.
-fn literal_char(chars: &[char]) -> Option<(char, &[char])>
-    ensures some { IfSome result (λ found. GoesOnByOne chars.now found.0 found.1.now) }
-    ensures none { IfNone result (OnlyQuoteFirst chars.now) }
+fn literal_char(text: &str) -> Option<(char, &str)>
+    ensures some { IfSome result (λ found. GoesOnByOne (chars text.now) found.0 (chars found.1.now)) }
+    ensures none { IfNone result (OnlyQuoteFirst (chars text.now)) }
 {
-    let [c, rest @ ..] = chars else {
-        return None;
-    };
-    if *c == '"' {
+    let (c, rest) = first_char(text)?;
+    if c == '"' {
         return None;
     }
-    if *c == '\\' {
+    if c == '\\' {
         return escape(rest);
     }
-    Some((*c, rest))
+    Some((c, rest))
 }
 
 // What an escape stands for, of which the backslash was read, and what is after.
-fn escape(chars: &[char]) -> Option<(char, &[char])>
-    ensures some { IfSome result (λ found. Escape chars.now found.0 found.1.now) }
-    ensures none { IfNone result (NoEscape chars.now) }
+fn escape(text: &str) -> Option<(char, &str)>
+    ensures some { IfSome result (λ found. Escape (chars text.now) found.0 (chars found.1.now)) }
+    ensures none { IfNone result (NoEscape (chars text.now)) }
 {
-    let [c, rest @ ..] = chars else {
-        return None;
-    };
-    if let Some(value) = short_escape(*c) {
+    let (c, rest) = first_char(text)?;
+    if let Some(value) = short_escape(c) {
         return Some((value, rest));
     }
-    if is_x(*c) { hex_escape(rest) } else { None }
+    if is_x(c) { hex_escape(rest) } else { None }
 }
 
 fn is_x(c: char) -> bool
@@ -141,11 +156,11 @@ fn short_escape(c: char) -> Option<char>
 }
 
 // One to four digits after an x.
-fn hex_escape(chars: &[char]) -> Option<(char, &[char])>
-    ensures some { IfSome result (λ found. HexEscape chars.now found.0 found.1.now) }
-    ensures none { IfNone result (NoHexEscape chars.now) }
+fn hex_escape(text: &str) -> Option<(char, &str)>
+    ensures some { IfSome result (λ found. HexEscape (chars text.now) found.0 (chars found.1.now)) }
+    ensures none { IfNone result (NoHexEscape (chars text.now)) }
 {
-    let (first, behind) = hex_digit(chars)?;
+    let (first, behind) = hex_digit(text)?;
     let (value, rest) = hex_tail(behind, first);
     Some((char::from_u32(value)?, rest))
 }

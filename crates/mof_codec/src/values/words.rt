@@ -1,5 +1,7 @@
 //! Words, keywords and aliases, after separators.
-ghost use Rattle.std.specs.Prelude.{◌≡◌, false, IfOk, IfSome, IfNone};
+ghost use Rattle.std.specs.Prelude.{◌≡◌, ◌↔◌, true, false, IfOk, IfSome, IfNone};
+ghost use Rattle.std.specs.Str.{chars};
+ghost use Rattle.mof_values.specs.Fold.{SameName};
 ghost use Rattle.mof_values.specs.Ident.{IsIdent, is_ident};
 ghost use Rattle.mof_syntax.specs.Limits.{IsShortName};
 ghost use Rattle.mof_syntax.specs.Tokens.{Identifier};
@@ -9,16 +11,17 @@ ghost use Rattle.mof_codec.specs.Values.{IsKeyword, IsWord, IsAlias, NoIdentifie
 use crate::values::marks::behind_char;
 use mof_syntax::scan::identifier_rest;
 use mof_syntax::separators_rest;
-use mof_values::{Ident, IdentError, is_named};
+use mof_syntax::text::{before, first_char};
+use mof_values::{Ident, IdentError};
 use std::alloc::{AllocError, Global};
 
 /// After a word that is the keyword by fold.
-pub(crate) fn keyword<'a>(chars: &'a [char], keyword: &str) -> Option<&'a [char]>
-    ensures some { IfSome result (λ rest. Begins (IsKeyword keyword.now) chars.now rest.now) }
-    ensures none { IfNone result (BeginsNo (IsKeyword keyword.now) chars.now) }
+pub(crate) fn keyword<'a>(text: &'a str, keyword: &str) -> Option<&'a str>
+    ensures some { IfSome result (λ rest. Begins (IsKeyword keyword.now) (chars text.now) (chars rest.now)) }
+    ensures none { IfNone result (BeginsNo (IsKeyword keyword.now) (chars text.now)) }
 {
-    let (found, rest) = identifier(separators_rest(chars))?;
-    if is_named(found, keyword) {
+    let (found, rest) = identifier(separators_rest(text))?;
+    if is_word(found, keyword) {
         Some(rest)
     } else {
         None
@@ -26,11 +29,11 @@ pub(crate) fn keyword<'a>(chars: &'a [char], keyword: &str) -> Option<&'a [char]
 }
 
 /// A word of at most 255 characters, and what is after.
-pub(crate) fn word(alloc: Global, chars: &[char]) -> Result<Option<(Ident, &[char])>, AllocError>
-    ensures some { IfOk result (λ found. IfSome found (λ x. BeginsWith IsWord IsShortName chars.now x.0 x.1.now)) }
-    ensures none { IfOk result (λ found. IfNone found (Lacks IsWord IsShortName chars.now)) }
+pub(crate) fn word(alloc: Global, text: &str) -> Result<Option<(Ident, &str)>, AllocError>
+    ensures some { IfOk result (λ found. IfSome found (λ x. BeginsWith IsWord IsShortName (chars text.now) x.0 (chars x.1.now))) }
+    ensures none { IfOk result (λ found. IfNone found (Lacks IsWord IsShortName (chars text.now))) }
 {
-    let Some((found, rest)) = identifier(separators_rest(chars)) else {
+    let Some((found, rest)) = identifier(separators_rest(text)) else {
         return Ok(None);
     };
     let Some(name) = name(alloc, found)? else {
@@ -40,11 +43,11 @@ pub(crate) fn word(alloc: Global, chars: &[char]) -> Result<Option<(Ident, &[cha
 }
 
 /// The name of an alias, of at most 255 characters, and what is after.
-pub(crate) fn alias(alloc: Global, chars: &[char]) -> Result<Option<(Ident, &[char])>, AllocError>
-    ensures some { IfOk result (λ found. IfSome found (λ x. BeginsWith IsAlias IsShortName chars.now x.0 x.1.now)) }
-    ensures none { IfOk result (λ found. IfNone found (Lacks IsAlias IsShortName chars.now)) }
+pub(crate) fn alias(alloc: Global, text: &str) -> Result<Option<(Ident, &str)>, AllocError>
+    ensures some { IfOk result (λ found. IfSome found (λ x. BeginsWith IsAlias IsShortName (chars text.now) x.0 (chars x.1.now))) }
+    ensures none { IfOk result (λ found. IfNone found (Lacks IsAlias IsShortName (chars text.now))) }
 {
-    let Some((found, rest)) = dollar_identifier(separators_rest(chars)) else {
+    let Some((found, rest)) = dollar_identifier(separators_rest(text)) else {
         return Ok(None);
     };
     let Some(name) = name(alloc, found)? else {
@@ -53,30 +56,47 @@ pub(crate) fn alias(alloc: Global, chars: &[char]) -> Result<Option<(Ident, &[ch
     Ok(Some((name, rest)))
 }
 
-// The identifier that the characters spell, where it is short enough.
-fn name(alloc: Global, chars: &[char]) -> Result<Option<Ident>, AllocError>
-    ensures some { IfOk result (λ found. IfSome found (λ name. (name ≡ chars.now) × IsIdent chars.now)) }
-    ensures none { IfOk result (λ found. IfNone found (is_ident chars.now ≡ false)) }
+// The identifier that the text spells, where it is short enough.
+fn name(alloc: Global, text: &str) -> Result<Option<Ident>, AllocError>
+    ensures some { IfOk result (λ found. IfSome found (λ name. (name ≡ (chars text.now)) × IsIdent (chars text.now))) }
+    ensures none { IfOk result (λ found. IfNone found (is_ident (chars text.now) ≡ false)) }
 {
-    match Ident::spell(alloc, chars) {
+    match Ident::parse(alloc, text) {
         Ok(name) => Ok(Some(name)),
         Err(IdentError::NotAnIdent) => Ok(None),
         Err(IdentError::Memory) => Err(AllocError),
     }
 }
 
-fn dollar_identifier(chars: &[char]) -> Option<(&[char], &[char])>
-    ensures some { IfSome result (λ found. DollarIdentifier chars.now found.0.now found.1.now) }
-    ensures none { IfNone result (NoDollarIdentifier chars.now) }
+fn dollar_identifier(text: &str) -> Option<(&str, &str)>
+    ensures some { IfSome result (λ found. DollarIdentifier (chars text.now) (chars found.0.now) (chars found.1.now)) }
+    ensures none { IfNone result (NoDollarIdentifier (chars text.now)) }
 {
-    identifier(behind_char(chars, '$')?)
+    identifier(behind_char(text, '$')?)
 }
 
 // An identifier of any length, and what is after.
-fn identifier(chars: &[char]) -> Option<(&[char], &[char])>
-    ensures some { IfSome result (λ found. Identifier chars.now found.0.now found.1.now) }
-    ensures none { IfNone result (NoIdentifier chars.now) }
+fn identifier(text: &str) -> Option<(&str, &str)>
+    ensures some { IfSome result (λ found. Identifier (chars text.now) (chars found.0.now) (chars found.1.now)) }
+    ensures none { IfNone result (NoIdentifier (chars text.now)) }
 {
-    let rest = identifier_rest(chars)?;
-    Some((&chars[..chars.len() - rest.len()], rest))
+    let rest = identifier_rest(text)?;
+    Some((before(text, rest), rest))
+}
+
+/// Returns whether the text is an ASCII word by fold.
+pub(crate) fn is_word(text: &str, word: &str) -> bool
+    ensures { result ≡ true ↔ SameName (chars text.now) word.now }
+{
+    let (mut left, mut codes) = (text, word.as_bytes());
+    while let Some((c, rest)) = first_char(left) {
+        let [code, behind @ ..] = codes else {
+            return false;
+        };
+        if c.to_ascii_lowercase() as u32 != code.to_ascii_lowercase() as u32 {
+            return false;
+        }
+        (left, codes) = (rest, behind);
+    }
+    codes.is_empty()
 }

@@ -1,9 +1,12 @@
 use Rattle.std.proofs.Common.{length}
+use Rattle.std.specs.Str.{chars}
+use denote.Shadow.{shadow}
+use denote.Text.{Utf8}
 use Rattle.mof_syntax.specs.Separators.{Separators}
 use Rattle.mof_syntax.proofs.walk.separators_rest.Given as goal
 
 abbrev pub invariant-loop-rest : goal.invariant-loop-rest
-invariant-loop-rest l = Separators l.chars l.left
+invariant-loop-rest l = shadow (Utf8 l.left) × Separators (chars l.text) (chars l.left)
 
 abbrev pub decreases-loop-rest : goal.decreases-loop-rest
-decreases-loop-rest l = length l.left
+decreases-loop-rest l = length (chars l.left)

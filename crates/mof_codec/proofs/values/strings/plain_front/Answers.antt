@@ -1,7 +1,8 @@
-use Rattle.std.proofs.Common.{◌∙◌, sym}
-use Rattle.mof_syntax.proofs.Slices.{first_and_rest}
-use Rattle.mof_codec.proofs.LiteralsRead.{plain_next}
+use Rattle.mof_codec.proofs.LiteralsRead.{plain_front}
 use Rattle.mof_codec.proofs.values.strings.plain_front.Goals as goal
 
-pub loop-left-preserved : goal.loop-left-preserved
-loop-left-preserved c = plain_next _ _ _ _ c.loop-left.invariant (first_and_rest _ _ c.in-len1-up.len_at_least c.c-item.is) (sym c.is_plain.ensures ∙ c.if-not-is_plain.false)
+pub before-requires : goal.before-requires
+before-requires c = (c.behind_plain-left.ensures.front, c.behind_plain-left.ensures.split)
+
+pub returns-clause-front : goal.returns-clause-front
+returns-clause-front c = plain_front _ _ _ c.behind_plain-left.ensures c.before-2.ensures

@@ -1,0 +1,11 @@
+use Rattle.std.proofs.Common.{◌≡◌, ◌++◌, length}
+use Rattle.std.specs.Str.{chars}
+use denote.Shadow.{shadow}
+use denote.Text.{Utf8}
+use Rattle.mof_codec.proofs.values.strings.push_chars.Given as goal
+
+abbrev pub invariant-loop-c : goal.invariant-loop-c
+invariant-loop-c l = shadow (Utf8 l.left) × (l.read.items ++ chars l.left ≡ l.fn.read.items ++ chars l.text)
+
+abbrev pub decreases-loop-c : goal.decreases-loop-c
+decreases-loop-c l = length (chars l.left)
