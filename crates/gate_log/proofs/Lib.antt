@@ -1,10 +1,10 @@
 pub mod Holds
 pub mod Cells
 pub mod Steps
-pub mod InPlace
 pub mod Appends
 pub mod Switch
 pub mod Rewrites
+pub mod InPlace
 pub mod WhatIsRead
 pub mod Unique
 pub mod Opened

@@ -1,6 +1,6 @@
 -- The text of a store: seven bytes, a selector, and two banks, of which the selector makes one live. The live bank holds
 -- cells, one closed gate, and then anything. Nothing is asked of the other bank.
-use Rattle.std.specs.Prelude.{◌≡◌, ◌≢◌, ◌⊎◌, ℕ, ◌+◌, ◌-◌, ◌<◌, ◌≤◌, ◌^◌, Bool, true, false, List, [], ◌∷◌, ◌++◌, length, get_or, take, drop}
+use Rattle.std.specs.Prelude.{◌≡◌, ◌≢◌, ◌⊎◌, ℕ, ◌+◌, ◌<◌, ◌≤◌, ◌^◌, Bool, true, false, List, [], ◌∷◌, ◌++◌, length, get_or, take, drop}
 use Rattle.std.specs.Int.{w32, to_be_bytes}
 use Rattle.gate_log.specs.declared.shape.Shape.{Shape}
 
@@ -16,9 +16,9 @@ Holds at bytes image = take (length bytes) (drop at image) ≡ bytes
 unfoldable pub behind : List ℕ → List ℕ
 behind body = to_be_bytes w32 (length body) ++ body
 
--- the body that stands in these bytes, after four bytes of room for its length and before one for the gate that closes it
-unfoldable pub body_in : List ℕ → List ℕ
-body_in cell = take (length cell - 5) (drop 4 cell)
+-- the body in two pieces: the first of them stands after four bytes of room for the length
+unfoldable pub body_in : List ℕ → List ℕ → List ℕ
+body_in head tail = drop 4 head ++ tail
 
 -- the cells of these bodies, each with an open gate (A5) in front
 abbrev pub cells : List (List ℕ) → List ℕ

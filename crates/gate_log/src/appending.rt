@@ -1,12 +1,12 @@
 //! A cell is written after the closed gate of the live bank.
-ghost use Rattle.std.specs.Prelude.{◌≡◌, [], ◌∷◌, ◌++◌, ℕ, ◌+◌, ◌≤◌, ◌<◌, ◌^◌, max, take, Bool, List, length, IfSome, OnOk};
+ghost use Rattle.std.specs.Prelude.{◌≡◌, [], ◌∷◌, ◌++◌, ℕ, ◌+◌, ◌≤◌, ◌<◌, ◌^◌, max, option_map, take, Bool, List, length, IfSome, OnOk};
 ghost use Rattle.dsc_outside.specs.Causes.{HasCause};
-ghost use Rattle.dsc_outside.specs.Disk.{Each, AnyMoment};
+ghost use Rattle.dsc_outside.specs.Disk.{Each, AnyMoment, Only, written};
 ghost use Rattle.gate_log.specs.declared.shape.Shape.{Shape};
 ghost use Rattle.gate_log.specs.Text.{IsText, behind, begin, body_in, need_of};
 ghost use Rattle.gate_log.specs.Steps.{TextBeforeOrAfter};
 
-use crate::through::write_through;
+use crate::through::{write_on, write_through};
 use dsc_outside::{Disk, Failed};
 
 /// Writes the length, the body and a closed gate into the buffer, and gives how many bytes these are.
@@ -46,39 +46,56 @@ pub(crate) fn append_cell<D: Disk>(
     write_cell(disk, closed, &buffer[..size])
 }
 
-/// Adds the cell of the body that stands in the buffer after the closed gate at this place, once its length and a closed gate
-/// are written there.
+/// Adds the cell of the body that stands in `head`, once its length is written there, and goes on with `tail`, after the closed
+/// gate at this place.
 pub(crate) fn append_cell_in_place<D: Disk>(
     disk: &mut D,
     closed: u64,
-    cell: &mut [u8],
+    head: &mut [u8],
+    tail: &[u8],
 ) -> Result<(), Failed>
-    requires fits { closed + 1 < 2 ^ 64 }
-    requires whole { 5 ≤ length cell.old }
-    requires size { length cell.old < 2 ^ 32 + 5 }
+    requires fits { closed + 2 + length head.old + length tail.now < 2 ^ 64 }
+    requires whole { 4 ≤ length head.old }
+    requires size { length head.old + length tail.now < 2 ^ 32 + 4 }
     requires room { IfSome (D.seen disk.old) (λ held. closed + 1 ≤ length held) }
-    ensures ok { (shape : Shape) (second : Bool) (bodies : List (List ℕ)) → length (body_in cell.old) ≤ shape.largest → closed + 1 + need_of (body_in cell.old) ≤ begin shape second + shape.bank → Each (D.images disk.old) (λ c. IsText shape second closed c bodies)
-        → OnOk result (Each (D.images disk.new) (λ c. IsText shape second (closed + need_of (body_in cell.old)) c (bodies ++ body_in cell.old ∷ []))) }
-    ensures any_moment { (shape : Shape) (second : Bool) (bodies : List (List ℕ)) → length (body_in cell.old) ≤ shape.largest → closed + 1 + need_of (body_in cell.old) ≤ begin shape second + shape.bank → Each (D.images disk.old) (λ c. IsText shape second closed c bodies)
-        → AnyMoment D.moment D.left_since disk.old disk.new (TextBeforeOrAfter shape second closed bodies (body_in cell.old)) }
+    ensures ok { (shape : Shape) (second : Bool) (bodies : List (List ℕ)) → length (body_in head.old tail.now) ≤ shape.largest → closed + 1 + need_of (body_in head.old tail.now) ≤ begin shape second + shape.bank → Each (D.images disk.old) (λ c. IsText shape second closed c bodies)
+        → OnOk result (Each (D.images disk.new) (λ c. IsText shape second (closed + need_of (body_in head.old tail.now)) c (bodies ++ body_in head.old tail.now ∷ []))) }
+    ensures any_moment { (shape : Shape) (second : Bool) (bodies : List (List ℕ)) → length (body_in head.old tail.now) ≤ shape.largest → closed + 1 + need_of (body_in head.old tail.now) ≤ begin shape second + shape.bank → Each (D.images disk.old) (λ c. IsText shape second closed c bodies)
+        → AnyMoment D.moment D.left_since disk.old disk.new (TextBeforeOrAfter shape second closed bodies (body_in head.old tail.now)) }
     ensures long { (n : ℕ) → IfSome (D.seen disk.old) (λ held. n ≡ length held)
-        → OnOk result (IfSome (D.seen disk.new) (λ now. max n (closed + 1 + need_of (body_in cell.old)) ≡ length now)) }
+        → OnOk result (IfSome (D.seen disk.new) (λ now. max n (closed + 1 + need_of (body_in head.old tail.now)) ≡ length now)) }
     ensures cause { HasCause (D.faults disk.old) (D.faults disk.new) result }
-    ensures left { cell.new ≡ behind (body_in cell.old) ++ 0 ∷ [] }
+    ensures left { head.new ++ tail.now ≡ behind (body_in head.old tail.now) }
 {
-    enclose(cell);
-    write_cell(disk, closed, cell)
+    number(head, tail.len());
+    stage_cell(disk, closed, head, tail)?;
+    write_through(disk, closed, &[0xA5])
 }
 
-// The length of the body is written before it, and a closed gate after it.
-fn enclose(cell: &mut [u8])
-    requires whole { 5 ≤ length cell.old }
-    requires size { length cell.old < 2 ^ 32 + 5 }
-    ensures { cell.new ≡ behind (body_in cell.old) ++ 0 ∷ [] }
+// The length of a body whose second piece has so many bytes is written before its first.
+fn number(head: &mut [u8], more: usize)
+    requires whole { 4 ≤ length head.old }
+    requires size { length head.old + more < 2 ^ 32 + 4 }
+    ensures { (tail : List ℕ) → more ≡ length tail → head.new ++ tail ≡ behind (body_in head.old tail) }
 {
-    let end = cell.len() - 1;
-    cell[..4].copy_from_slice(&((end - 4) as u32).to_be_bytes());
-    cell[end] = 0;
+    let length = (head.len() - 4 + more) as u32;
+    head[..4].copy_from_slice(&length.to_be_bytes());
+}
+
+// The two pieces of a cell and a closed gate are written after the closed gate, and are on the disk.
+fn stage_cell<D: Disk>(disk: &mut D, closed: u64, head: &[u8], tail: &[u8]) -> Result<(), Failed>
+    requires fits { closed + 2 + length head.now + length tail.now < 2 ^ 64 }
+    requires room { IfSome (D.seen disk.old) (λ held. closed + 1 ≤ length held) }
+    ensures written { OnOk result (D.seen disk.new ≡ option_map (written (closed + 1) ((head.now ++ tail.now) ++ 0 ∷ [])) (D.seen disk.old)) }
+    ensures only { OnOk result (Only (D.seen disk.new) (D.images disk.new)) }
+    ensures any_moment { (shape : Shape) (second : Bool) (bodies : List (List ℕ)) → Each (D.images disk.old) (λ c. IsText shape second closed c bodies)
+        → AnyMoment D.moment D.left_since disk.old disk.new (λ c. IsText shape second closed c bodies) }
+    ensures cause { HasCause (D.faults disk.old) (D.faults disk.new) result }
+{
+    let middle = closed + 1 + head.len() as u64;
+    write_on(disk, closed + 1, head)?;
+    write_on(disk, middle, tail)?;
+    write_through(disk, middle + tail.len() as u64, &[0])
 }
 
 // The cell is written after the closed gate, and its own gate is opened once it is on the disk.

@@ -103,31 +103,31 @@ impl Log {
         Ok(())
     }
 
-    /// Adds the body that stands in `cell` after its first four bytes and before its last one to the live bank, as `append` does,
-    /// but without a copy of it: the cell is written from there.
+    /// Adds the body that stands in `head` after its first four bytes and goes on with `tail` to the live bank, as `append` does,
+    /// but without a copy of it: both pieces are written from where they lie.
     ///
-    /// Whatever the answer, the body's length stands in those four bytes afterwards and a closed gate in the last one, and the
-    /// body is as it was.
+    /// Whatever the answer, the body's length stands in those four bytes afterwards, and the rest of `head` is as it was.
     pub fn append_in_place<D: Disk>(
         &mut self,
         disk: &mut D,
-        cell: &mut [u8],
+        head: &mut [u8],
+        tail: &[u8],
     ) -> Result<(), LogError>
-        requires whole { 5 ≤ length cell.old }
-        requires size { length cell.old ≤ self.old.shape.largest + 5 }
-        requires room { length cell.old ≤ room_in self.old }
+        requires whole { 4 ≤ length head.old }
+        requires size { length head.old + length tail.now ≤ self.old.shape.largest + 4 }
+        requires room { length head.old + length tail.now + 1 ≤ room_in self.old }
         requires unspent { self.old.spent ≡ false }
         requires of { (bodies : List (List ℕ)) × IsLogOf D.Disk disk.old self.old bodies }
-        ensures answer { Appended self.old (body_in cell.old) (D.faults disk.old) (D.faults disk.new) result self.new }
-        ensures ok { (bodies : List (List ℕ)) → IsLogOf D.Disk disk.old self.old bodies → OnOk result (IsLogOf D.Disk disk.new self.new (bodies ++ body_in cell.old ∷ [])) }
-        ensures any_moment { (bodies : List (List ℕ)) → IsLogOf D.Disk disk.old self.old bodies → AtAnyMoment D.Disk disk.old disk.new (BeforeOrAfter self.old.shape bodies (body_in cell.old)) }
+        ensures answer { Appended self.old (body_in head.old tail.now) (D.faults disk.old) (D.faults disk.new) result self.new }
+        ensures ok { (bodies : List (List ℕ)) → IsLogOf D.Disk disk.old self.old bodies → OnOk result (IsLogOf D.Disk disk.new self.new (bodies ++ body_in head.old tail.now ∷ [])) }
+        ensures any_moment { (bodies : List (List ℕ)) → IsLogOf D.Disk disk.old self.old bodies → AtAnyMoment D.Disk disk.old disk.new (BeforeOrAfter self.old.shape bodies (body_in head.old tail.now)) }
         ensures same_bank { (bodies : List (List ℕ)) → IsLogOf D.Disk disk.old self.old bodies → AtAnyMoment D.Disk disk.old disk.new (IsLive self.old.second) }
         ensures count { D.faults disk.old ≤ D.faults disk.new }
-        ensures left { cell.new ≡ behind (body_in cell.old) ++ 0 ∷ [] }
+        ensures left { head.new ++ tail.now ≡ behind (body_in head.old tail.now) }
     {
-        let need = cell.len() as u64;
+        let need = head.len() as u64 + tail.len() as u64 + 1;
         self.spent = true; // until its gate is open
-        append_cell_in_place(disk, self.closed, cell)?;
+        append_cell_in_place(disk, self.closed, head, tail)?;
         self.spent = false;
         self.filled = None;
         self.long = max(self.long, self.closed + 1 + need);

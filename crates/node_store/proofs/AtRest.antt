@@ -1,5 +1,5 @@
 -- A disk that no call was made of.
-use Rattle.std.proofs.Common.{◌≡◌, inl, List, ℕ, refl, subst}
+use Rattle.std.proofs.Common.{inl, List, ℕ, refl, subst}
 use Rattle.dsc_outside.specs.declared.disk.Disk.{Ghosts}
 use Rattle.dsc_outside.proofs.Moments.{started}
 use Rattle.gate_log.specs.declared.shape.Shape.{Shape}

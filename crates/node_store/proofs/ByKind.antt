@@ -1,5 +1,5 @@
 -- Of which event or piece a body of a kind is.
-use Rattle.std.proofs.Common.{◌≡◌, ℕ, Bool, true, false, ◌==◌, List, [], ◌∷◌, ◌++◌, refl, sym, ap, ap₂, subst, ◌∙◌}
+use Rattle.std.proofs.Common.{◌≡◌, ℕ, Bool, true, false, ◌==◌, List, [], ◌∷◌, ◌++◌, refl, sym, ap, subst}
 use Rattle.std.specs.Int.{w64, w128}
 use Rattle.std.specs.Prelude.{⊤}
 use Rattle.store_fields.specs.Fields.{bytes_of_number, bytes_of_flag, IsNumber}
@@ -12,13 +12,12 @@ use Rattle.node_state.specs.declared.event.Event.TheVariants as events
 use Rattle.node_state.specs.declared.event.Stage.{Stage}
 use Rattle.node_state.specs.declared.list.Staged.{Staged}
 use Rattle.node_state.specs.declared.node.Kept.{Kept}
-use Rattle.node_state.specs.declared.piece.Piece.{Piece}
 use Rattle.node_state.specs.declared.piece.Piece.TheVariants as pieces
 use Rattle.node_state.specs.Lists.{IsStaged}
 use Rattle.node_state.specs.StagedParts.{parts_of}
 use Rattle.node_store.specs.declared.body.Body.{Body}
 use Rattle.node_store.specs.declared.body.Body.TheVariants as bodies
-use Rattle.node_store.specs.Bodies.{bytes_of_base, bytes_of_stage, body_of_event, IsBase, IsBody, IsWhole, SpellsMeta}
+use Rattle.node_store.specs.Bodies.{bytes_of_base, bytes_of_stage, IsBase, IsBody, IsWhole, SpellsMeta}
 use Rattle.node_store.specs.Parts.{bytes_of_parts, AreParts}
 use Rattle.node_store.specs.Reports.{bytes_of_report, IsReport}
 

@@ -1,5 +1,5 @@
 -- The front of the node after an event.
-use Rattle.std.proofs.Common.{◌≡◌, zero, suc, subst, arith, All, List, ℕ, Bool, Option, Some, None, [], ◌∷◌, ◌++◌, map, refl, sym, ap, ◌∙◌}
+use Rattle.std.proofs.Common.{◌≡◌, zero, suc, subst, arith, All, List, ℕ, Option, Some, None, [], ◌∷◌, ◌++◌, map, refl, sym, ap, ◌∙◌}
 use Rattle.std.specs.Prelude.{IfSome}
 use Rattle.std.proofs.lemmas.Option.{same_Some}
 use Rattle.node_store.specs.Store.{IsTextOf}
@@ -8,11 +8,10 @@ use Rattle.report_log.specs.Sizes.{ReportInSize}
 use Rattle.report_log.specs.declared.report.Report.{Report}
 use Rattle.node_state.specs.declared.node.Kept.{Kept}
 use Rattle.node_state.specs.declared.node.Node.{Node}
-use Rattle.node_state.specs.declared.piece.Piece.{Piece}
 use Rattle.node_state.specs.declared.event.Event.{Event}
 use Rattle.node_state.specs.declared.event.Event.TheVariants as events
 use Rattle.node_state.specs.declared.event.Stage.TheVariants.{Pending, Current, Previous}
-use Rattle.node_state.specs.Table.{after, marked, newest, unsent, without}
+use Rattle.node_state.specs.Table.{after, marked, newest, unsent}
 use Rattle.node_state.specs.Sound.{Sound}
 use Rattle.node_state.specs.Pieces.{base_of, front, report_of, slot_of}
 use Rattle.meta_config.specs.Writing.{text_of_meta}

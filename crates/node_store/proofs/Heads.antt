@@ -1,9 +1,9 @@
 -- The fields in front of a piece's last one.
-use Rattle.std.proofs.Common.{◌≡◌, ℕ, Bool, List, [], ◌∷◌, ◌++◌, Result, Ok, Err, refl, sym, ap, ap₂, ◌∙◌, arith, append_assoc, cond, ◌==◌}
+use Rattle.std.proofs.Common.{◌≡◌, ℕ, Bool, List, ◌++◌, Err, refl, sym, ap, ap₂, ◌∙◌, arith, append_assoc, cond, ◌==◌}
 use Rattle.std.specs.Prelude.{⊤}
 use Rattle.std.specs.Int.{w64, w128}
 use Rattle.store_fields.specs.declared.error.FieldError.{FieldError}
-use Rattle.store_fields.specs.Fields.{bytes_of_number, bytes_of_byte, bytes_of_flag, IsByte, IsNumber}
+use Rattle.store_fields.specs.Fields.{bytes_of_number, bytes_of_byte, bytes_of_flag, IsByte}
 use Rattle.store_fields.specs.Reading.{Reads, IsUnique}
 use Rattle.store_fields.proofs.Numbers.{wide64, number_unique}
 use Rattle.store_fields.proofs.LongNumbers.{long_unique}

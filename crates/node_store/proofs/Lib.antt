@@ -10,6 +10,7 @@ pub mod Replay
 pub mod Reported
 pub mod RewriteSteps
 pub mod Sizes
+pub mod Split
 pub mod Wholes
 pub mod Rewritten
 pub mod AtRest

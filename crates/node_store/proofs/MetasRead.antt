@@ -1,6 +1,6 @@
 -- Which meta-configuration the bytes are the text of.
 use Rattle.std.proofs.Common.{◌≡◌, ℕ, List, sym, ap, subst, ◌∙◌, inl}
-use Rattle.std.specs.Prelude.{Result, Err}
+use Rattle.std.specs.Prelude.{Err}
 use Rattle.depend_order.specs.Answers.{IfCycle}
 use Rattle.depend_order.specs.declared.error.OrderError.{OrderError}
 use Rattle.depend_order.specs.declared.error.OrderError.TheVariants.{Cycle}
@@ -9,7 +9,6 @@ use Rattle.meta_config.specs.Laws.{MetasReadBack, BytesMeanOne}
 use Rattle.meta_config.specs.Parts.{HasPartsOrder}
 use Rattle.meta_config.specs.Refusals.{Means}
 use Rattle.meta_config.specs.Writing.{text_of_meta}
-use Rattle.node_state.specs.Metas.{IsNodeMeta}
 use Rattle.node_store.specs.Bodies.{SpellsMeta}
 
 pub means : MetasReadBack → (text : List ℕ) (meta : Meta) → SpellsMeta text meta → Means text meta

@@ -1,5 +1,5 @@
 -- A body is of one event or piece at most.
-use Rattle.std.proofs.Common.{◌≡◌, ℕ, Bool, All, List, [], ◌∷◌, ◌++◌, Option, None, refl, sym, ap, ap₂, subst, ◌∙◌}
+use Rattle.std.proofs.Common.{◌≡◌, ℕ, Bool, List, [], ◌∷◌, ◌++◌, Option, None, refl, sym, ap, ap₂, subst, ◌∙◌}
 use Rattle.std.specs.Prelude.{IfNone, ⊤}
 use Rattle.std.specs.Int.{w64, w128}
 use Rattle.std.proofs.Props.{props}
@@ -19,11 +19,11 @@ use Rattle.node_state.specs.declared.event.Stage.{Stage}
 use Rattle.node_state.specs.declared.list.Staged.{Staged}
 use Rattle.node_state.specs.declared.piece.Piece.{Piece}
 use Rattle.node_state.specs.declared.piece.Piece.TheVariants as pieces
-use Rattle.node_state.specs.Lists.{AreNamed, IsStaged, IsMerged}
+use Rattle.node_state.specs.Lists.{IsStaged}
 use Rattle.node_state.specs.StagedParts.{parts_of}
 use Rattle.node_store.specs.declared.body.Body.{Body}
 use Rattle.node_store.specs.declared.body.Body.TheVariants as bodies
-use Rattle.node_store.specs.Bodies.{bytes_of_base, bytes_of_stage, IsBase, IsBody, IsWhole, SpellsMeta}
+use Rattle.node_store.specs.Bodies.{bytes_of_base, bytes_of_stage, IsBody, IsWhole, SpellsMeta}
 use Rattle.node_store.specs.Laws.{BodiesAreOfOne}
 use Rattle.node_store.specs.Parts.{bytes_of_part, bytes_of_parts, AreParts, IsPart}
 use Rattle.node_store.specs.Reports.{bytes_of_report, IsReport}

@@ -1,11 +1,8 @@
 -- Which part stands in front of the bytes.
-use Rattle.std.proofs.Common.{◌≡◌, ℕ, List, ◌++◌, length, Bool, true, false, Ok, Err, refl, sym, ap, subst, ◌∙◌, arith, append_assoc, rules}
-use Rattle.std.specs.Str.{bytes_eq}
+use Rattle.std.proofs.Common.{◌≡◌, ℕ, List, ◌++◌, Ok, Err, sym, ap, subst, ◌∙◌, arith, append_assoc}
 use Rattle.std.proofs.Props.{props}
-use Rattle.std.proofs.lemmas.Slice.Eq.{bytes_eq-Decides}
 use Rattle.sha2.specs.Sha256.{sha256}
 use Rattle.partial_merge.specs.declared.part.Part.{Part}
-use Rattle.store_fields.specs.declared.error.FieldError.{FieldError}
 use Rattle.store_fields.specs.declared.error.FieldError.TheVariants.{Wrong}
 use Rattle.store_fields.specs.Fields.{bytes_of_text, bytes_of_digest, bytes_of_blob, IsText, IsDigest, IsBlob}
 use Rattle.store_fields.specs.Reading.{Reads, IsUnique}

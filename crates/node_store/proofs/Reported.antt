@@ -1,16 +1,15 @@
 -- Which report stands in front of the bytes.
-use Rattle.std.proofs.Common.{◌≡◌, ℕ, ◌<◌, ◌^◌, List, [], ◌∷◌, ◌++◌, length, Ok, Err, refl, sym, ap, ap₂, subst, ◌∙◌, arith, append_assoc, Bool, true, false, cond, ◌==◌}
+use Rattle.std.proofs.Common.{◌≡◌, ℕ, List, ◌++◌, Ok, Err, refl, sym, ap, ap₂, subst, ◌∙◌, arith, append_assoc, Bool, true, false, cond, ◌==◌}
 use Rattle.std.specs.Prelude.{⊤}
 use Rattle.std.specs.Int.{w32, w64}
 use Rattle.store_fields.specs.declared.error.FieldError.{FieldError}
 use Rattle.store_fields.specs.declared.error.FieldError.TheVariants.{Wrong}
-use Rattle.store_fields.specs.Fields.{bytes_of_number, bytes_of_byte, bytes_of_flag, bytes_of_text, bytes_of_digest, bytes_of_list, IsNumber, IsByte, IsFlag, IsText, IsDigest, IsList}
+use Rattle.store_fields.specs.Fields.{bytes_of_number, bytes_of_byte, bytes_of_flag, bytes_of_text, bytes_of_digest, bytes_of_list, IsByte}
 use Rattle.store_fields.specs.Reading.{Reads, IsUnique}
 use Rattle.store_fields.proofs.Numbers.{wide32, wide64, number_unique, digest_unique}
 use Rattle.store_fields.proofs.Texts.{byte_unique, flag_unique, text_unique}
 use Rattle.store_fields.proofs.Listed.{list_unique}
 use Rattle.store_fields.proofs.Composing.{refused, taken, wrong}
-use Rattle.report_log.specs.declared.report.FailureKind.{FailureKind}
 use Rattle.report_log.specs.declared.report.FailureKind.TheVariants.{NoSuchResource, OutOfProfile, BadPath, InTheWay, HostFailed}
 use Rattle.report_log.specs.declared.report.Outcome.{Outcome}
 use Rattle.report_log.specs.declared.report.Outcome.TheVariants.{Success, Failure, Reboot}

@@ -1,11 +1,11 @@
 -- The steps of a rewrite, one after the other.
-use Rattle.std.proofs.Common.{◌≡◌, inl, ◌≤◌, ◌<◌, ◌+◌, ◌-◌, take, drop, get_or, suc, All, List, ℕ, Option, Some, Result, Ok, Err, false, true, not, [], ◌∷◌, ◌++◌, length, length-append, refl, sym, ap, ◌∙◌, subst, arith, append_assoc}
+use Rattle.std.proofs.Common.{◌≡◌, inl, ◌≤◌, ◌<◌, ◌+◌, ◌-◌, take, drop, get_or, suc, All, List, ℕ, Option, Result, Ok, Err, false, true, [], ◌∷◌, ◌++◌, length, length-append, refl, sym, ap, ◌∙◌, subst, arith, append_assoc}
 use Rattle.std.proofs.lemmas.List.{append-nil, take_all}
 use Rattle.dsc_terms.specs.Counts.{Rose}
 use Rattle.dsc_outside.specs.declared.disk.Disk.{Ghosts}
 use Rattle.dsc_outside.proofs.Moments.{then_on, weaker}
 use Rattle.gate_log.specs.declared.shape.Shape.{Shape}
-use Rattle.gate_log.specs.Text.{AllFit, Gives, behind, begin, cells, end_of, need_of}
+use Rattle.gate_log.specs.Text.{AllFit, Gives, behind, cells, need_of}
 use Rattle.gate_log.specs.Log.{AtAnyMoment, HasPut, HasPutOn, IsLogOf, LogTerm, OldOrNew, left_behind, room_to_put}
 use Rattle.gate_log.proofs.Cells.{length-behind}
 use Rattle.node_store.specs.declared.error.StoreError.{StoreError}

@@ -1,8 +1,7 @@
 -- A rewrite to the node after an event.
-use Rattle.std.proofs.Common.{◌≡◌, inl, ◌≤◌, ◌<◌, ◌+◌, List, ℕ, Option, Some, None, Result, Ok, Err, All, false, true, zero, suc, [], ◌∷◌, ◌++◌, length, map, refl, sym, ap, ◌∙◌, subst, arith, append_assoc}
+use Rattle.std.proofs.Common.{◌≡◌, ◌≤◌, ◌<◌, List, ℕ, Some, None, Result, Ok, Err, All, zero, suc, [], ◌∷◌, ◌++◌, length, refl, sym, ◌∙◌, subst, arith, append_assoc}
 use Rattle.std.specs.List.{AllByRecursion}
 use Rattle.std.proofs.lemmas.List.{append-nil}
-use Rattle.dsc_terms.specs.Counts.{Rose}
 use Rattle.dsc_outside.specs.declared.disk.Disk.{Ghosts}
 use Rattle.dsc_outside.proofs.Moments.{started, weaker}
 use Rattle.gate_log.specs.declared.shape.Shape.{Shape}
@@ -21,9 +20,9 @@ use Rattle.node_state.proofs.Building.{fronts_build}
 use Rattle.node_state.proofs.SoundSteps.{steps_are_sound}
 use Rattle.node_store.specs.declared.error.StoreError.{StoreError}
 use Rattle.node_store.specs.declared.error.StoreError.TheVariants.{Spent, NotAllowed, Disk, NotAStore, Memory}
-use Rattle.node_store.specs.Bodies.{HasDigests, IsEventInRange, body_of_piece}
+use Rattle.node_store.specs.Bodies.{HasDigests, IsEventInRange}
 use Rattle.node_store.specs.Reports.{IsReport}
-use Rattle.node_store.specs.Rewriting.{CanPut, FinishAnswer, Finishes, PutAnswer, Putting, Puts, front_bodies}
+use Rattle.node_store.specs.Rewriting.{CanPut, FinishAnswer, PutAnswer, Putting, Puts, front_bodies}
 use Rattle.node_store.specs.Stands.{BeforeOrAfter, Leads, Stands, node_shape}
 use Rattle.node_store.specs.Store.{IsKeptBy, Wrote}
 use Rattle.node_store.proofs.Fronts.{front_is}

@@ -9,7 +9,7 @@ use Rattle.gate_log.specs.Replay.{Taken}
 use Rattle.node_state.specs.declared.node.Node.{Node}
 use Rattle.node_state.specs.declared.event.Event.{Event}
 use Rattle.node_state.specs.declared.piece.Piece.{Piece}
-use Rattle.node_state.specs.Table.{Step, Steps, new_node}
+use Rattle.node_state.specs.Table.{Steps, new_node}
 use Rattle.node_state.specs.Pieces.{Builds, IsPiece, fits, placed}
 use Rattle.node_store.specs.declared.body.Body.{Body}
 use Rattle.node_store.specs.declared.body.Body.TheVariants as kinds

@@ -1,16 +1,14 @@
 -- How long the bodies of events and of a node's pieces are.
-use Rattle.std.proofs.Common.{◌≡◌, ℕ, ◌+◌, ◌*◌, ◌≤◌, ◌<◌, ◌^◌, All, Bool, List, [], ◌∷◌, ◌++◌, length, map, Option, Some, None, sym, ap, subst, arith, length-append}
-use Rattle.std.specs.Prelude.{IfSome, encode_utf8_all, sum_by}
+use Rattle.std.proofs.Common.{◌≡◌, ℕ, ◌+◌, ◌*◌, ◌≤◌, ◌<◌, All, Bool, List, [], ◌∷◌, ◌++◌, length, map, Option, Some, None, sym, ap, subst, arith, length-append}
+use Rattle.std.specs.Prelude.{IfSome, encode_utf8_all}
 use Rattle.std.specs.Int.{w16, w32, w64, w128}
 use Rattle.std.specs.List.{flat_map, AllByRecursion}
-use Rattle.std.proofs.lemmas.List.{map-append}
 use Rattle.std.proofs.lemmas.List.Concat.{flat_map-cons}
 use Rattle.std.proofs.lemmas.List.Sums.{sum_by-cons}
 use Rattle.std.proofs.lemmas.List.Elements.{recursion_from_All, All-from_recursion}
 use Rattle.sha2.proofs.Facts256.{length-sha256}
 use Rattle.store_fields.specs.Fields.{bytes_of_number, bytes_of_flag, bytes_of_text, bytes_of_digest, bytes_of_blob, bytes_of_list, IsDigest}
 use Rattle.gate_log.specs.Text.{AllFit, behind, cells}
-use Rattle.meta_config.specs.declared.meta.Meta.{Meta}
 use Rattle.meta_config.specs.Writing.{text_of_meta}
 use Rattle.meta_config.proofs.ReadBack.{text_fits}
 use Rattle.partial_merge.specs.declared.part.Part.{Part}
@@ -33,7 +31,7 @@ use Rattle.node_state.specs.Metas.{IsNodeMeta}
 use Rattle.node_state.specs.Pieces.{base_of, front, report_of, slot_of}
 use Rattle.node_state.specs.Sound.{Sound}
 use Rattle.node_state.specs.Table.{IsWithin}
-use Rattle.node_store.specs.Bodies.{body_of_event, body_of_piece, bytes_of_base, HasDigests, HaveDigests, IsEventInRange, with_room}
+use Rattle.node_store.specs.Bodies.{body_of_event, body_of_piece, bytes_of_base, HasDigests, HaveDigests, IsEventInRange}
 use Rattle.node_store.specs.Parts.{bytes_of_part, bytes_of_parts}
 use Rattle.node_store.specs.Reports.{bytes_of_missed, bytes_of_mark, bytes_of_reason, bytes_of_outcome, bytes_of_report, bytes_of_job, bytes_of_run, bytes_of_result, bytes_of_lists, IsMark, IsReport}
 use Rattle.gate_log.proofs.Cells.{length-behind}
@@ -220,7 +218,7 @@ event_fits (events.Remove stage) range = omega arith
 event_fits events.Restore range = omega arith
 
 -- the same of an event that is to be written
-event_long : (event : Event) → IsWithin event → HaveDigests event → length (body_of_event event) ≤ 16842747
+pub event_long : (event : Event) → IsWithin event → HaveDigests event → length (body_of_event event) ≤ 16842747
 event_long (events.Init agent) within digests = omega (arith, long_128 agent)
 event_long (events.SetMeta meta) within digests = omega (arith, text_fits meta within.is)
 event_long events.Registered within digests = omega arith
@@ -232,10 +230,6 @@ event_long events.Boot within digests = omega arith
 event_long (events.Sent job) within digests = omega (arith, long_64 job)
 event_long (events.Remove stage) within digests = omega arith
 event_long events.Restore within digests = omega arith
-
--- with the five bytes around its body, whose places the log fills
-pub event_small : (event : Event) → IsWithin event → HaveDigests event → length (with_room (body_of_event event)) ≤ 16842752
-event_small event within digests = omega (arith, event_long event within digests, length-append (body_of_event event) (0 ∷ []))
 
 -- ---- pieces
 

@@ -1,5 +1,5 @@
 -- Bytes that are all of one value's.
-use Rattle.std.proofs.Common.{◌≡◌, List, ℕ, [], ◌++◌, Result, Ok, Err, sym, ap, subst, ◌∙◌, append_assoc}
+use Rattle.std.proofs.Common.{◌≡◌, List, ℕ, [], ◌++◌, Ok, Err, sym, ap, subst, ◌∙◌}
 use Rattle.std.proofs.lemmas.List.{append-nil}
 use Rattle.store_fields.specs.declared.error.FieldError.{FieldError}
 use Rattle.store_fields.specs.declared.error.FieldError.TheVariants.{Wrong}

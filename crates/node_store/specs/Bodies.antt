@@ -8,7 +8,6 @@ use Rattle.node_state.specs.declared.event.Event.{Event}
 use Rattle.node_state.specs.declared.event.Event.TheVariants as events
 use Rattle.node_state.specs.declared.event.Stage.{Stage}
 use Rattle.node_state.specs.declared.event.Stage.TheVariants.{Pending, Current, Previous}
-use Rattle.node_state.specs.declared.node.Kept.{Kept}
 use Rattle.node_state.specs.declared.piece.Piece.{Piece}
 use Rattle.node_state.specs.declared.piece.Piece.TheVariants as pieces
 use Rattle.node_state.specs.Lists.{IsStaged}
@@ -51,10 +50,6 @@ bytes_of_base base = bytes_of_number w128 base.0 ++ (bytes_of_flag base.1 ++ (by
 abbrev pub base_body : ℕ → Bool → Bool → ℕ → List ℕ → List ℕ
 base_body agent registered reboot next_job text =
     12 ∷ (bytes_of_base (agent, registered, reboot, next_job) ++ text)
-
--- a body as the log takes it without a copy: after four bytes and before one, whose places the log fills
-abbrev pub with_room : List ℕ → List ℕ
-with_room body = 0 ∷ 0 ∷ 0 ∷ 0 ∷ (body ++ 0 ∷ [])
 
 abbrev pub body_of_piece : Piece → List ℕ
 body_of_piece (pieces.Base agent registered reboot next_job meta) = base_body agent registered reboot next_job (text_of_meta meta)

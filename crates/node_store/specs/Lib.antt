@@ -4,6 +4,7 @@ pub mod Next
 pub mod Parts
 pub mod Reports
 pub mod Rewriting
+pub mod Split
 pub mod Stands
 pub mod Store
 pub mod Taking

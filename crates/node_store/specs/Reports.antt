@@ -1,8 +1,7 @@
 -- The bytes of a report.
-use Rattle.std.specs.Prelude.{ℕ, ◌<◌, ◌≤◌, ◌^◌, Bool, List, [], ◌∷◌, ◌++◌, length, All}
+use Rattle.std.specs.Prelude.{ℕ, Bool, List, ◌++◌}
 use Rattle.std.specs.Int.{w32, w64}
 use Rattle.store_fields.specs.Fields.{bytes_of_number, bytes_of_byte, bytes_of_flag, bytes_of_text, bytes_of_digest, bytes_of_list, IsNumber, IsText, IsDigest, IsList}
-use Rattle.report_log.specs.declared.report.FailureKind.{FailureKind}
 use Rattle.report_log.specs.declared.report.FailureKind.TheVariants.{NoSuchResource, OutOfProfile, BadPath, InTheWay, HostFailed}
 use Rattle.report_log.specs.declared.report.Outcome.{Outcome}
 use Rattle.report_log.specs.declared.report.Outcome.TheVariants.{Success, Failure, Reboot}

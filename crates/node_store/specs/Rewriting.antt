@@ -1,5 +1,5 @@
 -- The steps of a rewrite: bodies are put into the other bank one after the other.
-use Rattle.std.specs.Prelude.{◌≡◌, ℕ, ◌<◌, ◌≤◌, true, false, List, [], ◌∷◌, ◌++◌, length, map, Option, Result, Ok, Err}
+use Rattle.std.specs.Prelude.{◌≡◌, ℕ, ◌<◌, ◌≤◌, true, false, List, ◌∷◌, ◌++◌, length, map, Option, Result, Ok, Err}
 use Rattle.dsc_outside.specs.declared.disk.Disk.{Ghosts}
 use Rattle.dsc_terms.specs.Counts.{Rose}
 use Rattle.gate_log.specs.Text.{AllFit, Gives, cells}

@@ -7,7 +7,7 @@ use Rattle.gate_log.specs.Log.{LogTerm, IsLogOf}
 use Rattle.node_state.specs.declared.node.Node.{Node}
 use Rattle.node_state.specs.declared.event.Event.{Event}
 use Rattle.node_state.specs.declared.event.Event.TheVariants as events
-use Rattle.node_state.specs.Table.{Step, after, refusal}
+use Rattle.node_state.specs.Table.{Step, refusal}
 use Rattle.node_store.specs.declared.error.StoreError.{StoreError}
 use Rattle.node_store.specs.declared.error.StoreError.TheVariants.{Spent, NotAllowed, Disk, NotAStore, Memory}
 use Rattle.mof_values.specs.declared.memory.Memory.{Memory as NoMemory}

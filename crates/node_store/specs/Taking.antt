@@ -1,5 +1,5 @@
 -- The bodies of a store are taken one after the other.
-use Rattle.std.specs.Prelude.{◌≡◌, ℕ, Bool, true, false, List, [], ◌∷◌, None, Result, Ok, Err, ⊤}
+use Rattle.std.specs.Prelude.{◌≡◌, ℕ, Bool, true, false, List, [], ◌∷◌, Result, Ok, Err, ⊤}
 use Rattle.gate_log.specs.declared.replay.TakeError.{TakeError}
 use Rattle.gate_log.specs.declared.replay.TakeError.TheVariants.{Refused, Memory}
 use Rattle.node_state.specs.declared.node.Node.{Node}

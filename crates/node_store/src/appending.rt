@@ -1,5 +1,5 @@
 //! An event becomes one of the log's bodies.
-ghost use Rattle.std.specs.Prelude.{◌≡◌, ◌≤◌, None, length};
+ghost use Rattle.std.specs.Prelude.{◌≡◌, ◌+◌, ◌≤◌, None, length};
 ghost use Rattle.gate_log.specs.Text.{IsLive, body_in};
 ghost use Rattle.gate_log.specs.Log.{AtAnyMoment, room_in};
 ghost use Rattle.gate_log.specs.Standing.{StandsAtAnyMoment};
@@ -14,21 +14,26 @@ use crate::error::StoreError;
 use dsc_outside::Disk;
 use gate_log::{Log, LogError};
 
-/// Appends the body of an event, which stands in `cell` with room before it and after it, to the live bank, where there is room
-/// for it.
-pub fn append<D: Disk>(log: &mut Log, disk: &mut D, cell: &mut [u8]) -> Result<(), StoreError>
-    requires whole { 5 ≤ length cell.old }
-    requires size { length cell.old ≤ 16842752 }
-    requires room { length cell.old ≤ room_in log.old }
+/// Appends the body of an event, which stands in `head` after four bytes of room and goes on with `tail`, to the live bank, where
+/// there is room for it.
+pub fn append<D: Disk>(
+    log: &mut Log,
+    disk: &mut D,
+    head: &mut [u8],
+    tail: &[u8],
+) -> Result<(), StoreError>
+    requires whole { 4 ≤ length head.old }
+    requires size { length head.old + length tail.now ≤ 16842752 }
+    requires room { length head.old + length tail.now + 1 ≤ room_in log.old }
     requires kept { (node : Node) × IsKeptBy D.Disk disk.old log.old node }
-    ensures answer { (node new : Node) (event : Event) → IsKeptBy D.Disk disk.old log.old node → body_in cell.old ≡ body_of_event event → IsEventInRange event → Step node event new
+    ensures answer { (node new : Node) (event : Event) → IsKeptBy D.Disk disk.old log.old node → body_in head.old tail.now ≡ body_of_event event → IsEventInRange event → Step node event new
         → Wrote D.Disk disk.old disk.new new log.new result }
-    ensures any_moment { (node : Node) (event : Event) → IsKeptBy D.Disk disk.old log.old node → body_in cell.old ≡ body_of_event event → IsEventInRange event → IsWithin event → refusal node event ≡ None
+    ensures any_moment { (node : Node) (event : Event) → IsKeptBy D.Disk disk.old log.old node → body_in head.old tail.now ≡ body_of_event event → IsEventInRange event → IsWithin event → refusal node event ≡ None
         → StandsAtAnyMoment D.Disk disk.old disk.new Stands (BeforeOrAfter node event) }
     ensures same_bank { (node : Node) → IsKeptBy D.Disk disk.old log.old node → AtAnyMoment D.Disk disk.old disk.new (IsLive log.old.second) }
     ensures count { D.faults disk.old ≤ D.faults disk.new }
 {
-    match log.append_in_place(disk, cell) {
+    match log.append_in_place(disk, head, tail) {
         Ok(()) => Ok(()),
         Err(LogError::Disk) => Err(StoreError::Disk),
         Err(LogError::NotAStore { at: _ } | LogError::Memory) => unreachable!(),

@@ -1,20 +1,24 @@
 //! Parts.
+ghost use Rattle.std.specs.Prelude.{◌≡◌, OnOk};
+ghost use Rattle.std.specs.List.{AllByRecursion};
+ghost use Rattle.store_fields.specs.Writing.{Writes};
+ghost use Rattle.node_store.specs.Split.{front_of_part, front_of_parts, last_document};
+ghost use Rattle.node_store.specs.Parts.{FitsPart, IsPart};
+
 use crate::reports::NodeForm;
 use mof_values::Memory;
 use partial_merge::{Part, part_of};
 use std::alloc::Global;
-use store_fields::{FieldError, Fields, Form, put_blob, put_digest, put_text};
+use store_fields::{FieldError, Fields, Form, put_blob, put_digest, put_text, put_u32};
 
 impl Form<Part> for NodeForm {
-    ghost use Rattle.std.specs.Prelude.{◌≤◌, length, encode_utf8_all};
-    ghost use Rattle.store_fields.specs.Fields.{IsBlob};
-    ghost use Rattle.node_store.specs.Parts.{bytes_of_part, IsPart};
+    ghost use Rattle.node_store.specs.Parts.{bytes_of_part, FitsPart, IsPart};
 
     ghost bytes_of = { bytes_of_part };
 
     ghost is_in_range = { IsPart };
 
-    ghost fits = { λ part. (length (encode_utf8_all part.name) ≤ 65535) × IsBlob part.bytes };
+    ghost fits = { FitsPart };
 
     /// A stored digest that is not the digest of the bytes is refused.
     fn read(alloc: Global, fields: &mut Fields<'_>) -> Result<Part, FieldError> {
@@ -34,4 +38,46 @@ impl Form<Part> for NodeForm {
         put_digest(into, &part.digest)?;
         put_blob(into, part.bytes.as_slice())
     }
+}
+
+/// Appends parts, but for the document of the last.
+pub(crate) fn put_front_of_parts(into: &mut Vec<u8>, parts: &[Part]) -> Result<(), Memory>
+    requires { AllByRecursion FitsPart parts.now }
+    ensures writes { Writes (front_of_parts parts.now) into.old into.new result }
+    ensures in_range { OnOk result (AllByRecursion IsPart parts.now) }
+{
+    let mut left = parts;
+    while let [part, rest @ ..] = left {
+        if rest.is_empty() {
+            return put_front_of_part(into, part);
+        }
+        NodeForm::write(part, into)?;
+        left = rest;
+    }
+    Ok(())
+}
+
+// A part, but for its document.
+fn put_front_of_part(into: &mut Vec<u8>, part: &Part) -> Result<(), Memory>
+    requires { FitsPart part.now }
+    ensures writes { Writes (front_of_part part.now) into.old into.new result }
+    ensures in_range { OnOk result (IsPart part.now) }
+{
+    put_text(into, &part.name)?;
+    put_digest(into, &part.digest)?;
+    put_u32(into, part.bytes.as_slice().len() as u32)
+}
+
+/// The document of the last part.
+pub(crate) fn last_document(parts: &[Part]) -> &[u8]
+    ensures { result.now ≡ last_document parts.now }
+{
+    let mut left = parts;
+    while let [part, rest @ ..] = left {
+        if rest.is_empty() {
+            return part.bytes.as_slice();
+        }
+        left = rest;
+    }
+    &[]
 }

@@ -1,7 +1,7 @@
 //! Events and pieces as bodies.
 //!
 //! Nothing takes memory but the buffer, where it has no room. The text of a meta-configuration comes from the caller.
-ghost use Rattle.std.specs.Prelude.{◌≡◌, ◌∷◌, OnOk};
+ghost use Rattle.std.specs.Prelude.{◌≡◌, ◌∷◌, length, OnOk};
 ghost use Rattle.std.specs.Int.{w64, w128};
 ghost use Rattle.store_fields.specs.Fields.{bytes_of_number, IsNumber};
 ghost use Rattle.store_fields.specs.Writing.{Writes};
@@ -11,8 +11,10 @@ ghost use Rattle.node_state.specs.declared.piece.Piece.TheVariants as pieces;
 ghost use Rattle.report_log.specs.Sizes.{ReportInSize};
 ghost use Rattle.node_state.specs.Table.{IsWithin};
 ghost use Rattle.node_store.specs.Reports.{bytes_of_report, IsReport};
-ghost use Rattle.node_store.specs.Bodies.{base_body, body_of_event, body_of_piece, bytes_of_base, byte_of_stage, bytes_of_stage, BringsText, IsEventInRange, IsPieceInRange, with_room};
+ghost use Rattle.node_store.specs.Bodies.{base_body, body_of_event, body_of_piece, bytes_of_base, byte_of_stage, bytes_of_stage, BringsText, IsEventInRange, IsPieceInRange};
+ghost use Rattle.node_store.specs.Split.{after_room, front_of_parts, head_of, tail_of};
 
+use crate::parts::{last_document, put_front_of_parts};
 use crate::reports::{NodeForm, put_report};
 use mof_values::Memory;
 use node_state::{Event, Stage};
@@ -20,11 +22,12 @@ use partial_merge::Part;
 use report_log::Report;
 use store_fields::{put_byte, put_bytes, put_flag, put_list, put_u64, put_u128};
 
-/// Appends the body of an event; the text is the canonical one of the meta-configuration that it brings, if it brings one.
-pub fn put_event(into: &mut Vec<u8>, event: &Event, text: &[u8]) -> Result<(), Memory>
+/// Appends the body of an event up to its tail ([`tail_of`]); the text is the canonical one of the meta-configuration that it brings,
+/// if it brings one.
+pub fn put_head(into: &mut Vec<u8>, event: &Event, text: &[u8]) -> Result<(), Memory>
     requires within { IsWithin event.now }
     requires text { BringsText event.now text.now }
-    ensures writes { Writes (body_of_event event.now) into.old into.new result }
+    ensures writes { Writes (head_of event.now) into.old into.new result }
     ensures in_range { OnOk result (IsEventInRange event.now) }
 {
     match event {
@@ -42,20 +45,29 @@ pub fn put_event(into: &mut Vec<u8>, event: &Event, text: &[u8]) -> Result<(), M
     }
 }
 
-/// Appends the body of an event as the log takes it without a copy, with room before it and after it.
-pub(crate) fn put_event_with_room(
+/// Appends the same after four bytes, in which the log writes the length of the body.
+pub(crate) fn put_head_after_room(
     into: &mut Vec<u8>,
     event: &Event,
     text: &[u8],
 ) -> Result<(), Memory>
     requires within { IsWithin event.now }
     requires text { BringsText event.now text.now }
-    ensures writes { Writes (with_room (body_of_event event.now)) into.old into.new result }
+    ensures writes { Writes (after_room (head_of event.now)) into.old into.new result }
     ensures in_range { OnOk result (IsEventInRange event.now) }
 {
     put_bytes(into, &[0; 4])?;
-    put_event(into, event, text)?;
-    put_byte(into, 0)
+    put_head(into, event, text)
+}
+
+/// What the body of the event ends with, as it lies there: of a Stage the document of its last part, else nothing.
+pub fn tail_of(event: &Event) -> &[u8]
+    ensures { result.now ≡ tail_of event.now }
+{
+    match event {
+        Event::Stage(staged) => last_document(staged.parts()),
+        _ => &[],
+    }
 }
 
 fn put_agent(into: &mut Vec<u8>, agent: u128) -> Result<(), Memory>
@@ -75,11 +87,12 @@ fn put_text_of_meta(into: &mut Vec<u8>, text: &[u8]) -> Result<(), Memory>
 
 fn put_staged(into: &mut Vec<u8>, parts: &[Part]) -> Result<(), Memory>
     requires { IsStaged parts.now }
-    ensures writes { Writes (4 ∷ bytes_of_parts parts.now) into.old into.new result }
+    ensures writes { Writes (4 ∷ length parts.now ∷ front_of_parts parts.now) into.old into.new result }
     ensures in_range { OnOk result (AreParts parts.now) }
 {
     put_byte(into, 4)?;
-    put_parts(into, parts)
+    put_byte(into, parts.len() as u8)?;
+    put_front_of_parts(into, parts)
 }
 
 fn put_run(into: &mut Vec<u8>, kind: u8, report: &Report) -> Result<(), Memory>

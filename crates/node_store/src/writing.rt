@@ -1,11 +1,12 @@
 //! An event is written, or the node after it.
-ghost use Rattle.std.specs.Prelude.{◌≡◌, ◌≤◌, None, length, vec_capacity};
+ghost use Rattle.std.specs.Prelude.{◌≡◌, ◌+◌, ◌≤◌, None, length, vec_capacity};
 ghost use Rattle.gate_log.specs.Text.{IsLive, need_of};
 ghost use Rattle.gate_log.specs.Log.{AtAnyMoment, room_in};
 ghost use Rattle.gate_log.specs.Standing.{StandsAtAnyMoment};
 ghost use Rattle.meta_config.specs.Writing.{text_of_meta};
 ghost use Rattle.node_state.specs.Table.{IsWithin, after, refusal};
-ghost use Rattle.node_store.specs.Bodies.{BringsText, IsEventInRange, body_of_event, with_room};
+ghost use Rattle.node_store.specs.Bodies.{BringsText, IsEventInRange, body_of_event};
+ghost use Rattle.node_store.specs.Split.{after_room, head_of, tail_of};
 ghost use Rattle.node_store.specs.Stands.{BeforeOrAfter, Stands};
 ghost use Rattle.node_store.specs.Store.{IsKeptBy, Wrote};
 
@@ -13,7 +14,7 @@ use crate::appending::append;
 use crate::digests::look_at_digests;
 use crate::error::StoreError;
 use crate::rewriting::rewrite;
-use crate::spelling::put_event_with_room;
+use crate::spelling::{put_head_after_room, tail_of};
 use dsc_outside::Disk;
 use gate_log::Log;
 use node_state::{Event, Node};
@@ -40,27 +41,28 @@ pub fn write<D: Disk>(
     ensures room { 16842752 ≤ vec_capacity room.new }
 {
     spell(room, event, text);
-    if log.has_room((room.len() - 5) as u32) {
-        return append(log, disk, room);
+    let tail = tail_of(event);
+    if log.has_room((room.len() - 4 + tail.len()) as u32) {
+        return append(log, disk, room, tail);
     }
     rewrite(log, disk, room, node, event, text)
 }
 
-// The event's body takes the place of all that was in the room, as the log takes it.
-#[tactic(auto, using(crate::proofs::Sizes::event_small))]
+// The head of the event's body takes the place of all that was in the room, as the log takes it.
+#[tactic(auto, using(crate::proofs::Split::head_small, crate::proofs::Split::head_size, crate::proofs::Sizes::event_long))]
 fn spell(room: &mut Vec<u8>, event: &Event, text: &[u8])
     requires within { IsWithin event.now }
     requires text { BringsText event.now text.now }
     requires room { 16842752 ≤ vec_capacity room.old }
-    ensures body { room.new.items ≡ with_room (body_of_event event.now) }
-    ensures size { length room.new.items ≡ need_of (body_of_event event.now) }
+    ensures head { room.new.items ≡ after_room (head_of event.now) }
+    ensures size { length room.new.items + length (tail_of event.now) ≡ 4 + length (body_of_event event.now) }
     ensures range { IsEventInRange event.now }
-    ensures small { length room.new.items ≤ 16842752 }
+    ensures small { length (body_of_event event.now) ≤ 16842747 }
     ensures room { 16842752 ≤ vec_capacity room.new }
 {
     look_at_digests(event);
     room.clear();
-    match put_event_with_room(room, event, text) {
+    match put_head_after_room(room, event, text) {
         Ok(()) => {}
         Err(_) => unreachable!(),
     }

@@ -25,19 +25,23 @@ fn comes_back(alloc: Global, size: usize) -> Result<bool, LogError> {
     is_found(alloc, disk, &body)
 }
 
-// The same, where the body stands in a buffer between four bytes and one.
+// The same, where the body lies in two pieces, the first of them after four bytes.
 fn comes_back_in_place(alloc: Global, size: usize) -> Result<bool, LogError> {
     if size > 196_608 {
         return Ok(false);
     }
-    let mut cell = vec![in alloc; 7u8; size + 5]?;
+    let first = size / 2;
+    let mut head = vec![in alloc; 7u8; first + 4]?;
+    let tail = vec![in alloc; 8u8; size - first]?;
     let mut disk = with_memory(MemoryDisk::new(Vec::new(alloc), Vec::new(alloc)))?;
     let mut log = replay_log(alloc, &mut disk, LARGE, &mut Bodies::new(alloc))?;
     if !log.has_room(size as u32) {
         return Ok(false);
     }
-    log.append_in_place(&mut disk, &mut cell)?;
-    is_found(alloc, disk, &vec![in alloc; 7u8; size]?)
+    log.append_in_place(&mut disk, &mut head, &tail)?;
+    let mut body = vec![in alloc; 7u8; first]?;
+    body.extend_from_slice(&tail)?;
+    is_found(alloc, disk, &body)
 }
 
 // Whether the next opening finds this body first.

@@ -1,4 +1,4 @@
-use Rattle.std.proofs.Common.{◌≡◌, ◌++◌, ◌∷◌, [], List, All, take, sym, subst, arith, get_or}
+use Rattle.std.proofs.Common.{List, All, take, sym, subst, arith, get_or}
 use Rattle.std.proofs.lemmas.List.{take_all, take_more}
 use Rattle.std.proofs.lemmas.List.Elements.{All-push}
 use Rattle.store_fields.specs.Fields.{IsDigest}

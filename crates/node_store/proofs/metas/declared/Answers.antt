@@ -1,4 +1,3 @@
-use Rattle.std.proofs.Common.{◌≡◌}
 use Rattle.node_store.proofs.Reported.{never}
 use Rattle.node_store.proofs.metas.declared.Goals as goal
 

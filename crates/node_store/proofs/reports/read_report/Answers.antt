@@ -1,4 +1,4 @@
-use Rattle.std.proofs.Common.{◌∙◌, append_assoc, ◌++◌, ℕ, List}
+use Rattle.std.proofs.Common.{◌∙◌}
 use Rattle.store_fields.proofs.Composing.{exit}
 use Rattle.node_store.specs.Reports.{bytes_of_report, bytes_of_job, bytes_of_run, bytes_of_result, bytes_of_lists, IsReport, IsJob, IsRun, IsResult, AreLists}
 use Rattle.node_store.proofs.Reported.{opened, job_of, run_of, result_of, lists_of, report_taken, report_too_long, never}

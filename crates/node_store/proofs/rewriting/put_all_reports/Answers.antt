@@ -1,4 +1,4 @@
-use Rattle.std.proofs.Common.{◌≡◌, ◌++◌, List, ℕ, Option, map, sym, ap, subst}
+use Rattle.std.proofs.Common.{◌++◌, List, ℕ, Option, map, sym, subst}
 use Rattle.report_log.specs.declared.report.Report.{Report}
 use Rattle.report_log.specs.Sizes.{ReportInSize}
 use Rattle.std.specs.Prelude.{All, IfSome}

@@ -1,4 +1,4 @@
-use Rattle.std.proofs.Common.{ap, subst, Err, ◌∷◌}
+use Rattle.std.proofs.Common.{ap, subst, Err}
 use Rattle.gate_log.specs.declared.error.LogError.{LogError}
 use Rattle.gate_log.specs.Log.{LogTerm, Put}
 use Rattle.node_store.proofs.RewriteSteps.{put_broke, put_more, room_left}

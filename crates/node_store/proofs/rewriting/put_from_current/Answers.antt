@@ -1,4 +1,4 @@
-use Rattle.std.proofs.Common.{◌≡◌, ◌++◌, List, ℕ, Option, map, sym, subst}
+use Rattle.std.proofs.Common.{◌++◌, List, Option, map, sym, subst}
 use Rattle.partial_merge.specs.declared.part.Part.{Part}
 use Rattle.node_state.specs.declared.event.Stage.TheVariants.{Current}
 use Rattle.node_state.specs.Pieces.{slot_of}

@@ -1,4 +1,4 @@
-use Rattle.std.proofs.Common.{◌≡◌, ◌∷◌, [], ◌-◌, List, ℕ, map, take, drop, length, sym, ap, subst, rules}
+use Rattle.std.proofs.Common.{◌≡◌, ◌∷◌, [], ◌-◌, List, map, take, drop, length, sym, subst, rules}
 use Rattle.report_log.specs.Sizes.{ReportInSize}
 use Rattle.node_state.specs.declared.node.Kept.{Kept}
 use Rattle.node_store.specs.Rewriting.{CanPut, Puts, marked_body}

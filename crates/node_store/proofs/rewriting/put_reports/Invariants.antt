@@ -1,4 +1,4 @@
-use Rattle.std.proofs.Common.{◌≤◌, List, ℕ, All, Result, map, length, vec_capacity}
+use Rattle.std.proofs.Common.{◌≤◌, All, Result, map, length, vec_capacity}
 use Rattle.gate_log.specs.Log.{LogTerm}
 use Rattle.report_log.specs.Sizes.{ReportInSize}
 use Rattle.node_store.specs.declared.error.StoreError.{StoreError}

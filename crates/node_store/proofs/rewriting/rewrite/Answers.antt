@@ -1,6 +1,6 @@
 use Rattle.std.proofs.Common.{◌∙◌, ℕ, Option, None, [], refl, sym, subst}
 use Rattle.std.specs.Prelude.{IsSome}
-use Rattle.gate_log.specs.Log.{LogTerm, begun}
+use Rattle.gate_log.specs.Log.{LogTerm}
 use Rattle.node_state.specs.Table.{after}
 use Rattle.node_state.proofs.SoundSteps.{steps_have_agents}
 use Rattle.node_store.specs.Rewriting.{CanPut, Putting, front_bodies}

@@ -9,12 +9,12 @@ use Rattle.gate_log.proofs.InPlace.{need_in}
 use Rattle.gate_log.proofs.Steps.{if_some}
 use Rattle.gate_log.proofs.log.Log.append_in_place.Goals as goal
 
--- what is asked of the cell, of the body in it
-has_room : (cell : List ℕ) → 5 ≤ length cell → (log : LogTerm) → length cell ≤ room_in log → need_of (body_in cell) ≤ room_in log
-has_room cell whole log room = omega (arith, need_in cell whole, room)
+-- what is asked of the pieces, of the body in them
+has_room : (head tail : List ℕ) → 4 ≤ length head → (log : LogTerm) → length head + length tail + 1 ≤ room_in log → need_of (body_in head tail) ≤ room_in log
+has_room head tail whole log room = omega (arith, need_in head tail whole, room)
 
-is_small : (cell : List ℕ) → 5 ≤ length cell → (shape : Shape) → length cell ≤ shape.largest + 5 → length (body_in cell) ≤ shape.largest
-is_small cell whole shape size = omega (arith, need_in cell whole, size)
+is_small : (head tail : List ℕ) → 4 ≤ length head → (shape : Shape) → length head + length tail ≤ shape.largest + 4 → length (body_in head tail) ≤ shape.largest
+is_small head tail whole shape size = omega (arith, need_in head tail whole, size)
 
 pub append_cell_in_place-requires-clause-room : goal.append_cell_in_place-requires-clause-room
 append_cell_in_place-requires-clause-room g c =
@@ -26,46 +26,52 @@ append_cell_in_place-requires-clause-room g c =
 pub returns-in_err-append_cell_in_place-clause-any_moment : goal.returns-in_err-append_cell_in_place-clause-any_moment
 returns-in_err-append_cell_in_place-clause-any_moment g c = λ bodies of.
     let log = c.args.self.now in
-    let cell = c.args.cell.now in
-    at_each_moment g.D.Disk c.args.disk.now c.append_cell_in_place.new.disk log c.self.inside.closed (body_in cell) bodies _ (ap (λ (t : LogTerm). t.closed) (sym c.self.view_is)) (has_room cell c.requires.whole log c.requires.room) of
-    (c.append_cell_in_place.ensures.any_moment log.shape log.second bodies (is_small cell c.requires.whole log.shape c.requires.size)) (either_gives log.shape log.second c.self.inside.closed bodies (body_in cell))
+    let head = c.args.head.now in
+    let tail = c.args.tail.now in
+    at_each_moment g.D.Disk c.args.disk.now c.append_cell_in_place.new.disk log c.self.inside.closed (body_in head tail) bodies _ (ap (λ (t : LogTerm). t.closed) (sym c.self.view_is)) (has_room head tail c.requires.whole log c.requires.room) of
+    (c.append_cell_in_place.ensures.any_moment log.shape log.second bodies (is_small head tail c.requires.whole log.shape c.requires.size)) (either_gives log.shape log.second c.self.inside.closed bodies (body_in head tail))
 
 pub returns-in_err-append_cell_in_place-clause-same_bank : goal.returns-in_err-append_cell_in_place-clause-same_bank
 returns-in_err-append_cell_in_place-clause-same_bank g c = λ bodies of.
     let log = c.args.self.now in
-    let cell = c.args.cell.now in
-    at_each_moment g.D.Disk c.args.disk.now c.append_cell_in_place.new.disk log c.self.inside.closed (body_in cell) bodies _ (ap (λ (t : LogTerm). t.closed) (sym c.self.view_is)) (has_room cell c.requires.whole log c.requires.room) of
-    (c.append_cell_in_place.ensures.any_moment log.shape log.second bodies (is_small cell c.requires.whole log.shape c.requires.size)) (either_live log.shape log.second c.self.inside.closed bodies (body_in cell))
+    let head = c.args.head.now in
+    let tail = c.args.tail.now in
+    at_each_moment g.D.Disk c.args.disk.now c.append_cell_in_place.new.disk log c.self.inside.closed (body_in head tail) bodies _ (ap (λ (t : LogTerm). t.closed) (sym c.self.view_is)) (has_room head tail c.requires.whole log c.requires.room) of
+    (c.append_cell_in_place.ensures.any_moment log.shape log.second bodies (is_small head tail c.requires.whole log.shape c.requires.size)) (either_live log.shape log.second c.self.inside.closed bodies (body_in head tail))
 
 pub returns-clause-any_moment : goal.returns-clause-any_moment
 returns-clause-any_moment g c = λ bodies of.
     let log = c.args.self.now in
-    let cell = c.args.cell.now in
-    at_each_moment g.D.Disk c.args.disk.now c.append_cell_in_place.new.disk log c.self.inside.closed (body_in cell) bodies _ (ap (λ (t : LogTerm). t.closed) (sym c.self.view_is)) (has_room cell c.requires.whole log c.requires.room) of
-    (c.append_cell_in_place.ensures.any_moment log.shape log.second bodies (is_small cell c.requires.whole log.shape c.requires.size)) (either_gives log.shape log.second c.self.inside.closed bodies (body_in cell))
+    let head = c.args.head.now in
+    let tail = c.args.tail.now in
+    at_each_moment g.D.Disk c.args.disk.now c.append_cell_in_place.new.disk log c.self.inside.closed (body_in head tail) bodies _ (ap (λ (t : LogTerm). t.closed) (sym c.self.view_is)) (has_room head tail c.requires.whole log c.requires.room) of
+    (c.append_cell_in_place.ensures.any_moment log.shape log.second bodies (is_small head tail c.requires.whole log.shape c.requires.size)) (either_gives log.shape log.second c.self.inside.closed bodies (body_in head tail))
 
 pub returns-clause-same_bank : goal.returns-clause-same_bank
 returns-clause-same_bank g c = λ bodies of.
     let log = c.args.self.now in
-    let cell = c.args.cell.now in
-    at_each_moment g.D.Disk c.args.disk.now c.append_cell_in_place.new.disk log c.self.inside.closed (body_in cell) bodies _ (ap (λ (t : LogTerm). t.closed) (sym c.self.view_is)) (has_room cell c.requires.whole log c.requires.room) of
-    (c.append_cell_in_place.ensures.any_moment log.shape log.second bodies (is_small cell c.requires.whole log.shape c.requires.size)) (either_live log.shape log.second c.self.inside.closed bodies (body_in cell))
+    let head = c.args.head.now in
+    let tail = c.args.tail.now in
+    at_each_moment g.D.Disk c.args.disk.now c.append_cell_in_place.new.disk log c.self.inside.closed (body_in head tail) bodies _ (ap (λ (t : LogTerm). t.closed) (sym c.self.view_is)) (has_room head tail c.requires.whole log c.requires.room) of
+    (c.append_cell_in_place.ensures.any_moment log.shape log.second bodies (is_small head tail c.requires.whole log.shape c.requires.size)) (either_live log.shape log.second c.self.inside.closed bodies (body_in head tail))
 
 pub returns-clause-answer : goal.returns-clause-answer
 returns-clause-answer g c =
-    let cell = c.args.cell.now in
-    let longest : c.max-self-inside.result ≡ max c.self.inside.long (c.self.inside.closed + 1 + length cell) = grind (arith, common_steps, c.max-self-inside.ensures) in
-    grown_is _ c.args.self.now (length cell) c.max-self-inside.result (body_in cell) c.self.view_is (need_in cell c.requires.whole) longest
+    let head = c.args.head.now in
+    let tail = c.args.tail.now in
+    let longest : c.max-self-inside.result ≡ max c.self.inside.long (c.self.inside.closed + 1 + (length head + length tail + 1)) = grind (arith, common_steps, c.max-self-inside.ensures) in
+    grown_is _ c.args.self.now (length head + length tail + 1) c.max-self-inside.result (body_in head tail) c.self.view_is (need_in head tail c.requires.whole) longest
 
 pub returns-clause-ok : goal.returns-clause-ok
 returns-clause-ok g c = λ bodies of.
     let log = c.args.self.now in
-    let cell = c.args.cell.now in
+    let head = c.args.head.now in
+    let tail = c.args.tail.now in
     let closed = c.self.inside.closed in
     let same : log.closed ≡ closed = ap (λ (t : LogTerm). t.closed) (sym c.self.view_is) in
-    let longest : c.max-self-inside.result ≡ max c.self.inside.long (closed + 1 + length cell) = grind (arith, common_steps, c.max-self-inside.ensures) in
-    grown_of (g.D.Disk.seen c.append_cell_in_place.new.disk) (g.D.Disk.images c.append_cell_in_place.new.disk) log _ closed (body_in cell) bodies
-    (grown_is _ log (length cell) c.max-self-inside.result (body_in cell) c.self.view_is (need_in cell c.requires.whole) longest) same
-    (c.in_ok-append_cell_in_place.ensures.ok log.shape log.second bodies (is_small cell c.requires.whole log.shape c.requires.size) (room_there log closed (body_in cell) same (has_room cell c.requires.whole log c.requires.room))
+    let longest : c.max-self-inside.result ≡ max c.self.inside.long (closed + 1 + (length head + length tail + 1)) = grind (arith, common_steps, c.max-self-inside.ensures) in
+    grown_of (g.D.Disk.seen c.append_cell_in_place.new.disk) (g.D.Disk.images c.append_cell_in_place.new.disk) log _ closed (body_in head tail) bodies
+    (grown_is _ log (length head + length tail + 1) c.max-self-inside.result (body_in head tail) c.self.view_is (need_in head tail c.requires.whole) longest) same
+    (c.in_ok-append_cell_in_place.ensures.ok log.shape log.second bodies (is_small head tail c.requires.whole log.shape c.requires.size) (room_there log closed (body_in head tail) same (has_room head tail c.requires.whole log c.requires.room))
     (texts_there g.D.Disk c.args.disk.now log closed bodies same of))
     (c.in_ok-append_cell_in_place.ensures.long log.long of.long)

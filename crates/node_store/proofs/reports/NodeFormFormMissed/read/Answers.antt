@@ -1,8 +1,7 @@
-use Rattle.std.proofs.Common.{◌∙◌, append_assoc, ◌++◌, ℕ, List}
-use Rattle.std.specs.Int.{w32, w64}
-use Rattle.store_fields.specs.Fields.{bytes_of_number, bytes_of_flag, bytes_of_text, IsNumber, IsFlag, IsText}
+use Rattle.std.proofs.Common.{◌∙◌, append_assoc}
+use Rattle.store_fields.specs.Fields.{bytes_of_text}
 use Rattle.store_fields.proofs.Composing.{exit}
-use Rattle.node_store.specs.Reports.{bytes_of_missed, bytes_of_reason, bytes_of_outcome, bytes_of_report, bytes_of_job, bytes_of_run, bytes_of_result, bytes_of_lists, IsMissed, IsReport, IsJob, IsRun, IsResult, AreLists}
+use Rattle.node_store.specs.Reports.{bytes_of_missed, bytes_of_reason, IsMissed}
 use Rattle.node_store.proofs.reports.NodeFormFormMissed.read.Goals as goal
 
 pub returns-in_err-reason : goal.returns-in_err-reason
