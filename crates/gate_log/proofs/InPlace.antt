@@ -5,8 +5,6 @@ use Rattle.std.proofs.lemmas.List.{take_at, drop_at, drop-drop, length-take-le}
 use Rattle.std.specs.Int.{w32, to_be_bytes}
 use Rattle.dsc_outside.specs.Disk.{written}
 use Rattle.gate_log.specs.Text.{behind, body_in, need_of}
-use Rattle.gate_log.proofs.Holds.{length-written}
-use Rattle.gate_log.proofs.Rewrites.{told_write}
 
 pub need_in : (head tail : List ℕ) → 4 ≤ length head → need_of (body_in head tail) ≡ length head + length tail + 1
 unfolding body_in
@@ -26,7 +24,7 @@ numbered number head tail n whole size is =
 
 -- ---- a write and another after it
 
-pub written_on : (at : ℕ) (a b held : List ℕ) → at ≤ length held → written (at + length a) b (written at a held) ≡ written at (a ++ b) held
+written_on : (at : ℕ) (a b held : List ℕ) → at ≤ length held → written (at + length a) b (written at a held) ≡ written at (a ++ b) held
 written_on at a b held le =
     let front = take at held in
     let rest = drop (at + length a) held in
@@ -39,14 +37,11 @@ written_on at a b held le =
     ∙ ap (λ (l : List ℕ). (front ++ a) ++ b ++ l) last
     ∙ ap (λ (l : List ℕ). l ++ drop (at + length (a ++ b)) held) (append_assoc front a b)
 
-pub both_written : (at : ℕ) (a b : List ℕ) (seen0 seen1 seen2 : Option (List ℕ)) → IfSome seen0 (λ held. at ≤ length held) → seen1 ≡ option_map (written at a) seen0 → seen2 ≡ option_map (written (at + length a) b) seen1
+both_written : (at : ℕ) (a b : List ℕ) (seen0 seen1 seen2 : Option (List ℕ)) → IfSome seen0 (λ held. at ≤ length held) → seen1 ≡ option_map (written at a) seen0 → seen2 ≡ option_map (written (at + length a) b) seen1
     → seen2 ≡ option_map (written at (a ++ b)) seen0
 both_written at a b None seen1 seen2 le is1 is2 = is2 ∙ ap (λ (o : Option (List ℕ)). option_map (written (at + length a) b) o) is1
 both_written at a b (Some held) seen1 seen2 le is1 is2 =
     is2 ∙ ap (λ (o : Option (List ℕ)). option_map (written (at + length a) b) o) is1 ∙ ap (λ (l : List ℕ). Some l) (written_on at a b held le)
-
-pub room_after : (at : ℕ) (a : List ℕ) (before after : Option (List ℕ)) → after ≡ option_map (written at a) before → IfSome before (λ held. at ≤ length held) → IfSome after (λ held. at + length a ≤ length held)
-room_after at a before after is le = told_write _ _ (written at a) before after is (λ held here. omega (arith, length-written at a held here)) le
 
 pub all_written : (at : ℕ) (a b c : List ℕ) (seen0 seen1 seen2 seen3 : Option (List ℕ)) → IfSome seen0 (λ held. at ≤ length held) → seen1 ≡ option_map (written at a) seen0 → seen2 ≡ option_map (written (at + length a) b) seen1
     → seen3 ≡ option_map (written (at + length a + length b) c) seen2 → seen3 ≡ option_map (written at ((a ++ b) ++ c)) seen0

@@ -1,5 +1,5 @@
 -- The disk and the log after each step of a rewrite.
-use Rattle.std.proofs.Common.{◌≡◌, inl, inr, ℕ, ◌+◌, ◌≤◌, max, Bool, true, false, not, List, [], ◌∷◌, ◌++◌, length, refl, sym, ◌∙◌, ap, subst, arith, length-append, Option, Some, None, IfSome}
+use Rattle.std.proofs.Common.{◌≡◌, inl, inr, ℕ, ◌+◌, ◌≤◌, max, Bool, not, List, [], ◌∷◌, ◌++◌, length, refl, sym, ◌∙◌, ap, subst, arith, length-append, Option, Some, None, IfSome}
 use Rattle.std.specs.Prelude.{option_map}
 use Rattle.std.proofs.lemmas.Option.{same_Some}
 use Rattle.dsc_outside.specs.Disk.{Each, Torn, From, Only, written}
@@ -52,11 +52,6 @@ put_holds from at long put body cell before after place is_cell is size there =
     let last : Holds (from + length (cells put)) (165 ∷ behind body) new = subst (λ (n : ℕ). Holds n (165 ∷ behind body) new) place (holds_first at (165 ∷ behind body) (0 ∷ []) new here) in
     subst (λ (l : List ℕ). Holds from l new) (sym (cells-push put body)) (holds_both from (cells put) (165 ∷ behind body) new front last)) (told_both _ _ before size there)
 
-pub put_long : (at long : ℕ) (body cell : List ℕ) (before after : Option (List ℕ)) → length cell ≡ length body + 6 → after ≡ option_map (written at cell) before → IfSome before (λ held. max long at ≡ length held)
-    → IfSome after (λ held. max (max long at) (at + 6 + length body) ≡ length held)
-put_long at long body cell before after size is long_before =
-    told_write _ _ (written at cell) before after is (λ held here. omega (arith, here, size, length-written at cell held (omega (arith, here)))) long_before
-
 pub cell_long : (body cell : List ℕ) → cell ≡ 165 ∷ (behind body ++ 0 ∷ []) → length cell ≡ length body + 6
 cell_long body cell is = omega (arith, ap length is, length-append (behind body) (0 ∷ []), length-behind body)
 
@@ -93,10 +88,6 @@ switched_long at long selector seen0 seen1 seen2 past size is1 is2 =
     told_write _ _ (written 7 (selector ∷ [])) seen1 seen2 is2 (λ held here. omega (arith, here, length-written 7 (selector ∷ []) held (omega (arith, here))))
     (told_write _ (λ held. max long (at + 1) ≡ length held) (written at (0 ∷ [])) seen0 seen1 is1 (λ held here. omega (arith, here, length-written at (0 ∷ []) held (omega (arith, here)))) size)
 
-pub seven_there : (at long : ℕ) (seen0 seen1 : Option (List ℕ)) → 8 ≤ at → IfSome seen0 (λ held. max long at ≡ length held) → seen1 ≡ option_map (written at (0 ∷ [])) seen0 → IfSome seen1 (λ held. 7 ≤ length held)
-seven_there at long seen0 seen1 past size is1 =
-    told_write _ _ (written at (0 ∷ [])) seen0 seen1 is1 (λ held here. omega (arith, here, length-written at (0 ∷ []) held (omega (arith, here)))) size
-
 -- ---- the log
 
 -- a log that was begun is of its disk, and nothing was put
@@ -113,10 +104,6 @@ pub put_place : (log : LogTerm) (at need : ℕ) → log.filled ≡ Some at → 5
 put_place log at need is some le =
     let there : need ≤ left_behind log.shape log.second (Some at) = subst (λ (o : Option ℕ). need ≤ left_behind log.shape log.second o) is le in
     omega (arith, there)
-
-pub begin_below : (shape : Shape) (second : Bool) → begin shape second ≤ 8 + shape.bank
-begin_below shape true = omega arith
-begin_below shape false = omega arith
 
 pub put_at : (seen : Option (List ℕ)) (log : LogTerm) (put : List (List ℕ)) (at : ℕ) → HasPut seen log put → log.filled ≡ Some at → at ≡ begin log.shape (not log.second) + length (cells put)
 put_at seen log put at has is = same_Some at _ (sym is ∙ has.filled)

@@ -46,8 +46,8 @@ pub(crate) fn append_cell<D: Disk>(
     write_cell(disk, closed, &buffer[..size])
 }
 
-/// Adds the cell of the body that stands in `head`, once its length is written there, and goes on with `tail`, after the closed
-/// gate at this place.
+/// Writes the length of the body into the first four bytes of `head`, and adds its cell after the closed gate at this place. The
+/// body is what stands in `head` after these bytes, and then `tail`.
 pub(crate) fn append_cell_in_place<D: Disk>(
     disk: &mut D,
     closed: u64,

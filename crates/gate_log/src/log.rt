@@ -103,8 +103,8 @@ impl Log {
         Ok(())
     }
 
-    /// Adds the body that stands in `head` after its first four bytes and goes on with `tail` to the live bank, as `append` does,
-    /// but without a copy of it: both pieces are written from where they lie.
+    /// Adds a body to the live bank, as `append` does, but without a copy of it. The body is what stands in `head` after its first
+    /// four bytes, and then `tail`; both are written from where they lie.
     ///
     /// Whatever the answer, the body's length stands in those four bytes afterwards, and the rest of `head` is as it was.
     pub fn append_in_place<D: Disk>(

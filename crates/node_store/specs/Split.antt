@@ -33,6 +33,6 @@ abbrev pub head_of : Event → List ℕ
 head_of (events.Stage staged) = 4 ∷ length (parts_of staged) ∷ front_of_parts (parts_of staged)
 head_of event = body_of_event event
 
--- a head as the log takes it: after four bytes, whose places it fills
+-- a head after four bytes, into which the log writes the length of the body
 abbrev pub after_room : List ℕ → List ℕ
 after_room head = 0 ∷ 0 ∷ 0 ∷ 0 ∷ head

@@ -35,5 +35,4 @@ pub use metas::read_node_meta;
 pub use opening::open_store;
 pub use reading::read_body;
 pub use reports::{NodeForm, put_report, read_report};
-pub use spelling::{put_base, put_head, put_kept, put_parts, put_slot, put_stage_byte, tail_of};
 pub use store::NodeStore;

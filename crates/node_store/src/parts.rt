@@ -57,7 +57,7 @@ pub(crate) fn put_front_of_parts(into: &mut Vec<u8>, parts: &[Part]) -> Result<(
     Ok(())
 }
 
-// A part, but for its document.
+// Appends a part, but for its document.
 fn put_front_of_part(into: &mut Vec<u8>, part: &Part) -> Result<(), Memory>
     requires { FitsPart part.now }
     ensures writes { Writes (front_of_part part.now) into.old into.new result }

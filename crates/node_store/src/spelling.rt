@@ -11,7 +11,7 @@ ghost use Rattle.node_state.specs.declared.piece.Piece.TheVariants as pieces;
 ghost use Rattle.report_log.specs.Sizes.{ReportInSize};
 ghost use Rattle.node_state.specs.Table.{IsWithin};
 ghost use Rattle.node_store.specs.Reports.{bytes_of_report, IsReport};
-ghost use Rattle.node_store.specs.Bodies.{base_body, body_of_event, body_of_piece, bytes_of_base, byte_of_stage, bytes_of_stage, BringsText, IsEventInRange, IsPieceInRange};
+ghost use Rattle.node_store.specs.Bodies.{base_body, body_of_piece, bytes_of_base, byte_of_stage, bytes_of_stage, BringsText, IsEventInRange, IsPieceInRange};
 ghost use Rattle.node_store.specs.Split.{after_room, front_of_parts, head_of, tail_of};
 
 use crate::parts::{last_document, put_front_of_parts};
@@ -24,7 +24,7 @@ use store_fields::{put_byte, put_bytes, put_flag, put_list, put_u64, put_u128};
 
 /// Appends the body of an event up to its tail ([`tail_of`]); the text is the canonical one of the meta-configuration that it brings,
 /// if it brings one.
-pub fn put_head(into: &mut Vec<u8>, event: &Event, text: &[u8]) -> Result<(), Memory>
+pub(crate) fn put_head(into: &mut Vec<u8>, event: &Event, text: &[u8]) -> Result<(), Memory>
     requires within { IsWithin event.now }
     requires text { BringsText event.now text.now }
     ensures writes { Writes (head_of event.now) into.old into.new result }
@@ -45,7 +45,7 @@ pub fn put_head(into: &mut Vec<u8>, event: &Event, text: &[u8]) -> Result<(), Me
     }
 }
 
-/// Appends the same after four bytes, in which the log writes the length of the body.
+/// Appends the same after four bytes, into which the log writes the length of the body.
 pub(crate) fn put_head_after_room(
     into: &mut Vec<u8>,
     event: &Event,
@@ -60,8 +60,8 @@ pub(crate) fn put_head_after_room(
     put_head(into, event, text)
 }
 
-/// What the body of the event ends with, as it lies there: of a Stage the document of its last part, else nothing.
-pub fn tail_of(event: &Event) -> &[u8]
+/// The document with which the body of a Stage ends, that of its last part; of another event nothing.
+pub(crate) fn tail_of(event: &Event) -> &[u8]
     ensures { result.now ≡ tail_of event.now }
 {
     match event {
@@ -120,7 +120,7 @@ fn put_removed(into: &mut Vec<u8>, stage: Stage) -> Result<(), Memory>
 }
 
 /// Appends the byte of a stage.
-pub fn put_stage_byte(into: &mut Vec<u8>, stage: Stage) -> Result<(), Memory>
+pub(crate) fn put_stage_byte(into: &mut Vec<u8>, stage: Stage) -> Result<(), Memory>
     ensures { Writes (bytes_of_stage stage) into.old into.new result }
 {
     put_byte(into, stage_byte(stage))
@@ -137,7 +137,7 @@ fn stage_byte(stage: Stage) -> u8
 }
 
 /// Appends a list of parts.
-pub fn put_parts(into: &mut Vec<u8>, parts: &[Part]) -> Result<(), Memory>
+pub(crate) fn put_parts(into: &mut Vec<u8>, parts: &[Part]) -> Result<(), Memory>
     requires { IsStaged parts.now }
     ensures writes { Writes (bytes_of_parts parts.now) into.old into.new result }
     ensures in_range { OnOk result (AreParts parts.now) }
@@ -146,7 +146,7 @@ pub fn put_parts(into: &mut Vec<u8>, parts: &[Part]) -> Result<(), Memory>
 }
 
 /// Appends the body of the piece that has all of a node but its parts and reports; the text is that of its meta-configuration.
-pub fn put_base(
+pub(crate) fn put_base(
     into: &mut Vec<u8>,
     agent: u128,
     registered: bool,
@@ -178,7 +178,7 @@ fn put_fields(
 }
 
 /// Appends the body of the piece that has the parts of a stage.
-pub fn put_slot(into: &mut Vec<u8>, stage: Stage, parts: &[Part]) -> Result<(), Memory>
+pub(crate) fn put_slot(into: &mut Vec<u8>, stage: Stage, parts: &[Part]) -> Result<(), Memory>
     requires staged { IsStaged parts.now }
     ensures writes { Writes (body_of_piece (pieces.Slot stage parts.now)) into.old into.new result }
     ensures in_range { OnOk result (IsPieceInRange (pieces.Slot stage parts.now)) }
@@ -189,7 +189,7 @@ pub fn put_slot(into: &mut Vec<u8>, stage: Stage, parts: &[Part]) -> Result<(), 
 }
 
 /// Appends the body of the piece that has a report.
-pub fn put_kept(into: &mut Vec<u8>, report: &Report, sent: bool) -> Result<(), Memory>
+pub(crate) fn put_kept(into: &mut Vec<u8>, report: &Report, sent: bool) -> Result<(), Memory>
     requires size { ReportInSize report.now }
     ensures writes { Writes (body_of_piece (pieces.Kept (record { report = report.now; sent = sent }))) into.old into.new result }
     ensures in_range { OnOk result (IsPieceInRange (pieces.Kept (record { report = report.now; sent = sent }))) }

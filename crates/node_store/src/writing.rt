@@ -48,7 +48,7 @@ pub fn write<D: Disk>(
     rewrite(log, disk, room, node, event, text)
 }
 
-// The head of the event's body takes the place of all that was in the room, as the log takes it.
+// Leaves in the room four bytes, which the log fills, and the head of the event's body.
 #[tactic(auto, using(crate::proofs::Split::head_small, crate::proofs::Split::head_size, crate::proofs::Sizes::event_long))]
 fn spell(room: &mut Vec<u8>, event: &Event, text: &[u8])
     requires within { IsWithin event.now }
