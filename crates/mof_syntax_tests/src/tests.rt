@@ -48,7 +48,7 @@ fn ample_memory_is_enough_for_each_size(rt: HostRuntime) -> Result<(), Fail> {
 
 // Each token as the letter of its kind, where it begins and where it ends; then where the walk ended.
 fn walked(rt: &impl AllocGlobal, text: &str) -> Result<String, Fail> {
-    if text.len() > 1000 {
+    if text::char_count(text) > 1000 {
         return Err("a text for a table is short".into());
     }
     let mut out = String::new(rt.alloc());

@@ -145,11 +145,12 @@ const GATES: &[(u8, &str)] = &[
     (0x57, "agent pending A job 1"),
 ];
 
-// What the next opening finds after a stop in the last but one call of a promotion, the write of the gate.
+// What the next opening finds after a stop in the last but one call of a promotion, the write of the gate. Before it are the writes
+// of the two pieces of the cell and of a closed gate, and a sync.
 fn after_gate(alloc: Global, byte: u8) -> Result<String, StoreError> {
     let (_, bytes) = run(alloc, "init A")?;
     let stop = DiskStop {
-        call: calls_of_opening(alloc, &bytes)?.saturating_add(2),
+        call: calls_of_opening(alloc, &bytes)?.saturating_add(4),
         part: DiskPart::Filled(byte),
     };
     let disk = MemoryDisk::of(bytes, Vec::new(alloc), Some(stop))?;
