@@ -6,6 +6,7 @@ use Rattle.std.specs.Global.{Vec}
 use Rattle.std.specs.HashMap.{HashMap, get}
 use Rattle.std.specs.declared.hash.BuildHasherDefault.{BuildHasherDefault}
 use Rattle.std.specs.declared.hash.FoldHasher.{FoldHasher}
+use Rattle.dsc_document.specs.declared.document.Document.{Document}
 use Rattle.dsc_document.specs.declared.document.Resource.{Resource}
 use Rattle.mof_values.specs.Fold.{fold_case}
 use Rattle.dsc_document.specs.Dependencies.{Means}
@@ -38,3 +39,7 @@ IsKept index name q = (fold : Vec ℕ) × (fold.items ≡ fold_case name) × (pl
 abbrev pub AreResolved : List Resource → List Resource → List (Vec ℕ) → Type 0
 AreResolved all resources depends =
     AllZip (λ resource places. AllZip (Means all) resource.depends places.items) resources depends
+
+-- the same of all resources of the document
+abbrev pub AreResolvedIn : Document → List (Vec ℕ) → Type 0
+AreResolvedIn document depends = AreResolved document.resources document.resources depends

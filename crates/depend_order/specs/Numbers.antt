@@ -25,5 +25,9 @@ numbers_in depends = sum_by vec_len depends
 abbrev pub IsOrderOfNumbers : List (Vec ℕ) → List ℕ → Type 0
 IsOrderOfNumbers depends order = IsOrder (length depends) (DependsOn (Lists depends)) order
 
+-- no list of all places is their order
+abbrev pub AreUnordered : List (Vec ℕ) → Type 0
+AreUnordered depends = (order : List ℕ) → IsOrderOfNumbers depends order → ⊥
+
 abbrev pub IsCycleOfNumbers : List (Vec ℕ) → List ℕ → Type 0
 IsCycleOfNumbers depends cycle = IsCycle (length depends) (Lists depends) cycle

@@ -7,7 +7,7 @@ use Rattle.depend_order.specs.declared.error.InOrderError.TheVariants.{Duplicate
 use Rattle.depend_order.specs.Documents.{IsCycleOfDocument}
 use Rattle.depend_order.specs.Repeats.{IsFirstRepeatedId}
 
--- the ids repeat, or they differ and one that is depended on is unknown. Lack of memory has no cause here
+-- the ids repeat, or they differ and one that is depended on is unknown. Out of memory has no cause here
 abbrev pub IsNameFault : Document → InOrderError → Type 0
 IsNameFault document (DuplicateId first second) = IsFirstRepeatedId document.resources first second
 IsNameFault document (DependsUnknown spot name) = HasDistinctIds document × IsFirstUnknownId document spot name

@@ -30,7 +30,7 @@ pub record IsFirstRepeatedId (resources : List Resource) (first second : Spot) :
   pub first_is : spot_at resources earlier ≡ Some first
   pub second_is : spot_at resources later ≡ Some second
 
--- the refusal names the first two resources with the same id, or is lack of memory
+-- the refusal names the first two resources with the same id, or is out of memory
 abbrev pub IsRepeatedId : List Resource → InOrderError → Type 0
 IsRepeatedId resources (DuplicateId first second) = IsFirstRepeatedId resources first second
 IsRepeatedId resources Memory = ⊤

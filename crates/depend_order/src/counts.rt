@@ -24,7 +24,8 @@ pub fn first_ready<L: Ledger>(
     steps: &mut Steps<L>,
 ) -> Result<BinaryHeap<Reverse<u32>>, AllocError>
     requires few { length waiting.now < 2 ^ 32 }
-    ensures ready { IfOk result (λ ready. IsReadied waiting.now [] (map (λ x. x.0) (heap_items ready))) }
+    ensures ready { IfOk result (λ ready.
+        IsReadied waiting.now [] (map (λ x. x.0) (heap_items ready))) }
     ensures heap { IfOk result (λ ready. IsHeap (λ x y. nat_cmp y.0 x.0) (heap_items ready)) }
     ensures steps { steps.new ≤ steps.old + zeros waiting.now }
 {
@@ -49,11 +50,14 @@ pub fn release<L: Ledger>(
     requires enough { (r : ℕ) → times r dependents.now ≤ slice_index waiting.old r }
     requires heap { IsHeap (λ x y. nat_cmp y.0 x.0) (heap_items ready.old) }
     ensures len { length waiting.new ≡ length waiting.old }
-    ensures lowered { OnOk result ((r : ℕ) → slice_index waiting.new r + times r dependents.now ≡ slice_index waiting.old r) }
-    ensures ready { OnOk result ((r : ℕ) → times r (map (λ x. x.0) (heap_items ready.new)) + none_left (slice_index waiting.old r)
+    ensures lowered { OnOk result ((r : ℕ)
+        → slice_index waiting.new r + times r dependents.now ≡ slice_index waiting.old r) }
+    ensures ready { OnOk result ((r : ℕ)
+        → times r (map (λ x. x.0) (heap_items ready.new)) + none_left (slice_index waiting.old r)
         ≡ times r (map (λ x. x.0) (heap_items ready.old)) + none_left (slice_index waiting.new r)) }
     ensures heap { OnOk result (IsHeap (λ x y. nat_cmp y.0 x.0) (heap_items ready.new)) }
-    ensures steps { steps.new + sum waiting.new + zeros waiting.old ≤ steps.old + sum waiting.old + zeros waiting.new }
+    ensures steps { steps.new + sum waiting.new + zeros waiting.old
+        ≤ steps.old + sum waiting.old + zeros waiting.new }
 {
     for dependent in dependents {
         let left = waiting[*dependent as usize] - 1;
@@ -73,7 +77,8 @@ pub fn first_waiting(waiting: &[usize]) -> Option<u32>
     ensures found { IfSome result (λ r. r < length waiting.now) }
     ensures waits { IfSome result (λ r. 0 < slice_index waiting.now r) }
     ensures least { IfSome result (λ r. (s : ℕ) → s < r → slice_index waiting.now s ≡ 0) }
-    ensures none { IfNone result ((r : ℕ) → r < length waiting.now → slice_index waiting.now r ≡ 0) }
+    ensures none { IfNone result ((r : ℕ) → r < length waiting.now
+        → slice_index waiting.now r ≡ 0) }
 {
     for (place, left) in waiting.iter().enumerate() {
         if *left != 0 {

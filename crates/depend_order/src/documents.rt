@@ -1,8 +1,8 @@
 //! The order of the resources of a document.
-ghost use Rattle.std.specs.Prelude.{◌≡◌, ◌+◌, ◌*◌, ◌<◌, ◌≤◌, ◌^◌, ℕ, List, IfOk, length};
+ghost use Rattle.std.specs.Prelude.{◌≡◌, ◌+◌, ◌<◌, ◌≤◌, ◌^◌, IfOk, length};
 ghost use Rattle.depend_order.specs.Answers.{IfCycle, OnCycle};
 ghost use Rattle.dsc_document.specs.Dependencies.{HasDistinctIds, NamesResources};
-ghost use Rattle.depend_order.specs.Documents.{AreDependencies, IsCycleOfDocument, IsOrderOfDocument, names_in};
+ghost use Rattle.depend_order.specs.Documents.{AreDependencies, IsCycleOfDocument, IsOrderOfDocument, IsUnordered, steps_of_order};
 
 use crate::names::known_places;
 use crate::numbers::order_of_counted;
@@ -23,7 +23,7 @@ pub fn order(alloc: Global, document: &Document) -> Result<Vec<u32>, OrderError>
     requires distinct { HasDistinctIds document.now }
     ensures order { IfOk result (λ order. IsOrderOfDocument document.now order.items) }
     ensures cycle { IfCycle result (IsCycleOfDocument document.now) }
-    ensures no_order { OnCycle result ((order : List ℕ) → IsOrderOfDocument document.now order → ⊥) }
+    ensures no_order { OnCycle result (IsUnordered document.now) }
 {
     order_uncounted::<Brand>(alloc, document, Blank::new(1))
 }
@@ -42,7 +42,7 @@ fn order_uncounted<L: Ledger>(
     requires distinct { HasDistinctIds document.now }
     ensures order { IfOk result (λ order. IsOrderOfDocument document.now order.items) }
     ensures cycle { IfCycle result (IsCycleOfDocument document.now) }
-    ensures no_order { OnCycle result ((order : List ℕ) → IsOrderOfDocument document.now order → ⊥) }
+    ensures no_order { OnCycle result (IsUnordered document.now) }
 {
     let mut steps = Steps::<L>::new(blank);
     order_counted(alloc, document, &mut steps)
@@ -62,8 +62,8 @@ pub fn order_counted<L: Ledger>(
     requires distinct { HasDistinctIds document.now }
     ensures order { IfOk result (λ order. IsOrderOfDocument document.now order.items) }
     ensures cycle { IfCycle result (IsCycleOfDocument document.now) }
-    ensures no_order { OnCycle result ((order : List ℕ) → IsOrderOfDocument document.now order → ⊥) }
-    ensures steps { steps.new ≤ steps.old + (3 * length document.now.resources + 2 * names_in document.now.resources) }
+    ensures no_order { OnCycle result (IsUnordered document.now) }
+    ensures steps { steps.new ≤ steps.old + steps_of_order document.now }
 {
     let depends = known_places(alloc, document, steps)?;
     order_of_counted(alloc, &depends, steps)

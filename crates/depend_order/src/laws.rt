@@ -14,7 +14,8 @@ pub fn order_laws(document: &Document)
     ensures one_cycle { AtMostOneCycle (length document.now.resources) (Names document.now) }
     ensures never_both { NeverBoth (length document.now.resources) (Names document.now) }
     ensures closed { CyclesAreClosed (length document.now.resources) (Names document.now) }
-    ensures exists { NamesResources document.now → OrderOrCycle (length document.now.resources) (Names document.now) }
+    ensures exists { NamesResources document.now
+        → OrderOrCycle (length document.now.resources) (Names document.now) }
 {}
 
 /// Places whose dependencies are numbers have at most one order or one cycle, and never both; where each number is a place
@@ -24,5 +25,6 @@ pub fn order_of_laws(depends: &[Vec<u32>])
     ensures one_cycle { AtMostOneCycle (length depends.now) (Lists depends.now) }
     ensures never_both { NeverBoth (length depends.now) (Lists depends.now) }
     ensures closed { CyclesAreClosed (length depends.now) (Lists depends.now) }
-    ensures exists { AreBelow (length depends.now) depends.now → OrderOrCycle (length depends.now) (Lists depends.now) }
+    ensures exists { AreBelow (length depends.now) depends.now
+        → OrderOrCycle (length depends.now) (Lists depends.now) }
 {}

@@ -3,8 +3,8 @@ ghost use Rattle.std.specs.Prelude.{◌≡◌, ◌+◌, ◌<◌, ◌≤◌, ◌^
 ghost use Rattle.std.specs.List.{AllZip};
 ghost use Rattle.mof_values.specs.Fold.{SameName, fold_case};
 ghost use Rattle.dsc_document.specs.Dependencies.{HasDistinctIds, NamesResources};
-ghost use Rattle.depend_order.specs.Documents.{names_in};
-ghost use Rattle.depend_order.specs.Index.{IsIndex, IsKnown, IsKept, AreResolved};
+ghost use Rattle.depend_order.specs.Documents.{steps_of_names};
+ghost use Rattle.depend_order.specs.Index.{IsIndex, IsKnown, IsKept, AreResolvedIn};
 ghost use Rattle.depend_order.specs.Refused.{IsNameFault};
 ghost use Rattle.depend_order.specs.Repeats.{IsRepeatedId, spot_of};
 
@@ -19,7 +19,7 @@ use std::sync::ledger::{Blank, Ledger};
 /// For each resource the places of the resources that the names in its DependsOn mean, in their order.
 pub fn places_of_names(alloc: Global, document: &Document) -> Result<Vec<Vec<u32>>, InOrderError>
     requires few { length document.now.resources < 2 ^ 32 }
-    ensures places { IfOk result (λ depends. AreResolved document.now.resources document.now.resources depends.items) }
+    ensures places { IfOk result (λ depends. AreResolvedIn document.now depends.items) }
     ensures distinct { IfOk result (λ _. HasDistinctIds document.now) }
     ensures refused { IfErr result (IsNameFault document.now) }
 {
@@ -36,7 +36,7 @@ fn places_uncounted<L: Ledger>(
     requires parts { blank.parts ≡ L.parts }
     requires some { 0 < blank.parts }
     requires few { length document.now.resources < 2 ^ 32 }
-    ensures places { IfOk result (λ depends. AreResolved document.now.resources document.now.resources depends.items) }
+    ensures places { IfOk result (λ depends. AreResolvedIn document.now depends.items) }
     ensures distinct { IfOk result (λ _. HasDistinctIds document.now) }
     ensures refused { IfErr result (IsNameFault document.now) }
 {
@@ -52,10 +52,10 @@ pub fn places_counted<L: Ledger>(
     steps: &mut Steps<L>,
 ) -> Result<Vec<Vec<u32>>, InOrderError>
     requires few { length document.now.resources < 2 ^ 32 }
-    ensures places { IfOk result (λ depends. AreResolved document.now.resources document.now.resources depends.items) }
+    ensures places { IfOk result (λ depends. AreResolvedIn document.now depends.items) }
     ensures distinct { IfOk result (λ _. HasDistinctIds document.now) }
     ensures refused { IfErr result (IsNameFault document.now) }
-    ensures steps { steps.new ≤ steps.old + (length document.now.resources + names_in document.now.resources) }
+    ensures steps { steps.new ≤ steps.old + steps_of_names document.now }
 {
     let resources = document.resources.as_slice();
     let index = index_of(alloc, resources, steps)?;
@@ -83,8 +83,8 @@ pub fn known_places<L: Ledger>(
     requires few { length document.now.resources < 2 ^ 32 }
     requires known { NamesResources document.now }
     requires distinct { HasDistinctIds document.now }
-    ensures places { IfOk result (λ depends. AreResolved document.now.resources document.now.resources depends.items) }
-    ensures steps { steps.new ≤ steps.old + (length document.now.resources + names_in document.now.resources) }
+    ensures places { IfOk result (λ depends. AreResolvedIn document.now depends.items) }
+    ensures steps { steps.new ≤ steps.old + steps_of_names document.now }
 {
     match places_counted(alloc, document, steps) {
         Ok(places) => Ok(places),

@@ -1,7 +1,7 @@
 //! The order of places whose dependencies are numbers.
-ghost use Rattle.std.specs.Prelude.{◌≡◌, ◌+◌, ◌*◌, ◌<◌, ◌≤◌, ◌^◌, ℕ, List, IfOk, length};
+ghost use Rattle.std.specs.Prelude.{◌≡◌, ◌+◌, ◌*◌, ◌<◌, ◌≤◌, ◌^◌, IfOk, length};
 ghost use Rattle.depend_order.specs.Answers.{IfCycle, OnCycle};
-ghost use Rattle.depend_order.specs.Numbers.{AreBelow, IsCycleOfNumbers, IsOrderOfNumbers, numbers_in};
+ghost use Rattle.depend_order.specs.Numbers.{AreBelow, AreUnordered, IsCycleOfNumbers, IsOrderOfNumbers, numbers_in};
 
 use crate::counts::{counts_of, first_ready, first_waiting, release};
 use crate::dependents::dependents_of;
@@ -22,7 +22,7 @@ pub fn order_of(alloc: Global, depends: &[Vec<u32>]) -> Result<Vec<u32>, OrderEr
     requires below { AreBelow (length depends.now) depends.now }
     ensures order { IfOk result (λ order. IsOrderOfNumbers depends.now order.items) }
     ensures cycle { IfCycle result (IsCycleOfNumbers depends.now) }
-    ensures no_order { OnCycle result ((order : List ℕ) → IsOrderOfNumbers depends.now order → ⊥) }
+    ensures no_order { OnCycle result (AreUnordered depends.now) }
 {
     order_of_uncounted::<Brand>(alloc, depends, Blank::new(1))
 }
@@ -40,7 +40,7 @@ fn order_of_uncounted<L: Ledger>(
     requires below { AreBelow (length depends.now) depends.now }
     ensures order { IfOk result (λ order. IsOrderOfNumbers depends.now order.items) }
     ensures cycle { IfCycle result (IsCycleOfNumbers depends.now) }
-    ensures no_order { OnCycle result ((order : List ℕ) → IsOrderOfNumbers depends.now order → ⊥) }
+    ensures no_order { OnCycle result (AreUnordered depends.now) }
 {
     let mut steps = Steps::<L>::new(blank);
     order_of_counted(alloc, depends, &mut steps)
@@ -56,7 +56,7 @@ pub fn order_of_counted<L: Ledger>(
     requires below { AreBelow (length depends.now) depends.now }
     ensures order { IfOk result (λ order. IsOrderOfNumbers depends.now order.items) }
     ensures cycle { IfCycle result (IsCycleOfNumbers depends.now) }
-    ensures no_order { OnCycle result ((order : List ℕ) → IsOrderOfNumbers depends.now order → ⊥) }
+    ensures no_order { OnCycle result (AreUnordered depends.now) }
     ensures steps { steps.new ≤ steps.old + (2 * length depends.now + numbers_in depends.now) }
 {
     let dependents = dependents_of(alloc, depends)?;

@@ -29,10 +29,7 @@ pub fn in_order(alloc: Global, document: Document) -> Result<OrderedDocument, In
     ensures ordered { IfOk result IsOrdered }
     ensures refused { IfErr result (HasNoOrder document) }
 {
-    let depends = match places_of_names(alloc, &document) {
-        Ok(depends) => depends,
-        Err(error) => return Err(error),
-    };
+    let depends = places_of_names(alloc, &document)?;
     match order_of(alloc, &depends) {
         Ok(order) => Ok(OrderedDocument {
             document,

@@ -21,7 +21,7 @@ use Rattle.mof_codec.specs.Beginnings.{begins_identifier, begins_scalar}
 use Rattle.mof_codec.specs.Counting.{WereWithin, declarations_in, elements_in, properties_in}
 use Rattle.mof_codec.specs.Machine.{step}
 use Rattle.mof_codec.specs.Searching.{BeginsExcessInteger}
-use Rattle.mof_codec.specs.Values.{behind_sign, is_negative, signed}
+use Rattle.mof_codec.specs.Values.{sign_rest, is_negative, signed}
 use Rattle.mof_codec.specs.Walked.{Behind, moved, start, tally, walk_from, walked}
 use Rattle.mof_codec.proofs.Answered.{reads_no_fault, reads_not_long}
 use Rattle.mof_codec.proofs.Excess.{too_many_told}
@@ -47,18 +47,18 @@ first_fits cs ts t rest (token us u r vs other l) all is = subst TokenFits (toke
 
 module _ (cs : List ℕ) (e : BeginsExcessInteger cs) where
   abbrev value_there : ℕ
-  value_there = magnitude_value (behind_sign cs)
+  value_there = magnitude_value (sign_rest cs)
 
   out_of_range : IsInRange (signed (is_negative cs) value_there) → ⊥
-  out_of_range within = excess_outside cs (behind_sign cs) refl (is_negative cs) refl value_there (inl refl) e within
+  out_of_range within = excess_outside cs (sign_rest cs) refl (is_negative cs) refl value_there (inl refl) e within
 
   -- an integer out of range is no token that fits
   no_excess_integer : (ts : List Lexeme) → Lexes cs ts → AllByRecursion TokenFits ts → ⊥
   no_excess_integer ts l all =
-      let read = excess_reads cs (behind_sign cs) refl (is_negative cs) refl value_there (inl refl) e in
-      let m = read-magnitude (behind_sign cs) e.rest read in
+      let read = excess_reads cs (sign_rest cs) refl (is_negative cs) refl value_there (inl refl) e in
+      let m = read-magnitude (sign_rest cs) e.rest read in
       let fits : IsInRange (signed (is_negative cs) m.0) = first_fits cs ts (Number (signed (is_negative cs) m.0)) e.rest l all (signed_number cs m.0 e.rest m.1 m.2) in
-      out_of_range (subst (λ (n : ℕ). IsInRange (signed (is_negative cs) n)) (sym (magnitude_is (behind_sign cs) m.0 e.rest m.1 m.2)) fits)
+      out_of_range (subst (λ (n : ℕ). IsInRange (signed (is_negative cs) n)) (sym (magnitude_is (sign_rest cs) m.0 e.rest m.1 m.2)) fits)
 
 -- two identifiers at the front of characters are one
 same_identifier : (cs a b rest other : List ℕ) → Identifier cs a rest → Identifier cs b other → a ≡ b

@@ -48,7 +48,7 @@ module _ (instances : List Instance) where
     none_before : (index : ℕ) → IsLeast (λ k. HasAt instances k Has) index → (k : ℕ) → StandsBefore (k, 0) (index, 0) → HasAt instances k Has → ⊥
     none_before index is k before has = is.least k (earlier k index before) has
 
-  -- lack of memory never applies
+  -- out of memory never applies
   pub memory : Tested 0
   memory = inl none
     where

@@ -14,12 +14,12 @@ use Rattle.partial_merge.specs.declared.error.MergeError.TheVariants.{Memory}
 use Rattle.partial_merge.specs.Merged.{Merged}
 use Rattle.partial_merge.specs.Refused.{IsUnspelled, Refused}
 
--- all bytes are read as instances, or nothing is read of them and they are refused, not for lack of memory
+-- all bytes are read as instances, or nothing is read of them and they are refused, and not for memory
 abbrev pub BytesHaveOneKindOfAnswer : Type 0
 BytesHaveOneKindOfAnswer =
     (bytes : List ℕ) → ((instances : List Instance) × Reads bytes instances) ⊎ ((refusal : MofError) × IsUnspelled bytes refusal)
 
--- to characters that spell instances no refusal applies, and bytes that are read are not refused, but for lack of memory
+-- to characters that spell instances no refusal applies, and bytes that are read are not refused, out of memory aside
 pub record WhatIsReadIsNotRefused : Type 0 where
   pub characters : (chars : List ℕ) (instances : List Instance) (refusal : MofError) → Spells chars instances → Applies chars refusal → ⊥
   pub bytes : (bytes : List ℕ) (instances : List Instance) (refusal : MofError) → refusal ≢ mof.Memory → Reads bytes instances → Refuses bytes refusal → ⊥
@@ -34,7 +34,7 @@ abbrev pub DocumentsHaveAnAnswer : Type 0
 DocumentsHaveAnAnswer =
     (instances : List Instance) → Rules instances (document_of instances) ⊎ ((refusal : DocError) × IsRefusal instances refusal)
 
--- the parts are merged to a document, or are refused, not for lack of memory
+-- the parts are merged to a document, or are refused, and not for memory
 abbrev pub MergedOrRefused : List Part → Type 0
 MergedOrRefused parts =
     ((document : Document) × Merged parts document) ⊎ ((refusal : MergeError) × (refusal ≢ Memory) × Refused parts refusal)

@@ -1,5 +1,5 @@
 -- What a declaration says: the header, a resource, or another instance. Names compare by fold.
-use Rattle.std.specs.Prelude.{◌≡◌, ◌≢◌, ℕ, Bool, true, not, ◌&&◌, if◌then◌else◌, List, [], ◌∷◌, ◌++◌, take, ◌==◌, IsTrue, Option, None, is_some, option_and_then, unwrap_or, filter_map, codes}
+use Rattle.std.specs.Prelude.{◌≡◌, ◌≢◌, ℕ, Bool, true, not, ◌&&◌, if◌then◌else◌, List, [], ◌++◌, take, ◌==◌, IsTrue, Option, None, is_some, option_and_then, unwrap_or, filter_map, codes}
 use Rattle.std.specs.List.{list_all}
 use Rattle.std.specs.Option.{option_map_or}
 use Rattle.mof_values.specs.declared.instance.Instance.{Instance}
@@ -17,7 +17,7 @@ use Rattle.mof_values.specs.Values.{text_of, text_of_scalar, text_named, scalars
 abbrev pub is_header : Instance → Bool
 is_header instance = same_name instance.class (codes "OMI_ConfigurationDocument")
 
--- the first 64 characters of its Version, where that is a single text
+-- the first MAX_VERSION characters of its Version, where that is a single text
 abbrev pub version_of : Instance → List ℕ
 version_of header = take MAX_VERSION (unwrap_or (text_named (codes "Version") header) [])
 
@@ -61,6 +61,10 @@ depends_value instance = if is_resource instance then value_named (codes "Depend
 abbrev pub is_text : Scalar → Bool
 is_text scalar = is_some (text_of_scalar scalar)
 
+-- the texts among scalars
+abbrev pub texts_of : List Scalar → List (List ℕ)
+texts_of scalars = filter_map text_of_scalar scalars
+
 -- null, a text or an array of texts
 abbrev pub is_list_of_texts : Value → Bool
 is_list_of_texts (One scalars.Null) = true
@@ -69,4 +73,4 @@ is_list_of_texts (Many many) = list_all is_text many
 
 -- the ids that a resource depends on
 abbrev pub depends_of : Instance → List (List ℕ)
-depends_of instance = option_map_or (λ value. filter_map text_of_scalar (scalars_of value)) (depends_value instance) []
+depends_of instance = option_map_or (λ value. texts_of (scalars_of value)) (depends_value instance) []

@@ -1,5 +1,5 @@
 -- The places of names that compare by fold.
-use Rattle.std.specs.Prelude.{◌≡◌, ◌↔◌, ℕ, List, Option, Some, None, IsTrue, is_some}
+use Rattle.std.specs.Prelude.{◌≡◌, ◌↔◌, ℕ, List, Option, Some, None, option_and_then, IsTrue, is_some}
 use Rattle.std.specs.BTreeMap.{get_by}
 use Rattle.std.specs.Cmp.Lexicographic.{slice_cmp}
 use Rattle.std.specs.Ordering.{nat_cmp}
@@ -10,6 +10,10 @@ use Rattle.dsc_document.specs.declared.places.Places.{Places}
 -- the place that is kept for a name
 unfoldable pub place_of : Places → List ℕ → Option ℕ
 place_of places name = get_by (λ kept. slice_cmp nat_cmp (fold_case name) kept.items) places.by_fold
+
+-- the place of a name, where there is a name
+abbrev pub place_of_any : Places → Option (List ℕ) → Option ℕ
+place_of_any places name = option_and_then (place_of places) name
 
 -- only this name's place has changed
 pub record Puts (old new : Places) (name : List ℕ) (place : ℕ) : Type 0 where

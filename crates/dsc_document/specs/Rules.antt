@@ -1,5 +1,5 @@
 -- The rules of documents, and which refusal wins where some are broken.
-use Rattle.std.specs.Prelude.{◌≡◌, ◌⊎◌, ℕ, ◌<◌, ◌≤◌, false, IsTrue, List, [], ◌∷◌, ◌++◌, All, Contains, Option, Some, IsSomeAnd, slice_get, option_map, option_and_then, find, filter, filter_map}
+use Rattle.std.specs.Prelude.{◌≡◌, ◌≢◌, ◌⊎◌, ℕ, ◌<◌, ◌≤◌, false, IsTrue, List, [], ◌∷◌, ◌++◌, All, Contains, Option, Some, IsSomeAnd, slice_get, option_map, option_and_then, find, filter, filter_map}
 use Rattle.std.specs.List.{enumerate_from}
 use Rattle.std.specs.Option.{option_map_or}
 use Rattle.mof_values.specs.declared.instance.Instance.{Instance}
@@ -140,6 +140,14 @@ WinsOver a b = (rule_of a < rule_of b) ⊎ ((rule_of a ≡ rule_of b) × StandsB
 pub record IsRefusal (instances : List Instance) (refusal : DocError) : Type 0 where
   pub applies : Applies instances refusal
   pub wins : (other : DocError) → WinsOver other refusal → Applies instances other → ⊥
+
+-- the instances are refused so: the refusal wins, or memory ran out
+abbrev pub RefusedBy : List Instance → DocError → Type 0
+RefusedBy instances refusal = refusal ≢ Memory → IsRefusal instances refusal
+
+-- at most one refusal wins
+abbrev pub OneRefusalWins : List Instance → Type 0
+OneRefusalWins instances = (a b : DocError) → IsRefusal instances a → IsRefusal instances b → a ≡ b
 
 -- ---- documents
 

@@ -38,12 +38,16 @@ IsHeaderAt instances index = HasAt instances index (λ i. IsTrue (is_header i))
 
 -- the first header at a place or after it
 pub record IsNextHeader (instances : List Instance) (from index : ℕ) : Type 0 where
-  pub behind : from ≤ index
+  pub not_before : from ≤ index
   pub header : IsHeaderAt instances index
   pub first : (k : ℕ) → from ≤ k → k < index → IsHeaderAt instances k → ⊥
+
+-- each of the names has a place
+abbrev pub ArePlaced : Places → List (List ℕ) → Type 0
+ArePlaced places names = All (λ n. IsTrue (is_some (place_of places n))) names
 
 -- the first of the names that has no place
 abbrev pub IsFirstUnplaced : Places → List (List ℕ) → List ℕ → Type 0
 IsFirstUnplaced places names name =
     (known : List (List ℕ)) × (rest : List (List ℕ)) × (names ≡ known ++ name ∷ rest)
-    × All (λ n. IsTrue (is_some (place_of places n))) known × (place_of places name ≡ None)
+    × ArePlaced places known × (place_of places name ≡ None)

@@ -54,7 +54,8 @@ pub fn check_aliases(instances: &[Instance], aliases: &Places) -> Result<(), Doc
 }
 
 fn names_no_alias(instance: &Instance, aliases: &Places) -> Result<bool, AllocError>
-    ensures { IfOk result (λ yes. IsTrue yes ↔ Any (λ p. HoldsUnplaced aliases.now (scalars_of p.value)) instance.now.properties) }
+    ensures { IfOk result (λ yes. IsTrue yes
+        ↔ Any (λ p. HoldsUnplaced aliases.now (scalars_of p.value)) instance.now.properties) }
 {
     for property in instance.properties.as_slice() {
         if is_unknown_alias(property.value.scalars(), aliases)? {

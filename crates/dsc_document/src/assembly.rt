@@ -36,8 +36,10 @@ fn put(
     resources: &mut Vec<Resource>,
     others: &mut Vec<Instance>,
 ) -> Result<(), AllocError>
-    ensures resources { OnOk result (resources.new.items ≡ resources.old.items ++ option_to_list (resource_at (index, instance))) }
-    ensures others { OnOk result (others.new.items ≡ others.old.items ++ filter is_other (instance ∷ [])) }
+    ensures resources { OnOk result
+        (resources.new.items ≡ resources.old.items ++ option_to_list (resource_at (index, instance))) }
+    ensures others { OnOk result
+        (others.new.items ≡ others.old.items ++ filter is_other (instance ∷ [])) }
 {
     if let Some(id) = id_of(&instance) {
         let id = id.clone()?;

@@ -14,7 +14,7 @@ pub fn is_header(instance: &Instance) -> bool
     instance.class.is_named("OMI_ConfigurationDocument")
 }
 
-/// The first 64 characters of the Version of a header, where that is a single text.
+/// The first [`MAX_VERSION`] characters of the Version of a header, where that is a single text.
 pub fn version_of(alloc: Global, header: &Instance) -> Result<Text, AllocError>
     ensures { IfOk result (λ version. version ≡ version_of header.now) }
 {
@@ -31,7 +31,7 @@ fn version_chars<'a>(header: &'a Instance) -> &'a [char]
     }
 }
 
-/// The first characters, at most so many.
+/// The first characters, at most `count` of them.
 pub fn front(chars: &[char], count: usize) -> &[char]
     ensures { result.now ≡ take count chars.now }
 {

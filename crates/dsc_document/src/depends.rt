@@ -1,11 +1,11 @@
 //! What resources depend on.
-ghost use Rattle.std.specs.Prelude.{◌≡◌, ◌<◌, ◌^◌, ◌↔◌, ◌++◌, All, length, IsTrue, IfOk, OnOk, MatchOption, filter_map, is_some, option_to_list};
+ghost use Rattle.std.specs.Prelude.{◌≡◌, ◌<◌, ◌^◌, ◌↔◌, ◌++◌, length, IsTrue, IfOk, OnOk, MatchOption, option_to_list};
 ghost use Rattle.std.specs.List.{list_all};
 ghost use Rattle.mof_values.specs.Values.{text_of_scalar};
-ghost use Rattle.dsc_document.specs.Declarations.{depends_of, is_list_of_texts, is_text};
-ghost use Rattle.dsc_document.specs.Places.{HoldsNames, place_of};
+ghost use Rattle.dsc_document.specs.Declarations.{depends_of, is_list_of_texts, is_text, texts_of};
+ghost use Rattle.dsc_document.specs.Places.{HoldsNames};
 ghost use Rattle.dsc_document.specs.Rules.{HasBadDependsOn, id_at, texts_to_depend_on, known_dependencies};
-ghost use Rattle.dsc_document.specs.Tests.{Tests, IsFirstUnplaced};
+ghost use Rattle.dsc_document.specs.Tests.{Tests, ArePlaced, IsFirstUnplaced};
 
 use crate::DocError;
 use crate::declarations::depends_value;
@@ -78,7 +78,9 @@ pub fn check_known(instances: &[Instance], ids: &Places) -> Result<(), DocError>
 
 // The first text of the scalars that has no place.
 fn first_unknown<'a>(scalars: &'a [Scalar], ids: &Places) -> Result<Option<&'a Text>, AllocError>
-    ensures { IfOk result (λ unknown. MatchOption unknown (All (λ name. IsTrue (is_some (place_of ids.now name))) (filter_map text_of_scalar scalars.now)) (λ name. IsFirstUnplaced ids.now (filter_map text_of_scalar scalars.now) name.now)) }
+    ensures { IfOk result (λ unknown. MatchOption unknown
+        (ArePlaced ids.now (texts_of scalars.now))
+        (λ name. IsFirstUnplaced ids.now (texts_of scalars.now) name.now)) }
 {
     let mut left = scalars;
     while let [scalar, rest @ ..] = left {
@@ -104,7 +106,8 @@ pub fn depends_of(alloc: Global, instance: &Instance) -> Result<Vec<Text>, Alloc
 }
 
 fn push_text(names: &mut Vec<Text>, scalar: &Scalar) -> Result<(), AllocError>
-    ensures { OnOk result (names.new.items ≡ names.old.items ++ option_to_list (text_of_scalar scalar.now)) }
+    ensures { OnOk result
+        (names.new.items ≡ names.old.items ++ option_to_list (text_of_scalar scalar.now)) }
 {
     if let Scalar::Text(name) = scalar {
         names.push(name.copy()?)?;
@@ -114,7 +117,7 @@ fn push_text(names: &mut Vec<Text>, scalar: &Scalar) -> Result<(), AllocError>
 
 // The scalars of the DependsOn, where there is one.
 fn depends_scalars<'a>(instance: &'a Instance) -> &'a [Scalar]
-    ensures { filter_map text_of_scalar result.now ≡ depends_of instance.now }
+    ensures { texts_of result.now ≡ depends_of instance.now }
 {
     match depends_value(instance) {
         Some(value) => value.scalars(),

@@ -22,7 +22,7 @@ pub struct Resource {
 /// What one or several configuration documents ask of a machine.
 #[derive(Debug, Drop)]
 pub struct Document {
-    /// The first 64 characters of the header's Version, where that is a text.
+    /// The first [`MAX_VERSION`](crate::MAX_VERSION) characters of the header's Version, where that is a text.
     pub version: Text,
 
     pub resources: Items<Resource>,

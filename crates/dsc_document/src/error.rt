@@ -23,7 +23,7 @@ pub enum DocError {
     NoHeader,
     TwoHeaders { first: u32, second: u32 },
 
-    /// The ResourceID is no text of at most 256 bytes in the form `[kind]name`.
+    /// The ResourceID is no text of at most [`MAX_ID`](crate::MAX_ID) bytes in the form `[kind]name`.
     BadResourceId { index: u32 },
 
     DuplicateId { first: u32, second: u32 },

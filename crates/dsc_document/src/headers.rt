@@ -1,4 +1,4 @@
-//! There is one header.
+//! Checks that there is one header.
 ghost use Rattle.std.specs.Prelude.{◌≡◌, ◌+◌, ◌<◌, ◌≤◌, ◌^◌, ℕ, length, IfOk, MatchOption};
 ghost use Rattle.dsc_document.specs.Rules.{some_header, one_header};
 ghost use Rattle.dsc_document.specs.Tests.{Tests, IsHeaderAt, IsNextHeader};
@@ -37,7 +37,8 @@ pub fn check_one_header(instances: &[Instance], first: usize) -> Result<(), DocE
 // The place of the first header at `from` or after it.
 fn header_from(instances: &[Instance], from: usize) -> Option<usize>
     requires { from ≤ length instances.now }
-    ensures { MatchOption result ((k : ℕ) → from ≤ k → IsHeaderAt instances.now k → ⊥) (IsNextHeader instances.now from) }
+    ensures { MatchOption result ((k : ℕ) → from ≤ k → IsHeaderAt instances.now k → ⊥)
+        (IsNextHeader instances.now from) }
 {
     for index in from..instances.len() {
         if is_header(&instances[index]) {

@@ -55,7 +55,7 @@ fn has_kind_and_name(chars: &[char]) -> bool
     ensures { IsTrue result ↔ HasKindAndName chars.now }
 {
     match chars {
-        ['[', behind @ ..] => ends_kind(behind),
+        ['[', rest @ ..] => ends_kind(rest),
         _ => false,
     }
 }

@@ -1,7 +1,7 @@
 //! The limits of documents.
 
 /// The most resources of a document.
-pub const MAX_RESOURCES: usize = 4096;
+pub const MAX_RESOURCES: usize = 4_096;
 
 /// The most bytes of a resource's id in UTF-8.
 pub const MAX_ID: usize = 256;

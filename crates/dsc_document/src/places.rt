@@ -1,7 +1,7 @@
 //! The places of names that compare by fold.
-ghost use Rattle.std.specs.Prelude.{◌≡◌, ℕ, List, IfOk, OnOk, option_copied, option_and_then};
+ghost use Rattle.std.specs.Prelude.{◌≡◌, ℕ, List, IfOk, OnOk, option_copied};
 ghost use Rattle.mof_values.specs.Fold.{fold_case};
-ghost use Rattle.dsc_document.specs.Places.{place_of, Puts, PutsIfAny};
+ghost use Rattle.dsc_document.specs.Places.{place_of, place_of_any, Puts, PutsIfAny};
 
 use std::alloc::{AllocError, Global};
 use std::collections::BTreeMap;
@@ -24,7 +24,7 @@ impl Places {
         }
     }
 
-    /// Gives the name this place, and returns the one that it had. After a refusal of memory nothing is known of the places.
+    /// Gives the name this place, and returns the one that it had. Out of memory, nothing is known of the places.
     pub fn put(&mut self, name: &[char], place: u32) -> Result<Option<u32>, AllocError>
         ensures had { IfOk result (λ had. had ≡ place_of self.old name.now) }
         ensures put { OnOk result (Puts self.old self.new name.now place) }
@@ -34,7 +34,7 @@ impl Places {
 
     /// Puts a name, if there is one; else nothing changes, and no place is returned.
     pub fn put_any(&mut self, name: Option<&[char]>, place: u32) -> Result<Option<u32>, AllocError>
-        ensures had { IfOk result (λ had. had ≡ option_and_then (place_of self.old) (option_copied name.entry)) }
+        ensures had { IfOk result (λ had. had ≡ place_of_any self.old (option_copied name.entry)) }
         ensures put { OnOk result (PutsIfAny self.old self.new (option_copied name.entry) place) }
     {
         match name {

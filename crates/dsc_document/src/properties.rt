@@ -1,4 +1,4 @@
-//! No two properties of an instance have the same name.
+//! Checks that no two properties of an instance have the same name.
 ghost use Rattle.std.specs.Prelude.{◌≡◌, ◌<◌, ◌^◌, ◌↔◌, ℕ, length, IsTrue, MatchOption};
 ghost use Rattle.dsc_document.specs.Names.{IsName, ShareName};
 ghost use Rattle.dsc_document.specs.Rules.{RepeatsName, property_name_at, distinct_property_names};
@@ -24,7 +24,9 @@ pub fn check_properties(instances: &[Instance]) -> Result<(), DocError>
 
 // The first name that stands before it too.
 fn repeated_name<'a>(properties: &'a [Property]) -> Option<&'a Ident>
-    ensures { MatchOption result ((first second : ℕ) → ShareName (property_name_at properties.now) first second → ⊥) (λ name. RepeatsName properties.now name.now) }
+    ensures { MatchOption result
+        ((first second : ℕ) → ShareName (property_name_at properties.now) first second → ⊥)
+        (λ name. RepeatsName properties.now name.now) }
 {
     for (place, property) in properties.iter().enumerate() {
         if is_name(properties.split_at(place).0, &property.name) {

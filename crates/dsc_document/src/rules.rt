@@ -2,7 +2,7 @@
 ghost use Rattle.std.specs.Prelude.{◌≡◌, ◌≢◌, ◌+◌, ◌<◌, ◌≤◌, ◌^◌, List, length, IfOk, IfErr, vec_len};
 ghost use Rattle.dsc_document.specs.Dependencies.{HasDistinctIds, NamesResources};
 ghost use Rattle.dsc_document.specs.Places.{HoldsNames};
-ghost use Rattle.dsc_document.specs.Rules.{Rules, PartRules, IsRefusal, Applies, rule_of, id_at, texts_to_depend_on, known_dependencies};
+ghost use Rattle.dsc_document.specs.Rules.{Rules, PartRules, RefusedBy, OneRefusalWins, rule_of, id_at, texts_to_depend_on, known_dependencies};
 ghost use Rattle.dsc_document.specs.Tests.{KeepsUpTo};
 ghost use Rattle.dsc_document.specs.Sizes.{DocumentInSize};
 
@@ -29,7 +29,7 @@ pub fn check(alloc: Global, instances: Vec<Instance>) -> Result<Document, DocErr
     ensures in_size { vec_len instances ≤ MAX_RESOURCES + 1 → IfOk result DocumentInSize }
     ensures known { IfOk result NamesResources }
     ensures distinct { IfOk result HasDistinctIds }
-    ensures refused { IfErr result (λ refusal. refusal ≢ DocError.Memory → IsRefusal instances.items refusal) }
+    ensures refused { IfErr result (RefusedBy instances.items) }
 {
     let ids = check_part_rules(alloc, &instances)?;
     check_known(&instances, &ids)?;
@@ -47,7 +47,7 @@ pub fn check_part(alloc: Global, instances: Vec<Instance>) -> Result<Document, D
     ensures few { IfOk result (λ document. length document.resources < vec_len instances) }
     ensures in_size { vec_len instances ≤ MAX_RESOURCES + 1 → IfOk result DocumentInSize }
     ensures distinct { IfOk result HasDistinctIds }
-    ensures refused { IfErr result (λ refusal. refusal ≢ DocError.Memory → IsRefusal instances.items refusal) }
+    ensures refused { IfErr result (RefusedBy instances.items) }
     ensures known { IfErr result (λ refusal. rule_of refusal < known_dependencies) }
 {
     let _ids = check_part_rules(alloc, &instances)?;
@@ -56,7 +56,7 @@ pub fn check_part(alloc: Global, instances: Vec<Instance>) -> Result<Document, D
 
 /// At most one refusal wins: the instances determine what [`check`] answers, but for `Memory`.
 pub fn one_refusal_wins()
-    ensures { (instances : List Instance) (a b : DocError) → IsRefusal instances a → IsRefusal instances b → a ≡ b }
+    ensures { (instances : List Instance) → OneRefusalWins instances }
 {}
 
 // The places of the ids, where all rules but the last are kept.
@@ -64,7 +64,7 @@ fn check_part_rules(alloc: Global, instances: &[Instance]) -> Result<Places, Doc
     requires { length instances.now < 2 ^ 32 }
     ensures places { IfOk result (HoldsNames (id_at instances.now)) }
     ensures kept { IfOk result (λ _. KeepsUpTo texts_to_depend_on instances.now) }
-    ensures refused { IfErr result (λ refusal. refusal ≢ DocError.Memory → IsRefusal instances.now refusal) }
+    ensures refused { IfErr result (RefusedBy instances.now) }
     ensures known { IfErr result (λ refusal. rule_of refusal < known_dependencies) }
 {
     check_properties(instances)?;

@@ -1,4 +1,4 @@
-//! Until when an exchange may take.
+//! The moment by which an exchange has to end.
 use dsc_outside::Failed;
 use std::time::{Clock, Duration};
 
@@ -9,7 +9,7 @@ pub struct Deadline {
 }
 
 impl Deadline {
-    /// So long from now on.
+    /// The moment that is this span after now.
     pub fn after<R: Clock>(clock: &R, span: Duration) -> Result<Deadline, Failed> {
         match clock.monotonic() {
             Ok(now) => Ok(Deadline {
@@ -19,7 +19,7 @@ impl Deadline {
         }
     }
 
-    /// Later by so long.
+    /// Later by this span.
     pub fn later(self, span: Duration) -> Deadline {
         Deadline {
             end: self.end.saturating_add(span),
@@ -33,7 +33,7 @@ impl Deadline {
         }
     }
 
-    /// What is left of it, which is not nothing; `Failed` where nothing is left.
+    /// How long it is until then, which is longer than nothing; `Failed` where it is past.
     pub fn left<R: Clock>(self, clock: &R) -> Result<Duration, Failed> {
         let Ok(now) = clock.monotonic() else {
             return Err(Failed);

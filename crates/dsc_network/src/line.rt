@@ -1,18 +1,15 @@
-//! A connection that ends in time.
+//! An open connection whose use ends in time.
 ghost use Rattle.std.specs.Prelude.{◌≡◌, ◌<◌, ◌+◌, ◌≤◌, IfOk, OnErr, length};
 ghost use Rattle.std.specs.Io.{ReadsAtMost, StartsWith, WritesAtMost};
 ghost use Rattle.dsc_outside.specs.Link.{answer_limit};
 
 use crate::deadline::Deadline;
-use dsc_outside::{Failed, LinkError};
+use dsc_outside::{ANSWER_LIMIT, Failed, LinkError};
 use std::io::{ErrorKind, Read, Write};
 use std::net::{Net, OpenStream, Shutdown};
 use std::time::{Clock, Duration};
 
-// An answer has fewer bytes.
-const ANSWER_LIMIT: usize = 67_108_864;
-
-// How much is read at once.
+// The most bytes that are read at once.
 const BUFFER_SIZE: usize = 8192;
 
 /// An open connection, until when it may be used, and how long a single call may wait. A call that would wait longer is
@@ -35,31 +32,29 @@ impl<R: Net + Clock> Line<R> {
         }
     }
 
-    /// Lets it be used for so much longer.
+    /// Lets it be used longer by this span.
     pub fn prolong(&mut self, span: Duration) {
         self.deadline = self.deadline.later(span);
     }
 
-    /// Sends all bytes.
+    /// Sends all bytes; `Failed` where some are left unsent.
     pub fn send(&mut self, bytes: &[u8]) -> Result<(), Failed> {
-        let mut left = bytes;
-        for _ in 0..bytes.len() {
-            if left.is_empty() {
-                return Ok(());
-            }
-            let count = self.write_some(left)?;
-            left = &left[count..];
+        let mut rest = bytes;
+        while !rest.is_empty() {
+            let count = self.write_some(rest)?;
+            rest = &rest[count..];
         }
         Ok(())
     }
 
-    /// Appends all that comes until the peer ends the connection.
+    /// Appends all that comes until the peer ends the connection. Each byte that comes lets the connection be used for a
+    /// microsecond more.
     pub fn receive(&mut self, into: &mut Vec<u8>) -> Result<(), LinkError>
         ensures start { StartsWith into.new.items into.old.items }
         ensures limit { length into.new.items < length into.old.items + answer_limit }
     {
         let mut buffer = [0; BUFFER_SIZE];
-        let mut room = ANSWER_LIMIT;
+        let mut capacity = ANSWER_LIMIT;
         for _ in 0..u64::MAX {
             let Ok(count) = self.read_some(&mut buffer) else {
                 return Err(LinkError::Failed);
@@ -67,18 +62,19 @@ impl<R: Net + Clock> Line<R> {
             if count == 0 {
                 return Ok(());
             }
-            if room <= count {
+            if capacity <= count {
                 return Err(LinkError::TooLong);
             }
             into.extend_from_slice(&buffer[..count])?;
-            room -= count;
+            capacity -= count;
+            self.prolong(Duration::from_micros(count as u64));
         }
         Err(LinkError::Failed)
     }
 
-    /// Ends the writing side, and reads away what the peer still sends, until it ends its own side or for so long, but
-    /// no longer than the connection may be used. Were the stream closed with bytes unread, the system would reset the
-    /// connection, and the peer could lose what it has not read yet.
+    /// Ends the writing side, and discards what the peer still sends, until it ends its own side or the linger is over,
+    /// but no longer than the connection may be used. If the stream were closed with bytes unread, the system would reset
+    /// the connection, and the peer could lose what it has not read yet.
     pub fn finish(&mut self, linger: Duration) {
         if self.stream.shutdown(Shutdown::Write).is_err() {
             return;
@@ -96,7 +92,7 @@ impl<R: Net + Clock> Line<R> {
         }
     }
 
-    /// Reads once, and again where a signal came between.
+    /// Reads once, and again where a signal interrupted it.
     pub fn read_some(&mut self, into: &mut [u8]) -> Result<usize, Failed>
         ensures bound { ReadsAtMost result into.new }
     {
@@ -111,7 +107,7 @@ impl<R: Net + Clock> Line<R> {
         Err(Failed)
     }
 
-    /// Writes once, and again where a signal came between. To take nothing of a piece is a failure.
+    /// Writes once, and again where a signal interrupted it. To take nothing of a piece is a failure.
     pub fn write_some(&mut self, piece: &[u8]) -> Result<usize, Failed>
         ensures bound { WritesAtMost result piece.now }
         ensures progress { 0 < length piece.now → IfOk result (λ n. 0 < n) }
@@ -142,7 +138,7 @@ impl<R: Net + Clock> Line<R> {
         }
     }
 
-    // How long the next call may wait, which is not nothing unless the patience is.
+    // How long the next call may wait, which is longer than nothing unless the patience is nothing.
     fn longest_wait(&self) -> Result<Duration, Failed> {
         let left = self.deadline.left(&self.rt)?;
         Ok(left.min(self.patience))

@@ -1,5 +1,5 @@
-//! A link over TCP.
-ghost use Rattle.std.specs.Prelude.{◌≡◌, ◌<◌, ◌+◌, None, length};
+//! A link that makes a TCP connection for each exchange.
+ghost use Rattle.std.specs.Prelude.{◌≡◌, ◌<◌, ◌+◌, ◌≤◌, None, length};
 ghost use Rattle.std.specs.Io.{StartsWith};
 ghost use Rattle.dsc_outside.specs.Causes.{HasCauseOf};
 ghost use Rattle.dsc_outside.specs.Link.{AddsExchange, LeavesAnswer, answer_limit};
@@ -14,7 +14,8 @@ use std::time::{Clock, Duration};
 /// How long connecting to one address of a peer may take, in seconds.
 pub const CONNECT_SECONDS: u64 = 10;
 
-/// How long an exchange may take, with connecting to the peer, in seconds.
+/// How long an exchange may take, with connecting to the peer, in seconds, and a microsecond more for each byte of the
+/// answer that came.
 pub const EXCHANGE_SECONDS: u64 = 30;
 
 /// How long an exchange may take.
@@ -23,15 +24,15 @@ pub struct LinkLimits {
     /// Connecting to one address of a peer.
     pub connect: Duration,
 
-    /// All of the exchange, with connecting.
+    /// All of the exchange, with connecting, and without what the bytes that come add.
     pub exchange: Duration,
 }
 
 /// A link over TCP. Each exchange has a connection of its own, to the first address of the peer that takes one: a host
 /// is an address or a name, which the system looks up. The whole request is sent, and then all that comes is read until
-/// the peer ends the connection. A peer that cannot be found or reached, that resets the connection, or that is not
-/// done in time, is a failure; so is an answer that is cut off by the limit. The look-up of a name is the system's, and
-/// has the system's own limit. A clause sees a link as the number of its calls that failed.
+/// the peer ends the connection. Each byte that comes lets the exchange take a microsecond more. A peer that cannot be
+/// found or reached, that resets the connection, or that is not done in time, is a failure. The look-up of a name is the
+/// system's, and has the system's own limit. A clause sees a link as the number of its calls that failed.
 #[derive(Drop)]
 pub struct TcpLink<R: Net + Clock> {
     rt: R,
@@ -48,7 +49,8 @@ impl<R: Net + Clock> Model for TcpLink<R> {
 }
 
 impl<R: Net + Clock> TcpLink<R> {
-    /// A link whose exchanges take at most 30 seconds, and 10 of these for connecting to one address.
+    /// A link whose exchanges take at most 30 seconds and a second more for each megabyte that comes, and 10 of these for
+    /// connecting to one address.
     pub fn new(rt: R) -> TcpLink<R>
         ensures { result ≡ 0 }
     {
@@ -61,7 +63,7 @@ impl<R: Net + Clock> TcpLink<R> {
         )
     }
 
-    /// A link with limits of its own.
+    /// A link with these limits.
     pub fn with_limits(rt: R, limits: LinkLimits) -> TcpLink<R>
         ensures { result ≡ 0 }
     {
@@ -74,13 +76,24 @@ impl<R: Net + Clock> TcpLink<R> {
 }
 
 impl<R: Net + Clock> Link for TcpLink<R> {
-    ghost told = { λ l. None };
+    ghost use Rattle.std.proofs.Math.Nat.{le_refl, le_trans};
+
+    ghost shown = { λ l. None };
 
     ghost faults = { λ l. l };
 
+    /// Its count of faults does not fall.
+    ghost may_become = { λ before after. before ≤ after };
+
+    ghost stays = { λ l. le_refl l };
+
+    ghost becomes_on = { λ a b c first then. le_trans first then };
+
     fn exchange(&mut self, to: &Peer, request: &[u8], answer: &mut Vec<u8>) -> Result<(), LinkError>
         ensures answer { LeavesAnswer result answer.old.items answer.new.items }
-        ensures told { AddsExchange None None to.now request.now result answer.old.items answer.new.items }
+        ensures shown { AddsExchange None None to.now request.now result
+            answer.old.items answer.new.items }
+        ensures becomes { self.old ≤ self.new }
         ensures cause { HasCauseOf LinkError.Failed self.old self.new result }
     {
         let kept = answer.len();

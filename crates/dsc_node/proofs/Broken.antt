@@ -7,7 +7,7 @@ use Rattle.node_state.specs.declared.event.Event.{Event}
 use Rattle.node_state.specs.declared.event.Event.TheVariants as events
 use Rattle.node_store.specs.declared.error.StoreError.{StoreError}
 use Rattle.node_store.specs.declared.error.StoreError.TheVariants as errors
-use Rattle.node_pull.specs.Views.{LinkView}
+use Rattle.dsc_outside.specs.Link.{LinkView}
 use Rattle.dsc_node.specs.declared.command.Task.{Task}
 use Rattle.dsc_node.specs.declared.status.Status.{Status}
 use Rattle.dsc_node.specs.declared.status.Status.TheVariants as statuses
@@ -89,9 +89,9 @@ finish_unbroken o from counts work node stopped readings left start asked heard 
     sent_ends counts broken statuses.Done [] (codes "end nothing\n") tried status lines (sends_broken from counts work node asked heard tried committed broken sends) ends
 finish_unbroken o from counts work node stopped readings left start asked heard before after status lines _ _ _ (unready idle taken unasked ends) = inl refl
 finish_unbroken o from counts work node stopped readings left start asked heard before after status lines _ _ _ (unended run ran taken unasked ends) = inl refl
-finish_unbroken o from counts work node stopped readings left start asked heard before after status lines _ _ _ (report_refused run report error text committed broken reported took unasked refused memory told answers) =
+finish_unbroken o from counts work node stopped readings left start asked heard before after status lines _ _ _ (report_refused run report error text committed broken reported took unasked refused memory shown answers) =
     refused_ends counts broken error text status lines (refused_broken from counts work (event_of run.end run.choice.pending report) error committed broken refused) answers
-finish_unbroken o from counts work node stopped readings left start asked heard before after status lines _ _ _ (report_kept run report text noted tried committed broken reported took told step sends ends) =
+finish_unbroken o from counts work node stopped readings left start asked heard before after status lines _ _ _ (report_kept run report text noted tried committed broken reported took shown step sends ends) =
     sent_ends counts broken (status_after node.meta.reboot_if_needed run.end report.missed) text (end_line run.end run.choice.pending report.missed) tried status lines
     (sends_broken from counts (work ++ event_of run.end run.choice.pending report ∷ []) noted asked heard tried committed broken sends) ends
 

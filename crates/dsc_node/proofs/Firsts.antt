@@ -23,15 +23,16 @@ use Rattle.node_state.specs.Staging.{AreFitting}
 use Rattle.node_state.specs.Table.{Steps}
 use Rattle.node_state.specs.Table.{after as after_of}
 use Rattle.node_state.proofs.SoundSteps.{only_one}
-use Rattle.node_pull.specs.declared.error.PullError.{PullError}
-use Rattle.node_pull.specs.declared.error.PullError.TheVariants as pulls
+use Rattle.node_pull.specs.declared.error.PullFault.{PullFault}
+use Rattle.node_pull.specs.declared.error.PullFault.TheVariants as pulls
 use Rattle.node_pull.specs.Errors.{error_of, staging_error}
 use Rattle.node_pull.specs.Contents.{IsHeldOrAccepted}
 use Rattle.node_pull.specs.Listing.{Listed}
 use Rattle.node_pull.specs.Packages.{HasAll, Packages, modules_of}
 use Rattle.node_pull.specs.Pulling as pulling
 use Rattle.node_pull.specs.Pulling.{Pulled}
-use Rattle.node_pull.specs.Views.{Accepts, GoesOn, LinkView}
+use Rattle.dsc_outside.specs.Link.{GoesOn, LinkView}
+use Rattle.node_pull.specs.Views.{Accepts}
 use Rattle.node_pull.proofs.AddedPackages.{adds_on, packages_are_accepted, packages_are_there}
 use Rattle.node_pull.proofs.AcceptedParts.{pulled_accepted}
 use Rattle.node_pull.proofs.GoingOn.{on_and_on, packages_go_on}
@@ -60,11 +61,11 @@ some_ok a b is = cc is
 no_ok : {A B E : Type 0} (a : A) (e : E) → (let x : Result A E = Ok a in x) ≡ Err e → B
 no_ok a e is = absurd (cc is)
 
-registered_first : (first : Option Event) (answer : Result (Unit {0}) PullError) → Ok first ≡ registered_by answer → first ≡ Some events.Registered
+registered_first : (first : Option Event) (answer : Result (Unit {0}) PullFault) → Ok first ≡ registered_by answer → first ≡ Some events.Registered
 registered_first first (Ok done) is = some_ok first (Some events.Registered) is
 registered_first first (Err error) is = no_ok first error is
 
-pulled_first : (first : Option Event) (answer : Result (Option Staged) PullError) → Ok first ≡ staged_by answer → (first ≡ None) ⊎ ((staged : Staged) × (first ≡ Some (events.Stage staged)))
+pulled_first : (first : Option Event) (answer : Result (Option Staged) PullFault) → Ok first ≡ staged_by answer → (first ≡ None) ⊎ ((staged : Staged) × (first ≡ Some (events.Stage staged)))
 pulled_first first (Ok None) is = inl (some_ok first None is)
 pulled_first first (Ok (Some staged)) is = inr (staged, some_ok first (Some (events.Stage staged)) is)
 pulled_first first (Err error) is = no_ok first error is
@@ -210,7 +211,7 @@ module _ {D S : Type 0} (d : disks.Ghosts D) (begin : D) (runs_on : resources.Gh
         accepted = since_then (Accepts server (content_request server agent part.name) (GivesPart part.name) part) asked heard end accepted later;
       })
 
-  pull_brings : (answer : Result (Option Staged) PullError) (server : Server) → node.meta.server ≡ Some server → (agent : ℕ) → node.agent ≡ Some agent
+  pull_brings : (answer : Result (Option Staged) PullFault) (server : Server) → node.meta.server ≡ Some server → (agent : ℕ) → node.agent ≡ Some agent
       → Pulled machine.packages runs_on.faults node.meta server agent (held_of node) asked heard before after answer
       → Ok first ≡ staged_by answer → WasThere d begin node part ⊎ IsBrought commands.Pull node asked end part
   pull_brings (Ok None) server is_server agent is_agent pulled is = none_stages part first stages (some_ok first None is)
@@ -252,7 +253,7 @@ module _ {D S : Type 0} (d : disks.Ghosts D) (begin : D) (runs_on : resources.Gh
 
 -- ---- packages
 
-pub fault_error : (error : PullError) → IsPullFault (status_of_pull error)
+pub fault_error : (error : PullFault) → IsPullFault (status_of_pull error)
 fault_error pulls.Link = tt
 fault_error pulls.Host = tt
 fault_error (pulls.Refused fault) = tt
@@ -262,7 +263,7 @@ fault_error pulls.Memory = tt
 module _ {S : Type 0} (runs_on : resources.Ghosts S) (machine : machines.Ghosts S) (node : Node) (end : LinkView) (status : Status) (allowed : IsAllowed node Pull) where
   -- a list that fits, and the packages of its document as far as they came
   came_adds : (server : Server) → node.meta.server ≡ Some server → (agent : ℕ) → node.agent ≡ Some agent → (asked listing heard : LinkView) (before after : S) (staged : Staged) (document : Document)
-      (result : Result (Unit {0}) PullError) → Listed node.meta server agent (held_of node) asked listing (Ok (parts_of staged)) → AreFitting node.meta (parts_of staged) → Merged (parts_of staged) document
+      (result : Result (Unit {0}) PullFault) → Listed node.meta server agent (held_of node) asked listing (Ok (parts_of staged)) → AreFitting node.meta (parts_of staged) → Merged (parts_of staged) document
       → Packages machine.packages runs_on.faults server (modules_of document) listing heard before after result → GoesOn heard end
       → ((IsPullFault status → ⊥) → HasAll (modules_of document) (machine.packages after)) → PulledPackages node asked end status (machine.packages before) (machine.packages after)
   came_adds server is_server agent is_agent asked listing heard before after staged document result listed fitting merged came later there = record {
@@ -284,8 +285,8 @@ module _ {S : Type 0} (runs_on : resources.Ghosts S) (machine : machines.Ghosts 
     there = there;
   }
 
-  pulled_adds : (server : Server) → node.meta.server ≡ Some server → (agent : ℕ) → node.agent ≡ Some agent → (asked heard : LinkView) (before after : S) (answer : Result (Option Staged) PullError)
-      → GoesOn heard end → ((error : PullError) → answer ≡ Err error → IsPullFault status)
+  pulled_adds : (server : Server) → node.meta.server ≡ Some server → (agent : ℕ) → node.agent ≡ Some agent → (asked heard : LinkView) (before after : S) (answer : Result (Option Staged) PullFault)
+      → GoesOn heard end → ((error : PullFault) → answer ≡ Err error → IsPullFault status)
       → Pulled machine.packages runs_on.faults node.meta server agent (held_of node) asked heard before after answer
       → AddsPackages commands.Pull node asked end status (machine.packages before) (machine.packages after)
   pulled_adds server is_server agent is_agent _ _ _ _ _ later fault (pulling.not_listed asked heard state error listed) = inl (inr (fault (error_of error) refl), refl)
@@ -297,7 +298,7 @@ module _ {S : Type 0} (runs_on : resources.Ghosts S) (machine : machines.Ghosts 
       (λ fine. packages_are_there machine.packages runs_on.faults server (modules_of document) listing heard before after came))
 
 module _ {S : Type 0} (runs_on : resources.Ghosts S) (machine : machines.Ghosts S) (node : Node) (start : ℕ) (asked heard end : LinkView) (later : GoesOn heard end) (before after : S)
-    (result : Result (Option Event) PullError) (status : Status) (fault : (error : PullError) → result ≡ Err error → IsPullFault status) where
+    (result : Result (Option Event) PullFault) (status : Status) (fault : (error : PullFault) → result ≡ Err error → IsPullFault status) where
   abbrev pub Adds : Command → Type 0
   Adds command = AddsPackages command node asked end status (machine.packages before) (machine.packages after)
 

@@ -23,7 +23,7 @@ use Rattle.dsc_node.specs.declared.command.Command.{Command}
 use Rattle.dsc_node.specs.declared.command.Task.{Task}
 use Rattle.dsc_node.specs.declared.status.Status.{Status}
 use Rattle.dsc_node.specs.declared.status.Status.TheVariants as statuses
-use Rattle.node_pull.specs.Views.{LinkView}
+use Rattle.dsc_outside.specs.Link.{LinkView}
 use Rattle.dsc_node.specs.Bringing.{events_of}
 use Rattle.dsc_node.specs.Commits.{RefusedAfter, all_of}
 use Rattle.dsc_node.specs.Endings.{Answers}
@@ -36,7 +36,7 @@ use Rattle.dsc_node.specs.Start.{Opened, Outside}
 use Rattle.dsc_node.specs.Work.{Beside, Finish, Known, StartTable, clock_failed, finished, first_refused, no_run, not_allowed, not_brought, report_kept, report_refused, settled, unended, unready, waiting}
 use Rattle.dsc_node.proofs.Broken.{work_unbroken}
 use Rattle.dsc_node.proofs.Firsts.{brings, first_job, first_keeps, first_meta, is_first}
-use Rattle.dsc_node.proofs.HeadlineRuns.{faultless_compliant, is_true, pending_chosen, repaired, together, told}
+use Rattle.dsc_node.proofs.HeadlineRuns.{faultless_compliant, is_true, pending_chosen, repaired, together, shown}
 use Rattle.dsc_node.proofs.Nodes.{are_sound, parts_there, steps_sound}
 use Rattle.dsc_node.proofs.Reports.{first_refused_keeps, noted_keeps, refused_run_keeps, sent_keeps}
 use Rattle.dsc_node.proofs.Sends.{sends_leave, sends_less, steps_same}
@@ -141,7 +141,7 @@ module _ {D S C : Type 0} (o : Known D S C) (begin now : D) (from : Node) (sound
         finished_in_memory end is memory = cc (is, memory)
       finish_facts _ _ _ (report_refused run report error text committed broken reported took unasked refused memory is_text answers) = record {
         h4 = reported.ran;
-        h5 = told o.resources ready after from node job meta stopped readings start run report (all_of committed broken) status lines reported
+        h5 = shown o.resources ready after from node job meta stopped readings start run report (all_of committed broken) status lines reported
             (λ kept k. refused_run_keeps kept from (disk_counts o.disk begin now) work run report error committed broken (none kept) refused k)
             (printed answers);
         h6 = λ f. absurd (not_refused run report reported f error committed broken refused memory);
@@ -151,7 +151,7 @@ module _ {D S C : Type 0} (o : Known D S C) (begin now : D) (from : Node) (sound
         printed (inr e) = inl e
       finish_facts _ _ _ (report_kept run report text noted tried committed broken reported took is_text step sends ended) = record {
         h4 = reported.ran;
-        h5 = told o.resources ready after from node job meta stopped readings start run report (all_of committed broken) status lines reported
+        h5 = shown o.resources ready after from node job meta stopped readings start run report (all_of committed broken) status lines reported
             (λ kept k. noted_keeps kept work run report (none kept)
             (sends_less (λ w. Keeps w kept) (sent_keeps kept) from (disk_counts o.disk begin now) (work ++ event_of run.end run.choice.pending report ∷ []) noted asked heard tried committed broken sends k))
             (printed (status_after node.meta.reboot_if_needed run.end report.missed) tried ended);

@@ -93,11 +93,11 @@ pending_chosen false node choice is pending = pending_among node.meta.mode node.
 
 -- what is said of the run of a report
 module _ {S : Type 0} (machine : resources.Ghosts S) (before after : S) where
-  pub told : (from node : Node) → node.next_job ≡ from.next_job → node.meta ≡ from.meta → (stopped : Bool) (readings : Option (List (Option ℕ))) (start : ℕ) (run : Run) (report : Report)
+  pub shown : (from node : Node) → node.next_job ≡ from.next_job → node.meta ≡ from.meta → (stopped : Bool) (readings : Option (List (Option ℕ))) (start : ℕ) (run : Run) (report : Report)
       (work : List Event) (status : Status) (lines : List ℕ)
       → Reported machine node stopped readings start run report before after → ((kept : Report) → Keeps work kept → kept ≡ report)
       → IsPrinted run (machine.kept after) status lines → AreTold from (Some run) (machine.kept after) work status lines
-  told from node job meta stopped readings start run report work status lines reported one printed = record {
+  shown from node job meta stopped readings start run report work status lines reported one printed = record {
     report = λ kept k. (start, end_of start reported.given, subst (λ (r : Report). IsReport run.document (machine.kept after) (frame_of from run.choice start (end_of start reported.given)) r) (sym (one kept k)) is);
     success = λ kept k success r lt.
         each_succeeded run.document (machine.kept after) (sym is.missed ∙ success_none (machine.kept after) report.missed report.outcome is.outcome (ap (λ (x : Report). x.outcome) (sym (one kept k)) ∙ success)) r lt;
@@ -116,7 +116,7 @@ module _ {S : Type 0} (machine : resources.Ghosts S) (before after : S) where
 
 module _ {H : Type 0} (host : hosts.Ghosts H) (before after : Kinds H) where
   pub is_true : (run : Run) → Ran (kinds_of host) run before after → IsTrueRun host (Some run) before after
-  is_true run r = kinds_tell host.told run.document before after (calls_of after) r.chain
+  is_true run r = kinds_tell host.shown run.document before after (calls_of after) r.chain
 
   pub together : CompliantHold → (run : Run) → Ran (kinds_of host) run before after → HoldTogether host (Some run) before after
   together law run r b e is_b is_e apart compliant =
@@ -130,8 +130,8 @@ module _ {H : Type 0} (host : hosts.Ghosts H) (before after : Kinds H) where
 
     full_repair : (f : IsFinished host run before) → (state : HostState) × IsFullRepair run.document run.order f.state (calls_of after) state
     full_repair f =
-        let tells = subst (λ (o : Option HostState). TellsTrue run.document o (calls_of after) (host.told (host_of after))) f.tells
-        (kinds_tell host.told run.document before after (calls_of after) r.chain) in (
+        let tells = subst (λ (o : Option HostState). TellsTrue run.document o (calls_of after) (host.shown (host_of after))) f.tells
+        (kinds_tell host.shown run.document before after (calls_of after) r.chain) in (
           tells.0,
           record {
             ordered = r.is_order;

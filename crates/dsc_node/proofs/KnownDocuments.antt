@@ -11,8 +11,8 @@ use Rattle.node_state.specs.declared.event.Event.{Event}
 use Rattle.node_state.specs.declared.event.Event.TheVariants.{Stage}
 use Rattle.node_state.specs.StagedParts.{parts_of}
 use Rattle.node_state.specs.Table.{Steps}
-use Rattle.node_pull.specs.declared.error.PullError.{PullError}
-use Rattle.node_pull.specs.Views.{LinkView}
+use Rattle.node_pull.specs.declared.error.PullFault.{PullFault}
+use Rattle.dsc_outside.specs.Link.{LinkView}
 use Rattle.dsc_node.specs.declared.command.Task.{Task}
 use Rattle.dsc_node.specs.declared.command.Task.TheVariants.{Init, Meta, Register, Pull, Push, Consistency, Boot, Get, Restore, Remove, Reports}
 use Rattle.dsc_node.specs.Bringing.{Brought, events_of}
@@ -20,7 +20,7 @@ use Rattle.dsc_node.specs.Documents.{IsDocumentOf, IsOfPending, IsOfTask}
 use Rattle.dsc_node.specs.Runs.{Choice, chosen_of}
 use Rattle.dsc_node.proofs.HeadlineRuns.{pending_chosen}
 
-same_first : (first given : Option Event) (result : Result (Option Event) PullError) → result ≡ Ok first → result ≡ Ok given → first ≡ given
+same_first : (first given : Option Event) (result : Result (Option Event) PullFault) → result ≡ Ok first → result ≡ Ok given → first ≡ given
 same_first first given result one other = cc (one, other)
 
 staged_pending : (node mid : Node) (staged : Staged) (first : Option Event) → first ≡ Some (Stage staged) → Steps node (events_of first) mid → mid.pending ≡ Some (parts_of staged)

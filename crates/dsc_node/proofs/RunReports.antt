@@ -1,5 +1,6 @@
 -- The report of a run that is over.
 use Rattle.std.proofs.Common.{◌≡◌, ◌≢◌, inl, ℕ, ◌≤◌, List, map, Option, Some, None, refl, sym, ap, subst, ◌∙◌, arith}
+use Rattle.mof_values.specs.declared.limits.TheConstants.{MAX_NAME_BYTES}
 use Rattle.std.specs.Prelude.{Bool, true, false, IfSome}
 use Rattle.std.proofs.lemmas.List.{length-map}
 use Rattle.std.proofs.lemmas.List.Elements.{All-map}
@@ -61,8 +62,8 @@ module _ {S : Type 0} (machine : Ghosts S) (choice : Choice) (document : Documen
 
   pub ran_of : used ≡ order → Merged choice.parts document → IsOrderOfDocument document order → Legal document choice.mode used (machine.kept after)
       → IsWholeOrNone document choice.mode used end (machine.kept after) → EndsAs end (machine.kept after) → Chain machine.does machine.still document before (machine.kept after) after
-      → RoseBy (host_failures (machine.kept after)) (machine.faults before) (machine.faults after) → Ran machine the_run before after
-  ran_of same merged ordered legal whole ended chain failures = record {
+      → RoseBy (host_failures (machine.kept after)) (machine.faults before) (machine.faults after) → machine.faults before ≤ machine.faults after → Ran machine the_run before after
+  ran_of same merged ordered legal whole ended chain failures later = record {
     merged = merged;
     is_order = ordered;
     legal = subst (λ (o : List ℕ). Legal document choice.mode o (machine.kept after)) same legal;
@@ -70,6 +71,7 @@ module _ {S : Type 0} (machine : Ghosts S) (choice : Choice) (document : Documen
     ended = ended;
     chain = chain;
     failures = failures;
+    later = later;
   }
 
 is_end : (mode : RunMode) (end : RunEnd) (trace : List Entry) → end ≢ ends.Memory → EndsAs end trace → IsEnd mode end trace
@@ -90,7 +92,7 @@ pub frame_in_size : (parts : List Part) (frame : Frame) → AreNamed parts → f
 frame_in_size parts frame named is start end = record {
   parts = subst (λ (marks : List PartMark). PartsInSize marks) (sym is) (record {
     count = omega (arith, length-map parts mark_of, named.few);
-    names = All-map (λ mark. Fits 255 mark.name) mark_of parts named.names;
+    names = All-map (λ mark. Fits MAX_NAME_BYTES mark.name) mark_of parts named.names;
   });
   times = record { start = start; end = end };
 }

@@ -41,13 +41,13 @@ ends_as mode Memory trace (inl wants) = inl wants
 ends_as mode Memory trace (inr none) = inr none.nothing
 
 -- a chain of the kinds over a host is true of the host, where it exposes what it holds
-module _ {H : Type 0} (told : H → Option HostState) where
+module _ {H : Type 0} (shown : H → Option HostState) where
   told_by : Kinds H → Option HostState
-  told_by k = told (host_of k)
+  told_by k = shown (host_of k)
 
   pub kinds_tell : (document : Document) (before after : Kinds H) (trace : List Entry)
-      → Chain (λ a d e b. TellsEntry (told (host_of a)) d e (told (host_of b))) (λ a b. told (host_of a) ≡ told (host_of b)) document before trace after
-      → TellsTrue document (told (host_of before)) trace (told (host_of after))
+      → Chain (λ a d e b. TellsEntry (shown (host_of a)) d e (shown (host_of b))) (λ a b. shown (host_of a) ≡ shown (host_of b)) document before trace after
+      → TellsTrue document (shown (host_of before)) trace (shown (host_of after))
   unfolding told_by
   kinds_tell document before after trace chain =
-      tells_true document trace (told (host_of before)) (told (host_of after)) (chain_map told_by TellsEntry (λ x y. x ≡ y) document before trace after chain)
+      tells_true document trace (shown (host_of before)) (shown (host_of after)) (chain_map told_by TellsEntry (λ x y. x ≡ y) document before trace after chain)

@@ -13,7 +13,7 @@ use Rattle.node_state.specs.Sound.{Sound}
 use Rattle.node_state.specs.Table.{Step, Steps, marked}
 use Rattle.node_store.specs.declared.error.StoreError.{StoreError}
 use Rattle.node_store.specs.declared.error.StoreError.TheVariants as errors
-use Rattle.node_pull.specs.Views.{LinkView}
+use Rattle.dsc_outside.specs.Link.{LinkView}
 use Rattle.dsc_node.specs.Commits.{RefusedAfter, all_of, broken_by}
 use Rattle.dsc_node.specs.Sending.{PrintsTried, Sends, ToSend, Tried, all_sent, before_later, first_unsent, no_memory, not_sent, sent, to_send, to_send_by, tried_line, tried_text, unmarked, unprinted, unsent_among, unsent_count}
 

@@ -11,7 +11,7 @@ use Rattle.node_store.specs.Store.{IsKept, StoreTerm}
 use Rattle.pull_client.specs.declared.error.PeerError.{PeerError}
 use Rattle.pull_client.specs.declared.error.PeerError.TheVariants as peers
 use Rattle.node_pull.specs.Reporting.{SendsReport}
-use Rattle.node_pull.specs.Views.{LinkView}
+use Rattle.dsc_outside.specs.Link.{LinkView}
 use Rattle.dsc_node.specs.declared.sending.Attempt.TheVariants.{Accepted, NotAccepted, NoMemory}
 use Rattle.dsc_node.specs.declared.status.Status.{Status}
 use Rattle.dsc_node.specs.Endings.{Answers, Ends, status_of}
@@ -22,11 +22,11 @@ use Rattle.dsc_node.proofs.Sends.{prints_later}
 
 -- ---- what is next
 
-pub none_left : {T : Type 0} (f : T → ToSend) (node seen : Node) (found : Option T) → seen ≡ node → option_map f found ≡ to_send seen → found ≡ None → to_send node ≡ None
-none_left f node seen found same is none = ap to_send (sym same) ∙ sym is ∙ ap (option_map f) none
+pub none_left : {T : Type 0} (f : T → ToSend) (node shown : Node) (found : Option T) → shown ≡ node → option_map f found ≡ to_send shown → found ≡ None → to_send node ≡ None
+none_left f node shown found same is none = ap to_send (sym same) ∙ sym is ∙ ap (option_map f) none
 
-pub one_left : {T : Type 0} (f : T → ToSend) (node seen : Node) (found : Option T) (next : T) → seen ≡ node → option_map f found ≡ to_send seen → found ≡ Some next → to_send node ≡ Some (f next)
-one_left f node seen found next same is some = ap to_send (sym same) ∙ sym is ∙ ap (option_map f) some
+pub one_left : {T : Type 0} (f : T → ToSend) (node shown : Node) (found : Option T) (next : T) → shown ≡ node → option_map f found ≡ to_send shown → found ≡ Some next → to_send node ≡ Some (f next)
+one_left f node shown found next same is some = ap to_send (sym same) ∙ sym is ∙ ap (option_map f) some
 
 -- ---- attempts
 

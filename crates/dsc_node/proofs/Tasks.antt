@@ -13,9 +13,9 @@ use Rattle.node_state.specs.declared.event.Why.{Why}
 use Rattle.node_state.specs.declared.event.Why.TheVariants.{NoAgent, Disabled, NotPull, NoServer, NotRegistered, NoName}
 use Rattle.node_state.specs.Table.{IsWithin, check}
 use Rattle.node_store.specs.Store.{StoreTerm}
-use Rattle.node_pull.specs.declared.error.PullError.{PullError}
+use Rattle.node_pull.specs.declared.error.PullFault.{PullFault}
 use Rattle.node_pull.specs.Names.{CanAsk, CanAskOf, HasOneName}
-use Rattle.node_pull.specs.Views.{LinkView}
+use Rattle.dsc_outside.specs.Link.{LinkView}
 use Rattle.dsc_node.specs.declared.command.Task.{Task}
 use Rattle.dsc_node.specs.declared.command.Task.TheVariants.{Init, Meta, Register, Pull, Push, Consistency, Boot, Get, Restore, Remove, Reports}
 use Rattle.dsc_node.specs.declared.status.Status.{Status}
@@ -27,14 +27,14 @@ use Rattle.dsc_node.specs.Work.{Beside, Known, ReadsBefore, StartTable, first_re
 use Rattle.dsc_node.proofs.Commits.{ends_as}
 
 -- what was said of the state is said of the store's node
-pub said_why : (node seen : Node) (task : Task) (answer other : Option Why) → seen ≡ node → answer ≡ why_not seen task → answer ≡ other → why_not node task ≡ other
-said_why node seen task answer other same is was = ap (λ (n : Node). why_not n task) (sym same) ∙ sym is ∙ was
+pub said_why : (node shown : Node) (task : Task) (answer other : Option Why) → shown ≡ node → answer ≡ why_not shown task → answer ≡ other → why_not node task ≡ other
+said_why node shown task answer other same is was = ap (λ (n : Node). why_not n task) (sym same) ∙ sym is ∙ was
 
-pub said_waits : (node seen : Node) (task : Task) (answer other : Bool) → seen ≡ node → answer ≡ waits seen task → answer ≡ other → waits node task ≡ other
-said_waits node seen task answer other same is was = ap (λ (n : Node). waits n task) (sym same) ∙ sym is ∙ was
+pub said_waits : (node shown : Node) (task : Task) (answer other : Bool) → shown ≡ node → answer ≡ waits shown task → answer ≡ other → waits node task ≡ other
+said_waits node shown task answer other same is was = ap (λ (n : Node). waits n task) (sym same) ∙ sym is ∙ was
 
-pub said_stops : (node seen : Node) (task : Task) (answer : Bool) → seen ≡ node → answer ≡ stops seen task → answer ≡ stops node task
-said_stops node seen task answer same is = is ∙ ap (λ (n : Node). stops n task) same
+pub said_stops : (node shown : Node) (task : Task) (answer : Bool) → shown ≡ node → answer ≡ stops shown task → answer ≡ stops node task
+said_stops node shown task answer same is = is ∙ ap (λ (n : Node). stops n task) same
 
 -- a task that comes to a run reads the clock
 pub run_reads : (task : Task) → is_run task ≡ true → reads_clock task ≡ true
@@ -96,7 +96,7 @@ can_ask node allowed =
 
 -- ---- tasks that come to no run
 
-module _ {S : Type 0} (runs_on : resources.Ghosts S) (machine : machines.Ghosts S) (node : Node) (start : ℕ) (asked heard : LinkView) (before after : S) (result : Result (Option Event) PullError)
+module _ {S : Type 0} (runs_on : resources.Ghosts S) (machine : machines.Ghosts S) (node : Node) (start : ℕ) (asked heard : LinkView) (before after : S) (result : Result (Option Event) PullFault)
     (same : after ≡ before) where
   pub brought_of : (task : Task) → is_run task ≡ false → Asked node task start asked heard result → Brought runs_on machine node task start asked heard before after result
   brought_of (Init agent) runs is = (same, is)
@@ -117,7 +117,7 @@ pub settle_goes : {D S C : Type 0} (o : Known D S C) (task : Task) (start : ℕ)
     → SettleGoes o.disk old now store task start before.link after.link status lines
     → EndsStart o.disk old now store (λ from counts work committed broken. StartTable o task from counts work store.node before after status lines after.machine None committed broken)
 settle_goes {D} {S} {C} o task start old now store before after status lines allowed ends reads same goes = settle goes.first goes.brought goes.settles where
-  settle : (first : Result (Option Event) PullError) → Asked store.node task start before.link after.link first → SettlesBy o.disk old now store first (settled_text task store.node) status lines
+  settle : (first : Result (Option Event) PullFault) → Asked store.node task start before.link after.link first → SettlesBy o.disk old now store first (settled_text task store.node) status lines
       → EndsStart o.disk old now store (λ from counts work committed broken. StartTable o task from counts work store.node before after status lines after.machine None committed broken)
   settle (Err error) asked (ended, silent) = ends_as o.disk ended (λ from counts work committed broken is.
       subst (λ (b : Option Event). StartTable o task from counts work store.node before after status lines after.machine None committed b) (sym is.1)

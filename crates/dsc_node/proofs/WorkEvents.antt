@@ -19,7 +19,7 @@ use Rattle.dsc_node.specs.declared.command.Task.{Task}
 use Rattle.dsc_node.specs.declared.command.Task.TheVariants.{Pull}
 use Rattle.dsc_node.specs.declared.status.Status.{Status}
 use Rattle.dsc_node.specs.declared.status.Status.TheVariants as statuses
-use Rattle.node_pull.specs.Views.{GoesOn, LinkView}
+use Rattle.dsc_outside.specs.Link.{GoesOn, LinkView}
 use Rattle.node_pull.proofs.GoingOn.{on_and_on, sends_goes_on, stays}
 use Rattle.dsc_node.specs.Bringing.{Brought, events_of, status_of_pull}
 use Rattle.dsc_node.specs.Commands.{IsAllowed, IsTaskOf, waits, why_not}
@@ -43,16 +43,16 @@ sends_on from counts _ _ _ _ _ _ _ (unprinted work node marked_node asked heard 
 sends_on from counts _ _ _ _ _ _ _ (sent work node marked_node asked mid heard next later committed broken is sends step rest) =
     on_and_on asked mid heard (sends_goes_on next.server next.agent next.report asked mid _ sends) (sends_on from counts (work ++ events.Sent next.report.job ∷ []) marked_node mid heard later committed broken rest)
 
-finish_goes_on : {D S C : Type 0} (o : Known D S C) (from : Node) (counts : ℕ × ℕ) (work : List Event) (node : Node) (stopped : Bool) (readings left : Option (List (Option ℕ))) (start : ℕ)
+pub finish_goes_on : {D S C : Type 0} (o : Known D S C) (from : Node) (counts : ℕ × ℕ) (work : List Event) (node : Node) (stopped : Bool) (readings left : Option (List (Option ℕ))) (start : ℕ)
     (asked heard : LinkView) (before after : S) (status : Status) (lines : List ℕ) (run : Option Run) (committed : List Event) (broken : Option Event)
     → Finish o from counts work node stopped readings left start asked heard before after status lines run committed broken → GoesOn asked heard
 finish_goes_on o from counts work node stopped readings left start asked heard before after status lines _ _ _ (no_run tried committed broken none idle taken sends ends) =
     sends_on from counts work node asked heard tried committed broken sends
 finish_goes_on o from counts work node stopped readings left start asked heard before after status lines _ _ _ (unready idle taken unasked ends) = subst (λ (v : LinkView). GoesOn asked v) (sym unasked) (stays asked)
 finish_goes_on o from counts work node stopped readings left start asked heard before after status lines _ _ _ (unended run ran taken unasked ends) = subst (λ (v : LinkView). GoesOn asked v) (sym unasked) (stays asked)
-finish_goes_on o from counts work node stopped readings left start asked heard before after status lines _ _ _ (report_refused run report error text committed broken reported took unasked refused memory told answers) =
+finish_goes_on o from counts work node stopped readings left start asked heard before after status lines _ _ _ (report_refused run report error text committed broken reported took unasked refused memory shown answers) =
     subst (λ (v : LinkView). GoesOn asked v) (sym unasked) (stays asked)
-finish_goes_on o from counts work node stopped readings left start asked heard before after status lines _ _ _ (report_kept run report text noted tried committed broken reported took told step sends ends) =
+finish_goes_on o from counts work node stopped readings left start asked heard before after status lines _ _ _ (report_kept run report text noted tried committed broken reported took shown step sends ends) =
     sends_on from counts (work ++ event_of run.end run.choice.pending report ∷ []) noted asked heard tried committed broken sends
 
 module _ (part : Part) where
@@ -106,9 +106,9 @@ module _ (part : Part) where
       sends_less (λ w. Stages w part) sent_stages from counts work node asked heard tried committed broken sends s
   finish_stages o from counts work node stopped readings left start asked heard before after status lines _ _ _ (unready idle taken unasked ends) s = s
   finish_stages o from counts work node stopped readings left start asked heard before after status lines _ _ _ (unended run ran taken unasked ends) s = s
-  finish_stages o from counts work node stopped readings left start asked heard before after status lines _ _ _ (report_refused run report error text committed broken reported took unasked refused memory told answers) s =
+  finish_stages o from counts work node stopped readings left start asked heard before after status lines _ _ _ (report_refused run report error text committed broken reported took unasked refused memory shown answers) s =
       ⊎_elim (λ a. a) (λ is. absurd (run_stages run.end run.choice.pending report is)) (refused_stages from counts work (event_of run.end run.choice.pending report) error committed broken refused s)
-  finish_stages o from counts work node stopped readings left start asked heard before after status lines _ _ _ (report_kept run report text noted tried committed broken reported took told step sends ends) s =
+  finish_stages o from counts work node stopped readings left start asked heard before after status lines _ _ _ (report_kept run report text noted tried committed broken reported took shown step sends ends) s =
       ⊎_elim (λ a. a) (λ b. absurd (last b)) (stages-append work (event_of run.end run.choice.pending report ∷ [])
       (sends_less (λ w. Stages w part) sent_stages from counts (work ++ event_of run.end run.choice.pending report ∷ []) noted asked heard tried committed broken sends s)) where
         last : Stages (event_of run.end run.choice.pending report ∷ []) part → ⊥

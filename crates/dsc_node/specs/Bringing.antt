@@ -8,11 +8,11 @@ use Rattle.node_state.specs.declared.list.Staged.{Staged}
 use Rattle.node_state.specs.declared.node.Node.{Node}
 use Rattle.node_state.specs.declared.event.Event.{Event}
 use Rattle.node_state.specs.declared.event.Event.TheVariants as events
-use Rattle.node_pull.specs.declared.error.PullError.{PullError}
-use Rattle.node_pull.specs.declared.error.PullError.TheVariants as pulls
+use Rattle.node_pull.specs.declared.error.PullFault.{PullFault}
+use Rattle.node_pull.specs.declared.error.PullFault.TheVariants as pulls
 use Rattle.node_pull.specs.Pulling.{Pulled}
 use Rattle.node_pull.specs.Registering.{Registers}
-use Rattle.node_pull.specs.Views.{LinkView}
+use Rattle.dsc_outside.specs.Link.{LinkView}
 use Rattle.dsc_node.specs.declared.command.Task.{Task}
 use Rattle.dsc_node.specs.declared.command.Task.TheVariants.{Pull, Register}
 use Rattle.dsc_node.specs.declared.status.Status.{Status}
@@ -24,7 +24,7 @@ events_of None = []
 events_of (Some event) = event ∷ []
 
 -- the server did not give what it was asked for
-abbrev pub status_of_pull : PullError → Status
+abbrev pub status_of_pull : PullFault → Status
 status_of_pull pulls.Link = statuses.LinkFault
 status_of_pull pulls.Host = statuses.HostFault
 status_of_pull (pulls.Refused fault) = statuses.PeerRefused fault
@@ -33,17 +33,17 @@ status_of_pull pulls.Memory = statuses.Memory
 -- ---- a registration
 
 -- an accepted one is an event
-abbrev pub registered_by : Result (Unit {0}) PullError → Result (Option Event) PullError
+abbrev pub registered_by : Result (Unit {0}) PullFault → Result (Option Event) PullFault
 registered_by (Ok done) = Ok (Some events.Registered)
 registered_by (Err error) = Err error
 
 -- the node's agent was to be registered at its server
-pub record IsRegistration (node : Node) (name : List ℕ) (start : ℕ) (asked heard : LinkView) (result : Result (Option Event) PullError) : Type 0 where
+pub record IsRegistration (node : Node) (name : List ℕ) (start : ℕ) (asked heard : LinkView) (result : Result (Option Event) PullFault) : Type 0 where
   pub server : Server
   pub is_server : node.meta.server ≡ Some server
   pub agent : ℕ
   pub is_agent : node.agent ≡ Some agent
-  pub answer : Result (Unit {0}) PullError
+  pub answer : Result (Unit {0}) PullFault
   pub registers : Registers node.meta server agent name start asked heard answer
   pub is : result ≡ registered_by answer
 
@@ -59,30 +59,30 @@ abbrev pub held_of : Node → List Part
 held_of node = held_among node.pending node.current
 
 -- parts that are brought are staged
-abbrev pub staged_by : Result (Option Staged) PullError → Result (Option Event) PullError
+abbrev pub staged_by : Result (Option Staged) PullFault → Result (Option Event) PullFault
 staged_by (Ok None) = Ok None
 staged_by (Ok (Some staged)) = Ok (Some (events.Stage staged))
 staged_by (Err error) = Err error
 
 -- the node's server was asked for the parts of its configurations, and for the packages that they name
-pub record IsPull {S : Type 0} (machine : machines.Ghosts S) (faults : S → ℕ) (node : Node) (asked heard : LinkView) (before after : S) (result : Result (Option Event) PullError) : Type 0 where
+pub record IsPull {S : Type 0} (machine : machines.Ghosts S) (faults : S → ℕ) (node : Node) (asked heard : LinkView) (before after : S) (result : Result (Option Event) PullFault) : Type 0 where
   pub server : Server
   pub is_server : node.meta.server ≡ Some server
   pub agent : ℕ
   pub is_agent : node.agent ≡ Some agent
-  pub answer : Result (Option Staged) PullError
+  pub answer : Result (Option Staged) PullFault
   pub pulled : Pulled machine.packages faults node.meta server agent (held_of node) asked heard before after answer
   pub is : result ≡ staged_by answer
 
 -- ---- any task
 
 -- what a task brings that leaves the machine alone
-abbrev pub Asked : Node → Task → ℕ → LinkView → LinkView → Result (Option Event) PullError → Type 0
+abbrev pub Asked : Node → Task → ℕ → LinkView → LinkView → Result (Option Event) PullFault → Type 0
 Asked node (Register name) start asked heard result = IsRegistration node name start asked heard result
 Asked node Pull start asked heard result = ⊥
 Asked node task start asked heard result = (heard ≡ asked) × (result ≡ Ok (given_of node task))
 
 -- what the link and the machine were before, and what they are after it; a start of the task is the clock's first reading
-abbrev pub Brought : {S : Type 0} → resources.Ghosts S → machines.Ghosts S → Node → Task → ℕ → LinkView → LinkView → S → S → Result (Option Event) PullError → Type 0
+abbrev pub Brought : {S : Type 0} → resources.Ghosts S → machines.Ghosts S → Node → Task → ℕ → LinkView → LinkView → S → S → Result (Option Event) PullFault → Type 0
 Brought resources machine node Pull start asked heard before after result = IsPull machine resources.faults node asked heard before after result
 Brought resources machine node task start asked heard before after result = (after ≡ before) × Asked node task start asked heard result

@@ -18,7 +18,7 @@ abbrev pub all_of : List Event → Option Event → List Event
 all_of committed None = committed
 all_of committed (Some event) = committed ++ event ∷ []
 
--- the cause of each refusal; memory is refused only for an event that may take some
+-- the cause of each refusal; memory runs out only for an event that may take some
 abbrev pub IsCause : Node → Event → ℕ × ℕ → StoreError → Type 0
 IsCause node event counts errors.Disk = (refusal node event ≡ None) × Rose counts.0 counts.1
 IsCause node event counts (errors.NotAllowed why) = refusal node event ≡ Some why

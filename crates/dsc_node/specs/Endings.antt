@@ -12,7 +12,7 @@ use Rattle.dsc_node.specs.declared.status.Status.TheVariants as statuses
 abbrev pub Ends : Status → List ℕ → Status → List ℕ → Type 0
 Ends wanted text status lines = (status ≡ wanted) × (lines ≡ text)
 
--- the same, unless memory is refused for the text
+-- the same, unless memory runs out for the text
 abbrev pub Answers : Status → List ℕ → Status → List ℕ → Type 0
 Answers wanted text status lines = Ends wanted text status lines ⊎ Ends statuses.Memory [] status lines
 

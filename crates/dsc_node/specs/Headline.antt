@@ -34,7 +34,7 @@ use Rattle.dsc_node.specs.declared.status.Status.TheVariants as statuses
 use Rattle.node_pull.specs.Contents.{WasAccepted}
 use Rattle.node_pull.specs.Listing.{Listed}
 use Rattle.node_pull.specs.Packages.{AddsAccepted, HasAll, modules_of}
-use Rattle.node_pull.specs.Views.{GoesOn, LinkView}
+use Rattle.dsc_outside.specs.Link.{GoesOn, LinkView}
 use Rattle.dsc_node.specs.Bringing.{held_of}
 use Rattle.dsc_node.specs.Commands.{IsAllowed}
 use Rattle.dsc_node.specs.Commits.{all_of}
@@ -47,7 +47,7 @@ use Rattle.dsc_node.specs.Work.{Known}
 
 -- ---- 1: a state after a prefix of the steps
 
--- Every image at any moment stands for a node for which an image at the begin stood, or for the node after a prefix of the work; and
+-- Every image at any moment stands for a node for which an image at the beginning stood, or for the node after a prefix of the work; and
 -- every image at the end for the node after what was committed, or, where a commit answered Disk, after that event too.
 abbrev pub EndsBroken : Status → Type 0
 EndsBroken status = (status ≡ statuses.DiskFault) ⊎ (status ≡ statuses.Memory)
@@ -66,7 +66,7 @@ AreSound d begin from work = (node : Node) → IsOnTheWay d begin from work node
 
 -- ---- 3: as announced or pushed
 
--- the part stood in the node that was found, or in one for which an image at the begin stood
+-- the part stood in the node that was found, or in one for which an image at the beginning stood
 abbrev pub WasThere : {D : Type 0} → disks.Ghosts D → D → Node → Part → Type 0
 WasThere d begin from part = IsSlot from part ⊎ ((node : Node) × StoodFor d begin Stands node × IsSlot node part)
 
@@ -156,7 +156,7 @@ Keeps [] report = ⊥
 Keeps (event ∷ events) report = KeepsReport event report ⊎ Keeps events report
 
 -- the text of the trace, alone or with the line of the event that keeps its report and those of the reports that were tried; nothing where
--- memory was refused
+-- memory ran out
 abbrev pub IsPrinted : Run → List Entry → Status → List ℕ → Type 0
 IsPrinted run trace status lines =
     ((status ≡ statuses.Memory) × (lines ≡ []))

@@ -33,14 +33,14 @@ kinds_of host = record {
   kept = calls_of;
   spare = spare_of;
   faults = λ kinds. host.faults (host_of kinds);
-  does = λ before document entry after. TellsEntry (host.told (host_of before)) document entry (host.told (host_of after));
-  still = λ before after. host.told (host_of before) ≡ host.told (host_of after);
+  does = λ before document entry after. TellsEntry (host.shown (host_of before)) document entry (host.shown (host_of after));
+  still = λ before after. host.shown (host_of before) ≡ host.shown (host_of after);
 }
 
 abbrev pub machine_of : {H : Type 0} → hosts.Ghosts H → machines.Ghosts (Kinds H)
 machine_of host = record {
-  packages = λ kinds. packages_of (host.told (host_of kinds));
-  packages_changed = λ before after. ChangesPackages (host.told (host_of before)) (host.told (host_of after));
+  packages = λ kinds. packages_of (host.shown (host_of kinds));
+  packages_changed = λ before after. ChangesPackages (host.shown (host_of before)) (host.shown (host_of after));
 }
 
 -- what is known of a disk, such a machine and a clock
@@ -52,7 +52,7 @@ known_on_host disk host clock = known disk (kinds_of host) (machine_of host) clo
 -- the trace of a run is true of the host, where that exposes what it holds
 abbrev pub IsTrueRun : {H : Type 0} → hosts.Ghosts H → Option Run → Kinds H → Kinds H → Type 0
 IsTrueRun host None before after = ⊤
-IsTrueRun host (Some run) before after = TellsTrue run.document (host.told (host_of before)) (calls_of after) (host.told (host_of after))
+IsTrueRun host (Some run) before after = TellsTrue run.document (host.shown (host_of before)) (calls_of after) (host.shown (host_of after))
 
 -- ---- 6: completes
 
@@ -61,7 +61,7 @@ pub record IsFinished {H : Type 0} (host : hosts.Ghosts H) (run : Run) (before :
   pub repairs : run.choice.mode ≡ Repair
   pub finished : run.end ≡ ends.Finished
   pub state : HostState
-  pub tells : host.told (host_of before) ≡ Some state
+  pub tells : host.shown (host_of before) ≡ Some state
 
 -- such a repair of Pending, without a fault of the host, of a resource or of the disk
 pub record IsFaultless {H D : Type 0} (host : hosts.Ghosts H) (d : disks.Ghosts D) (begin now : D) (from : Node) (run : Run) (before after : Kinds H) : Type 0 where
@@ -90,7 +90,7 @@ IsComplete host d begin now from (Some run) before after committed = Completes h
 abbrev pub HoldTogether : {H : Type 0} → hosts.Ghosts H → Option Run → Kinds H → Kinds H → Type 0
 HoldTogether host None before after = ⊤
 HoldTogether host (Some run) before after =
-    (begin end : HostState) → host.told (host_of before) ≡ Some begin → host.told (host_of after) ≡ Some end → Apart run.document → Compliant run.document (calls_of after)
+    (begin end : HostState) → host.shown (host_of before) ≡ Some begin → host.shown (host_of after) ≡ Some end → Apart run.document → Compliant run.document (calls_of after)
     → AllHold end run.document
 
 -- ---- the headline

@@ -1,7 +1,7 @@
+-- what the layer above cites
 pub mod Bringing
 pub mod Commands
 pub mod Commits
-pub mod Documents
 pub mod Endings
 pub mod Headline
 pub mod HostHeadline
@@ -10,10 +10,12 @@ pub mod Path
 pub mod Quoted
 pub mod Ran
 pub mod Readings
-pub mod Running
 pub mod Runs
 pub mod Sending
 pub mod Shown
 pub mod Start
 pub mod Status
 pub mod Work
+-- for private clauses alone
+pub mod Documents
+pub mod Running

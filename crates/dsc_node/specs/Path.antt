@@ -10,8 +10,8 @@ use Rattle.node_store.specs.Stands.{Stands}
 use Rattle.node_store.specs.declared.error.StoreError.TheVariants as errors
 use Rattle.node_store.specs.Store.{StoreTerm}
 use Rattle.resource_kinds.specs.declared.entry.Entry.{Entry}
-use Rattle.node_pull.specs.declared.error.PullError.{PullError}
-use Rattle.node_pull.specs.Views.{LinkView}
+use Rattle.node_pull.specs.declared.error.PullFault.{PullFault}
+use Rattle.dsc_outside.specs.Link.{LinkView}
 use Rattle.dsc_node.specs.declared.status.Status.{Status}
 use Rattle.dsc_node.specs.declared.status.Status.TheVariants as statuses
 use Rattle.dsc_node.specs.declared.command.Task.{Task}
@@ -32,15 +32,15 @@ pub record AfterPrefix (from : Node) (work : List Event) (node : Node) : Type 0 
   pub is : work ≡ front ++ rest
   pub steps : Steps from front node
 
--- a node for which an image stood at the begin, or one after a prefix of the work
+-- a node for which an image stood at the beginning, or one after a prefix of the work
 abbrev pub IsOnTheWay : {D : Type 0} → Ghosts D → D → Node → List Event → Node → Type 0
 IsOnTheWay d begin from work node = StoodFor d begin Stands node ⊎ AfterPrefix from work node
 
--- so does every image at a moment since the begin stand
+-- so does every image at a moment since the beginning stand
 abbrev pub Passes : {D : Type 0} → Ghosts D → D → D → Node → List Event → Type 0
 Passes d begin now from work = AllStand d begin Stands Any → StandsAtAnyMoment d begin now Stands (IsOnTheWay d begin from work)
 
--- since the begin the store was opened with the node `from`, and this work was committed
+-- since the beginning the store was opened with the node `from`, and this work was committed
 pub record SoFar {D : Type 0} (d : Ghosts D) (begin now : D) (from : Node) (work : List Event) (store : StoreTerm) : Type 0 where
   pub passes : Passes d begin now from work
   pub steps : Steps from work store.node
@@ -84,8 +84,8 @@ FirstGoes d old now before first (Ok v) after = Carries d old now before after (
 FirstGoes d old now before first (Err error) after =
     EndsStart d old now before (λ from counts work committed broken. (event : Event) × (first ≡ Some event) × RefusedAfter from counts work event error committed broken)
 
--- What a task that comes to no run brought was committed, and this text is printed; or its event was refused; or nothing was brought.
-abbrev pub SettlesBy : {D : Type 0} → Ghosts D → D → D → StoreTerm → Result (Option Event) PullError → List ℕ → Status → List ℕ → Type 0
+-- What a task that runs nothing brought was committed, and this text is printed; or its event was refused; or nothing was brought.
+abbrev pub SettlesBy : {D : Type 0} → Ghosts D → D → D → StoreTerm → Result (Option Event) PullFault → List ℕ → Status → List ℕ → Type 0
 SettlesBy d old now before (Err error) text status lines =
     EndsStart d old now before (λ from counts work committed broken. (committed ≡ work) × (broken ≡ None)) × Ends (status_of_pull error) [] status lines
 SettlesBy d old now before (Ok first) text status lines =
@@ -95,7 +95,7 @@ SettlesBy d old now before (Ok first) text status lines =
 
 -- so did a task
 pub record SettleGoes {D : Type 0} (d : Ghosts D) (old now : D) (before : StoreTerm) (task : Task) (start : ℕ) (asked heard : LinkView) (status : Status) (lines : List ℕ) : Type 0 where
-  pub first : Result (Option Event) PullError
+  pub first : Result (Option Event) PullFault
   pub brought : Asked before.node task start asked heard first
   pub settles : SettlesBy d old now before first (settled_text task before.node) status lines
 

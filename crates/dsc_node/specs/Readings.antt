@@ -12,7 +12,7 @@ next_reading (reading ∷ rest) = reading
 abbrev pub Gave : Option (List (Option ℕ)) → Option ℕ → Type 0
 Gave readings given = IfSome readings (λ list. given ≡ next_reading list)
 
--- so many readings were taken
+-- this number of readings was taken
 abbrev pub Took : ℕ → Option (List (Option ℕ)) → Option (List (Option ℕ)) → Type 0
 Took count before after = after ≡ option_map (drop count) before
 

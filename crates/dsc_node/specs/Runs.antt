@@ -1,5 +1,5 @@
 -- The run of a start: what is run and how, what it leaves, and its report.
-use Rattle.std.specs.Prelude.{◌≡◌, ◌≢◌, ◌==◌, ℕ, Bool, true, false, ◌&&◌, cond, List, [], map, Option, Some, None, codes}
+use Rattle.std.specs.Prelude.{◌≡◌, ◌≢◌, ◌==◌, ℕ, ◌≤◌, Bool, true, false, ◌&&◌, cond, List, [], map, Option, Some, None, codes}
 use Rattle.dsc_terms.specs.Counts.{RoseBy}
 use Rattle.dsc_document.specs.declared.document.Document.{Document}
 use Rattle.depend_order.specs.Documents.{IsOrderOfDocument}
@@ -62,7 +62,7 @@ pub record Run : Type 0 where
   pub end : RunEnd
 
 -- It went from one state of the machine to another, and left a trace that it may leave, with nothing left out; it ended as its last
--- entry says, and blames the machine no more often than its count of faults rose.
+-- entry says, and blames the machine no more often than its count of faults rose, which never falls.
 pub record Ran {S : Type 0} (machine : Ghosts S) (run : Run) (before after : S) : Type 0 where
   pub merged : Merged run.choice.parts run.document
   pub is_order : IsOrderOfDocument run.document run.order
@@ -71,6 +71,7 @@ pub record Ran {S : Type 0} (machine : Ghosts S) (run : Run) (before after : S) 
   pub ended : EndsAs run.end (machine.kept after)
   pub chain : Chain machine.does machine.still run.document before (machine.kept after) after
   pub failures : RoseBy (host_failures (machine.kept after)) (machine.faults before) (machine.faults after)
+  pub later : machine.faults before ≤ machine.faults after
 
 -- ---- its report
 
@@ -95,7 +96,7 @@ pub record Reported {S : Type 0} (machine : Ghosts S) (node : Node) (stopped : B
   pub is : IsReport run.document (machine.kept after) (frame_of node run.choice start (end_of start given)) report
   pub in_size : ReportInSize report
 
--- a run in this node for which memory was refused: before its first Test, or in its last Test or Set
+-- a run in this node for which memory ran out: before its first Test, or in its last Test or Set
 pub record Unended {S : Type 0} (machine : Ghosts S) (node : Node) (stopped : Bool) (run : Run) (before after : S) : Type 0 where
   pub chosen : chosen_of stopped node ≡ Some run.choice
   pub ran : Ran machine run before after

@@ -14,7 +14,7 @@ use Rattle.node_store.specs.declared.error.StoreError.TheVariants as errors
 use Rattle.pull_client.specs.declared.error.PeerError.{PeerError}
 use Rattle.pull_client.specs.declared.error.PeerError.TheVariants.{Memory}
 use Rattle.node_pull.specs.Reporting.{SendsReport}
-use Rattle.node_pull.specs.Views.{LinkView}
+use Rattle.dsc_outside.specs.Link.{LinkView}
 use Rattle.dsc_node.specs.declared.sending.Attempt.{Attempt}
 use Rattle.dsc_node.specs.declared.sending.Attempt.TheVariants.{Accepted, NotAccepted, NoMemory}
 use Rattle.dsc_node.specs.declared.status.Status.{Status}

@@ -7,7 +7,7 @@ use Rattle.node_state.specs.Sound.{Sound}
 use Rattle.node_store.specs.declared.error.StoreError.{StoreError}
 use Rattle.node_store.specs.Stands.{Stands}
 use Rattle.node_store.specs.Store.{Unopened}
-use Rattle.node_pull.specs.Views.{LinkView}
+use Rattle.dsc_outside.specs.Link.{LinkView}
 use Rattle.dsc_node.specs.declared.command.Command.{Command}
 use Rattle.dsc_node.specs.declared.command.Task.{Task}
 use Rattle.dsc_node.specs.declared.status.Status.{Status}

@@ -12,8 +12,8 @@ use Rattle.node_state.specs.declared.event.Why.{Why}
 use Rattle.node_state.specs.Table.{Step, Steps}
 use Rattle.node_store.specs.declared.error.StoreError.{StoreError}
 use Rattle.node_store.specs.declared.error.StoreError.TheVariants as errors
-use Rattle.node_pull.specs.declared.error.PullError.{PullError}
-use Rattle.node_pull.specs.Views.{LinkView}
+use Rattle.node_pull.specs.declared.error.PullFault.{PullFault}
+use Rattle.dsc_outside.specs.Link.{LinkView}
 use Rattle.dsc_node.specs.declared.command.Task.{Task}
 use Rattle.dsc_node.specs.declared.command.Task.TheVariants.{Init, Meta, Register, Pull, Push, Consistency, Boot, Get, Restore, Remove, Reports}
 use Rattle.dsc_node.specs.declared.status.Status.{Status}
@@ -66,10 +66,10 @@ pub data Finish {D S C : Type 0} (o : Known D S C) (from : Node) (counts : ℕ �
       → Sends from counts work node asked heard tried committed broken
       → EndsAfterSending statuses.Done [] (codes "end nothing\n") tried status lines
       → Finish o from counts work node stopped readings left start asked heard before after status lines None committed broken
-  -- memory was refused before the run
+  -- memory ran out before the run
   unready : after ≡ before → left ≡ readings → heard ≡ asked → Ends statuses.Memory [] status lines
       → Finish o from counts work node stopped readings left start asked heard before after status lines None work None
-  -- memory was refused in the run
+  -- memory ran out in the run
   unended : (run : Run) → Unended o.resources node stopped run before after → left ≡ readings → heard ≡ asked → Ends statuses.Memory [] status lines
       → Finish o from counts work node stopped readings left start asked heard before after status lines (Some run) work None
   -- the event that keeps the run's report was refused; memory was not
@@ -93,7 +93,7 @@ abbrev pub ReadsBefore : {C : Type 0} → clocks.Ghosts C → Bool → ℕ → C
 ReadsBefore clock false start first last = last ≡ first
 ReadsBefore clock true start first last = Gave (clock.coming first) (Some start) × Took 1 (clock.coming first) (clock.coming last)
 
--- what a task prints that comes to no run: what the node is and holds, its reports, or that all is done
+-- what a task prints that runs nothing: what the node is and holds, its reports, or that all is done
 abbrev pub settled_text : Task → Node → List ℕ
 settled_text (Init agent) node = codes "ok\n"
 settled_text (Meta meta) node = codes "ok\n"
@@ -119,7 +119,7 @@ pub data StartTable {D S C : Type 0} (o : Known D S C) (task : Task) (from : Nod
       → after.machine ≡ before.machine → after.link ≡ before.link → Ends statuses.ClockFault [] status lines
       → StartTable o task from counts work node before after status lines before.machine None work None
   -- the server did not give what the task asked it for
-  not_brought : (start : ℕ) (error : PullError) → IsAllowed node task → ReadsBefore o.clock (reads_clock task) start before.clock after.clock
+  not_brought : (start : ℕ) (error : PullFault) → IsAllowed node task → ReadsBefore o.clock (reads_clock task) start before.clock after.clock
       → Brought o.resources o.machine node task start before.link after.link before.machine after.machine (Err error) → Ends (status_of_pull error) [] status lines
       → StartTable o task from counts work node before after status lines after.machine None work None
   -- the event that it brings was refused

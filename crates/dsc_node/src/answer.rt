@@ -39,8 +39,10 @@ impl StartEnd {
 
     /// An end that prints the text that was made, and for which memory may have been refused.
     pub(crate) fn showing(alloc: Global, text: Result<String, AllocError>) -> StartEnd
-        ensures shown { IfOk text (λ lines. Answers Status.Done (string_bytes lines) result.status (string_bytes result.lines)) }
-        ensures memory { IsErr text → Ends Status.Memory [] result.status (string_bytes result.lines) }
+        ensures shown { IfOk text (λ lines. Answers Status.Done (string_bytes lines) result.status
+            (string_bytes result.lines)) }
+        ensures memory { IsErr text → Ends Status.Memory [] result.status
+            (string_bytes result.lines) }
     {
         match text {
             Ok(lines) => StartEnd {
@@ -53,7 +55,8 @@ impl StartEnd {
 
     /// An end that prints these texts, one after the other.
     pub(crate) fn joining(alloc: Global, status: Status, first: &str, second: &str) -> StartEnd
-        ensures { Answers status (first.now ++ second.now) result.status (string_bytes result.lines) }
+        ensures { Answers status (first.now ++ second.now) result.status
+            (string_bytes result.lines) }
     {
         match joined(alloc, first, second) {
             Ok(lines) => StartEnd { status, lines },
@@ -92,7 +95,8 @@ pub(crate) fn after_run(
 ) -> StartEnd
     requires known { All (λ e. place_of e < length document.now.resources) calls.now }
     requires ends { EndsAtYes calls.now }
-    ensures { Answers status ((run_lines document.now calls.now ++ overlap_line overlap) ++ last.now ++ tried.now) result.status (string_bytes result.lines) }
+    ensures { Answers status ((run_lines document.now calls.now ++ overlap_line overlap) ++ last.now
+        ++ tried.now) result.status (string_bytes result.lines) }
 {
     match run_text(alloc, document, calls, overlap, last, tried) {
         Ok(lines) => StartEnd { status, lines },
@@ -110,7 +114,9 @@ pub(crate) fn refused_after_run(
 ) -> StartEnd
     requires known { All (λ e. place_of e < length document.now.resources) calls.now }
     requires ends { EndsAtYes calls.now }
-    ensures { (wanted : Status) (end : List ℕ) → EndsAfterSending wanted (run_lines document.now calls.now ++ overlap_line overlap) end (Err error) result.status (string_bytes result.lines) }
+    ensures { (wanted : Status) (end : List ℕ) → EndsAfterSending wanted
+        (run_lines document.now calls.now ++ overlap_line overlap) end (Err error) result.status
+        (string_bytes result.lines) }
 {
     match error {
         StoreError::Memory => StartEnd::silent(alloc, Status::Memory),
@@ -128,7 +134,8 @@ fn run_text(
 ) -> Result<String, AllocError>
     requires known { All (λ e. place_of e < length document.now.resources) calls.now }
     requires ends { EndsAtYes calls.now }
-    ensures { IfOk result (λ lines. string_bytes lines ≡ (run_lines document.now calls.now ++ overlap_line overlap) ++ last.now ++ tried.now) }
+    ensures { IfOk result (λ lines. string_bytes lines
+        ≡ (run_lines document.now calls.now ++ overlap_line overlap) ++ last.now ++ tried.now) }
 {
     let good = count_succeeded(calls);
     let mut lines = lines_of(alloc, document, calls, good, overlap)?;
@@ -137,7 +144,7 @@ fn run_text(
     Ok(lines)
 }
 
-/// The status after a run of which so many resources did not succeed.
+/// The status after a run in which this number of resources did not succeed.
 pub(crate) fn status_after(now: bool, end: RunEnd, missed: u32) -> Status
     ensures { result ≡ status_after now end missed }
 {

@@ -1,7 +1,7 @@
 //! What a task brings before its run.
 ghost use Rattle.std.specs.Prelude.{◌≡◌, ◌≤◌, ℕ, true, None, IfOk, IfSome};
 ghost use Rattle.node_state.specs.Sound.{Sound};
-ghost use Rattle.node_pull.specs.Views.{view_of};
+ghost use Rattle.dsc_outside.specs.LinkView.{view_of};
 ghost use Rattle.dsc_node.specs.Bringing.{Brought, IsPull, held_of, status_of_pull};
 ghost use Rattle.dsc_node.specs.Commands.{boot_of, is_run, why_not};
 ghost use Rattle.node_state.specs.Table.{IsWithin};
@@ -9,7 +9,7 @@ ghost use Rattle.node_state.specs.Table.{IsWithin};
 use crate::command::Task;
 use crate::status::Status;
 use dsc_outside::Link;
-use node_pull::{PullError, pull};
+use node_pull::{PullFault, pull};
 use node_state::{Event, Node};
 use partial_merge::Part;
 use resource_kinds::Machine;
@@ -23,11 +23,13 @@ pub(crate) fn bring<L: Link, M: Machine>(
     node: &Node,
     link: &mut L,
     machine: &mut M,
-) -> Result<Option<Event>, PullError>
+) -> Result<Option<Event>, PullFault>
     requires sound { Sound node.now }
     requires allowed { why_not node.now task ≡ None }
     requires runs { is_run task ≡ true }
-    ensures brought { (start : ℕ) → Brought M.Resources M.Machine.own node.now task start (view_of L.Link link.old) (view_of L.Link link.new) machine.old machine.new result }
+    ensures brought { (start : ℕ) → Brought M.Resources M.Machine.own node.now task start
+        (view_of L.Link link.old) (view_of L.Link link.new) machine.old machine.new result }
+    ensures becomes { L.may_become link.old link.new }
     ensures within { IfOk result (λ first. IfSome first IsWithin) }
     ensures kept { M.kept machine.new ≡ M.kept machine.old }
     ensures packages { M.packages_changed machine.old machine.new }
@@ -59,10 +61,12 @@ fn pulled<L: Link, M: Machine>(
     node: &Node,
     link: &mut L,
     machine: &mut M,
-) -> Result<Option<Event>, PullError>
+) -> Result<Option<Event>, PullFault>
     requires sound { Sound node.now }
     requires allowed { why_not node.now Task.Pull ≡ None }
-    ensures brought { IsPull M.Machine.own M.Resources.faults node.now (view_of L.Link link.old) (view_of L.Link link.new) machine.old machine.new result }
+    ensures brought { IsPull M.Machine.own M.Resources.faults node.now (view_of L.Link link.old)
+        (view_of L.Link link.new) machine.old machine.new result }
+    ensures becomes { L.may_become link.old link.new }
     ensures within { IfOk result (λ first. IfSome first IsWithin) }
     ensures kept { M.kept machine.new ≡ M.kept machine.old }
     ensures packages { M.packages_changed machine.old machine.new }
@@ -98,13 +102,13 @@ fn held_of(node: &Node) -> &[Part]
 }
 
 /// The status of a start to which the server did not give what it was asked for.
-pub(crate) fn status_of_pull(error: PullError) -> Status
+pub(crate) fn status_of_pull(error: PullFault) -> Status
     ensures { result ≡ status_of_pull error }
 {
     match error {
-        PullError::Link => Status::LinkFault,
-        PullError::Host => Status::HostFault,
-        PullError::Refused(fault) => Status::PeerRefused(fault),
-        PullError::Memory => Status::Memory,
+        PullFault::Link => Status::LinkFault,
+        PullFault::Host => Status::HostFault,
+        PullFault::Refused(fault) => Status::PeerRefused(fault),
+        PullFault::Memory => Status::Memory,
     }
 }

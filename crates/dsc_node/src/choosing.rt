@@ -20,7 +20,11 @@ pub(crate) struct Chosen<'a> {
 /// The run that the node is to make, unless it is to stop: Pending is repaired; without it Current is left alone, monitored or
 /// repaired, as the configuration mode says.
 pub(crate) fn chosen_of(node: &Node, stopped: bool) -> Option<Chosen>
-    ensures { option_map (λ chosen. record { parts = chosen.parts.now; mode = chosen.mode; pending = chosen.pending }) result ≡ chosen_of stopped node.now }
+    ensures { option_map (λ chosen. record {
+      parts = chosen.parts.now;
+      mode = chosen.mode;
+      pending = chosen.pending;
+    }) result ≡ chosen_of stopped node.now }
 {
     if stopped {
         return None;
@@ -37,7 +41,11 @@ pub(crate) fn chosen_of(node: &Node, stopped: bool) -> Option<Chosen>
 }
 
 fn chosen_current(mode: ConfigMode, parts: &[Part]) -> Option<Chosen>
-    ensures { option_map (λ chosen. record { parts = chosen.parts.now; mode = chosen.mode; pending = chosen.pending }) result ≡ chosen_current mode parts.now }
+    ensures { option_map (λ chosen. record {
+      parts = chosen.parts.now;
+      mode = chosen.mode;
+      pending = chosen.pending;
+    }) result ≡ chosen_current mode parts.now }
 {
     let mode = match mode {
         ConfigMode::ApplyOnly => return None,

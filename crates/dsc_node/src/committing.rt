@@ -35,7 +35,8 @@ pub(crate) fn commit<D: Disk>(
     requires within { IsWithin event }
     ensures kept { OnOk result (IsKept D.Disk disk.new store.new) }
     ensures goes { CommitGoes D.Disk disk.old disk.new store.old event result store.new }
-    ensures memory { IfErr result (λ error. error ≡ StoreError.Memory → TakesMemory store.old.reserved event) }
+    ensures memory { IfErr result (λ error. error ≡ StoreError.Memory → TakesMemory
+        store.old.reserved event) }
 {
     store.commit(disk, event)
 }

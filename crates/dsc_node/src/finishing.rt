@@ -5,7 +5,7 @@ ghost use Rattle.resource_kinds.specs.Trace.{place_of};
 ghost use Rattle.lcm_core.specs.RunLaws.{EndsAtYes};
 ghost use Rattle.report_log.specs.Sizes.{ReportInSize};
 ghost use Rattle.node_store.specs.Store.{IsKept};
-ghost use Rattle.node_pull.specs.Views.{view_of};
+ghost use Rattle.dsc_outside.specs.LinkView.{view_of};
 ghost use Rattle.dsc_node.specs.Documents.{IsOfPending};
 ghost use Rattle.dsc_node.specs.Path.{EndsStart, KeepGoes, NothingGoes};
 ghost use Rattle.dsc_node.specs.Runs.{Run, event_of};
@@ -42,8 +42,13 @@ pub(crate) fn finish<D: Disk, M: Machine, L: Link, C: Clock>(
     requires fresh { M.kept machine.old ≡ [] }
     requires document { IfSome document (IsOfPending store.old.node) }
     requires moment { start ≤ last_moment }
-    ensures goes { (run : Option Run) × EndsStart D.Disk disk.old disk.new store.old (λ from counts work committed broken.
-        Finish (known D.Disk M.Resources M.Machine.own C.Clock) from counts work store.old.node stopped (C.coming clock.old) (C.coming clock.new) start (view_of L.Link link.old) (view_of L.Link link.new) machine.old machine.new result.status (string_bytes result.lines) run committed broken) }
+    ensures goes { (run : Option Run) × EndsStart D.Disk disk.old disk.new store.old
+        (λ from counts work committed broken.
+        Finish (known D.Disk M.Resources M.Machine.own C.Clock) from counts work store.old.node
+        stopped (C.coming clock.old) (C.coming clock.new) start (view_of L.Link link.old)
+        (view_of L.Link link.new) machine.old machine.new result.status (string_bytes result.lines)
+        run committed broken) }
+    ensures becomes { L.may_become link.old link.new }
     ensures later { C.faults clock.old ≤ C.faults clock.new }
 {
     if let Err(Memory) = store.reserve() {
@@ -72,7 +77,9 @@ fn end_nothing<D: Disk, L: Link>(
     link: &mut L,
 ) -> StartEnd
     requires kept { IsKept D.Disk disk.old store.old }
-    ensures goes { NothingGoes D.Disk disk.old disk.new store.old (view_of L.Link link.old) (view_of L.Link link.new) result.status (string_bytes result.lines) }
+    ensures goes { NothingGoes D.Disk disk.old disk.new store.old (view_of L.Link link.old)
+        (view_of L.Link link.new) result.status (string_bytes result.lines) }
+    ensures becomes { L.may_become link.old link.new }
 {
     let mut sent = String::new(alloc);
     match send_reports(alloc, store, disk, link, &mut sent) {
@@ -81,7 +88,7 @@ fn end_nothing<D: Disk, L: Link>(
     }
 }
 
-// The event that keeps the report of a run that is over, and the sending of reports. No memory is refused before the event is committed.
+// The event that keeps the report of a run that is over, and the sending of reports. No memory runs out before the event is committed.
 fn keep<D: Disk, L: Link>(
     alloc: Global,
     over: Over,
@@ -95,7 +102,10 @@ fn keep<D: Disk, L: Link>(
     requires in_size { ReportInSize over.report }
     requires known { All (λ e. place_of e < length over.document.resources) calls.now }
     requires ends { EndsAtYes calls.now }
-    ensures goes { KeepGoes D.Disk disk.old disk.new store.old over calls.now (view_of L.Link link.old) (view_of L.Link link.new) result.status (string_bytes result.lines) }
+    ensures goes { KeepGoes D.Disk disk.old disk.new store.old over calls.now
+        (view_of L.Link link.old) (view_of L.Link link.new) result.status
+        (string_bytes result.lines) }
+    ensures becomes { L.may_become link.old link.new }
 {
     let document = over.document;
     let missed = over.report.missed;

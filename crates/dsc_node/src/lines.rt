@@ -10,7 +10,7 @@ use mof_codec::push_literal;
 use resource_kinds::{Entry, Failure, SetAnswer, TestAnswer};
 use std::alloc::{AllocError, Global};
 
-/// The lines of a run in which so many resources succeeded; `overlaps` says whether some of them do.
+/// The lines of a run in which this number of resources succeeded; `overlaps` says whether some of them do.
 pub fn lines_of(
     alloc: Global,
     document: &Document,
@@ -21,7 +21,8 @@ pub fn lines_of(
     requires known { All (λ e. place_of e < length document.now.resources) calls.now }
     requires good { good ≡ succeeded_count document.now calls.now }
     requires bound { good ≤ length document.now.resources }
-    ensures { IfOk result (λ s. string_bytes s ≡ run_lines document.now calls.now ++ overlap_line overlaps) }
+    ensures { IfOk result (λ s. string_bytes s
+        ≡ run_lines document.now calls.now ++ overlap_line overlaps) }
 {
     let mut out = String::new(alloc);
     for entry in calls {
@@ -35,7 +36,8 @@ pub fn lines_of(
 
 fn push_line(out: &mut String, document: &Document, entry: &Entry) -> Result<(), AllocError>
     requires { place_of entry.now < length document.now.resources }
-    ensures { OnOk result (string_bytes out.new ≡ string_bytes out.old ++ line_of document.now entry.now) }
+    ensures { OnOk result (string_bytes out.new
+        ≡ string_bytes out.old ++ line_of document.now entry.now) }
 {
     match entry {
         Entry::Tested { place, answer } => {
@@ -84,7 +86,8 @@ fn push_set(out: &mut String, answer: &SetAnswer) -> Result<(), AllocError>
 }
 
 fn push_fault(out: &mut String, failure: &Failure) -> Result<(), AllocError>
-    ensures { OnOk result (string_bytes out.new ≡ string_bytes out.old ++ codes " fault " ++ failure_name failure.now) }
+    ensures { OnOk result (string_bytes out.new
+        ≡ string_bytes out.old ++ codes " fault " ++ failure_name failure.now) }
 {
     out.push_str(" fault ")?;
     out.push_str(failure.name())?;
@@ -102,7 +105,8 @@ fn push_overlap(out: &mut String, overlaps: bool) -> Result<(), AllocError>
 
 fn push_summary(out: &mut String, total: usize, good: usize) -> Result<(), AllocError>
     requires { good ≤ total }
-    ensures { OnOk result (string_bytes out.new ≡ string_bytes out.old ++ summary total good (total - good)) }
+    ensures { OnOk result (string_bytes out.new
+        ≡ string_bytes out.old ++ summary total good (total - good)) }
 {
     push_resources(out, total, good)?;
     let missed = total - good;
@@ -111,7 +115,8 @@ fn push_summary(out: &mut String, total: usize, good: usize) -> Result<(), Alloc
 
 /// Appends how many resources there are, and how many succeeded.
 pub fn push_resources(out: &mut String, total: usize, good: usize) -> Result<(), AllocError>
-    ensures { OnOk result (string_bytes out.new ≡ string_bytes out.old ++ resources_line total good) }
+    ensures { OnOk result (string_bytes out.new
+        ≡ string_bytes out.old ++ resources_line total good) }
 {
     write!(out, "resources {total} succeeded {good}\n")
 }

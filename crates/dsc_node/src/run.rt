@@ -8,7 +8,7 @@ ghost use Rattle.resource_kinds.specs.Kinds.{calls_of, host_of};
 ghost use Rattle.resource_kinds.specs.Trace.{Chain, host_failures};
 ghost use Rattle.lcm_core.specs.Bounds.{sets_of, tests_of};
 ghost use Rattle.lcm_core.specs.Legal.{Legal};
-ghost use Rattle.dsc_node.specs.Ran.{EndsAs, IsWholeOrNone, Ran};
+ghost use Rattle.dsc_node.specs.Ran.{EndsAs, IsWholeOrNone, RanOnHost};
 
 use dsc_document::Document;
 use dsc_outside::Host;
@@ -19,8 +19,8 @@ use std::alloc::Global;
 
 /// Runs over the resources of a merged document in this order, that of their dependencies, on any machine.
 ///
-/// Room for the trace is taken before the first Test. `RunEnd::Memory` comes where that or what a repair takes was refused, with no
-/// entry, or is the answer of the last Test or Set.
+/// Memory for the trace is reserved before the first Test. `RunEnd::Memory` comes where that or what a repair takes was out of memory, with
+/// no entry, or is the answer of the last Test or Set.
 pub fn run_merged<M: Machine>(
     alloc: Global,
     document: &Document,
@@ -36,9 +36,11 @@ pub fn run_merged<M: Machine>(
     ensures whole { IsWholeOrNone document.now mode order.now result (M.kept machine.new) }
     ensures end { EndsAs result (M.kept machine.new) }
     ensures chain { Chain M.does M.still document.now machine.old (M.kept machine.new) machine.new }
-    ensures faults { RoseBy (host_failures (M.kept machine.new)) (M.faults machine.old) (M.faults machine.new) }
+    ensures faults { RoseBy (host_failures (M.kept machine.new)) (M.faults machine.old)
+        (M.faults machine.new) }
     ensures later { M.faults machine.old ≤ M.faults machine.new }
-    ensures bound { (r : ℕ) → (tests_of (M.kept machine.new) r ≤ 2) × (sets_of (M.kept machine.new) r ≤ 1) }
+    ensures bound { (r : ℕ) → (tests_of (M.kept machine.new) r ≤ 2)
+        × (sets_of (M.kept machine.new) r ≤ 1) }
 {
     let count = document.resources.as_slice().len() as u32;
     if let Err(Memory) = machine.reserve(3 * count) {
@@ -61,9 +63,12 @@ pub fn run_kinds<H: Host>(
     requires merged { (parts : List Part) × Merged parts document.now }
     requires order { IsOrderOfDocument document.now order.now }
 
-    ensures ran { Ran document.now mode order.now result (calls_of kinds.new) (H.told (host_of kinds.old)) (H.told (host_of kinds.new)) (H.faults (host_of kinds.old)) (H.faults (host_of kinds.new)) }
+    ensures ran { RanOnHost document.now mode order.now result (calls_of kinds.new)
+        (H.shown (host_of kinds.old)) (H.shown (host_of kinds.new))
+        (H.faults (host_of kinds.old)) (H.faults (host_of kinds.new)) }
     ensures later { H.faults (host_of kinds.old) ≤ H.faults (host_of kinds.new) }
-    ensures bound { (r : ℕ) → (tests_of (calls_of kinds.new) r ≤ 2) × (sets_of (calls_of kinds.new) r ≤ 1) }
+    ensures bound { (r : ℕ) → (tests_of (calls_of kinds.new) r ≤ 2)
+        × (sets_of (calls_of kinds.new) r ≤ 1) }
 {
     run_merged(alloc, document, order, mode, kinds)
 }

@@ -43,7 +43,7 @@ pub(crate) enum RunStep {
     /// Nothing is to be run.
     Nothing,
 
-    /// Memory was refused.
+    /// Memory ran out.
     Memory,
 
     Over(Over),
@@ -73,7 +73,8 @@ pub(crate) fn run_step<M: Machine, C: Clock>(
     requires sound { Sound node.now }
     requires document { IfSome document (IsOfPending node.now) }
     requires moment { start ≤ last_moment }
-    ensures step { IsRunStep M.Resources node.now stopped (C.coming clock.old) (C.coming clock.new) start result machine.old machine.new }
+    ensures step { IsRunStep M.Resources node.now stopped (C.coming clock.old) (C.coming clock.new)
+        start result machine.old machine.new }
     ensures later { C.faults clock.old ≤ C.faults clock.new }
 {
     let Some(chosen) = chosen_of(node, stopped) else {
@@ -149,8 +150,14 @@ fn run_ready<M: Machine, C: Clock>(
     requires staged { IsStaged chosen.parts.now }
     requires ready { IsReadyFor chosen.parts.now ready }
     requires moment { start ≤ last_moment }
-    ensures step { (stopped : Bool) → chosen_of stopped node.now ≡ Some (record { parts = chosen.entry.parts.now; mode = chosen.entry.mode; pending = chosen.entry.pending })
-        → IsRunStep M.Resources node.now stopped (C.coming clock.old) (C.coming clock.new) start result machine.old machine.new }
+    ensures step { (stopped : Bool) → chosen_of stopped node.now ≡ Some
+        (record {
+          parts = chosen.entry.parts.now;
+          mode = chosen.entry.mode;
+          pending = chosen.entry.pending;
+        })
+        → IsRunStep M.Resources node.now stopped (C.coming clock.old) (C.coming clock.new) start
+        result machine.old machine.new }
     ensures later { C.faults clock.old ≤ C.faults clock.new }
 {
     let Ready {
@@ -190,7 +197,8 @@ fn run_ready<M: Machine, C: Clock>(
 // A second reading, or the first where it failed or lies before it.
 fn end_of<C: Clock>(start: u64, clock: &mut C) -> u64
     requires moment { start ≤ last_moment }
-    ensures time { (given : Option ℕ) × Gave (C.coming clock.old) given × (result ≡ end_of start given) }
+    ensures time { (given : Option ℕ) × Gave (C.coming clock.old) given
+        × (result ≡ end_of start given) }
     ensures took { Took 1 (C.coming clock.old) (C.coming clock.new) }
     ensures moment { result ≤ last_moment }
     ensures later { C.faults clock.old ≤ C.faults clock.new }

@@ -4,7 +4,7 @@ ghost use Rattle.report_log.specs.Sizes.{ReportInSize};
 ghost use Rattle.node_state.specs.Sound.{Sound};
 ghost use Rattle.node_store.specs.Store.{IsKept};
 ghost use Rattle.node_pull.specs.Reporting.{SendsReport};
-ghost use Rattle.node_pull.specs.Views.{view_of};
+ghost use Rattle.dsc_outside.specs.LinkView.{view_of};
 ghost use Rattle.dsc_node.specs.Path.{SendsOn};
 ghost use Rattle.dsc_node.specs.Sending.{PrintsTried, attempt_of, not_accepted, Tried, ToSend, first_unsent, to_send, to_send_by, tried_line, unsent_count};
 
@@ -48,7 +48,10 @@ pub(crate) fn send_reports<D: Disk, L: Link>(
     lines: &mut String,
 ) -> Result<(), StoreError>
     requires kept { IsKept D.Disk disk.old store.old }
-    ensures { (tried : Result (List Tried) StoreError) × PrintsTried tried result (string_bytes lines.old) (string_bytes lines.new) × SendsOn D.Disk disk.old disk.new store.old (view_of L.Link link.old) (view_of L.Link link.new) tried }
+    ensures sends { (tried : Result (List Tried) StoreError) × PrintsTried tried result
+        (string_bytes lines.old) (string_bytes lines.new) × SendsOn D.Disk disk.old disk.new
+        store.old (view_of L.Link link.old) (view_of L.Link link.new) tried }
+    ensures becomes { L.may_become link.old link.new }
 {
     let Some(next) = to_send(store.state()) else {
         return Ok(());
@@ -70,7 +73,10 @@ pub(crate) fn send_reports<D: Disk, L: Link>(
 
 fn try_report<L: Link>(alloc: Global, link: &mut L, next: Next<'_>) -> Attempt
     requires size { ReportInSize next.report.now }
-    ensures { (answer : Result (Unit {0}) PeerError) × SendsReport next.entry.server.now next.entry.agent next.entry.report.now (view_of L.Link link.old) (view_of L.Link link.new) answer × (result ≡ attempt_of answer) }
+    ensures tried { (answer : Result (Unit {0}) PeerError) × SendsReport next.entry.server.now
+        next.entry.agent next.entry.report.now (view_of L.Link link.old) (view_of L.Link link.new)
+        answer × (result ≡ attempt_of answer) }
+    ensures becomes { L.may_become link.old link.new }
 {
     match send_report(alloc, link, next.server, next.agent, next.report) {
         Ok(()) => Attempt::Accepted,
@@ -88,7 +94,11 @@ fn not_accepted(error: PeerError) -> Attempt
 }
 
 fn to_send(node: &Node) -> Option<Next<'_>>
-    ensures { option_map (λ next. record { server = next.server.now; agent = next.agent; report = next.report.now }) result ≡ to_send node.now }
+    ensures { option_map (λ next. record {
+      server = next.server.now;
+      agent = next.agent;
+      report = next.report.now;
+    }) result ≡ to_send node.now }
 {
     if !(node.meta.reports && node.registered) {
         return None;
@@ -117,7 +127,8 @@ fn first_unsent(reports: &[Kept]) -> Option<&Report>
 }
 
 fn print_tried(lines: &mut String, job: u64, sent: bool) -> Result<(), StoreError>
-    ensures printed { OnOk result (string_bytes lines.new ≡ string_bytes lines.old ++ tried_line (record { job = job; sent = sent })) }
+    ensures printed { OnOk result (string_bytes lines.new
+        ≡ string_bytes lines.old ++ tried_line (record { job = job; sent = sent })) }
     ensures memory { IfErr result (λ error. error ≡ StoreError.Memory) }
 {
     match push_tried(lines, job, sent) {
@@ -127,7 +138,8 @@ fn print_tried(lines: &mut String, job: u64, sent: bool) -> Result<(), StoreErro
 }
 
 fn push_tried(lines: &mut String, job: u64, sent: bool) -> Result<(), AllocError>
-    ensures { OnOk result (string_bytes lines.new ≡ string_bytes lines.old ++ tried_line (record { job = job; sent = sent })) }
+    ensures { OnOk result (string_bytes lines.new
+        ≡ string_bytes lines.old ++ tried_line (record { job = job; sent = sent })) }
 {
     if sent {
         write!(lines, "report {job} sent\n")

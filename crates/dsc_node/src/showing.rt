@@ -46,7 +46,8 @@ fn push_line(out: &mut String, name: &str, says: &str) -> Result<(), AllocError>
 }
 
 fn push_flag(out: &mut String, name: &str, yes: bool) -> Result<(), AllocError>
-    ensures { OnOk result (string_bytes out.new ≡ string_bytes out.old ++ line name.now (yes_no yes)) }
+    ensures { OnOk result (string_bytes out.new
+        ≡ string_bytes out.old ++ line name.now (yes_no yes)) }
 {
     push_line(out, name, yes_no(yes))
 }
@@ -59,7 +60,8 @@ fn yes_no(yes: bool) -> &'static str
 
 #[tactic(auto, unfolding(crate::specs::Shown::line))]
 fn push_agent(out: &mut String, agent: u128) -> Result<(), AllocError>
-    ensures { OnOk result (string_bytes out.new ≡ string_bytes out.old ++ line (codes "agent") (agent_text agent)) }
+    ensures { OnOk result (string_bytes out.new
+        ≡ string_bytes out.old ++ line (codes "agent") (agent_text agent)) }
 {
     out.push_str("agent ")?;
     push_id(out, agent)?;
@@ -87,7 +89,8 @@ fn push_meta(out: &mut String, meta: &Meta) -> Result<(), AllocError>
 
 #[tactic(auto, unfolding(crate::specs::Shown::line))]
 fn push_modes(out: &mut String, mode: ConfigMode, refresh: RefreshMode) -> Result<(), AllocError>
-    ensures { OnOk result (string_bytes out.new ≡ string_bytes out.old ++ line (codes "mode") (mode_name mode ++ codes " " ++ refresh_name refresh)) }
+    ensures { OnOk result (string_bytes out.new ≡ string_bytes out.old ++ line (codes "mode")
+        (mode_name mode ++ codes " " ++ refresh_name refresh)) }
 {
     out.push_str("mode ")?;
     out.push_str(mode.name())?;
@@ -97,19 +100,22 @@ fn push_modes(out: &mut String, mode: ConfigMode, refresh: RefreshMode) -> Resul
 }
 
 fn push_frequencies(out: &mut String, mode: u32, refresh: u32) -> Result<(), AllocError>
-    ensures { OnOk result (string_bytes out.new ≡ string_bytes out.old ++ line (codes "frequencies") (decimal mode ++ codes " " ++ decimal refresh)) }
+    ensures { OnOk result (string_bytes out.new ≡ string_bytes out.old ++ line (codes "frequencies")
+        (decimal mode ++ codes " " ++ decimal refresh)) }
 {
     write!(out, "frequencies {mode} {refresh}\n")
 }
 
 fn push_after(out: &mut String, after: AfterReboot) -> Result<(), AllocError>
-    ensures { OnOk result (string_bytes out.new ≡ string_bytes out.old ++ line (codes "after") (after_name after)) }
+    ensures { OnOk result (string_bytes out.new
+        ≡ string_bytes out.old ++ line (codes "after") (after_name after)) }
 {
     push_line(out, "after", after.name())
 }
 
 fn push_server(out: &mut String, server: &Option<Server>) -> Result<(), AllocError>
-    ensures { OnOk result (string_bytes out.new ≡ string_bytes out.old ++ line (codes "server") (server_text server.now)) }
+    ensures { OnOk result (string_bytes out.new
+        ≡ string_bytes out.old ++ line (codes "server") (server_text server.now)) }
 {
     match server {
         None => push_line(out, "server", "none"),
@@ -122,7 +128,8 @@ fn push_server(out: &mut String, server: &Option<Server>) -> Result<(), AllocErr
 
 // The URL of a server, in UTF-8.
 fn server_url(alloc: Global, server: &Server) -> Result<String, AllocError>
-    ensures { IfOk result (λ url. string_bytes url ≡ encode_utf8_all (url_of (site_at_server server.now))) }
+    ensures { IfOk result (λ url. string_bytes url
+        ≡ encode_utf8_all (url_of (site_at_server server.now))) }
 {
     let url = url_of(alloc, server.https, &server.peer, &server.prefix)?;
     url.as_slice().iter().copied().collect(alloc)
@@ -130,7 +137,8 @@ fn server_url(alloc: Global, server: &Server) -> Result<String, AllocError>
 
 #[tactic(auto, unfolding(crate::specs::Shown::line))]
 fn push_job(out: &mut String, job: u64) -> Result<(), AllocError>
-    ensures { OnOk result (string_bytes out.new ≡ string_bytes out.old ++ line (codes "job") (decimal job)) }
+    ensures { OnOk result (string_bytes out.new
+        ≡ string_bytes out.old ++ line (codes "job") (decimal job)) }
 {
     write!(out, "job {job}\n")
 }
@@ -144,7 +152,8 @@ fn push_slots(out: &mut String, node: &Node) -> Result<(), AllocError>
 }
 
 fn push_slot(out: &mut String, name: &str, parts: &Option<Items<Part>>) -> Result<(), AllocError>
-    ensures { OnOk result (string_bytes out.new ≡ string_bytes out.old ++ slot_line name.now parts.now) }
+    ensures { OnOk result (string_bytes out.new
+        ≡ string_bytes out.old ++ slot_line name.now parts.now) }
 {
     out.push_str(name)?;
     push_parts(out, parts)?;

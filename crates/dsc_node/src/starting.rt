@@ -5,7 +5,8 @@ ghost use Rattle.gate_log.specs.Standing.{AllStand, Any};
 ghost use Rattle.resource_kinds.specs.Kinds.{calls_of};
 ghost use Rattle.node_store.specs.Stands.{Stands};
 ghost use Rattle.node_store.specs.Store.{IsKept};
-ghost use Rattle.node_pull.specs.Views.{view_of};
+ghost use Rattle.dsc_outside.specs.Link.{GoesOn};
+ghost use Rattle.dsc_outside.specs.LinkView.{view_of};
 ghost use Rattle.dsc_node.specs.Commands.{IsTaken, IsTakenTask, is_run, why_not};
 ghost use Rattle.dsc_node.specs.Documents.{IsOfTask};
 ghost use Rattle.dsc_node.specs.Headline.{HasHeadline};
@@ -44,9 +45,17 @@ pub fn start_over<D: Disk, M: Machine, L: Link, C: Clock>(
 ) -> StartEnd
     requires taken { IsTaken command }
     requires fresh { M.kept machine.old ≡ [] }
-    ensures start { Start (known D.Disk M.Resources M.Machine.own C.Clock) command (outside disk.old machine.old (view_of L.Link link.old) clock.old) (outside disk.new machine.new (view_of L.Link link.new) clock.new) result.status (string_bytes result.lines) }
-    ensures headline { HasHeadline (known D.Disk M.Resources M.Machine.own C.Clock) command (outside disk.old machine.old (view_of L.Link link.old) clock.old) (outside disk.new machine.new (view_of L.Link link.new) clock.new) result.status (string_bytes result.lines) }
+    ensures start { Start (known D.Disk M.Resources M.Machine.own C.Clock) command
+        (outside disk.old machine.old (view_of L.Link link.old) clock.old)
+        (outside disk.new machine.new (view_of L.Link link.new) clock.new)
+        result.status (string_bytes result.lines) }
+    ensures headline { HasHeadline (known D.Disk M.Resources M.Machine.own C.Clock) command
+        (outside disk.old machine.old (view_of L.Link link.old) clock.old)
+        (outside disk.new machine.new (view_of L.Link link.new) clock.new)
+        result.status (string_bytes result.lines) }
     ensures again { AllStand D.Disk disk.old Stands Any → AllStand D.Disk disk.new Stands Any }
+    ensures becomes { L.may_become link.old link.new }
+    ensures goes_on { GoesOn (view_of L.Link link.old) (view_of L.Link link.new) }
     ensures later { C.faults clock.old ≤ C.faults clock.new }
 {
     let prepared = match task_of(alloc, command) {
@@ -76,9 +85,17 @@ pub fn start<D: Disk, H: Host, L: Link, C: Clock>(
 ) -> StartEnd
     requires taken { IsTaken command }
     requires fresh { calls_of kinds.old ≡ [] }
-    ensures start { Start (known_on_host D.Disk H.Host C.Clock) command (outside disk.old kinds.old (view_of L.Link link.old) clock.old) (outside disk.new kinds.new (view_of L.Link link.new) clock.new) result.status (string_bytes result.lines) }
-    ensures headline { HasHostHeadline D.Disk H.Host C.Clock command (outside disk.old kinds.old (view_of L.Link link.old) clock.old) (outside disk.new kinds.new (view_of L.Link link.new) clock.new) result.status (string_bytes result.lines) }
+    ensures start { Start (known_on_host D.Disk H.Host C.Clock) command
+        (outside disk.old kinds.old (view_of L.Link link.old) clock.old)
+        (outside disk.new kinds.new (view_of L.Link link.new) clock.new)
+        result.status (string_bytes result.lines) }
+    ensures headline { HasHostHeadline D.Disk H.Host C.Clock command
+        (outside disk.old kinds.old (view_of L.Link link.old) clock.old)
+        (outside disk.new kinds.new (view_of L.Link link.new) clock.new)
+        result.status (string_bytes result.lines) }
     ensures again { AllStand D.Disk disk.old Stands Any → AllStand D.Disk disk.new Stands Any }
+    ensures becomes { L.may_become link.old link.new }
+    ensures goes_on { GoesOn (view_of L.Link link.old) (view_of L.Link link.new) }
     ensures later { C.faults clock.old ≤ C.faults clock.new }
 {
     repair_laws();
@@ -100,7 +117,11 @@ fn opened<D: Disk, M: Machine, L: Link, C: Clock>(
     requires taken { IsTakenTask prepared.task }
     requires document { IfSome prepared.document (IsOfTask prepared.task) }
     requires fresh { M.kept machine.old ≡ [] }
-    ensures goes { OpenedGoes (known D.Disk M.Resources M.Machine.own C.Clock) prepared.task disk.old disk.new store.old (beside machine.old (view_of L.Link link.old) clock.old) (beside machine.new (view_of L.Link link.new) clock.new) result.status (string_bytes result.lines) }
+    ensures goes { OpenedGoes (known D.Disk M.Resources M.Machine.own C.Clock) prepared.task
+        disk.old disk.new store.old (beside machine.old (view_of L.Link link.old) clock.old)
+        (beside machine.new (view_of L.Link link.new) clock.new) result.status
+        (string_bytes result.lines) }
+    ensures becomes { L.may_become link.old link.new }
     ensures later { C.faults clock.old ≤ C.faults clock.new }
 {
     if let Some(why) = why_not(store.state(), &prepared.task) {
@@ -144,7 +165,11 @@ fn run_task<D: Disk, M: Machine, L: Link, C: Clock>(
     requires document { IfSome prepared.document (IsOfTask prepared.task) }
     requires fresh { M.kept machine.old ≡ [] }
     requires moment { start ≤ last_moment }
-    ensures goes { RunGoes (known D.Disk M.Resources M.Machine.own C.Clock) prepared.task start disk.old disk.new store.old (beside machine.old (view_of L.Link link.old) clock.old) (beside machine.new (view_of L.Link link.new) clock.new) result.status (string_bytes result.lines) }
+    ensures goes { RunGoes (known D.Disk M.Resources M.Machine.own C.Clock) prepared.task start
+        disk.old disk.new store.old (beside machine.old (view_of L.Link link.old) clock.old)
+        (beside machine.new (view_of L.Link link.new) clock.new) result.status
+        (string_bytes result.lines) }
+    ensures becomes { L.may_become link.old link.new }
     ensures later { C.faults clock.old ≤ C.faults clock.new }
 {
     let Prepared { task, document } = prepared;

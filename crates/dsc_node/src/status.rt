@@ -75,7 +75,7 @@ pub enum Status {
     /// The Set of the resource at this place asked for a reboot; `now` says whether the node is to reboot at once.
     RebootAsked { index: u32, now: bool },
 
-    /// Memory was refused.
+    /// Memory ran out.
     Memory,
 }
 

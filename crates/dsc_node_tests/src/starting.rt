@@ -3,7 +3,7 @@ ghost use Rattle.std.specs.Prelude.{IfOk};
 ghost use Rattle.dsc_node.specs.Commands.{IsTaken};
 
 use dsc_node::{Command, StartEnd, Status, start};
-use dsc_outside::{DiskStop, HostContents, MemoryClock, MemoryDisk, MemoryHost, MemoryLink};
+use memory_outside::{DiskStop, HostContents, MemoryClock, MemoryDisk, MemoryHost, MemoryLink};
 use mof_values::{Bytes, Memory};
 use resource_kinds::Kinds;
 use std::alloc::Global;

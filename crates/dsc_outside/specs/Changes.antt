@@ -51,3 +51,26 @@ abbrev pub Does : {A E : Type 0} → Option HostState → Option HostState → R
 Does None new result done part = new ≡ None
 Does (Some old) new (Ok answer) done part = new ≡ Some (done old)
 Does (Some old) new (Err error) done part = (state : HostState) × (new ≡ Some state) × part old state
+
+-- what each call that changes the machine does, from what the host exposes before it and after it, and from its answer
+abbrev pub PutsFile : {A E : Type 0} → List ℕ → List ℕ → Option HostState → Option HostState → Result A E → Type 0
+PutsFile path bytes old new result = Does old new result (with_file path bytes) (ChangedPath path)
+
+abbrev pub MakesFolder : {A E : Type 0} → List ℕ → Option HostState → Option HostState → Result A E → Type 0
+MakesFolder path old new result = Does old new result (with_folder path) (ChangedPath path)
+
+abbrev pub RemovesPath : {A E : Type 0} → List ℕ → Option HostState → Option HostState → Result A E → Type 0
+RemovesPath path old new result = Does old new result (without_path path) (ChangedPath path)
+
+abbrev pub PutsVariable : {A E : Type 0} → List ℕ → List ℕ → Option HostState → Option HostState → Result A E → Type 0
+PutsVariable name value old new result = Does old new result (with_variable name value) (ChangedVariable name)
+
+abbrev pub RemovesVariable : {A E : Type 0} → List ℕ → Option HostState → Option HostState → Result A E → Type 0
+RemovesVariable name old new result = Does old new result (without_variable name) (ChangedVariable name)
+
+abbrev pub AddsEntry : {A E : Type 0} → List ℕ → List ℕ → Option HostState → Option HostState → Result A E → Type 0
+AddsEntry id message old new result = Does old new result (with_entry id message) (AllOrNothing (with_entry id message))
+
+abbrev pub PutsPackage : {A E : Type 0} → List ℕ → List ℕ → List ℕ → Option HostState → Option HostState → Result A E → Type 0
+PutsPackage name version bytes old new result =
+    Does old new result (with_package name version bytes) (AllOrNothing (with_package name version bytes))

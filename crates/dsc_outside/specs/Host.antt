@@ -4,7 +4,8 @@ use Rattle.std.specs.List.{list_any}
 use Rattle.std.specs.Str.{bytes_eq}
 use Rattle.std.specs.Io.{StartsWith}
 use Rattle.dsc_outside.specs.Causes.{one_more}
-use Rattle.dsc_outside.specs.Paths.{PathKind, Nothing}
+use Rattle.dsc_outside.specs.Paths.{IsStateAt, PathKind, Nothing, is_file_of}
+use Rattle.dsc_outside.specs.declared.host.PathState.{PathState}
 use Rattle.dsc_outside.specs.declared.entries.LogEntry.{LogEntry}
 use Rattle.dsc_outside.specs.declared.entries.Package.{Package}
 use Rattle.dsc_outside.specs.declared.host.HostError.{HostError}
@@ -39,6 +40,22 @@ abbrev pub Tells : {A E : Type 0} → Option HostState → Result A E → (HostS
 Tells None result shows = ⊤
 Tells (Some host) result shows = IfOk result (λ answer. shows host answer)
 
+-- what each look at the machine answers, of what the host holds
+abbrev pub IsState : List ℕ → HostState → PathState → Type 0
+IsState path host state = IsStateAt host.path path state
+
+abbrev pub SaysFile : List ℕ → List ℕ → HostState → Bool → Type 0
+SaysFile path bytes host same = same ≡ is_file_of (host.path path) bytes
+
+abbrev pub SaysEntry : List ℕ → List ℕ → HostState → Bool → Type 0
+SaysEntry id message host there = there ≡ has_entry host.log id message
+
+abbrev pub SaysPackage : List ℕ → List ℕ → HostState → Bool → Type 0
+SaysPackage name version host there = there ≡ has_package host.packages name version
+
+abbrev pub SaysReboot : List ℕ → HostState → Bool → Type 0
+SaysReboot id host wanted = wanted ≡ wants_reboot host.wanting id
+
 -- a look-up answers whether the value is there, and appends it
 abbrev pub Shows : Option (List ℕ) → Bool → List ℕ → List ℕ → Type 0
 Shows (Some value) true old new = new ≡ old ++ value
@@ -58,7 +75,7 @@ LeavesBuffer (Ok false) old new = new ≡ old
 LeavesBuffer (Err e) old new = new ≡ old
 
 -- the count of faults after a call: one more where it failed
-abbrev pub count_after : {A : Type 0} → ℕ → Result A HostError → ℕ
-count_after before (Ok answer) = before
-count_after before (Err errors.Failed) = one_more before
-count_after before (Err errors.Memory) = before
+abbrev pub host_count_after : {A : Type 0} → ℕ → Result A HostError → ℕ
+host_count_after before (Ok answer) = before
+host_count_after before (Err errors.Failed) = one_more before
+host_count_after before (Err errors.Memory) = before

@@ -1,4 +1,4 @@
--- What stands at the paths of a machine. A path is names joined by `/`, none in front; it is seen as its bytes in UTF-8.
+-- What stands at the paths of a machine. A path is names joined by `/`, none in front; it is shown as its bytes in UTF-8.
 use Rattle.std.specs.Prelude.{◌≡◌, ℕ, List, [], ◌∷◌, ◌++◌, Bool, true, false, ◌==◌, ◌&&◌, ◌||◌, if◌then◌else◌}
 use Rattle.std.specs.Str.{bytes_eq}
 use Rattle.dsc_outside.specs.declared.host.PathState.{PathState}

@@ -1,4 +1,4 @@
-//! Clocks.
+//! A clock that gives the time, or fails.
 ghost use Rattle.std.specs.Prelude.{◌≤◌, ℕ, List, Option, IfOk};
 ghost use Rattle.dsc_outside.specs.Causes.{HasCause};
 ghost use Rattle.dsc_outside.specs.Clock.{TakesReading, last_moment};
@@ -16,7 +16,7 @@ pub trait Clock {
     /// How often a call has failed.
     ghost faults: { Self → ℕ };
 
-    /// The seconds since 1970-01-01T00:00:00Z, at most 253,402,207,200.
+    /// The seconds since 1970-01-01T00:00:00Z, at most `LAST_MOMENT`.
     fn now(&mut self) -> Result<u64, Failed>
         ensures moment { IfOk result (λ t. t ≤ last_moment) }
         ensures reading { TakesReading (coming self.old) (coming self.new) result }

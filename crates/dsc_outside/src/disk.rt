@@ -1,7 +1,7 @@
-//! Disks.
-ghost use Rattle.std.specs.Prelude.{◌≡◌, ◌≤◌, ℕ, List, length, take, drop, Option, Some, option_map, IfSome, IfOk, OnOk};
+//! A file that is read, written and synced in place, and what a crash may leave of it.
+ghost use Rattle.std.specs.Prelude.{◌≡◌, ◌≤◌, ℕ, List, length, take, Option, Some, IfSome, IfOk, OnOk};
 ghost use Rattle.dsc_outside.specs.Causes.{HasCause};
-ghost use Rattle.dsc_outside.specs.Disk.{written, Torn, Cut, Follows, Within, Only, Elapses};
+ghost use Rattle.dsc_outside.specs.Disk.{Cut, Follows, Makes, Only, ReadsFrom, TimePasses, Torn, Within, written};
 
 use crate::Failed;
 
@@ -11,7 +11,7 @@ use crate::Failed;
 /// each write and each cut makes more of them. Every image at every moment since a call began can be spoken of.
 pub trait Disk {
     /// What a read gives, where it is exposed.
-    ghost seen: { Self → Option (List ℕ) };
+    ghost shown: { Self → Option (List ℕ) };
 
     /// What a crash at this moment may leave. A disk that exposes nothing has no image.
     ghost images: { Self → List ℕ → Type 0 };
@@ -26,55 +26,56 @@ pub trait Disk {
     ghost faults: { Self → ℕ };
 
     fn length(&mut self) -> Result<u64, Failed>
-        ensures length { IfOk result (λ n. IfSome (seen self.old) (λ held. n ≡ length held)) }
-        ensures seen { seen self.new ≡ seen self.old }
+        ensures length { IfOk result (λ n. IfSome (shown self.old) (λ held. n ≡ length held)) }
+        ensures shown { shown self.new ≡ shown self.old }
         ensures crash { Within (images self.old) (images self.new) }
-        ensures time { Elapses (moment self.old) (moment self.new) (left_since self.old) (left_since self.new) (images self.new) }
+        ensures time { TimePasses moment left_since images self.old self.new }
         ensures cause { HasCause (faults self.old) (faults self.new) result };
 
-    /// Reads the bytes from that place on, fewer than there is room for only at the end.
+    /// Reads the bytes from that place on, fewer than the slice has only at the end.
     fn read_at(&mut self, at: u64, into: &mut [u8]) -> Result<usize, Failed>
         ensures size { IfOk result (λ n. n ≤ length into.new) }
-        ensures bytes { IfOk result (λ n. IfSome (seen self.old) (λ held. take n into.new ≡ take (length into.new) (drop at held))) }
-        ensures seen { seen self.new ≡ seen self.old }
+        ensures bytes { ReadsFrom at (shown self.old) result into.new }
+        ensures shown { shown self.new ≡ shown self.old }
         ensures crash { Within (images self.old) (images self.new) }
-        ensures time { Elapses (moment self.old) (moment self.new) (left_since self.old) (left_since self.new) (images self.new) }
+        ensures time { TimePasses moment left_since images self.old self.new }
         ensures cause { HasCause (faults self.old) (faults self.new) result };
 
     /// Writes the bytes from that place on, also past the end.
     ///
     /// Until a sync a crash may leave any bytes in the range. A write that fails may have done any part.
     fn write_at(&mut self, at: u64, bytes: &[u8]) -> Result<(), Failed>
-        requires { IfSome (seen self.old) (λ held. at ≤ length held) }
-        ensures written { OnOk result (seen self.new ≡ option_map (written at bytes.now) (seen self.old)) }
+        requires { IfSome (shown self.old) (λ held. at ≤ length held) }
+        ensures written { Makes (written at bytes.now) (shown self.old) (shown self.new) result }
         ensures crash { Follows (Torn at (length bytes.now)) (images self.old) (images self.new) }
-        ensures time { Elapses (moment self.old) (moment self.new) (left_since self.old) (left_since self.new) (images self.new) }
+        ensures time { TimePasses moment left_since images self.old self.new }
         ensures cause { HasCause (faults self.old) (faults self.new) result };
 
     /// Cuts the disk to that length.
     ///
     /// Until a sync a crash may leave any bytes after the cut. A cut that fails may have done any part.
     fn cut(&mut self, to: u64) -> Result<(), Failed>
-        requires { IfSome (seen self.old) (λ held. to ≤ length held) }
-        ensures cut { OnOk result (seen self.new ≡ option_map (take to) (seen self.old)) }
+        requires { IfSome (shown self.old) (λ held. to ≤ length held) }
+        ensures cut { Makes (take to) (shown self.old) (shown self.new) result }
         ensures crash { Follows (Cut to) (images self.old) (images self.new) }
-        ensures time { Elapses (moment self.old) (moment self.new) (left_since self.old) (left_since self.new) (images self.new) }
+        ensures time { TimePasses moment left_since images self.old self.new }
         ensures cause { HasCause (faults self.old) (faults self.new) result };
 
     /// After a sync that succeeded a crash leaves what a read gives.
     fn sync(&mut self) -> Result<(), Failed>
-        ensures only { OnOk result (Only (seen self.old) (images self.new)) }
-        ensures seen { seen self.new ≡ seen self.old }
+        ensures only { OnOk result (Only (shown self.old) (images self.new)) }
+        ensures shown { shown self.new ≡ shown self.old }
         ensures crash { Within (images self.old) (images self.new) }
-        ensures time { Elapses (moment self.old) (moment self.new) (left_since self.old) (left_since self.new) (images self.new) }
+        ensures time { TimePasses moment left_since images self.old self.new }
         ensures cause { HasCause (faults self.old) (faults self.new) result };
 
     /// This moment is one of those since an earlier one.
-    ghost counts_now: { (d : Self) (t : ℕ) (c : List ℕ) → t ≤ moment d → images d c → left_since d t c };
+    ghost counts_now: { (d : Self) (t : ℕ) (c : List ℕ) → t ≤ moment d
+        → images d c → left_since d t c };
 
     /// Since this moment there is no other.
     ghost only_now: { (d : Self) (c : List ℕ) → left_since d (moment d) c → images d c };
 
     /// The disk reads as one of its images.
-    ghost honest: { (d : Self) (held : List ℕ) → seen d ≡ Some held → images d held };
+    ghost honest: { (d : Self) (held : List ℕ) → shown d ≡ Some held → images d held };
 }

@@ -1,4 +1,4 @@
-//! What a machine lists.
+//! The entries of a machine's log, and its module packages.
 use mof_values::Bytes;
 
 /// An entry of the machine's log.

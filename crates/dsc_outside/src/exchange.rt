@@ -1,4 +1,4 @@
-//! Exchanges over a link.
+//! What a link shows of an exchange: the request, to whom it was sent, and what came of it.
 use crate::Peer;
 use mof_values::Bytes;
 
@@ -10,7 +10,7 @@ pub enum Outcome {
 
     Failed,
 
-    /// 67,108,864 bytes were reached.
+    /// `ANSWER_LIMIT` bytes were reached.
     TooLong,
 }
 

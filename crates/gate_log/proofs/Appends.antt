@@ -29,11 +29,11 @@ grown_is kept log need longest body same is long =
     ap₂ (λ (n m : ℕ). record kept { closed = kept.closed + n; long = m; spent = false; filled = None }) (sym is) (long ∙ ap (λ (n : ℕ). max kept.long (kept.closed + 1 + n)) (sym is))
     ∙ ap (λ (t : LogTerm). grown t (need_of body)) same
 
-pub grown_of : (seen : Option (List ℕ)) (images : List ℕ → Type 0) (log new : LogTerm) (closed : ℕ) (body : List ℕ) (bodies : List (List ℕ)) → new ≡ grown log (need_of body) → log.closed ≡ closed
-    → Each images (λ f. IsText log.shape log.second (closed + need_of body) f (bodies ++ body ∷ [])) → IfSome seen (λ held. max log.long (closed + 1 + need_of body) ≡ length held) → IsOf seen images new (bodies ++ body ∷ [])
-grown_of seen images log new closed body bodies is same texts long =
-    subst (λ (t : LogTerm). IsOf seen images t (bodies ++ body ∷ [])) (sym is)
+pub grown_of : (shown : Option (List ℕ)) (images : List ℕ → Type 0) (log new : LogTerm) (closed : ℕ) (body : List ℕ) (bodies : List (List ℕ)) → new ≡ grown log (need_of body) → log.closed ≡ closed
+    → Each images (λ f. IsText log.shape log.second (closed + need_of body) f (bodies ++ body ∷ [])) → IfSome shown (λ held. max log.long (closed + 1 + need_of body) ≡ length held) → IsOf shown images new (bodies ++ body ∷ [])
+grown_of shown images log new closed body bodies is same texts long =
+    subst (λ (t : LogTerm). IsOf shown images t (bodies ++ body ∷ [])) (sym is)
     (record {
       each = λ f here. subst (λ (n : ℕ). IsText log.shape log.second (n + need_of body) f (bodies ++ body ∷ [])) (sym same) (texts f here);
-      long = subst (λ (n : ℕ). IfSome seen (λ held. max log.long (n + 1 + need_of body) ≡ length held)) (sym same) long;
+      long = subst (λ (n : ℕ). IfSome shown (λ held. max log.long (n + 1 + need_of body) ≡ length held)) (sym same) long;
     })

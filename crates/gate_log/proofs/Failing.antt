@@ -1,4 +1,4 @@
--- Where the grammar fails, as it was seen.
+-- Where the grammar fails, as it was shown.
 use Rattle.std.proofs.Common.{◌≡◌, ◌≢◌, ◌⊎◌, inl, inr, ℕ, ◌+◌, ◌-◌, ◌≤◌, ◌<◌, ◌^◌, Bool, List, [], ◌∷◌, length, get_or, take, drop, refl, sym, ◌∙◌, ap, subst, arith, length-drop, zero, suc, Option, Some, None}
 use Rattle.std.specs.Prelude.{IfSome, min}
 use Rattle.std.specs.Int.{w32, to_be_bytes}
@@ -17,8 +17,8 @@ use Rattle.gate_log.proofs.Holds.{take_take}
 got_of : (at n : ℕ) (held into : List ℕ) → take n into ≡ take (length into) (drop at held) → n ≤ length into → n ≡ min (length into) (length held - at)
 got_of at n held into is le = omega (arith, ap length is, length-take n into, length-take (length into) (drop at held), length-drop at held)
 
-pub ends_here : (largest limit at end n : ℕ) (seen : Option (List ℕ)) (head : List ℕ) → length head ≡ 5 → n ≤ length head → IfSome seen (λ held. end ≡ length held)
-    → IfSome seen (λ held. take n head ≡ take (length head) (drop at held)) → (n ≡ 0) ⊎ (end ≤ at) → IfSome seen (λ held. FailsFrom largest limit at held end)
+pub ends_here : (largest limit at end n : ℕ) (shown : Option (List ℕ)) (head : List ℕ) → length head ≡ 5 → n ≤ length head → IfSome shown (λ held. end ≡ length held)
+    → IfSome shown (λ held. take n head ≡ take (length head) (drop at held)) → (n ≡ 0) ⊎ (end ≤ at) → IfSome shown (λ held. FailsFrom largest limit at held end)
 ends_here largest limit at end n None head five le is_end read why = tt
 ends_here largest limit at end n (Some held) head five le is_end read why = subst (λ (k : ℕ). FailsFrom largest limit at held k) (sym is_end) (no_gate (short why))
   where
@@ -44,8 +44,8 @@ gate_here at n held head five some le gate read = one (drop at held) head n some
     one (y ∷ l) (x ∷ xs) zero some five gate is = absurd (omega arith)
     one (y ∷ l) (x ∷ xs) (suc n) some five gate is = let same : x ≡ y = cc is in ap (λ (z : ℕ). z ∷ []) (sym same ∙ gate)
 
-pub ends_in_length : (largest limit at end n : ℕ) (seen : Option (List ℕ)) (head : List ℕ) → length head ≡ 5 → 1 ≤ n → n ≤ length head → get_or head 0 0 ≡ 165 → IfSome seen (λ held. end ≡ length held)
-    → IfSome seen (λ held. take n head ≡ take (length head) (drop at held)) → (n < 5) ⊎ (end < at + 5) → IfSome seen (λ held. FailsFrom largest limit at held end)
+pub ends_in_length : (largest limit at end n : ℕ) (shown : Option (List ℕ)) (head : List ℕ) → length head ≡ 5 → 1 ≤ n → n ≤ length head → get_or head 0 0 ≡ 165 → IfSome shown (λ held. end ≡ length held)
+    → IfSome shown (λ held. take n head ≡ take (length head) (drop at held)) → (n < 5) ⊎ (end < at + 5) → IfSome shown (λ held. FailsFrom largest limit at held end)
 ends_in_length largest limit at end n None head five some le gate is_end read why = tt
 ends_in_length largest limit at end n (Some held) head five some le gate is_end read why =
     subst (λ (k : ℕ). FailsFrom largest limit at held k) (sym is_end) (no_length (gate_here at n held head five some le gate read) (short why))
@@ -54,14 +54,14 @@ ends_in_length largest limit at end n (Some held) head five some le gate is_end 
     short (inl few) = omega (arith, few, got_of at n held head read le, five)
     short (inr less) = omega (arith, less, is_end)
 
-pub is_too_long : (largest limit at n size : ℕ) (seen : Option (List ℕ)) (head : List ℕ) → length head ≡ 5 → 5 ≤ n → size < 2 ^ 32 → get_or head 0 0 ≡ 165 → to_be_bytes w32 size ≡ drop 1 head
-    → IfSome seen (λ held. take n head ≡ take (length head) (drop at held)) → IsTooLong largest limit at size → IfSome seen (λ held. FailsFrom largest limit at held (at + 1))
+pub is_too_long : (largest limit at n size : ℕ) (shown : Option (List ℕ)) (head : List ℕ) → length head ≡ 5 → 5 ≤ n → size < 2 ^ 32 → get_or head 0 0 ≡ 165 → to_be_bytes w32 size ≡ drop 1 head
+    → IfSome shown (λ held. take n head ≡ take (length head) (drop at held)) → IsTooLong largest limit at size → IfSome shown (λ held. FailsFrom largest limit at held (at + 1))
 is_too_long largest limit at n size None head five enough small gate is read why = tt
 is_too_long largest limit at n size (Some held) head five enough small gate is read why = too_long size (number_here at n size held head five enough small gate is read) why
 
-pub ends_in_body : (largest limit at end n size : ℕ) (seen : Option (List ℕ)) (head : List ℕ) → length head ≡ 5 → 5 ≤ n → size < 2 ^ 32 → get_or head 0 0 ≡ 165 → to_be_bytes w32 size ≡ drop 1 head
-    → IfSome seen (λ held. take n head ≡ take (length head) (drop at held)) → IfSome seen (λ held. end ≡ length held) → size ≤ largest → at + 6 + size ≤ limit → end < at + 5 + size
-    → IfSome seen (λ held. FailsFrom largest limit at held end)
+pub ends_in_body : (largest limit at end n size : ℕ) (shown : Option (List ℕ)) (head : List ℕ) → length head ≡ 5 → 5 ≤ n → size < 2 ^ 32 → get_or head 0 0 ≡ 165 → to_be_bytes w32 size ≡ drop 1 head
+    → IfSome shown (λ held. take n head ≡ take (length head) (drop at held)) → IfSome shown (λ held. end ≡ length held) → size ≤ largest → at + 6 + size ≤ limit → end < at + 5 + size
+    → IfSome shown (λ held. FailsFrom largest limit at held end)
 ends_in_body largest limit at end n size None head five enough small gate is read is_end fits within less = tt
 ends_in_body largest limit at end n size (Some held) head five enough small gate is read is_end fits within less =
     subst (λ (k : ℕ). FailsFrom largest limit at held k) (sym is_end) (no_body size (number_here at n size held head five enough small gate is read) not_too_long (omega (arith, is_end, less)))
@@ -71,21 +71,21 @@ ends_in_body largest limit at end n size (Some held) head five enough small gate
     not_too_long (inr past) = omega (arith, past, within)
 
 -- less than is there is never read
-pub never_less : (P : List ℕ → Type 0) (at end got : ℕ) (seen mid : Option (List ℕ)) (into : List ℕ) → mid ≡ seen → got ≤ length into → IfSome seen (λ held. end ≡ length held)
-    → IfSome mid (λ held. take got into ≡ take (length into) (drop at held)) → at + length into ≤ end → got < length into → IfSome seen P
+pub never_less : (P : List ℕ → Type 0) (at end got : ℕ) (shown mid : Option (List ℕ)) (into : List ℕ) → mid ≡ shown → got ≤ length into → IfSome shown (λ held. end ≡ length held)
+    → IfSome mid (λ held. take got into ≡ take (length into) (drop at held)) → at + length into ≤ end → got < length into → IfSome shown P
 never_less P at end got None mid into same le is_end read within less = tt
 never_less P at end got (Some held) mid into same le is_end read within less =
     let here = subst (λ (o : Option (List ℕ)). IfSome o (λ held. take got into ≡ take (length into) (drop at held))) same read in
     absurd (omega (arith, got_of at got held into here le, is_end, within, less))
 
 -- in an image of more than nine bytes the seven are there
-pub never_few : (P : List ℕ → Type 0) (n : ℕ) (seen : Option (List ℕ)) (head : List ℕ) → length head ≡ 7 → n ≤ length head → IfSome seen (λ held. 9 < length held)
-    → IfSome seen (λ held. take n head ≡ take (length head) (drop 0 held)) → n < 7 → IfSome seen P
+pub never_few : (P : List ℕ → Type 0) (n : ℕ) (shown : Option (List ℕ)) (head : List ℕ) → length head ≡ 7 → n ≤ length head → IfSome shown (λ held. 9 < length held)
+    → IfSome shown (λ held. take n head ≡ take (length head) (drop 0 held)) → n < 7 → IfSome shown P
 never_few P n None head seven le long read few = tt
 never_few P n (Some held) head seven le long read few = absurd (omega (arith, got_of 0 n held head read le, seven, long, few))
 
-pub magic_is_wrong : (shape : Shape) (n at : ℕ) (seen : Option (List ℕ)) (head : List ℕ) → length head ≡ 7 → 7 ≤ n → IfSome seen (λ held. 9 < length held) → IfSome seen (λ held. take n head ≡ take (length head) (drop 0 held))
-    → (at < 7) × (take at head ≡ take at magic) × (get_or head at 0 ≢ get_or magic at 0) → IfSome seen (λ held. FailsInHead shape held at)
+pub magic_is_wrong : (shape : Shape) (n at : ℕ) (shown : Option (List ℕ)) (head : List ℕ) → length head ≡ 7 → 7 ≤ n → IfSome shown (λ held. 9 < length held) → IfSome shown (λ held. take n head ≡ take (length head) (drop 0 held))
+    → (at < 7) × (take at head ≡ take at magic) × (get_or head at 0 ≢ get_or magic at 0) → IfSome shown (λ held. FailsInHead shape held at)
 magic_is_wrong shape n at None head seven enough long read wrong = tt
 magic_is_wrong shape n at (Some held) head seven enough long read wrong =
     let is : head ≡ take 7 held = sym (take_all n head (omega arith)) ∙ read ∙ ap (λ (k : ℕ). take k held) seven in (
@@ -95,19 +95,19 @@ magic_is_wrong shape n at (Some held) head seven enough long read wrong =
       refl,
     )
 
--- what is seen of the head is seen of the image, before a body was taken
-pub unread_head : (rose later : Type 0) (seen : Option (List ℕ)) (shape : Shape) (Took : List (List ℕ) → Type 0) (Refused : List (List ℕ) → List ℕ → Type 0) (e : LogError) → Took [] → (rose → later) → Unread rose seen (FailsInHead shape) e → Unread later seen (FailsFirst shape Took Refused) e
-unread_head rose later seen shape Took Refused Disk first on cause = on cause
-unread_head rose later seen shape Took Refused Memory first on cause = tt
+-- what is shown of the head is shown of the image, before a body was taken
+pub unread_head : (rose later : Type 0) (shown : Option (List ℕ)) (shape : Shape) (Took : List (List ℕ) → Type 0) (Refused : List (List ℕ) → List ℕ → Type 0) (e : LogError) → Took [] → (rose → later) → Unread rose shown (FailsInHead shape) e → Unread later shown (FailsFirst shape Took Refused) e
+unread_head rose later shown shape Took Refused Disk first on cause = on cause
+unread_head rose later shown shape Took Refused Memory first on cause = tt
 unread_head rose later None shape Took Refused (NotAStore at) first on cause = tt
 unread_head rose later (Some held) shape Took Refused (NotAStore at) first on cause = no_text at cause.0 (subst (λ (l : List (List ℕ)). Took l) (sym cause.1) first)
 
--- what is seen of a bank is seen of the image, whose head makes that bank live
-pub unread_bank : (rose later : Type 0) (seen mid : Option (List ℕ)) (shape : Shape) (second : Bool) (Took : List (List ℕ) → Type 0) (Refused : List (List ℕ) → List ℕ → Type 0) (e : LogError) → mid ≡ seen → IfSome seen (IsLive second) → (rose → later)
-    → Unread rose mid (FailsInOrder shape second Took Refused) e → Unread later seen (FailsFirst shape Took Refused) e
-unread_bank rose later seen mid shape second Took Refused Disk same head on cause = on cause
-unread_bank rose later seen mid shape second Took Refused Memory same head on cause = tt
-unread_bank rose later seen mid shape second Took Refused (NotAStore at) same head on cause = by seen head (subst (λ (o : Option (List ℕ)). IfSome o (λ held. FailsInOrder shape second Took Refused held at)) same cause)
+-- what is shown of a bank is shown of the image, whose head makes that bank live
+pub unread_bank : (rose later : Type 0) (shown mid : Option (List ℕ)) (shape : Shape) (second : Bool) (Took : List (List ℕ) → Type 0) (Refused : List (List ℕ) → List ℕ → Type 0) (e : LogError) → mid ≡ shown → IfSome shown (IsLive second) → (rose → later)
+    → Unread rose mid (FailsInOrder shape second Took Refused) e → Unread later shown (FailsFirst shape Took Refused) e
+unread_bank rose later shown mid shape second Took Refused Disk same head on cause = on cause
+unread_bank rose later shown mid shape second Took Refused Memory same head on cause = tt
+unread_bank rose later shown mid shape second Took Refused (NotAStore at) same head on cause = by shown head (subst (λ (o : Option (List ℕ)). IfSome o (λ held. FailsInOrder shape second Took Refused held at)) same cause)
   where
     of_bank : (held : List ℕ) (place : ℕ) → IsLive second held → FailsInOrder shape second Took Refused held place → FailsFirst shape Took Refused held place
     of_bank held place live (no_cell place' fails took) = no_text place' (wrong_bank second place' live fails) took

@@ -30,23 +30,23 @@ new_text shape c some is = subst (λ (k : List ℕ). IsText shape false 8 k []) 
 })
 
 pub opened : {D : Type 0} (d : Ghosts D) (old new : D) (shape : Shape) (Took : List (List ℕ) → Type 0) (second : Bool) (closed : ℕ) (found : List (List ℕ)) (log : LogTerm) → log ≡ log_at shape second closed → Took found
-    → Each (d.images new) (λ c. IsText shape second closed c found) → IfSome (d.seen new) (λ held. closed + 1 ≡ length held) → IfSome (d.seen old) (λ held. Gives shape held found) → Opened d old new shape Took log
+    → Each (d.images new) (λ c. IsText shape second closed c found) → IfSome (d.shown new) (λ held. closed + 1 ≡ length held) → IfSome (d.shown old) (λ held. Gives shape held found) → Opened d old new shape Took log
 opened d old new shape Took second closed found log is took texts long gave =
     subst (λ (l : LogTerm). Opened d old new shape Took l) (sym is) (record { found = found; took = took; same_shape = refl; spent = refl; of = record { each = texts; long = long }; gave = gave })
 
 -- a call that left the disk as it was
-pub still_refused : {D : Type 0} (d : Ghosts D) (old new : D) (e : LogError) → Still d.seen d.images d.moment d.left_since old new → StillWhereRefused d old new e
+pub still_refused : {D : Type 0} (d : Ghosts D) (old new : D) (e : LogError) → Still d.shown d.images d.moment d.left_since old new → StillWhereRefused d old new e
 still_refused d old new Disk still = tt
 still_refused d old new (NotAStore at) still = still
 still_refused d old new Memory still = tt
 
--- the cause of an error, seen after calls that left the disk as it was
-pub unopened : {D : Type 0} (d : Ghosts D) (rose : Type 0) (old mid new : D) (shape : Shape) (Took : List (List ℕ) → Type 0) (Refused : List (List ℕ) → List ℕ → Type 0) (end : ℕ) (e : LogError) → Still d.seen d.images d.moment d.left_since old mid
-    → 9 < end → IfSome (d.seen mid) (λ held. end ≡ length held) → (rose → Rose (d.faults old) (d.faults new)) → Unread rose (d.seen mid) (FailsFirst shape Took Refused) e → StillWhereRefused d mid new e → Unopened d old new shape Took Refused e
+-- the cause of an error, shown after calls that left the disk as it was
+pub unopened : {D : Type 0} (d : Ghosts D) (rose : Type 0) (old mid new : D) (shape : Shape) (Took : List (List ℕ) → Type 0) (Refused : List (List ℕ) → List ℕ → Type 0) (end : ℕ) (e : LogError) → Still d.shown d.images d.moment d.left_since old mid
+    → 9 < end → IfSome (d.shown mid) (λ held. end ≡ length held) → (rose → Rose (d.faults old) (d.faults new)) → Unread rose (d.shown mid) (FailsFirst shape Took Refused) e → StillWhereRefused d mid new e → Unopened d old new shape Took Refused e
 unopened d rose old mid new shape Took Refused end Disk still long is_end on cause after = on cause
 unopened d rose old mid new shape Took Refused end Memory still long is_end on cause after = tt
 unopened d rose old mid new shape Took Refused end (NotAStore at) still long is_end on cause after =
-    record { refused = subst (λ (o : Option (List ℕ)). IfSome o (λ held. IsRefused shape Took Refused held at)) still.same (by (d.seen mid) is_end cause); still = still_then d.seen d.images d.moment d.left_since old mid new still after }
+    record { refused = subst (λ (o : Option (List ℕ)). IfSome o (λ held. IsRefused shape Took Refused held at)) still.same (by (d.shown mid) is_end cause); still = still_then d.shown d.images d.moment d.left_since old mid new still after }
   where
     by : (o : Option (List ℕ)) → IfSome o (λ held. end ≡ length held) → IfSome o (λ held. FailsFirst shape Took Refused held at) → IfSome o (λ held. IsRefused shape Took Refused held at)
     by None is fails = tt

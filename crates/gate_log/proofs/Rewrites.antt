@@ -91,11 +91,11 @@ switched_long at long selector seen0 seen1 seen2 past size is1 is2 =
 -- ---- the log
 
 -- a log that was begun is of its disk, and nothing was put
-pub begun_of : (seen : Option (List ℕ)) (images : List ℕ → Type 0) (log : LogTerm) (bodies : List (List ℕ)) → IsOf seen images log bodies → IsOf seen images (begun log) bodies
-begun_of seen images log bodies of = record { each = of.each; long = of.long }
+pub begun_of : (shown : Option (List ℕ)) (images : List ℕ → Type 0) (log : LogTerm) (bodies : List (List ℕ)) → IsOf shown images log bodies → IsOf shown images (begun log) bodies
+begun_of shown images log bodies of = record { each = of.each; long = of.long }
 
-pub begun_put : (seen : Option (List ℕ)) (log : LogTerm) → 1 ≤ log.shape.bank → HasPut seen (begun log) []
-begun_put seen log some = record { filled = ap (λ (n : ℕ). some_of n) (omega arith); within = some; fit = tt; holds = if_some seen (λ held is. refl) }
+pub begun_put : (shown : Option (List ℕ)) (log : LogTerm) → 1 ≤ log.shape.bank → HasPut shown (begun log) []
+begun_put shown log some = record { filled = ap (λ (n : ℕ). some_of n) (omega arith); within = some; fit = tt; holds = if_some shown (λ held is. refl) }
   where
     some_of : ℕ → Option ℕ
     some_of n = Some n
@@ -105,11 +105,11 @@ put_place log at need is some le =
     let there : need ≤ left_behind log.shape log.second (Some at) = subst (λ (o : Option ℕ). need ≤ left_behind log.shape log.second o) is le in
     omega (arith, there)
 
-pub put_at : (seen : Option (List ℕ)) (log : LogTerm) (put : List (List ℕ)) (at : ℕ) → HasPut seen log put → log.filled ≡ Some at → at ≡ begin log.shape (not log.second) + length (cells put)
-put_at seen log put at has is = same_Some at _ (sym is ∙ has.filled)
+pub put_at : (shown : Option (List ℕ)) (log : LogTerm) (put : List (List ℕ)) (at : ℕ) → HasPut shown log put → log.filled ≡ Some at → at ≡ begin log.shape (not log.second) + length (cells put)
+put_at shown log put at has is = same_Some at _ (sym is ∙ has.filled)
 
-pub in_other : (seen : Option (List ℕ)) (log : LogTerm) (put : List (List ℕ)) (at : ℕ) (body : List ℕ) → HasPut seen log put → log.filled ≡ Some at → need_of body ≤ room_to_put log → IsInOther log.shape log.second at (1 + need_of body)
-in_other seen log put at body has is le = record { behind = omega (arith, put_at seen log put at has is); within = omega (arith, put_place log at (need_of body) is (omega arith) le) }
+pub in_other : (shown : Option (List ℕ)) (log : LogTerm) (put : List (List ℕ)) (at : ℕ) (body : List ℕ) → HasPut shown log put → log.filled ≡ Some at → need_of body ≤ room_to_put log → IsInOther log.shape log.second at (1 + need_of body)
+in_other shown log put at body has is le = record { behind = omega (arith, put_at shown log put at has is); within = omega (arith, put_place log at (need_of body) is (omega arith) le) }
 
-pub is_whole : (seen : Option (List ℕ)) (log : LogTerm) (put : List (List ℕ)) (at : ℕ) → HasPut seen log put → log.filled ≡ Some at → IsWhole log.shape log.second at put
-is_whole seen log put at has is = record { place = put_at seen log put at has is; within = has.within; fit = has.fit }
+pub is_whole : (shown : Option (List ℕ)) (log : LogTerm) (put : List (List ℕ)) (at : ℕ) → HasPut shown log put → log.filled ≡ Some at → IsWhole log.shape log.second at put
+is_whole shown log put at has is = record { place = put_at shown log put at has is; within = has.within; fit = has.fit }

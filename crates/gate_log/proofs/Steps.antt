@@ -34,7 +34,7 @@ lengths at gate cell (Some held) seen1 seen2 n is1 is2 le long =
     subst (λ (o : Option (List ℕ)). IfSome o (λ now. max n (at + 1 + length cell) ≡ length now)) (sym here) (omega (arith, size, size2))
 
 abbrev pub Honest : Option (List ℕ) → (List ℕ → Type 0) → Type 0
-Honest seen images = (held : List ℕ) → seen ≡ Some held → images held
+Honest shown images = (held : List ℕ) → shown ≡ Some held → images held
 
 module _ (shape : Shape) (second : Bool) (closed : ℕ) (bodies : List (List ℕ)) (body cell : List ℕ) (is_cell : cell ≡ behind body ++ 0 ∷ []) (le : length body ≤ shape.largest) (room : closed + 1 + need_of body ≤ begin shape second + shape.bank)
     (old : List ℕ → Type 0) (texts : Each old (λ c. IsText shape second closed c bodies)) where

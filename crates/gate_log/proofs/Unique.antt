@@ -105,9 +105,9 @@ cut_keeps shape second closed d c found small t cut bodies gives =
     subst (λ (bs : List (List ℕ)). Gives shape c bs) (gives_one shape second closed d found bodies small t gives) (text_gives shape second closed c found (cut_text shape second closed d c found t cut))
 
 -- the text that was read
-pub text_read : (shape : Shape) (second : Bool) (closed : ℕ) (found : List (List ℕ)) (seen mid : Option (List ℕ)) (d : List ℕ) → IfSome seen (IsLive second) → mid ≡ seen
-    → IfSome mid (λ held. IsBank shape second closed held found) → seen ≡ Some d → IsText shape second closed d found
-text_read shape second closed found seen mid d head same bank is =
+pub text_read : (shape : Shape) (second : Bool) (closed : ℕ) (found : List (List ℕ)) (shown mid : Option (List ℕ)) (d : List ℕ) → IfSome shown (IsLive second) → mid ≡ shown
+    → IfSome mid (λ held. IsBank shape second closed held found) → shown ≡ Some d → IsText shape second closed d found
+text_read shape second closed found shown mid d head same bank is =
     let h = subst (λ (o : Option (List ℕ)). IfSome o (IsLive second)) is head in
     record {
       head = h;

@@ -24,8 +24,8 @@ cell_here largest at held head body n got five enough gate size all fits first s
     let there : Holds at (165 ∷ to_be_bytes w32 (length body)) held = subst (λ (l : List ℕ). Holds at l held) opens is_head in
     (fits, holds_both at (165 ∷ to_be_bytes w32 (length body)) body held there is_body)
 
-pub cell_told : (largest at : ℕ) (seen mid : Option (List ℕ)) (head body : List ℕ) (n got : ℕ) → length head ≡ 5 → 5 ≤ n → get_or head 0 0 ≡ 165 → to_be_bytes w32 (length body) ≡ drop 1 head → length body ≤ got → length body ≤ largest
-    → IfSome seen (λ held. take n head ≡ take (length head) (drop at held)) → mid ≡ seen → IfSome mid (λ held. take got body ≡ take (length body) (drop (at + 5) held)) → IfSome seen (λ held. StandsAt largest at held (Some body))
+pub cell_told : (largest at : ℕ) (shown mid : Option (List ℕ)) (head body : List ℕ) (n got : ℕ) → length head ≡ 5 → 5 ≤ n → get_or head 0 0 ≡ 165 → to_be_bytes w32 (length body) ≡ drop 1 head → length body ≤ got → length body ≤ largest
+    → IfSome shown (λ held. take n head ≡ take (length head) (drop at held)) → mid ≡ shown → IfSome mid (λ held. take got body ≡ take (length body) (drop (at + 5) held)) → IfSome shown (λ held. StandsAt largest at held (Some body))
 cell_told largest at None mid head body n got five enough gate size all fits first same second = tt
 cell_told largest at (Some held) mid head body n got five enough gate size all fits first same second =
     cell_here largest at held head body n got five enough gate size all fits first (subst (λ (o : Option (List ℕ)). IfSome o (λ held. take got body ≡ take (length body) (drop (at + 5) held))) same second)
@@ -56,20 +56,20 @@ read_all shape second at held bodies so_far here = record {
   place = so_far.place;
 }
 
-told_none : (shape : Shape) (second : Bool) (at : ℕ) (seen : Option (List ℕ)) → 1 ≤ shape.bank → at ≡ begin shape second → IfSome seen (λ held. ReadUpTo shape second at held [])
+told_none : (shape : Shape) (second : Bool) (at : ℕ) (shown : Option (List ℕ)) → 1 ≤ shape.bank → at ≡ begin shape second → IfSome shown (λ held. ReadUpTo shape second at held [])
 told_none shape second at None some is = tt
 told_none shape second at (Some held) some is = record { place = omega (arith, is); read = record { is = refl; within = some; fit = tt } }
 
-told_more : (shape : Shape) (second : Bool) (at m : ℕ) (seen mid : Option (List ℕ)) (bodies : List (List ℕ)) (body : List ℕ) → length body + 5 ≡ m → at + 5 + length body < begin shape second + shape.bank → IfSome seen (λ held. ReadUpTo shape second at held bodies)
-    → mid ≡ seen → IfSome mid (λ held. StandsAt shape.largest at held (Some body)) → IfSome seen (λ held. ReadUpTo shape second (at + m) held (bodies ++ body ∷ []))
+told_more : (shape : Shape) (second : Bool) (at m : ℕ) (shown mid : Option (List ℕ)) (bodies : List (List ℕ)) (body : List ℕ) → length body + 5 ≡ m → at + 5 + length body < begin shape second + shape.bank → IfSome shown (λ held. ReadUpTo shape second at held bodies)
+    → mid ≡ shown → IfSome mid (λ held. StandsAt shape.largest at held (Some body)) → IfSome shown (λ held. ReadUpTo shape second (at + m) held (bodies ++ body ∷ []))
 told_more shape second at m None mid bodies body size inside so_far same here = tt
 told_more shape second at m (Some held) mid bodies body size inside so_far same here =
     let there = subst (λ (o : Option (List ℕ)). IfSome o (λ held. StandsAt shape.largest at held (Some body))) same here in
     let done = read_more shape second at held bodies body inside so_far there in
     subst (λ (n : ℕ). ReadUpTo shape second (at + n) held (bodies ++ body ∷ [])) size done
 
-told_all : (f : ℕ → List ℕ) (shape : Shape) (second : Bool) (at : ℕ) (seen mid : Option (List ℕ)) (bodies : List (List ℕ)) (o : Option ℕ) → o ≡ None → IfSome seen (λ held. ReadUpTo shape second at held bodies)
-    → mid ≡ seen → IfSome mid (λ held. StandsAt shape.largest at held (option_map f o)) → IfSome seen (λ held. IsBank shape second at held bodies)
+told_all : (f : ℕ → List ℕ) (shape : Shape) (second : Bool) (at : ℕ) (shown mid : Option (List ℕ)) (bodies : List (List ℕ)) (o : Option ℕ) → o ≡ None → IfSome shown (λ held. ReadUpTo shape second at held bodies)
+    → mid ≡ shown → IfSome mid (λ held. StandsAt shape.largest at held (option_map f o)) → IfSome shown (λ held. IsBank shape second at held bodies)
 told_all f shape second at None mid bodies o none so_far same here = tt
 told_all f shape second at (Some held) mid bodies o none so_far same here =
     let there = subst (λ (m : Option (List ℕ)). IfSome m (λ held. StandsAt shape.largest at held (option_map f o))) same here in
@@ -77,31 +77,31 @@ told_all f shape second at (Some held) mid bodies o none so_far same here =
     read_all shape second at held bodies so_far gate
 
 -- nothing was handed on at the begin of a bank
-pub handed_none : (shape : Shape) (second : Bool) (at : ℕ) (seen : Option (List ℕ)) (Took : List (List ℕ) → Type 0) → 1 ≤ shape.bank → at ≡ begin shape second → Took [] → HandedUpTo shape second seen Took at
-handed_none shape second at seen Took some is took = record { bodies = []; took = took; read = told_none shape second at seen some is }
+pub handed_none : (shape : Shape) (second : Bool) (at : ℕ) (shown : Option (List ℕ)) (Took : List (List ℕ) → Type 0) → 1 ≤ shape.bank → at ≡ begin shape second → Took [] → HandedUpTo shape second shown Took at
+handed_none shape second at shown Took some is took = record { bodies = []; took = took; read = told_none shape second at shown some is }
 
 -- one body more
-pub handed_more : (shape : Shape) (second : Bool) (at n : ℕ) (seen mid : Option (List ℕ)) (Took Takes : List (List ℕ) → Type 0) (items body : List ℕ) (so_far : HandedUpTo shape second seen Took at) → body ≡ take n items → n ≤ length items
-    → at + 5 + n < begin shape second + shape.bank → mid ≡ seen → IfSome mid (λ held. StandsAt shape.largest at held (Some (take n items))) → Takes (so_far.bodies ++ body ∷ []) → HandedUpTo shape second seen Takes (at + (n + 5))
-handed_more shape second at n seen mid Took Takes items body so_far is enough inside same here took =
+pub handed_more : (shape : Shape) (second : Bool) (at n : ℕ) (shown mid : Option (List ℕ)) (Took Takes : List (List ℕ) → Type 0) (items body : List ℕ) (so_far : HandedUpTo shape second shown Took at) → body ≡ take n items → n ≤ length items
+    → at + 5 + n < begin shape second + shape.bank → mid ≡ shown → IfSome mid (λ held. StandsAt shape.largest at held (Some (take n items))) → Takes (so_far.bodies ++ body ∷ []) → HandedUpTo shape second shown Takes (at + (n + 5))
+handed_more shape second at n shown mid Took Takes items body so_far is enough inside same here took =
     let long : length (take n items) ≡ n = length-take-le n items enough in
-    record { bodies = so_far.bodies ++ take n items ∷ []; took = subst (λ (l : List ℕ). Takes (so_far.bodies ++ l ∷ [])) is took; read = told_more shape second at (n + 5) seen mid so_far.bodies (take n items) (omega (arith, long)) (omega (arith, long, inside)) so_far.read same here }
+    record { bodies = so_far.bodies ++ take n items ∷ []; took = subst (λ (l : List ℕ). Takes (so_far.bodies ++ l ∷ [])) is took; read = told_more shape second at (n + 5) shown mid so_far.bodies (take n items) (omega (arith, long)) (omega (arith, long, inside)) so_far.read same here }
 
 -- all of them
-pub handed_all : (f : ℕ → List ℕ) (shape : Shape) (second : Bool) (at : ℕ) (seen mid : Option (List ℕ)) (Took : List (List ℕ) → Type 0) (o : Option ℕ) → o ≡ None → HandedUpTo shape second seen Took at
-    → mid ≡ seen → IfSome mid (λ held. StandsAt shape.largest at held (option_map f o)) → HandedOn shape second seen Took at
-handed_all f shape second at seen mid Took o none so_far same here =
-    record { found = so_far.bodies; took = so_far.took; bank = told_all f shape second at seen mid so_far.bodies o none so_far.read same here }
+pub handed_all : (f : ℕ → List ℕ) (shape : Shape) (second : Bool) (at : ℕ) (shown mid : Option (List ℕ)) (Took : List (List ℕ) → Type 0) (o : Option ℕ) → o ≡ None → HandedUpTo shape second shown Took at
+    → mid ≡ shown → IfSome mid (λ held. StandsAt shape.largest at held (option_map f o)) → HandedOn shape second shown Took at
+handed_all f shape second at shown mid Took o none so_far same here =
+    record { found = so_far.bodies; took = so_far.took; bank = told_all f shape second at shown mid so_far.bodies o none so_far.read same here }
 
 -- ---- where it fails first
 
 -- the grammar, after bodies that were taken
-pub unread_cell : (rose later : Type 0) (shape : Shape) (second : Bool) (at limit : ℕ) (seen mid : Option (List ℕ)) (Took : List (List ℕ) → Type 0) (Refused : List (List ℕ) → List ℕ → Type 0) (e : LogError) → HandedUpTo shape second seen Took at
-    → mid ≡ seen → limit ≡ begin shape second + shape.bank → (rose → later) → Unread rose mid (FailsFrom shape.largest limit at) e → Unread later seen (FailsInOrder shape second Took Refused) e
-unread_cell rose later shape second at limit seen mid Took Refused Disk so_far same is on cause = on cause
-unread_cell rose later shape second at limit seen mid Took Refused Memory so_far same is on cause = tt
-unread_cell rose later shape second at limit seen mid Took Refused (NotAStore place) so_far same is on cause =
-    by seen so_far.read (subst (λ (o : Option (List ℕ)). IfSome o (λ held. FailsFrom shape.largest limit at held place)) same cause)
+pub unread_cell : (rose later : Type 0) (shape : Shape) (second : Bool) (at limit : ℕ) (shown mid : Option (List ℕ)) (Took : List (List ℕ) → Type 0) (Refused : List (List ℕ) → List ℕ → Type 0) (e : LogError) → HandedUpTo shape second shown Took at
+    → mid ≡ shown → limit ≡ begin shape second + shape.bank → (rose → later) → Unread rose mid (FailsFrom shape.largest limit at) e → Unread later shown (FailsInOrder shape second Took Refused) e
+unread_cell rose later shape second at limit shown mid Took Refused Disk so_far same is on cause = on cause
+unread_cell rose later shape second at limit shown mid Took Refused Memory so_far same is on cause = tt
+unread_cell rose later shape second at limit shown mid Took Refused (NotAStore place) so_far same is on cause =
+    by shown so_far.read (subst (λ (o : Option (List ℕ)). IfSome o (λ held. FailsFrom shape.largest limit at held place)) same cause)
   where
     by : (o : Option (List ℕ)) → IfSome o (λ held. ReadUpTo shape second at held so_far.bodies) → IfSome o (λ held. FailsFrom shape.largest limit at held place) → IfSome o (λ held. FailsInOrder shape second Took Refused held place)
     by None read fails = tt
@@ -110,13 +110,13 @@ unread_cell rose later shape second at limit seen mid Took Refused (NotAStore pl
         no_cell place (record { bodies = so_far.bodies; cells = read.read; fails = subst (λ (n : ℕ). FailsFrom shape.largest (begin shape second + shape.bank) n held place) read.place there }) so_far.took
 
 -- a body that was refused
-pub untaken_cell : (later : Type 0) (shape : Shape) (second : Bool) (at n : ℕ) (seen mid : Option (List ℕ)) (Took Takes : List (List ℕ) → Type 0) (Refused : List (List ℕ) → List ℕ → Type 0) (items body : List ℕ) (e : LogError) (so_far : HandedUpTo shape second seen Took at)
-    → body ≡ take n items → n ≤ length items → at + 5 + n < begin shape second + shape.bank → mid ≡ seen → IfSome mid (λ held. StandsAt shape.largest at held (Some (take n items))) → Untaken (Refused so_far.bodies body) at e
-    → Unread later seen (FailsInOrder shape second Takes Refused) e
-untaken_cell later shape second at n seen mid Took Takes Refused items body Disk so_far same_body enough inside same here cause = absurd cause
-untaken_cell later shape second at n seen mid Took Takes Refused items body Memory so_far same_body enough inside same here cause = tt
-untaken_cell later shape second at n seen mid Took Takes Refused items body (NotAStore place) so_far same_body enough inside same here cause =
-    by seen so_far.read (subst (λ (o : Option (List ℕ)). IfSome o (λ held. StandsAt shape.largest at held (Some (take n items)))) same here)
+pub untaken_cell : (later : Type 0) (shape : Shape) (second : Bool) (at n : ℕ) (shown mid : Option (List ℕ)) (Took Takes : List (List ℕ) → Type 0) (Refused : List (List ℕ) → List ℕ → Type 0) (items body : List ℕ) (e : LogError) (so_far : HandedUpTo shape second shown Took at)
+    → body ≡ take n items → n ≤ length items → at + 5 + n < begin shape second + shape.bank → mid ≡ shown → IfSome mid (λ held. StandsAt shape.largest at held (Some (take n items))) → Untaken (Refused so_far.bodies body) at e
+    → Unread later shown (FailsInOrder shape second Takes Refused) e
+untaken_cell later shape second at n shown mid Took Takes Refused items body Disk so_far same_body enough inside same here cause = absurd cause
+untaken_cell later shape second at n shown mid Took Takes Refused items body Memory so_far same_body enough inside same here cause = tt
+untaken_cell later shape second at n shown mid Took Takes Refused items body (NotAStore place) so_far same_body enough inside same here cause =
+    by shown so_far.read (subst (λ (o : Option (List ℕ)). IfSome o (λ held. StandsAt shape.largest at held (Some (take n items)))) same here)
   where
     by : (o : Option (List ℕ)) → IfSome o (λ held. ReadUpTo shape second at held so_far.bodies) → IfSome o (λ held. StandsAt shape.largest at held (Some (take n items))) → IfSome o (λ held. FailsInOrder shape second Takes Refused held place)
     by None read there = tt
@@ -127,8 +127,8 @@ untaken_cell later shape second at n seen mid Took Takes Refused items body (Not
         subst (λ (p : ℕ). FailsInOrder shape second Takes Refused held p) is (refused_cell so_far.bodies (take n items) more.read (subst (λ (l : List ℕ). Refused so_far.bodies l) same_body cause.1))
 
 -- the gate that was read
-pub gate_told : (largest at : ℕ) (seen : Option (List ℕ)) (head : List ℕ) (n : ℕ) → length head ≡ 5 → 1 ≤ n → get_or head 0 0 ≢ 165
-    → IfSome seen (λ held. take n head ≡ take (length head) (drop at held)) → IfSome seen (λ held. StandsAt largest at held None)
+pub gate_told : (largest at : ℕ) (shown : Option (List ℕ)) (head : List ℕ) (n : ℕ) → length head ≡ 5 → 1 ≤ n → get_or head 0 0 ≢ 165
+    → IfSome shown (λ held. take n head ≡ take (length head) (drop at held)) → IfSome shown (λ held. StandsAt largest at held None)
 gate_told largest at None head n five some shut first = tt
 gate_told largest at (Some held) head n five some shut first = (get_or head 0 0, shut, gate_here at held head n five some first)
   where
@@ -143,8 +143,8 @@ gate_told largest at (Some held) head n five some shut first = (get_or head 0 0,
         one (y ∷ l) (suc n) some is = ap (λ (z : ℕ). z ∷ []) (cc is)
 
 -- the head that was read
-pub head_told : (seen mid : Option (List ℕ)) (head into : List ℕ) (n m : ℕ) (second : Bool) → head ≡ magic → 7 ≤ n → IfSome seen (λ held. take n head ≡ take (length head) (drop 0 held)) → mid ≡ seen
-    → length into ≡ 1 → 1 ≤ m → IfSome mid (λ held. take m into ≡ take (length into) (drop 7 held)) → Selects (get_or into 0 0) second → IfSome seen (IsLive second)
+pub head_told : (shown mid : Option (List ℕ)) (head into : List ℕ) (n m : ℕ) (second : Bool) → head ≡ magic → 7 ≤ n → IfSome shown (λ held. take n head ≡ take (length head) (drop 0 held)) → mid ≡ shown
+    → length into ≡ 1 → 1 ≤ m → IfSome mid (λ held. take m into ≡ take (length into) (drop 7 held)) → Selects (get_or into 0 0) second → IfSome shown (IsLive second)
 head_told None mid head into n m second is enough first same one some next selects = tt
 head_told (Some held) mid head into n m second is enough first same one some next selects =
     let there = subst (λ (o : Option (List ℕ)). IfSome o (λ held. take m into ≡ take (length into) (drop 7 held))) same next in

@@ -1,7 +1,10 @@
+-- what the layer above cites
+pub mod Calls
 pub mod Laws
 pub mod Log
-pub mod Opening
 pub mod Replay
 pub mod Standing
-pub mod Steps
 pub mod Text
+-- for private clauses alone
+pub mod Opening
+pub mod Steps

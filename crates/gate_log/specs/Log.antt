@@ -24,22 +24,22 @@ pub record LogTerm : Type 0 where
 
 -- Every image has the log's bank live with these bodies and its closed gate, and the log keeps the disk's length. Over a disk
 -- that does not expose this says nothing.
-pub record IsOf (seen : Option (List ℕ)) (images : List ℕ → Type 0) (log : LogTerm) (bodies : List (List ℕ)) : Type 0 where
+pub record IsOf (shown : Option (List ℕ)) (images : List ℕ → Type 0) (log : LogTerm) (bodies : List (List ℕ)) : Type 0 where
   pub each : Each images (λ c. IsText log.shape log.second log.closed c bodies)
-  pub long : IfSome seen (λ held. log.long ≡ length held)
+  pub long : IfSome shown (λ held. log.long ≡ length held)
 
 -- A rewrite is begun, and the cells of these bodies stand in the other bank up to the kept place, as the disk reads.
-pub record HasPut (seen : Option (List ℕ)) (log : LogTerm) (bodies : List (List ℕ)) : Type 0 where
+pub record HasPut (shown : Option (List ℕ)) (log : LogTerm) (bodies : List (List ℕ)) : Type 0 where
   pub filled : log.filled ≡ Some (end_of log.shape (not log.second) bodies)
   pub within : length (cells bodies) + 1 ≤ log.shape.bank
   pub fit : AllFit log.shape.largest bodies
-  pub holds : IfSome seen (Holds (begin log.shape (not log.second)) (cells bodies))
+  pub holds : IfSome shown (Holds (begin log.shape (not log.second)) (cells bodies))
 
 abbrev pub IsLogOf : {D : Type 0} → Ghosts D → D → LogTerm → List (List ℕ) → Type 0
-IsLogOf d disk log bodies = IsOf (d.seen disk) (d.images disk) log bodies
+IsLogOf d disk log bodies = IsOf (d.shown disk) (d.images disk) log bodies
 
 abbrev pub HasPutOn : {D : Type 0} → Ghosts D → D → LogTerm → List (List ℕ) → Type 0
-HasPutOn d disk log bodies = HasPut (d.seen disk) log bodies
+HasPutOn d disk log bodies = HasPut (d.shown disk) log bodies
 
 -- the log is of the disk with some bodies, or it is spent
 abbrev pub IsReady : {D : Type 0} → Ghosts D → D → LogTerm → Type 0

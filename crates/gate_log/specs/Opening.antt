@@ -14,16 +14,16 @@ abbrev pub FailsInHead : Shape → List ℕ → ℕ → Type 0
 FailsInHead shape image at = (fails : FailsAt shape image at) × (bodies_before fails ≡ [])
 
 -- the bodies of a bank up to this place were read, and all of them were taken
-pub record HandedUpTo (shape : Shape) (second : Bool) (seen : Option (List ℕ)) (Took : List (List ℕ) → Type 0) (at : ℕ) : Type 0 where
+pub record HandedUpTo (shape : Shape) (second : Bool) (shown : Option (List ℕ)) (Took : List (List ℕ) → Type 0) (at : ℕ) : Type 0 where
   pub bodies : List (List ℕ)
   pub took : Took bodies
-  pub read : IfSome seen (λ held. ReadUpTo shape second at held bodies)
+  pub read : IfSome shown (λ held. ReadUpTo shape second at held bodies)
 
 -- a bank holds these bodies and a closed gate at this place, and all of them were taken
-pub record HandedOn (shape : Shape) (second : Bool) (seen : Option (List ℕ)) (Took : List (List ℕ) → Type 0) (closed : ℕ) : Type 0 where
+pub record HandedOn (shape : Shape) (second : Bool) (shown : Option (List ℕ)) (Took : List (List ℕ) → Type 0) (closed : ℕ) : Type 0 where
   pub found : List (List ℕ)
   pub took : Took found
-  pub bank : IfSome seen (λ held. IsBank shape second closed held found)
+  pub bank : IfSome shown (λ held. IsBank shape second closed held found)
 
 -- the first failure in a bank: of the grammar after bodies that were taken, or a body that was refused
 pub data FailsInOrder (shape : Shape) (second : Bool) (Took : List (List ℕ) → Type 0) (Refused : List (List ℕ) → List ℕ → Type 0) (image : List ℕ) : ℕ → Type 0 where
@@ -41,10 +41,10 @@ pub record Replayed {D : Type 0} (d : Ghosts D) (old new : D) (shape : Shape) (T
   pub found : List (List ℕ)
   pub took : Took found
   pub each : Each (d.images new) (λ c. IsText shape second closed c found)
-  pub gave : IfSome (d.seen old) (λ held. Gives shape held found)
+  pub gave : IfSome (d.shown old) (λ held. Gives shape held found)
 
 -- after NotAStore the disk is as it was
 abbrev pub StillWhereRefused : {D : Type 0} → Ghosts D → D → D → LogError → Type 0
 StillWhereRefused d old new Disk = Unit {0}
-StillWhereRefused d old new (NotAStore at) = Still d.seen d.images d.moment d.left_since old new
+StillWhereRefused d old new (NotAStore at) = Still d.shown d.images d.moment d.left_since old new
 StillWhereRefused d old new Memory = Unit {0}

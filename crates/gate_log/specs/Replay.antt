@@ -41,12 +41,12 @@ pub record Opened {D : Type 0} (d : Ghosts D) (old new : D) (shape : Shape) (Too
   pub same_shape : log.shape ≡ shape
   pub spent : log.spent ≡ false
   pub of : IsLogOf d new log found
-  pub gave : IfSome (d.seen old) (λ held. Gives shape held found)
+  pub gave : IfSome (d.shown old) (λ held. Gives shape held found)
 
 -- the cause of NotAStore, whose file is as it was
 pub record NotOpened {D : Type 0} (d : Ghosts D) (old new : D) (shape : Shape) (Took : List (List ℕ) → Type 0) (Refused : List (List ℕ) → List ℕ → Type 0) (at : ℕ) : Type 0 where
-  pub refused : IfSome (d.seen old) (λ held. IsRefused shape Took Refused held at)
-  pub still : Still d.seen d.images d.moment d.left_since old new
+  pub refused : IfSome (d.shown old) (λ held. IsRefused shape Took Refused held at)
+  pub still : Still d.shown d.images d.moment d.left_since old new
 
 -- the cause of an opening's error
 abbrev pub Unopened : {D : Type 0} → Ghosts D → D → D → Shape → (List (List ℕ) → Type 0) → (List (List ℕ) → List ℕ → Type 0) → LogError → Type 0

@@ -28,4 +28,4 @@ StandsAtAnyMoment d old new Stands P = AnyMoment d.moment d.left_since old new (
 
 -- the disk reads as an image that stands for this value
 abbrev pub ReadsAs : {D X : Type 0} → Ghosts D → D → (List ℕ → X → Type 0) → X → Type 0
-ReadsAs d disk Stands value = IfSome (d.seen disk) (λ held. Stands held value)
+ReadsAs d disk Stands value = IfSome (d.shown disk) (λ held. Stands held value)

@@ -1,10 +1,10 @@
 //! A cell is written after the closed gate of the live bank.
-ghost use Rattle.std.specs.Prelude.{◌≡◌, [], ◌∷◌, ◌++◌, ℕ, ◌+◌, ◌≤◌, ◌<◌, ◌^◌, max, option_map, take, Bool, List, length, IfSome, OnOk};
+ghost use Rattle.std.specs.Prelude.{◌≡◌, [], ◌∷◌, ◌++◌, ℕ, ◌+◌, ◌≤◌, ◌<◌, ◌^◌, option_map, take, Bool, List, length, IfSome, OnOk};
 ghost use Rattle.dsc_outside.specs.Causes.{HasCause};
-ghost use Rattle.dsc_outside.specs.Disk.{Each, AnyMoment, Only, written};
+ghost use Rattle.dsc_outside.specs.Disk.{Only, written};
 ghost use Rattle.gate_log.specs.declared.shape.Shape.{Shape};
-ghost use Rattle.gate_log.specs.Text.{IsText, behind, begin, body_in, need_of};
-ghost use Rattle.gate_log.specs.Steps.{TextBeforeOrAfter};
+ghost use Rattle.gate_log.specs.Text.{behind, body_in, need_of};
+ghost use Rattle.gate_log.specs.Steps.{AppendsCell, AreTexts, LeavesCell, LeavesSpelled, Reaches, StayTexts, WritesCell};
 
 use crate::through::{write_on, write_through};
 use dsc_outside::{Disk, Failed};
@@ -33,13 +33,10 @@ pub(crate) fn append_cell<D: Disk>(
     requires fits { closed + 1 < 2 ^ 64 }
     requires size { length body.now < 2 ^ 32 }
     requires buffer { length body.now + 5 ≤ length buffer.old }
-    requires room { IfSome (D.seen disk.old) (λ held. closed + 1 ≤ length held) }
-    ensures ok { (shape : Shape) (second : Bool) (bodies : List (List ℕ)) → length body.now ≤ shape.largest → closed + 1 + need_of body.now ≤ begin shape second + shape.bank → Each (D.images disk.old) (λ c. IsText shape second closed c bodies)
-        → OnOk result (Each (D.images disk.new) (λ c. IsText shape second (closed + need_of body.now) c (bodies ++ body.now ∷ []))) }
-    ensures any_moment { (shape : Shape) (second : Bool) (bodies : List (List ℕ)) → length body.now ≤ shape.largest → closed + 1 + need_of body.now ≤ begin shape second + shape.bank → Each (D.images disk.old) (λ c. IsText shape second closed c bodies)
-        → AnyMoment D.moment D.left_since disk.old disk.new (TextBeforeOrAfter shape second closed bodies body.now) }
-    ensures long { (n : ℕ) → IfSome (D.seen disk.old) (λ held. n ≡ length held)
-        → OnOk result (IfSome (D.seen disk.new) (λ now. max n (closed + 1 + need_of body.now) ≡ length now)) }
+    requires room { IfSome (D.shown disk.old) (λ held. closed + 1 ≤ length held) }
+    ensures ok { AppendsCell D.Disk disk.old disk.new closed body.now result }
+    ensures any_moment { LeavesCell D.Disk disk.old disk.new closed body.now }
+    ensures long { Reaches D.Disk disk.old disk.new (closed + 1 + need_of body.now) result }
     ensures cause { HasCause (D.faults disk.old) (D.faults disk.new) result }
 {
     let size = fill(buffer, body);
@@ -57,13 +54,13 @@ pub(crate) fn append_cell_in_place<D: Disk>(
     requires fits { closed + 2 + length head.old + length tail.now < 2 ^ 64 }
     requires whole { 4 ≤ length head.old }
     requires size { length head.old + length tail.now < 2 ^ 32 + 4 }
-    requires room { IfSome (D.seen disk.old) (λ held. closed + 1 ≤ length held) }
-    ensures ok { (shape : Shape) (second : Bool) (bodies : List (List ℕ)) → length (body_in head.old tail.now) ≤ shape.largest → closed + 1 + need_of (body_in head.old tail.now) ≤ begin shape second + shape.bank → Each (D.images disk.old) (λ c. IsText shape second closed c bodies)
-        → OnOk result (Each (D.images disk.new) (λ c. IsText shape second (closed + need_of (body_in head.old tail.now)) c (bodies ++ body_in head.old tail.now ∷ []))) }
-    ensures any_moment { (shape : Shape) (second : Bool) (bodies : List (List ℕ)) → length (body_in head.old tail.now) ≤ shape.largest → closed + 1 + need_of (body_in head.old tail.now) ≤ begin shape second + shape.bank → Each (D.images disk.old) (λ c. IsText shape second closed c bodies)
-        → AnyMoment D.moment D.left_since disk.old disk.new (TextBeforeOrAfter shape second closed bodies (body_in head.old tail.now)) }
-    ensures long { (n : ℕ) → IfSome (D.seen disk.old) (λ held. n ≡ length held)
-        → OnOk result (IfSome (D.seen disk.new) (λ now. max n (closed + 1 + need_of (body_in head.old tail.now)) ≡ length now)) }
+    requires room { IfSome (D.shown disk.old) (λ held. closed + 1 ≤ length held) }
+    ensures ok { let body = body_in head.old tail.now in
+        AppendsCell D.Disk disk.old disk.new closed body result }
+    ensures any_moment { let body = body_in head.old tail.now in
+        LeavesCell D.Disk disk.old disk.new closed body }
+    ensures long { let body = body_in head.old tail.now in
+        Reaches D.Disk disk.old disk.new (closed + 1 + need_of body) result }
     ensures cause { HasCause (D.faults disk.old) (D.faults disk.new) result }
     ensures left { head.new ++ tail.now ≡ behind (body_in head.old tail.now) }
 {
@@ -76,7 +73,8 @@ pub(crate) fn append_cell_in_place<D: Disk>(
 fn number(head: &mut [u8], more: usize)
     requires whole { 4 ≤ length head.old }
     requires size { length head.old + more < 2 ^ 32 + 4 }
-    ensures { (tail : List ℕ) → more ≡ length tail → head.new ++ tail ≡ behind (body_in head.old tail) }
+    ensures { (tail : List ℕ) → more ≡ length tail
+        → head.new ++ tail ≡ behind (body_in head.old tail) }
 {
     let length = (head.len() - 4 + more) as u32;
     head[..4].copy_from_slice(&length.to_be_bytes());
@@ -85,11 +83,13 @@ fn number(head: &mut [u8], more: usize)
 // The two pieces of a cell and a closed gate are written after the closed gate, and are on the disk.
 fn stage_cell<D: Disk>(disk: &mut D, closed: u64, head: &[u8], tail: &[u8]) -> Result<(), Failed>
     requires fits { closed + 2 + length head.now + length tail.now < 2 ^ 64 }
-    requires room { IfSome (D.seen disk.old) (λ held. closed + 1 ≤ length held) }
-    ensures written { OnOk result (D.seen disk.new ≡ option_map (written (closed + 1) ((head.now ++ tail.now) ++ 0 ∷ [])) (D.seen disk.old)) }
-    ensures only { OnOk result (Only (D.seen disk.new) (D.images disk.new)) }
-    ensures any_moment { (shape : Shape) (second : Bool) (bodies : List (List ℕ)) → Each (D.images disk.old) (λ c. IsText shape second closed c bodies)
-        → AnyMoment D.moment D.left_since disk.old disk.new (λ c. IsText shape second closed c bodies) }
+    requires room { IfSome (D.shown disk.old) (λ held. closed + 1 ≤ length held) }
+    ensures written { let cell = (head.now ++ tail.now) ++ 0 ∷ [] in
+        OnOk result (D.shown disk.new ≡ option_map (written (closed + 1) cell) (D.shown disk.old)) }
+    ensures only { OnOk result (Only (D.shown disk.new) (D.images disk.new)) }
+    ensures any_moment { (shape : Shape) (second : Bool) (bodies : List (List ℕ))
+        → AreTexts D.Disk disk.old shape second closed bodies
+        → StayTexts D.Disk disk.old disk.new shape second closed bodies }
     ensures cause { HasCause (D.faults disk.old) (D.faults disk.new) result }
 {
     let middle = closed + 1 + head.len() as u64;
@@ -101,15 +101,10 @@ fn stage_cell<D: Disk>(disk: &mut D, closed: u64, head: &[u8], tail: &[u8]) -> R
 // The cell is written after the closed gate, and its own gate is opened once it is on the disk.
 fn write_cell<D: Disk>(disk: &mut D, closed: u64, cell: &[u8]) -> Result<(), Failed>
     requires fits { closed + 1 < 2 ^ 64 }
-    requires room { IfSome (D.seen disk.old) (λ held. closed + 1 ≤ length held) }
-    ensures ok { (shape : Shape) (second : Bool) (bodies : List (List ℕ)) (body : List ℕ)
-        → ((c : List ℕ) → D.images disk.old c → IsText shape second closed c bodies) → length body ≤ shape.largest → closed + 1 + need_of body ≤ begin shape second + shape.bank → cell.now ≡ behind body ++ 0 ∷ []
-        → OnOk result ((c : List ℕ) → D.images disk.new c → IsText shape second (closed + length cell.now) c (bodies ++ body ∷ [])) }
-    ensures any_moment { (shape : Shape) (second : Bool) (bodies : List (List ℕ)) (body : List ℕ)
-        → ((c : List ℕ) → D.images disk.old c → IsText shape second closed c bodies) → length body ≤ shape.largest → closed + 1 + need_of body ≤ begin shape second + shape.bank → cell.now ≡ behind body ++ 0 ∷ []
-        → AnyMoment D.moment D.left_since disk.old disk.new (TextBeforeOrAfter shape second closed bodies body) }
-    ensures long { (n : ℕ) → IfSome (D.seen disk.old) (λ held. n ≡ length held)
-        → OnOk result (IfSome (D.seen disk.new) (λ now. max n (closed + 1 + length cell.now) ≡ length now)) }
+    requires room { IfSome (D.shown disk.old) (λ held. closed + 1 ≤ length held) }
+    ensures ok { WritesCell D.Disk disk.old disk.new closed cell.now result }
+    ensures any_moment { LeavesSpelled D.Disk disk.old disk.new closed cell.now }
+    ensures long { Reaches D.Disk disk.old disk.new (closed + 1 + length cell.now) result }
     ensures cause { HasCause (D.faults disk.old) (D.faults disk.new) result }
 {
     write_through(disk, closed + 1, cell)?;

@@ -30,4 +30,4 @@ pub use laws::image_laws;
 pub use log::Log;
 pub use opening::replay_log;
 pub use replay::{Replay, TakeError};
-pub use shape::Shape;
+pub use shape::{CELL_HEAD, Shape};

@@ -1,12 +1,12 @@
 //! A log of bodies in the live one of two banks.
-ghost use Rattle.std.specs.Prelude.{◌≡◌, [], ◌∷◌, ◌++◌, ℕ, ◌+◌, ◌-◌, ◌≤◌, ◌<◌, ◌^◌, leb, List, length, OnOk, true, false};
-ghost use Rattle.gate_log.specs.Text.{behind, body_in, need_of, IsLive};
+ghost use Rattle.std.specs.Prelude.{◌≡◌, ◌++◌, ℕ, ◌+◌, ◌-◌, ◌≤◌, ◌<◌, ◌^◌, ◌↔◌, IsTrue, List, length, false};
+ghost use Rattle.gate_log.specs.Text.{behind, body_in, need_of};
 
 use crate::appending::{append_cell, append_cell_in_place};
 use crate::error::LogError;
 use crate::reading::lengthen;
 use crate::rewriting::{finish_cells, put_cell, with_zeros};
-use crate::shape::{Shape, begin};
+use crate::shape::{CELL_HEAD, Shape, begin};
 use dsc_outside::Disk;
 use std::cmp::max;
 use std::marker::Model;
@@ -34,15 +34,23 @@ impl Model for Log {
 
     ghost Value = { LogTerm };
 
-    ghost view = { λ l. record { shape = l.shape; second = l.second; closed = l.closed; long = l.long; spent = l.spent; filled = l.filled } };
+    ghost view = { λ l. record {
+      shape = l.shape;
+      second = l.second;
+      closed = l.closed;
+      long = l.long;
+      spent = l.spent;
+      filled = l.filled;
+    } };
 
-    ghost invariant = { λ l. (l.shape.largest + 6 ≤ vec_capacity l.buffer) × (l.shape.bank ≤ 2 ^ 62) × (l.closed + 1 ≤ l.long) };
+    ghost invariant = { λ l. (l.shape.largest + 6 ≤ vec_capacity l.buffer) × (l.shape.bank ≤ 2 ^ 62)
+        × (l.closed + 1 ≤ l.long) };
 }
 
 impl Log {
-    ghost use Rattle.gate_log.specs.Text.{Gives};
-    ghost use Rattle.gate_log.specs.Log.{LogTerm, IsLogOf, HasPutOn, AtAnyMoment, BeforeOrAfter, OldOrNew, Appended, Put, Finished, begun, room_in, room_to_put, log_at};
-    ghost use Rattle.std.specs.Prelude.{Option, vec_capacity};
+    ghost use Rattle.gate_log.specs.Log.{IsLogOf, HasPutOn, Appended, Put, Finished, begun, room_in, room_to_put, log_at};
+    ghost use Rattle.gate_log.specs.Calls.{AddsBody, LeavesWithOrWithout, StaysInBank, KeepsBodies, PutsBody, LeavesBodies, TakesPut, LeavesOldOrPut};
+    ghost use Rattle.std.specs.Prelude.{vec_capacity};
 
     /// A log whose closed gate stands at the disk's end.
     pub(crate) fn of(shape: Shape, second: bool, closed: u64, buffer: Vec<u8>) -> Log
@@ -71,10 +79,10 @@ impl Log {
 
     /// Whether a body of this length has room in the live bank.
     pub fn has_room(&self, length: u32) -> bool
-        ensures { result ≡ leb (5 + length) (room_in self.now) }
+        ensures { IsTrue result ↔ (5 + length ≤ room_in self.now) }
     {
         let end = begin(self.shape, self.second) + self.shape.bank;
-        length as u64 + 5 <= end.saturating_sub(self.closed).saturating_sub(1)
+        length as u64 + CELL_HEAD <= end.saturating_sub(self.closed).saturating_sub(1)
     }
 
     /// Adds a body to the live bank. A rewrite that was begun is given up.
@@ -86,13 +94,14 @@ impl Log {
         requires room { need_of body.now ≤ room_in self.old }
         requires unspent { self.old.spent ≡ false }
         requires of { (bodies : List (List ℕ)) × IsLogOf D.Disk disk.old self.old bodies }
-        ensures answer { Appended self.old body.now (D.faults disk.old) (D.faults disk.new) result self.new }
-        ensures ok { (bodies : List (List ℕ)) → IsLogOf D.Disk disk.old self.old bodies → OnOk result (IsLogOf D.Disk disk.new self.new (bodies ++ body.now ∷ [])) }
-        ensures any_moment { (bodies : List (List ℕ)) → IsLogOf D.Disk disk.old self.old bodies → AtAnyMoment D.Disk disk.old disk.new (BeforeOrAfter self.old.shape bodies body.now) }
-        ensures same_bank { (bodies : List (List ℕ)) → IsLogOf D.Disk disk.old self.old bodies → AtAnyMoment D.Disk disk.old disk.new (IsLive self.old.second) }
+        ensures answer { Appended self.old body.now (D.faults disk.old) (D.faults disk.new)
+            result self.new }
+        ensures ok { AddsBody D.Disk disk.old disk.new self.old self.new body.now result }
+        ensures any_moment { LeavesWithOrWithout D.Disk disk.old disk.new self.old body.now }
+        ensures same_bank { StaysInBank D.Disk disk.old disk.new self.old }
         ensures count { D.faults disk.old ≤ D.faults disk.new }
     {
-        let need = body.len() as u64 + 5;
+        let need = body.len() as u64 + CELL_HEAD;
         self.spent = true; // until the cell is on the disk
         lengthen(&mut self.buffer, body.len() + 5);
         append_cell(disk, self.closed, &mut self.buffer, body)?;
@@ -118,10 +127,13 @@ impl Log {
         requires room { length head.old + length tail.now + 1 ≤ room_in self.old }
         requires unspent { self.old.spent ≡ false }
         requires of { (bodies : List (List ℕ)) × IsLogOf D.Disk disk.old self.old bodies }
-        ensures answer { Appended self.old (body_in head.old tail.now) (D.faults disk.old) (D.faults disk.new) result self.new }
-        ensures ok { (bodies : List (List ℕ)) → IsLogOf D.Disk disk.old self.old bodies → OnOk result (IsLogOf D.Disk disk.new self.new (bodies ++ body_in head.old tail.now ∷ [])) }
-        ensures any_moment { (bodies : List (List ℕ)) → IsLogOf D.Disk disk.old self.old bodies → AtAnyMoment D.Disk disk.old disk.new (BeforeOrAfter self.old.shape bodies (body_in head.old tail.now)) }
-        ensures same_bank { (bodies : List (List ℕ)) → IsLogOf D.Disk disk.old self.old bodies → AtAnyMoment D.Disk disk.old disk.new (IsLive self.old.second) }
+        ensures answer { let body = body_in head.old tail.now in
+            Appended self.old body (D.faults disk.old) (D.faults disk.new) result self.new }
+        ensures ok { let body = body_in head.old tail.now in
+            AddsBody D.Disk disk.old disk.new self.old self.new body result }
+        ensures any_moment { let body = body_in head.old tail.now in
+            LeavesWithOrWithout D.Disk disk.old disk.new self.old body }
+        ensures same_bank { StaysInBank D.Disk disk.old disk.new self.old }
         ensures count { D.faults disk.old ≤ D.faults disk.new }
         ensures left { head.new ++ tail.now ≡ behind (body_in head.old tail.now) }
     {
@@ -145,13 +157,13 @@ impl Log {
 
     /// Whether a body of this length has room in the other bank, after those that were put since the rewrite was begun.
     pub fn has_room_to_put(&self, length: u32) -> bool
-        ensures { result ≡ leb (5 + length) (room_to_put self.now) }
+        ensures { IsTrue result ↔ (5 + length ≤ room_to_put self.now) }
     {
         let Some(at) = self.filled else {
             return false;
         };
         let end = begin(self.shape, !self.second) + self.shape.bank;
-        length as u64 + 5 <= end.saturating_sub(at).saturating_sub(1)
+        length as u64 + CELL_HEAD <= end.saturating_sub(at).saturating_sub(1)
     }
 
     /// Puts a body into the other bank, after those that were put since the rewrite was begun.
@@ -163,16 +175,17 @@ impl Log {
         requires unspent { self.old.spent ≡ false }
         requires of { (bodies : List (List ℕ)) × IsLogOf D.Disk disk.old self.old bodies }
         requires begun { (put : List (List ℕ)) × HasPutOn D.Disk disk.old self.old put }
-        ensures answer { Put self.old body.now (D.faults disk.old) (D.faults disk.new) result self.new }
-        ensures ok { (bodies : List (List ℕ)) → IsLogOf D.Disk disk.old self.old bodies → OnOk result (IsLogOf D.Disk disk.new self.new bodies) }
-        ensures put { (put : List (List ℕ)) → HasPutOn D.Disk disk.old self.old put → OnOk result (HasPutOn D.Disk disk.new self.new (put ++ body.now ∷ [])) }
-        ensures any_moment { (bodies : List (List ℕ)) → IsLogOf D.Disk disk.old self.old bodies → AtAnyMoment D.Disk disk.old disk.new (λ c. Gives self.old.shape c bodies) }
+        ensures answer { Put self.old body.now (D.faults disk.old) (D.faults disk.new)
+            result self.new }
+        ensures ok { KeepsBodies D.Disk disk.old disk.new self.old self.new result }
+        ensures put { PutsBody D.Disk disk.old disk.new self.old self.new body.now result }
+        ensures any_moment { LeavesBodies D.Disk disk.old disk.new self.old }
         ensures count { D.faults disk.old ≤ D.faults disk.new }
     {
         let Some(at) = self.filled else {
             unreachable!()
         };
-        let end = at + 5 + body.len() as u64;
+        let end = at + CELL_HEAD + body.len() as u64;
         self.spent = true;
         let room = self.shape.largest as usize + 6;
         lengthen(&mut self.buffer, with_zeros(body.len() + 6, room));
@@ -192,10 +205,8 @@ impl Log {
         requires of { (bodies : List (List ℕ)) × IsLogOf D.Disk disk.old self.old bodies }
         requires begun { (put : List (List ℕ)) × HasPutOn D.Disk disk.old self.old put }
         ensures answer { Finished self.old (D.faults disk.old) (D.faults disk.new) result self.new }
-        ensures ok { (bodies put : List (List ℕ)) → IsLogOf D.Disk disk.old self.old bodies → HasPutOn D.Disk disk.old self.old put
-            → OnOk result (IsLogOf D.Disk disk.new self.new put) }
-        ensures any_moment { (bodies put : List (List ℕ)) → IsLogOf D.Disk disk.old self.old bodies → HasPutOn D.Disk disk.old self.old put
-            → AtAnyMoment D.Disk disk.old disk.new (OldOrNew self.old.shape bodies put) }
+        ensures ok { TakesPut D.Disk disk.old disk.new self.old self.new result }
+        ensures any_moment { LeavesOldOrPut D.Disk disk.old disk.new self.old }
         ensures count { D.faults disk.old ≤ D.faults disk.new }
     {
         let Some(at) = self.filled else {

@@ -27,7 +27,7 @@ const NEW: [u8; 9] = [0x44, 0x53, 0x43, 0x53, 0x54, 0x4F, 0x52, 0x31, 0x00];
 // A new file.
 fn make_new<D: Disk>(disk: &mut D) -> Result<(), Failed>
     ensures ok { OnOk result (Each (D.images disk.new) (λ c. c ≡ magic ++ 49 ∷ 0 ∷ [])) }
-    ensures seen { OnOk result (IfSome (D.seen disk.new) (λ held. 9 ≡ length held)) }
+    ensures shown { OnOk result (IfSome (D.shown disk.new) (λ held. 9 ≡ length held)) }
     ensures any_moment { Each (D.images disk.old) (λ c. length c ≤ 9) → AnyMoment D.moment D.left_since disk.old disk.new (From (λ d c. length c ≤ 9) (D.images disk.old)) }
     ensures cause { HasCause (D.faults disk.old) (D.faults disk.new) result }
 {
@@ -51,10 +51,10 @@ fn wrong_magic(head: &[u8]) -> Option<u64>
 
 // Which bank the store makes live.
 fn read_head<D: Disk>(disk: &mut D, shape: Shape) -> Result<bool, LogError>
-    requires long { IfSome (D.seen disk.old) (λ held. 9 < length held) }
-    ensures still { Still D.seen D.images D.moment D.left_since disk.old disk.new }
-    ensures head { IfOk result (λ second. IfSome (D.seen disk.old) (IsLive second)) }
-    ensures cause { IfErr result (Unread (Rose (D.faults disk.old) (D.faults disk.new)) (D.seen disk.old) (FailsInHead shape)) }
+    requires long { IfSome (D.shown disk.old) (λ held. 9 < length held) }
+    ensures still { Still D.shown D.images D.moment D.left_since disk.old disk.new }
+    ensures head { IfOk result (λ second. IfSome (D.shown disk.old) (IsLive second)) }
+    ensures cause { IfErr result (Unread (Rose (D.faults disk.old) (D.faults disk.new)) (D.shown disk.old) (FailsInHead shape)) }
     ensures count { D.faults disk.old ≤ D.faults disk.new }
 {
     let mut head = [0; 7];
@@ -81,8 +81,8 @@ fn replay_old<D: Disk, R: Replay>(
     buffer: &mut Vec<u8>,
     replay: &mut R,
 ) -> Result<(bool, u64), LogError>
-    requires only { Only (D.seen disk.old) (D.images disk.old) }
-    requires end { IfSome (D.seen disk.old) (λ held. end ≡ length held) }
+    requires only { Only (D.shown disk.old) (D.images disk.old) }
+    requires end { IfSome (D.shown disk.old) (λ held. end ≡ length held) }
     requires long { 9 < end }
     requires small { shape.largest < 2 ^ 32 }
     requires some { 1 ≤ shape.bank }
@@ -90,12 +90,12 @@ fn replay_old<D: Disk, R: Replay>(
     requires room { shape.largest ≤ vec_capacity buffer.old }
     requires first { R.took replay.old [] }
     ensures ok { IfOk result (λ r. Replayed D.Disk disk.old disk.new shape (R.took replay.new) r.0 r.1) }
-    ensures seen { IfOk result (λ r. IfSome (D.seen disk.new) (λ held. r.1 + 1 ≡ length held)) }
+    ensures shown { IfOk result (λ r. IfSome (D.shown disk.new) (λ held. r.1 + 1 ≡ length held)) }
     ensures within { IfOk result (λ r. r.1 + 1 < 2 ^ 64) }
     ensures room { vec_capacity buffer.old ≤ vec_capacity buffer.new }
     ensures any_moment { AnyMoment D.moment D.left_since disk.old disk.new (From (Keeps shape) (D.images disk.old)) }
     ensures still { IfErr result (StillWhereRefused D.Disk disk.old disk.new) }
-    ensures cause { IfErr result (Unread (Rose (D.faults disk.old) (D.faults disk.new)) (D.seen disk.old) (FailsFirst shape (R.took replay.new) (R.refused replay.new))) }
+    ensures cause { IfErr result (Unread (Rose (D.faults disk.old) (D.faults disk.new)) (D.shown disk.old) (FailsFirst shape (R.took replay.new) (R.refused replay.new))) }
     ensures count { D.faults disk.old ≤ D.faults disk.new }
 {
     let second = read_head(disk, shape)?;
@@ -122,8 +122,10 @@ pub fn replay_log<D: Disk, R: Replay>(
     requires bank { shape.bank ≤ 2 ^ 62 }
     requires first { R.took replay.old [] }
     ensures ok { IfOk result (Opened D.Disk disk.old disk.new shape (R.took replay.new)) }
-    ensures refused { IfErr result (Unopened D.Disk disk.old disk.new shape (R.took replay.new) (R.refused replay.new)) }
-    ensures any_moment { AtAnyMoment D.Disk disk.old disk.new (From (Keeps shape) (D.images disk.old)) }
+    ensures refused { let took = R.took replay.new in
+        IfErr result (Unopened D.Disk disk.old disk.new shape took (R.refused replay.new)) }
+    ensures any_moment { AtAnyMoment D.Disk disk.old disk.new
+        (From (Keeps shape) (D.images disk.old)) }
     ensures count { D.faults disk.old ≤ D.faults disk.new }
 {
     let mut buffer = Vec::with_capacity(alloc, shape.largest as usize + 6)?;

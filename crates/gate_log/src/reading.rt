@@ -44,9 +44,9 @@ fn read_front<D: Disk>(
 ) -> Result<usize, Failed>
     requires room { size ≤ length buffer.old }
     ensures size { IfOk result (λ n. n ≤ size) }
-    ensures bytes { IfOk result (λ n. IfSome (D.seen disk.old) (λ held. take n (take size buffer.new) ≡ take size (drop at held))) }
+    ensures bytes { IfOk result (λ n. IfSome (D.shown disk.old) (λ held. take n (take size buffer.new) ≡ take size (drop at held))) }
     ensures room { length buffer.new ≡ length buffer.old }
-    ensures still { Still D.seen D.images D.moment D.left_since disk.old disk.new }
+    ensures still { Still D.shown D.images D.moment D.left_since disk.old disk.new }
     ensures cause { HasCause (D.faults disk.old) (D.faults disk.new) result }
 {
     read_from(disk, at, &mut buffer[..size])
@@ -63,16 +63,16 @@ fn read_cell<D: Disk>(
     buffer: &mut Vec<u8>,
 ) -> Result<Option<usize>, LogError>
     requires inside { at < limit }
-    requires end { IfSome (D.seen disk.old) (λ held. end ≡ length held) }
+    requires end { IfSome (D.shown disk.old) (λ held. end ≡ length held) }
     requires room { largest ≤ vec_capacity buffer.old }
-    ensures still { Still D.seen D.images D.moment D.left_since disk.old disk.new }
-    ensures cell { IfOk result (λ cell. IfSome (D.seen disk.old) (λ held. StandsAt largest at held (option_map (λ n. take n buffer.new.items) cell))) }
+    ensures still { Still D.shown D.images D.moment D.left_since disk.old disk.new }
+    ensures cell { IfOk result (λ cell. IfSome (D.shown disk.old) (λ held. StandsAt largest at held (option_map (λ n. take n buffer.new.items) cell))) }
     ensures read { IfOk result (λ cell. IfSome cell (λ n. n ≤ length buffer.new.items)) }
     ensures within { IfOk result (λ cell. IfSome cell (λ n. at + 5 + n ≤ end)) }
     ensures fits { IfOk result (λ cell. IfSome cell (λ n. at + 5 + n < limit)) }
     ensures before { IfOk result (λ cell. at < end) }
     ensures room { vec_capacity buffer.old ≤ vec_capacity buffer.new }
-    ensures cause { IfErr result (Unread (Rose (D.faults disk.old) (D.faults disk.new)) (D.seen disk.old) (FailsFrom largest limit at)) }
+    ensures cause { IfErr result (Unread (Rose (D.faults disk.old) (D.faults disk.new)) (D.shown disk.old) (FailsFrom largest limit at)) }
     ensures count { D.faults disk.old ≤ D.faults disk.new }
 {
     let mut head = [0; 5];
@@ -127,14 +127,14 @@ pub(crate) fn read_cells<D: Disk, R: Replay>(
 ) -> Result<u64, LogError>
     requires some { 1 ≤ shape.bank }
     requires bank { shape.bank ≤ 2 ^ 62 }
-    requires end { IfSome (D.seen disk.old) (λ held. end ≡ length held) }
+    requires end { IfSome (D.shown disk.old) (λ held. end ≡ length held) }
     requires room { shape.largest ≤ vec_capacity buffer.old }
     requires first { R.took replay.old [] }
-    ensures still { Still D.seen D.images D.moment D.left_since disk.old disk.new }
-    ensures cells { IfOk result (HandedOn shape second (D.seen disk.old) (R.took replay.new)) }
+    ensures still { Still D.shown D.images D.moment D.left_since disk.old disk.new }
+    ensures cells { IfOk result (HandedOn shape second (D.shown disk.old) (R.took replay.new)) }
     ensures before { IfOk result (λ at. at < end) }
     ensures room { vec_capacity buffer.old ≤ vec_capacity buffer.new }
-    ensures cause { IfErr result (Unread (Rose (D.faults disk.old) (D.faults disk.new)) (D.seen disk.old) (FailsInOrder shape second (R.took replay.new) (R.refused replay.new))) }
+    ensures cause { IfErr result (Unread (Rose (D.faults disk.old) (D.faults disk.new)) (D.shown disk.old) (FailsInOrder shape second (R.took replay.new) (R.refused replay.new))) }
     ensures count { D.faults disk.old ≤ D.faults disk.new }
 {
     let mut at = begin(shape, second);

@@ -49,5 +49,6 @@ pub trait Replay {
     /// Takes the next body. After an error no call follows.
     fn take(&mut self, body: &[u8]) -> Result<(), TakeError>
         requires so_far { (bodies : List (List ℕ)) × took self.old bodies }
-        ensures { (bodies : List (List ℕ)) → took self.old bodies → Taken (took self.new) (refused self.new) bodies body.now result };
+        ensures { (bodies : List (List ℕ)) → took self.old bodies
+            → Taken (took self.new) (refused self.new) bodies body.now result };
 }

@@ -1,11 +1,8 @@
 //! The other bank is written, and made live.
-ghost use Rattle.std.specs.Prelude.{◌≡◌, [], ◌∷◌, ◌++◌, ℕ, ◌+◌, ◌≤◌, ◌<◌, ◌^◌, max, not, take, Bool, List, length, IfSome, OnOk};
+ghost use Rattle.std.specs.Prelude.{◌≡◌, [], ◌∷◌, ◌++◌, ◌+◌, ◌≤◌, ◌<◌, ◌^◌, max, take, length, IfSome, OnOk};
 ghost use Rattle.dsc_outside.specs.Causes.{HasCause};
-ghost use Rattle.dsc_outside.specs.Disk.{Each, AnyMoment};
-ghost use Rattle.gate_log.specs.declared.shape.Shape.{Shape};
-ghost use Rattle.gate_log.specs.Text.{Holds, IsText, behind, cells, need_of, begin, Selects};
-ghost use Rattle.gate_log.specs.Log.{OldOrNew};
-ghost use Rattle.gate_log.specs.Steps.{IsInOther, IsWhole};
+ghost use Rattle.gate_log.specs.Text.{behind, need_of, Selects};
+ghost use Rattle.gate_log.specs.Steps.{KeepsBytes, KeepsLive, KeepsTexts, LeavesEitherBank, LeavesLive, LeavesTexts, PutsCell, SwitchesBanks};
 
 use crate::appending::fill;
 use crate::through::{write_on, write_through};
@@ -26,15 +23,13 @@ pub(crate) fn with_zeros(size: usize, room: usize) -> usize
 
 // Writes zeros from the disk's end up to a place, by way of the buffer.
 fn fill_up<D: Disk>(disk: &mut D, buffer: &mut [u8], long: u64, to: u64) -> Result<(), Failed>
-    requires long { IfSome (D.seen disk.old) (λ held. long ≡ length held) }
+    requires long { IfSome (D.shown disk.old) (λ held. long ≡ length held) }
     requires buffer { 0 < length buffer.old }
     ensures size { length buffer.new ≡ length buffer.old }
-    ensures long { OnOk result (IfSome (D.seen disk.new) (λ held. max long to ≡ length held)) }
-    ensures holds { (at : ℕ) (bytes : List ℕ) → IfSome (D.seen disk.old) (Holds at bytes) → OnOk result (IfSome (D.seen disk.new) (Holds at bytes)) }
-    ensures ok { (shape : Shape) (second : Bool) (closed : ℕ) (bodies : List (List ℕ)) → closed + 1 ≤ long → Each (D.images disk.old) (λ c. IsText shape second closed c bodies)
-        → OnOk result (Each (D.images disk.new) (λ c. IsText shape second closed c bodies)) }
-    ensures any_moment { (shape : Shape) (second : Bool) (closed : ℕ) (bodies : List (List ℕ)) → closed + 1 ≤ long → Each (D.images disk.old) (λ c. IsText shape second closed c bodies)
-        → AnyMoment D.moment D.left_since disk.old disk.new (λ c. IsText shape second closed c bodies) }
+    ensures long { OnOk result (IfSome (D.shown disk.new) (λ held. max long to ≡ length held)) }
+    ensures holds { KeepsBytes D.Disk disk.old disk.new result }
+    ensures ok { KeepsTexts D.Disk disk.old disk.new long result }
+    ensures any_moment { LeavesTexts D.Disk disk.old disk.new long }
     ensures cause { HasCause (D.faults disk.old) (D.faults disk.new) result }
 {
     let room = zero_front(buffer);
@@ -82,16 +77,14 @@ pub(crate) fn put_cell<D: Disk>(
     at: u64,
     body: &[u8],
 ) -> Result<(), Failed>
-    requires long { IfSome (D.seen disk.old) (λ held. long ≡ length held) }
+    requires long { IfSome (D.shown disk.old) (λ held. long ≡ length held) }
     requires size { length body.now < 2 ^ 32 }
     requires buffer { length body.now + 6 ≤ length buffer.old }
-    ensures long { OnOk result (IfSome (D.seen disk.new) (λ held. max (max long at) (at + 6 + length body.now) ≡ length held)) }
-    ensures holds { (from : ℕ) (put : List (List ℕ)) → at ≡ from + length (cells put) → IfSome (D.seen disk.old) (Holds from (cells put))
-        → OnOk result (IfSome (D.seen disk.new) (Holds from (cells (put ++ body.now ∷ [])))) }
-    ensures ok { (shape : Shape) (second : Bool) (closed : ℕ) (bodies : List (List ℕ)) → closed + 1 ≤ long → IsInOther shape second at (1 + need_of body.now)
-        → Each (D.images disk.old) (λ c. IsText shape second closed c bodies) → OnOk result (Each (D.images disk.new) (λ c. IsText shape second closed c bodies)) }
-    ensures any_moment { (shape : Shape) (second : Bool) (closed : ℕ) (bodies : List (List ℕ)) → closed + 1 ≤ long → IsInOther shape second at (1 + need_of body.now)
-        → Each (D.images disk.old) (λ c. IsText shape second closed c bodies) → AnyMoment D.moment D.left_since disk.old disk.new (λ c. IsText shape second closed c bodies) }
+    ensures long { let end = max (max long at) (at + 6 + length body.now) in
+        OnOk result (IfSome (D.shown disk.new) (λ held. end ≡ length held)) }
+    ensures holds { PutsCell D.Disk disk.old disk.new at body.now result }
+    ensures ok { KeepsLive D.Disk disk.old disk.new long at (1 + need_of body.now) result }
+    ensures any_moment { LeavesLive D.Disk disk.old disk.new long at (1 + need_of body.now) }
     ensures cause { HasCause (D.faults disk.old) (D.faults disk.new) result }
 {
     fill_up(disk, buffer, long, at)?;
@@ -118,14 +111,12 @@ pub(crate) fn finish_cells<D: Disk>(
     at: u64,
     second: bool,
 ) -> Result<(), Failed>
-    requires long { IfSome (D.seen disk.old) (λ held. long ≡ length held) }
+    requires long { IfSome (D.shown disk.old) (λ held. long ≡ length held) }
     requires buffer { 0 < length buffer.old }
     requires place { 8 ≤ at }
-    ensures long { OnOk result (IfSome (D.seen disk.new) (λ held. max long (at + 1) ≡ length held)) }
-    ensures ok { (shape : Shape) (closed : ℕ) (bodies put : List (List ℕ)) → closed + 1 ≤ long → IsWhole shape second at put → IfSome (D.seen disk.old) (Holds (begin shape (not second)) (cells put))
-        → Each (D.images disk.old) (λ c. IsText shape second closed c bodies) → OnOk result (Each (D.images disk.new) (λ c. IsText shape (not second) at c put)) }
-    ensures any_moment { (shape : Shape) (closed : ℕ) (bodies put : List (List ℕ)) → closed + 1 ≤ long → IsWhole shape second at put → IfSome (D.seen disk.old) (Holds (begin shape (not second)) (cells put))
-        → Each (D.images disk.old) (λ c. IsText shape second closed c bodies) → AnyMoment D.moment D.left_since disk.old disk.new (OldOrNew shape bodies put) }
+    ensures long { OnOk result (IfSome (D.shown disk.new) (λ held. max long (at + 1) ≡ length held)) }
+    ensures ok { SwitchesBanks D.Disk disk.old disk.new long at second result }
+    ensures any_moment { LeavesEitherBank D.Disk disk.old disk.new long at second }
     ensures cause { HasCause (D.faults disk.old) (D.faults disk.new) result }
 {
     fill_up(disk, buffer, long, at)?;

@@ -2,6 +2,9 @@
 ghost use Rattle.std.specs.Prelude.{◌≤◌, ◌^◌, ◌≡◌};
 ghost use Rattle.gate_log.specs.Text.{begin};
 
+/// The bytes of a cell in front of its body: the gate and the length.
+pub const CELL_HEAD: u64 = 5;
+
 /// The size of a store: how many bytes each of its two banks has, and how many a body may have.
 #[derive(Clone, Copy, Debug, PartialEq, Eq)]
 pub struct Shape {

@@ -3,8 +3,8 @@ use Rattle.std.proofs.Common.{◌≡◌, ℕ, ◌≤◌, List, [], Option}
 use Rattle.gate_log.specs.Log.{LogTerm, IsOf, HasPut, begun}
 use Rattle.gate_log.proofs.Rewrites as rewrites
 
-pub begun_of : (seen : Option (List ℕ)) (images : List ℕ → Type 0) (log : LogTerm) (bodies : List (List ℕ)) → IsOf seen images log bodies → IsOf seen images (begun log) bodies
+pub begun_of : (shown : Option (List ℕ)) (images : List ℕ → Type 0) (log : LogTerm) (bodies : List (List ℕ)) → IsOf shown images log bodies → IsOf shown images (begun log) bodies
 begun_of = rewrites.begun_of
 
-pub begun_put : (seen : Option (List ℕ)) (log : LogTerm) → 1 ≤ log.shape.bank → HasPut seen (begun log) []
+pub begun_put : (shown : Option (List ℕ)) (log : LogTerm) → 1 ≤ log.shape.bank → HasPut shown (begun log) []
 begun_put = rewrites.begun_put

@@ -11,11 +11,12 @@ use Rattle.std.proofs.lemmas.Str.Parse.{digit_from_value}
 use Rattle.mof_values.specs.Fold.{fold_case, SameName}
 use Rattle.mof_syntax.specs.Canonical.{literal_char}
 use Rattle.generated_document.specs.Generated.{id_of_number}
+use Rattle.dsc_document.specs.declared.limits.TheConstants.{MAX_RESOURCES}
 
-pub decimal_digits : (n : ℕ) → n < 4096 → AllDigits 10 (decimal n)
+pub decimal_digits : (n : ℕ) → n < MAX_RESOURCES → AllDigits 10 (decimal n)
 decimal_digits n small = (decimal_is_IsNumeral n (omega (arith, small))).0.1
 
-pub decimal_short : (n : ℕ) → n < 4096 → length (decimal n) ≤ 4
+pub decimal_short : (n : ℕ) → n < MAX_RESOURCES → length (decimal n) ≤ 4
 decimal_short n small = length-decimal-le 4 n (omega arith) (omega (arith, small)) (omega (arith, small))
 
 -- a digit is written as it is
@@ -42,11 +43,11 @@ fold_digits (d ∷ ds) all =
     let behind : fold_case ds ≡ ds = fold_digits ds all.1 in
     cc
 
-folded_id : (n : ℕ) → n < 4096 → fold_case (id_of_number n) ≡ codes "[environment]r" ++ decimal n
+folded_id : (n : ℕ) → n < MAX_RESOURCES → fold_case (id_of_number n) ≡ codes "[environment]r" ++ decimal n
 folded_id n small = ap (λ ds. codes "[environment]r" ++ ds) (fold_digits (decimal n) (decimal_digits n small))
 
 -- ids of different numbers are different names
-pub same_number : (i j : ℕ) → i < 4096 → j < 4096 → SameName (id_of_number i) (id_of_number j) → i ≡ j
+pub same_number : (i j : ℕ) → i < MAX_RESOURCES → j < MAX_RESOURCES → SameName (id_of_number i) (id_of_number j) → i ≡ j
 same_number i j small also same =
     decimal_injective i j (omega (arith, small)) (omega (arith, also))
     (append_cancel_left (codes "[environment]r") (decimal i) (decimal j) (sym (folded_id i small) ∙ same ∙ folded_id j also))

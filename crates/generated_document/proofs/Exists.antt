@@ -15,8 +15,9 @@ use Rattle.generated_document.proofs.NoCycle.{no_cycle}
 use Rattle.generated_document.proofs.Reading.{generated_reads}
 use Rattle.generated_document.proofs.Resources.{names_resources, resources_are}
 use Rattle.generated_document.proofs.Within.{instances_count}
+use Rattle.dsc_document.specs.declared.limits.TheConstants.{MAX_RESOURCES}
 
-module _ (n : ℕ) (few : n ≤ 4096) where
+module _ (n : ℕ) (few : n ≤ MAX_RESOURCES) where
   the_document : Document
   the_document = document_of (generated_instances n)
 

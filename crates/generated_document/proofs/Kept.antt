@@ -13,6 +13,7 @@ use Rattle.generated_document.specs.Generated.{generated_header, generated_insta
 use Rattle.generated_document.proofs.Decimals.{same_number}
 use Rattle.generated_document.proofs.Placed.{id_at_place, no_alias, nowhere, stands_at}
 use Rattle.generated_document.proofs.Properties.{header_names_known_alias, header_repeats_none, names_known_alias, no_bad_dependency, no_bad_id, none_repeats}
+use Rattle.dsc_document.specs.declared.limits.TheConstants.{MAX_RESOURCES}
 
 some_header : (n : ℕ) → All (λ i. is_header i ≡ false) (generated_instances n) → ⊥
 some_header zero none = both_ways true (none 0 generated_header (omega arith)) refl
@@ -27,7 +28,7 @@ header_place n k has =
       | inr resource ↦ absurd (both_ways (is_header found.0) (ap is_header resource.1) found.2)
     ]
 
-distinct_ids : (n first second : ℕ) → n ≤ 4096 → ShareName (id_at (generated_instances n)) first second → ⊥
+distinct_ids : (n first second : ℕ) → n ≤ MAX_RESOURCES → ShareName (id_at (generated_instances n)) first second → ⊥
 distinct_ids n first second few shared =
     let one = id_at_place n first shared.1 shared.3 in
     let other = id_at_place n second shared.2 shared.4 in
@@ -35,7 +36,7 @@ distinct_ids n first second few shared =
     omega (arith, shared.0, one.2, other.2, same_number one.0 other.0 (omega (arith, few, one.2)) (omega (arith, few, other.2)) same)
 
 -- no rule is broken, but maybe that what a resource depends on is in the document
-pub rules_kept : (n : ℕ) → n ≤ 4096 → (refusal : DocError) → rule_of refusal < known_dependencies → Applies (generated_instances n) refusal → ⊥
+pub rules_kept : (n : ℕ) → n ≤ MAX_RESOURCES → (refusal : DocError) → rule_of refusal < known_dependencies → Applies (generated_instances n) refusal → ⊥
 rules_kept n few (DuplicateProperty index name) below applies =
     nowhere n index (λ i. RepeatsName i.properties name) (header_repeats_none name) (λ i within. none_repeats i name) applies
 rules_kept n few (TwoAliases first second) below applies = no_alias n first applies.1 applies.3

@@ -17,8 +17,9 @@ use Rattle.generated_document.specs.Generated.{generated_instances}
 use Rattle.generated_document.proofs.Kept.{rules_kept}
 use Rattle.generated_document.proofs.NoCycle.{no_cycle}
 use Rattle.generated_document.proofs.Resources.{names_resources, resources_are}
+use Rattle.dsc_document.specs.declared.limits.TheConstants.{MAX_RESOURCES}
 
-module _ (part : Part) (n : ℕ) (few : n ≤ 4096) (reads : Reads part.bytes (generated_instances n)) where
+module _ (part : Part) (n : ℕ) (few : n ≤ MAX_RESOURCES) (reads : Reads part.bytes (generated_instances n)) where
   no_fault : (fault : PartFault) → HasFault part fault → ⊥
   no_fault (Mof refusal) has = has.unspelled (generated_instances n) reads
   no_fault (Doc refusal) has =

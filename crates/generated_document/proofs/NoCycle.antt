@@ -13,6 +13,7 @@ use Rattle.depend_order.proofs.Options.{some_of}
 use Rattle.generated_document.specs.Generated.{generated_resource, id_of_number}
 use Rattle.generated_document.proofs.Decimals.{same_number}
 use Rattle.generated_document.proofs.Resources.{resources, stands_at}
+use Rattle.dsc_document.specs.declared.limits.TheConstants.{MAX_RESOURCES}
 
 -- where each step of a list leads further, its last place is after its first
 rises : (first : ℕ) (rest : List ℕ) (last : ℕ) → ((a : List ℕ) (r s : ℕ) (b : List ℕ) → first ∷ rest ++ last ∷ [] ≡ a ++ r ∷ s ∷ b → r < s) → first < last
@@ -33,7 +34,7 @@ lesser zero k name at = absurd (none-some name at)
 lesser (suc i) zero name at = (i / 2, omega arith, sym (same_Some (id_of_number (i / 2)) name at))
 lesser (suc i) (suc k) name at = absurd (none-some name at)
 
-module _ (document : Document) (n : ℕ) (few : n ≤ 4096) (are : document.resources ≡ resources 0 n) where
+module _ (document : Document) (n : ℕ) (few : n ≤ MAX_RESOURCES) (are : document.resources ≡ resources 0 n) where
   -- where a resource of one number depends on the one of another, the other stands after
   behind : (r q k : ℕ) → Names document r k q → r < q
   behind r q k names =

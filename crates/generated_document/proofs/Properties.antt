@@ -18,6 +18,7 @@ use Rattle.dsc_document.specs.Rules.{HasBadDependsOn, HasBadId, NamesNoAlias, Re
 use Rattle.generated_document.specs.Generated.{generated_header, generated_properties, generated_resource, id_of_number}
 use Rattle.generated_document.proofs.Decimals.{decimal_digits, decimal_short}
 use Rattle.generated_document.proofs.Fits.{fits_digits, fits_encoded, fits_joined, fits_word}
+use Rattle.dsc_document.specs.declared.limits.TheConstants.{MAX_RESOURCES}
 
 -- ---- names
 
@@ -83,7 +84,7 @@ header_names_known_alias instances names = not_alias generated_header.properties
 some_name : (ds : List ℕ) → codes "R" ++ ds ≢ []
 some_name ds same = absurd (omega (arith, ap length same))
 
-short_id : (i : ℕ) → i < 4096 → length (encode_utf8_all (id_of_number i)) ≤ 18
+short_id : (i : ℕ) → i < MAX_RESOURCES → length (encode_utf8_all (id_of_number i)) ≤ 18
 short_id i small =
     fits_encoded (14 + 4) (id_of_number i) (fits_joined 14 4 (codes "[Environment]R") (decimal i)
     (fits_word 14 (codes "[Environment]R") refl (omega arith)) (fits_digits 4 (decimal i) (decimal_digits i small) (decimal_short i small)))
@@ -98,10 +99,10 @@ kind_and_name i = record {
   no_bracket = refl;
 }
 
-is_id : (i : ℕ) → i < 4096 → IsResourceId (id_of_number i)
+is_id : (i : ℕ) → i < MAX_RESOURCES → IsResourceId (id_of_number i)
 is_id i small = (kind_and_name i, omega (arith, short_id i small))
 
-pub no_bad_id : (i : ℕ) → i < 4096 → HasBadId (generated_resource i) → ⊥
+pub no_bad_id : (i : ℕ) → i < MAX_RESOURCES → HasBadId (generated_resource i) → ⊥
 no_bad_id i small bad = bad (is_id i small)
 
 pub no_bad_dependency : (i : ℕ) → HasBadDependsOn (generated_resource i) → ⊥

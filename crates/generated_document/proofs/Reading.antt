@@ -16,6 +16,7 @@ use Rattle.generated_document.proofs.Decimals.{decimal_digits, decimal_short}
 use Rattle.generated_document.proofs.Fits.{Fits, fits_digits, fits_joined, fits_word}
 use Rattle.generated_document.proofs.Lengths.{bytes_within}
 use Rattle.generated_document.proofs.Within.{instances_within}
+use Rattle.dsc_document.specs.declared.limits.TheConstants.{MAX_RESOURCES}
 
 scalar_ascii : (c : ℕ) → nat_lt c 128 ≡ true → scalar c ≡ true
 scalar_ascii c low = grind (arith, nat_tests)
@@ -29,21 +30,21 @@ ascii_chars (c ∷ text) all =
     λ i. here i && behind i
 
 -- a word and a number
-numbered_chars : (word : List ℕ) (i : ℕ) → i < 4096 → Fits 14 word → AreChars (word ++ decimal i)
+numbered_chars : (word : List ℕ) (i : ℕ) → i < MAX_RESOURCES → Fits 14 word → AreChars (word ++ decimal i)
 numbered_chars word i small fits =
     ascii_chars (word ++ decimal i) (fits_joined 14 4 word (decimal i) fits (fits_digits 4 (decimal i) (decimal_digits i small) (decimal_short i small))).ascii
 
 property_valid : (name text : List ℕ) → IsIdent name → AreChars name → AreChars text → PropertyIsValid (text_property name text)
 property_valid name text ident chars valued = record { name = record { ident = ident; chars = chars }; value = valued }
 
-id_chars : (i : ℕ) → i < 4096 → AreChars (id_of_number i)
+id_chars : (i : ℕ) → i < MAX_RESOURCES → AreChars (id_of_number i)
 id_chars i small = numbered_chars (codes "[Environment]R") i small (fits_word 14 (codes "[Environment]R") refl (omega arith))
 
-dependency_valid : (i : ℕ) → i < 4096 → AllByRecursion PropertyIsValid (dependency i)
+dependency_valid : (i : ℕ) → i < MAX_RESOURCES → AllByRecursion PropertyIsValid (dependency i)
 dependency_valid zero small = tt
 dependency_valid (suc i) small = (property_valid (codes "DependsOn") (id_of_number (i / 2)) refl refl (id_chars (i / 2) (omega (arith, small))), tt)
 
-resource_valid : (i : ℕ) → i < 4096 → InstanceIsValid (generated_resource i)
+resource_valid : (i : ℕ) → i < MAX_RESOURCES → InstanceIsValid (generated_resource i)
 resource_valid i small = record {
   class = record { ident = refl; chars = refl };
   alias = tt;
@@ -63,10 +64,10 @@ header_valid = record {
   each = (property_valid (codes "Version") (codes "2.0.0") refl refl refl, tt);
 }
 
-instances_valid : (n : ℕ) → n ≤ 4096 → AllByRecursion InstanceIsValid (generated_instances n)
+instances_valid : (n : ℕ) → n ≤ MAX_RESOURCES → AllByRecursion InstanceIsValid (generated_instances n)
 instances_valid zero few = (header_valid, tt)
 instances_valid (suc i) few = (resource_valid i (omega (arith, few)), instances_valid i (omega (arith, few)))
 
-pub generated_reads : (n : ℕ) (bytes : List ℕ) → n ≤ 4096 → bytes ≡ canonical_bytes (generated_instances n) → Reads bytes (generated_instances n)
+pub generated_reads : (n : ℕ) (bytes : List ℕ) → n ≤ MAX_RESOURCES → bytes ≡ canonical_bytes (generated_instances n) → Reads bytes (generated_instances n)
 generated_reads n bytes few are =
     canonical_reads (generated_instances n) bytes are (instances_valid n few) (instances_within n few) (omega (arith, ap length are, bytes_within n few))

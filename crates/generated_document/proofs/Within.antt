@@ -3,8 +3,10 @@ use Rattle.std.proofs.Common.{◌≡◌, ℕ, zero, suc, ◌+◌, ◌≤◌, Lis
 use Rattle.std.specs.List.{AllByRecursion}
 use Rattle.mof_syntax.specs.Limits.{PropertyFits, InstanceFits, IsWithinLimits}
 use Rattle.generated_document.specs.Generated.{text_property, dependency, generated_header, generated_instances, generated_resource}
+use Rattle.mof_values.specs.declared.limits.TheConstants.{MAX_IDENTIFIER}
+use Rattle.dsc_document.specs.declared.limits.TheConstants.{MAX_RESOURCES}
 
-property_fits : (name text : List ℕ) → length name ≤ 255 → PropertyFits (text_property name text)
+property_fits : (name text : List ℕ) → length name ≤ MAX_IDENTIFIER → PropertyFits (text_property name text)
 property_fits name text short = record { name = short; value = tt }
 
 dependency_count : (i : ℕ) → length (dependency i) ≤ 1
@@ -34,5 +36,5 @@ instances_fit : (n : ℕ) → AllByRecursion InstanceFits (generated_instances n
 instances_fit zero = (header_fits, tt)
 instances_fit (suc i) = (resource_fits i, instances_fit i)
 
-pub instances_within : (n : ℕ) → n ≤ 4096 → IsWithinLimits (generated_instances n)
+pub instances_within : (n : ℕ) → n ≤ MAX_RESOURCES → IsWithinLimits (generated_instances n)
 instances_within n few = record { count = omega (arith, few, instances_count n); each = instances_fit n }

@@ -8,7 +8,7 @@ use Rattle.partial_merge.specs.Refused.{Refused}
 use Rattle.generated_document.specs.Generated.{IsGenerated, generated_instances}
 use Rattle.partial_merge.specs.Parts.{unnamed_part}
 
--- no refusal but lack of memory applies to the text of that count
+-- no refusal but out of memory applies to the text of that count
 abbrev pub IsNeverRefused : ℕ → Type 0
 IsNeverRefused count =
     (refusal : MergeError) → refusal ≢ Memory → Refused (unnamed_part (canonical_bytes (generated_instances count)) ∷ []) refusal → ⊥

@@ -2,29 +2,30 @@
 ghost use Rattle.std.specs.Prelude.{◌≡◌, ◌≤◌, [], IfOk};
 ghost use Rattle.generated_document.specs.Contents.{HasContents};
 ghost use Rattle.generated_document.specs.Generated.{IsGenerated, generated_instances};
+ghost use Rattle.dsc_document.specs.declared.limits.TheConstants.{MAX_RESOURCES};
 ghost use Rattle.mof_syntax.specs.Canonical.{canonical_bytes};
 
 use crate::instances::instances;
-use dsc_document::Document;
+use dsc_document::{Document, MAX_RESOURCES};
 use mof_codec::write;
 use mof_values::{Memory, Text};
 use partial_merge::{MergeError, Part, merge, part_of};
 use std::alloc::{AllocError, Global};
 
-/// The document of that many resources, at most 4,096.
+/// The document of that many resources, at most [`MAX_RESOURCES`].
 ///
 /// The resources stand by falling number. That of number i, 0 to `count` - 1, is an environment resource of the id
 /// `[Environment]Ri`, the name `Vi` and the value i, and depends on that of number (i - 1) / 2, rounded down, where i
 /// is above 0. The version is `2.0.0`.
 pub fn generated_document(alloc: Global, count: u32) -> Result<Document, AllocError>
-    requires few { count ≤ 4096 }
+    requires few { count ≤ MAX_RESOURCES }
     ensures generated { IfOk result (IsGenerated count) }
     ensures contents { IfOk result (HasContents count) }
 {
     let part = part(alloc, count)?;
     match merge(alloc, &[part]) {
         Ok(document) => Ok(document),
-        Err(error) => Err(want_of_memory(error)),
+        Err(error) => Err(out_of_memory(error)),
     }
 }
 
@@ -41,7 +42,7 @@ fn part(alloc: Global, count: u32) -> Result<Part, AllocError>
 }
 
 // Nothing else stands in the way of a generated document.
-fn want_of_memory(error: MergeError) -> AllocError
+fn out_of_memory(error: MergeError) -> AllocError
     requires only { error ≡ MergeError.Memory }
 {
     match error {

@@ -1,19 +1,23 @@
 //! Makes calls of the host that a folder is, and prints what each of them answers: a tool for tests on a real machine.
 //!
-//! The folder is the program's one argument. Each line of standard input is a call, its subject and its texts, with
+//! The folder is the program's first argument. A second one is the file of a store, in whose folder nothing is to be
+//! changed. Each line of standard input is a call, its subject and its texts, with
 //! tabs between: `state PATH`, `same PATH TEXT`, `put PATH TEXT`, `make PATH`, `remove PATH`, `value NAME TEXT`, which
 //! asks whether the variable has that value, `set NAME TEXT`, `unset NAME`, `log ID TEXT`, `logged ID TEXT`,
-//! `package NAME VERSION TEXT`, `installed NAME VERSION` and `wanting ID`. A text that begins with `0x` stands for the
-//! bytes of its hex digits. It ends with 0, and with 2 where it cannot go on.
+//! `package NAME VERSION TEXT`, `installed NAME VERSION` and `wanting ID`. A subject or a text that begins with `0x` stands
+//! for the bytes of its hex digits. It ends with 0, and with 2 where it cannot go on.
 #![tactic(auto)]
 
-use dsc_outside::real::FolderHost;
 use dsc_outside::{Host, HostError, PathState};
+use real_outside::{FolderHost, hold_standard_descriptors};
 use std::alloc::Global;
 use std::process::ExitCode;
 use std::{env, io};
 
 fn main(rt: HostRuntime) -> ExitCode {
+    let Ok(_held) = hold_standard_descriptors(&rt) else {
+        return ExitCode::from(2);
+    };
     match make_calls(&rt) {
         Ok(()) => ExitCode::from(0),
         Err(_) => ExitCode::from(2),
@@ -26,7 +30,7 @@ fn make_calls(rt: &HostRuntime) -> io::Result<()> {
     let Some(folder) = arguments.next() else {
         return Err(io::Error::from(io::ErrorKind::InvalidInput));
     };
-    let mut host = FolderHost::new(rt, folder);
+    let mut host = FolderHost::new(rt, folder, arguments.next());
     for line in rt.lines(rt.alloc()) {
         let line = line?;
         let answer = answer_to(rt.alloc(), &mut host, line.as_str());
@@ -39,6 +43,22 @@ fn make_calls(rt: &HostRuntime) -> io::Result<()> {
 fn answer_to<H: Host>(alloc: Global, host: &mut H, line: &str) -> &'static str {
     let (call, rest) = line.split_once('\t').unwrap_or((line, ""));
     let (subject, rest) = rest.split_once('\t').unwrap_or((rest, ""));
+    let Some(subject) = bytes_of(alloc, subject) else {
+        return "no text";
+    };
+    match str::from_utf8(&subject) {
+        Ok(subject) => answer_about(alloc, host, call, subject, rest),
+        Err(_) => "no text",
+    }
+}
+
+fn answer_about<H: Host>(
+    alloc: Global,
+    host: &mut H,
+    call: &str,
+    subject: &str,
+    rest: &str,
+) -> &'static str {
     if call == "package" {
         let (version, text) = rest.split_once('\t').unwrap_or((rest, ""));
         return add_package(alloc, host, subject, version, text);
@@ -78,15 +98,15 @@ fn make_call<H: Host>(
     bytes: &[u8],
 ) -> &'static str {
     match call {
-        "state" => seen(host.path_state(subject)),
-        "same" => told(host.file_equals(subject, bytes)),
+        "state" => state_of(host.path_state(subject)),
+        "same" => yes_or_no(host.file_equals(subject, bytes)),
         "put" => done(host.put_file(subject, bytes)),
         "make" => done(host.make_dir(subject)),
         "remove" => done(host.remove(subject)),
         "value" => has_value(host, subject, bytes, &mut Vec::new(alloc)),
         "set" => done(host.env_put(subject, bytes)),
         "unset" => done(host.env_remove(subject)),
-        "wanting" => told(host.reboot_wanted(subject)),
+        "wanting" => yes_or_no(host.reboot_wanted(subject)),
         _ => call_on_lists(host, call, subject, bytes),
     }
 }
@@ -98,8 +118,8 @@ fn call_on_lists<H: Host>(host: &mut H, call: &str, subject: &str, bytes: &[u8])
     };
     match call {
         "log" => done(host.log_add(subject, text)),
-        "logged" => told(host.log_has(subject, text)),
-        "installed" => told(host.package_has(subject, text)),
+        "logged" => yes_or_no(host.log_has(subject, text)),
+        "installed" => yes_or_no(host.package_has(subject, text)),
         _ => "no call",
     }
 }
@@ -108,11 +128,11 @@ fn call_on_lists<H: Host>(host: &mut H, call: &str, subject: &str, bytes: &[u8])
 fn has_value<H: Host>(host: &mut H, name: &str, value: &[u8], found: &mut Vec<u8>) -> &'static str {
     match host.env_state(name, found) {
         Ok(true) if found.as_slice() != value => "other",
-        outcome => told(outcome),
+        outcome => yes_or_no(outcome),
     }
 }
 
-fn seen(outcome: Result<PathState, HostError>) -> &'static str {
+fn state_of(outcome: Result<PathState, HostError>) -> &'static str {
     match outcome {
         Ok(PathState::Nothing) => "nothing",
         Ok(PathState::File) => "file",
@@ -123,7 +143,7 @@ fn seen(outcome: Result<PathState, HostError>) -> &'static str {
     }
 }
 
-fn told(outcome: Result<bool, HostError>) -> &'static str {
+fn yes_or_no(outcome: Result<bool, HostError>) -> &'static str {
     match outcome {
         Ok(true) => "yes",
         Ok(false) => "no",

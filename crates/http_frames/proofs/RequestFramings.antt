@@ -20,22 +20,22 @@ use Rattle.http_frames.specs.Frames.{IsBody, AwaitsBody, RefusesBody, IsRequestF
 
 -- by a length within the limit, or in chunks; or an error of the head
 abbrev pub IsRequestFraming : Result Framing FrameError → Type 0
-IsRequestFraming (Ok (Sized n)) = n ≤ 131072
+IsRequestFraming (Ok (Sized n)) = n ≤ request_limits.content
 IsRequestFraming (Ok Chunked) = ⊤
 IsRequestFraming (Ok ToEnd) = ⊥
 IsRequestFraming (Err e) = ((at : ℕ) → e ≢ errors.Torn at) × (e ≢ errors.Memory)
 
-sized_is : (t : Bool) (n : ℕ) → nat_le n 131072 ≡ t → IsRequestFraming (if t then Ok (Sized n) else Err errors.BodyTooLong)
+sized_is : (t : Bool) (n : ℕ) → nat_le n request_limits.content ≡ t → IsRequestFraming (if t then Ok (Sized n) else Err errors.BodyTooLong)
 sized_is true n e = grind (arith, e)
 sized_is false n e = (λ at h. absurd (cc), λ h. absurd (cc))
 
 by_tests : (c l h needs : Bool) (o : Option Header)
     → IsRequestFraming (if not c then Err errors.Coding else (if not l then Err errors.Length else (if h then Ok Chunked
-    else length_framing 131072 (if needs then Err errors.NoLength else Ok (Sized 0)) o)))
+    else length_framing request_limits.content (if needs then Err errors.NoLength else Ok (Sized 0)) o)))
 by_tests false l h needs o = (λ at h. absurd (cc), λ h. absurd (cc))
 by_tests true false h needs o = (λ at h. absurd (cc), λ h. absurd (cc))
 by_tests true true true needs o = tt
-by_tests true true false needs (Some header) = sized_is (nat_le (digits_value 10 header.value) 131072) (digits_value 10 header.value) refl
+by_tests true true false needs (Some header) = sized_is (nat_le (digits_value 10 header.value) request_limits.content) (digits_value 10 header.value) refl
 by_tests true true false true None = (λ at h. absurd (cc), λ h. absurd (cc))
 by_tests true true false false None = omega arith
 
@@ -51,22 +51,22 @@ never_to_end method headers e = subst IsRequestFraming e (request_framing_is met
 -- ---- how much is held
 
 body_small : (framing : Framing) (bytes content : List ℕ) → IsRequestFraming (Ok framing) → IsBody request_limits framing bytes content
-    → length content ≤ 131072
+    → length content ≤ request_limits.content
 body_small (Sized n) bytes content small is = omega (arith, small, is.0, ap length is.1)
 body_small Chunked bytes content small is = omega (arith, is.content_fits)
 body_small ToEnd bytes content small is = absurd small
 
-framed_small : (bytes : List ℕ) (request : Request) → IsRequestFrame bytes request → length request.body ≤ 131072
+framed_small : (bytes : List ℕ) (request : Request) → IsRequestFrame bytes request → length request.body ≤ request_limits.content
 framed_small bytes request f =
     body_small f.framing f.body request.body
     (subst IsRequestFraming f.says (request_framing_is f.head.method (map header_of f.head.fields))) f.content
 
 awaited_small : (framing : Framing) (bytes : List ℕ) → IsRequestFraming (Ok framing) → AwaitsBody request_limits framing bytes
-    → length bytes < 1048576
+    → length bytes < request_limits.chunked
 awaited_small (Sized n) bytes small waits = omega (arith, small, waits)
 awaited_small Chunked bytes small waits = goes_on waits.0.0 waits.0.1 waits.0.2
   where
-    goes_on : (more content : List ℕ) → IsBodyWithin request_limits (bytes ++ more) content → length bytes < 1048576
+    goes_on : (more content : List ℕ) → IsBodyWithin request_limits (bytes ++ more) content → length bytes < request_limits.chunked
     goes_on [] content within =
         absurd (waits.1 bytes [] content (sym (append-nil bytes)) (subst (λ (l : List ℕ). InChunks l content) (append-nil bytes) within.chunked))
     goes_on (b ∷ more) content within = omega (arith, within.length_fits, length-append bytes (b ∷ more))
@@ -100,7 +100,7 @@ not_torn bytes at refuses = elim refuses [
 -- ---- by the result of a call
 
 pub small_if : (bytes : List ℕ) (r : Result (Option Request) FrameError) → IfOk r (λ o. IfSome o (BeginsWithRequest bytes))
-    → IfOk r (λ o. IfSome o (λ request. length request.body ≤ 131072))
+    → IfOk r (λ o. IfSome o (λ request. length request.body ≤ request_limits.content))
 small_if bytes (Ok (Some request)) h = framed_small h.0 request h.3
 small_if bytes (Ok None) h = tt
 small_if bytes (Err e) h = tt

@@ -27,6 +27,7 @@ use Rattle.http_frames.specs.Writing.{header_text, header_line, length_line, phr
 use Rattle.http_frames.specs.Answering.{is_interim}
 use Rattle.http_frames.specs.Sending.{IsPlainHeader, close_header, length_header, reply_length_headers, reply_headers, sent_reply, IsSendableReply, ReplyReadsBack}
 use Rattle.http_frames.specs.Frames.{IsAnswerFrame, no_interim}
+use Rattle.http_frames.specs.Limits.{answer_limits}
 use Rattle.http_frames.proofs.SentLines.{field_of, fields_print, fields_back, fields_valid, own, digits_pass, IsSilent, sound_sent, stated_sent, token_by, added_plain, close_is_plain, added_text}
 
 -- ---- the status line
@@ -69,19 +70,19 @@ abbrev by_code : Bool → Result Framing FrameError → Result Framing FrameErro
 by_code bodiless stated = if bodiless then Ok (Sized 0) else stated
 
 -- the body is as long as the lines say
-framed : (code : ℕ) (lines : List Header) (bare : Bool) (n : ℕ) → (code == 204) ≡ bare → n ≤ 67108864 → (has_no_body code ≡ true → n ≡ 0)
+framed : (code : ℕ) (lines : List Header) (bare : Bool) (n : ℕ) → (code == 204) ≡ bare → n ≤ answer_limits.content → (has_no_body code ≡ true → n ≡ 0)
     → IsSilent lines → answer_framing code (lines ++ unless_204 bare n) ≡ Ok (Sized n)
 unfolding answer_framing
 framed code lines true n is few none silent =
     let small : n < 10 ^ 10 = omega (arith, few) in
     let bodiless : has_no_body code ≡ true = ap (λ (b : Bool). b || code == 304) is in
     sound_sent lines false n _ silent small
-    ∙ ap (λ (b : Bool). by_code b (stated_framing 67108864 (Ok ToEnd) (lines ++ []))) bodiless
+    ∙ ap (λ (b : Bool). by_code b (stated_framing answer_limits.content (Ok ToEnd) (lines ++ []))) bodiless
     ∙ ap (λ (m : ℕ). Ok (Sized m)) (sym (none bodiless))
 framed code lines false n is few none silent =
     let small : n < 10 ^ 10 = omega (arith, few) in
     sound_sent lines true n _ silent small
-    ∙ ap (by_code (has_no_body code)) (stated_sent 67108864 (Ok ToEnd) lines true n silent few small)
+    ∙ ap (by_code (has_no_body code)) (stated_sent answer_limits.content (Ok ToEnd) lines true n silent few small)
     ∙ last (has_no_body code) none
   where
     last : (b : Bool) → (b ≡ true → n ≡ 0) → by_code b (Ok (Sized n)) ≡ Ok (Sized n)

@@ -16,6 +16,7 @@ use Rattle.http_frames.specs.Framing.{needs_length, request_framing}
 use Rattle.http_frames.specs.Writing.{header_text, header_line, host_value, request_text, request_length}
 use Rattle.http_frames.specs.Sending.{IsPlainValue, IsPlainHeader, close_header, length_headers, sent_headers, sent, IsSendable, ReadsBack}
 use Rattle.http_frames.specs.Frames.{IsRequestFrame}
+use Rattle.http_frames.specs.Limits.{request_limits}
 use Rattle.http_frames.proofs.SentLines.{field_of, fields_print, fields_back, fields_valid, added_length, IsSilent, sound_sent, stated_sent, token_by, added_plain, close_is_plain, added_text}
 
 host_token : IsToken (codes "Host")
@@ -26,13 +27,13 @@ abbrev host_header : List ℕ → Header
 host_header host = record { name = codes "Host"; value = host }
 
 -- the body is as long as the lines say
-framed : (method : List ℕ) (lines : List Header) (told : Bool) (n : ℕ) → needs_length method ≡ told → n ≤ 131072 → (told ≡ false → n ≡ 0)
+framed : (method : List ℕ) (lines : List Header) (told : Bool) (n : ℕ) → needs_length method ≡ told → n ≤ request_limits.content → (told ≡ false → n ≡ 0)
     → IsSilent lines → request_framing method (lines ++ added_length told n) ≡ Ok (Sized n)
 unfolding request_framing
 framed method lines told n needs few none silent =
     let small : n < 10 ^ 10 = omega (arith, few) in
     let without = if needs_length method then Err NoLength else Ok (Sized 0) in
-    sound_sent lines told n _ silent small ∙ stated_sent 131072 without lines told n silent few small ∙ last told needs none
+    sound_sent lines told n _ silent small ∙ stated_sent request_limits.content without lines told n silent few small ∙ last told needs none
   where
     last : (t : Bool) → needs_length method ≡ t → (t ≡ false → n ≡ 0)
         → (if t then Ok (Sized n) else (if needs_length method then Err NoLength else Ok (Sized 0))) ≡ Ok (Sized n)

@@ -59,13 +59,13 @@ stated_framing limit without headers =
     if has_named (codes "transfer-encoding") headers then Ok Chunked
     else length_framing limit without (find (is_named (codes "content-length")) headers)
 
--- the body of a request, at most 131,072 bytes of content
+-- the body of a request, within its limit of content
 unfoldable pub request_framing : List ℕ → List Header → Result Framing FrameError
 request_framing method headers =
     sound_framing headers
     (stated_framing request_limits.content (if needs_length method then Err NoLength else Ok (Sized 0)) headers)
 
--- the body of an answer, at most 67,108,864 bytes of content
+-- the body of an answer, within its limit of content
 unfoldable pub answer_framing : ℕ → List Header → Result Framing FrameError
 answer_framing code headers =
     sound_framing headers

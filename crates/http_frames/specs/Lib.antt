@@ -1,18 +1,20 @@
-pub mod Limits
-pub mod Headers
-pub mod Replies
-pub mod Framing
-pub mod Phases
-pub mod Walks
-pub mod Lines
-pub mod Heads
-pub mod HeadPlaces
-pub mod HeadWalks
-pub mod Writing
-pub mod Bodies
-pub mod Reading
+-- what the layer above cites
 pub mod Answering
+pub mod Bodies
 pub mod Chunks
 pub mod Frames
-pub mod Sending
+pub mod Framing
+pub mod HeadPlaces
+pub mod HeadWalks
+pub mod Headers
+pub mod Heads
+pub mod Limits
 pub mod OneAnswer
+pub mod Phases
+pub mod Reading
+pub mod Replies
+pub mod Sending
+pub mod Walks
+pub mod Writing
+-- for private clauses alone
+pub mod Lines

@@ -1,4 +1,4 @@
-//! Answers out of all bytes that were answered.
+//! Reading of an answer from all bytes that came.
 ghost use Rattle.std.specs.Prelude.{◌≡◌, ◌≤◌, false, length, IfOk, IfErr};
 ghost use Rattle.http_frames.specs.Frames.{IsAnswerFrame, NoAnswer};
 ghost use Rattle.http_frames.specs.Framing.{answer_framing};
@@ -62,10 +62,8 @@ fn last_answer(
     requires last { IsLastHead bytes.now rest.now head }
     ensures { Answers bytes.now result }
 {
-    match answer_framing(head.code, head.headers.as_slice()) {
-        Ok(framing) => framed_answer(alloc, bytes, rest, head, framing),
-        Err(error) => Err(error),
-    }
+    let framing = answer_framing(head.code, head.headers.as_slice())?;
+    framed_answer(alloc, bytes, rest, head, framing)
 }
 
 fn framed_answer(
@@ -82,10 +80,9 @@ fn framed_answer(
 {
     let (_, body) = rest.split_at(head.length);
     let front = (bytes.len() - body.len()) as u64;
-    match read_body(alloc, &ANSWER_LIMITS, front, framing, Walk::new(), body) {
-        Ok(Progress::Whole(content)) => Ok(reply(head, content)),
-        Ok(Progress::More(_)) => Err(torn(bytes)),
-        Err(error) => Err(error),
+    match read_body(alloc, &ANSWER_LIMITS, front, framing, Walk::new(), body)? {
+        Progress::Whole(content) => Ok(reply(head, content)),
+        Progress::More(_) => Err(torn(bytes)),
     }
 }
 

@@ -12,7 +12,7 @@ use std::alloc::Global;
 /// How far a body has come.
 #[derive(Drop)]
 pub(crate) enum Progress {
-    /// More bytes are wanted; so far was walked over the chunks.
+    /// More bytes are needed; so far was walked over the chunks.
     More(Walk),
 
     /// The content.

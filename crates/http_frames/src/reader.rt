@@ -1,4 +1,4 @@
-//! Requests out of pieces.
+//! Reading of a request from the pieces in which its bytes come.
 ghost use Rattle.std.specs.Prelude.{◌≡◌, ◌≢◌, ◌⊎◌, ◌<◌, ◌≤◌, ◌++◌, ℕ, [], true, IfOk, IfSome, IfNone, IfErr, length};
 ghost use Rattle.http_frames.specs.Heads.{IsRequestHeadOf};
 ghost use Rattle.http_frames.specs.HeadWalks.{IsWalkedHead};
@@ -76,18 +76,21 @@ impl RequestReader {
 
     /// Takes a piece, and gives the request once its bytes are whole. Bytes after the request are ignored.
     ///
-    /// A request's body has at most 131,072 bytes, and at most 1,064,959 bytes are held while more are wanted. An error
+    /// A request's body has at most 131,072 bytes, and at most 1,064,959 bytes are held while more are needed. An error
     /// is that of the shortest prefix of the bytes that has one, and never `Torn`. After `Memory` the reader is as before.
     pub fn feed(&mut self, piece: &[u8]) -> Result<Option<Request>, FrameError>
         requires { self.old.is_open ≡ true }
-        ensures fed { result ≡ Err FrameError.Memory ⊎ (self.new.bytes ≡ self.old.bytes ++ piece.now) }
+        ensures fed { result ≡ Err FrameError.Memory
+            ⊎ (self.new.bytes ≡ self.old.bytes ++ piece.now) }
         ensures memory { result ≡ Err FrameError.Memory → self.new ≡ self.old }
         ensures whole { IfOk result (λ read. IfSome read (BeginsWithRequest self.new.bytes)) }
-        ensures small { IfOk result (λ read. IfSome read (λ request. length request.body ≤ request_limits.content)) }
+        ensures small { IfOk result (λ read. IfSome read (λ request.
+            length request.body ≤ request_limits.content)) }
         ensures more { IfOk result (λ read. IfNone read (AwaitsRest self.new.bytes)) }
         ensures few { IfOk result (λ read. IfNone read (length self.new.bytes < request_bytes)) }
         ensures goes_on { IfOk result (λ read. IfNone read (self.new.is_open ≡ true)) }
-        ensures refused { IfErr result (λ e. e ≢ FrameError.Memory → RefusesRequest self.new.bytes e) }
+        ensures refused { IfErr result (λ e. e ≢ FrameError.Memory
+            → RefusesRequest self.new.bytes e) }
         ensures not_torn { IfErr result (λ e. (at : ℕ) → e ≢ FrameError.Torn at) }
     {
         self.take_in(piece)
@@ -105,7 +108,8 @@ impl RequestReader {
     // The same, by what was read of the head and of the body.
     fn take_in(&mut self, piece: &[u8]) -> Result<Option<Request>, FrameError>
         requires { self.old.is_open ≡ true }
-        ensures fed { result ≡ Err FrameError.Memory ⊎ (self.new.bytes ≡ self.old.bytes ++ piece.now) }
+        ensures fed { result ≡ Err FrameError.Memory
+            ⊎ (self.new.bytes ≡ self.old.bytes ++ piece.now) }
         ensures memory { result ≡ Err FrameError.Memory → self.new ≡ self.old }
         ensures whole { IfOk result (λ read. IfSome read (IsReadRequest self.new.bytes)) }
         ensures more { IfOk result (λ read. IfNone read (AwaitsMore self.new.bytes)) }

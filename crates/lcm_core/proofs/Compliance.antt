@@ -64,16 +64,16 @@ one_if b = cond b 1 0
 abbrev one_if_succeeded : List Entry → ℕ → ℕ
 one_if_succeeded trace r = one_if (has_succeeded trace r)
 
-counted : (trace : List Entry) (n : ℕ) → ((r : ℕ) → r < n → Succeeded trace r) → count_by (has_succeeded trace) (places_below n) ≡ n
-counted trace zero all = refl
-counted trace (suc n) all =
+all_counted : (trace : List Entry) (n : ℕ) → ((r : ℕ) → r < n → Succeeded trace r) → count_by (has_succeeded trace) (places_below n) ≡ n
+all_counted trace zero all = refl
+all_counted trace (suc n) all =
     let here : has_succeeded trace n ≡ true = all n (omega arith) in
-    let before = counted trace n (λ r lt. all r (omega (arith, lt))) in
+    let before = all_counted trace n (λ r lt. all r (omega (arith, lt))) in
     omega (arith, sum_by-append (one_if_succeeded trace) (places_below n) (n ∷ []), sum_by-cons (one_if_succeeded trace) n [], before, ap one_if here)
 
 -- where each succeeded, none is missed
 pub none_missed : (document : Document) (trace : List Entry) → ((r : ℕ) → r < length document.resources → Succeeded trace r) → Compliant document trace
-none_missed document trace all = omega (arith, counted trace (length document.resources) all)
+none_missed document trace all = omega (arith, all_counted trace (length document.resources) all)
 
 -- ---- no Set broke off
 
@@ -124,14 +124,14 @@ module _ (document : Document) (mode : RunMode) (order : List ℕ) (trace : List
 
 -- a resource that is answered yes has no fault of its own
 yes_asks : (a : HostState) (asks : Result Wanted Failure) → AnswersTrue a asks tests.Yes → (wanted : Wanted) × (result_ok asks ≡ Some wanted)
-yes_asks a (Ok wanted) told = (wanted, refl)
+yes_asks a (Ok wanted) shown = (wanted, refl)
 yes_asks a (Err failure) (inl fault) = absurd (cc (fault))
 yes_asks a (Err failure) (inr (names, memory)) = absurd (cc (memory))
 
 yes_known : (a : HostState) (resource : Option Resource) → IsSomeAnd resource (λ x. AnswersTrue a (wanted_of x) tests.Yes)
     → (wanted : Wanted) × (option_and_then (λ r. result_ok (wanted_of r)) resource ≡ Some wanted)
-yes_known a None told = absurd told
-yes_known a (Some resource) told = yes_asks a (wanted_of resource) told
+yes_known a None shown = absurd shown
+yes_known a (Some resource) shown = yes_asks a (wanted_of resource) shown
 
 module _ (document : Document) (before after : HostState) (trace : List Entry) (is_true : True document before trace after) where
   known_at : (front : List Entry) (p : ℕ) (rest : List Entry) → trace ≡ front ++ Tested p tests.Yes ∷ rest → (wanted : Wanted) × (wanted_at document p ≡ Some wanted)

@@ -41,24 +41,24 @@ result_is (Err failure) wanted is = absurd (none-some wanted is)
 told_answer : (a : HostState) (resource : Option Resource) (wanted : Wanted) (answer : TestAnswer)
     → option_and_then (λ r. result_ok (wanted_of r)) resource ≡ Some wanted
     → IsSomeAnd resource (λ x. AnswersTrue a (wanted_of x) answer) → AnswersKnown a wanted answer
-told_answer a None wanted answer is told = absurd (none-some wanted is)
-told_answer a (Some resource) wanted answer is told =
-    subst (λ (asks : Result Wanted Failure). AnswersTrue a asks answer) (result_is (wanted_of resource) wanted is) told
+told_answer a None wanted answer is shown = absurd (none-some wanted is)
+told_answer a (Some resource) wanted answer is shown =
+    subst (λ (asks : Result Wanted Failure). AnswersTrue a asks answer) (result_is (wanted_of resource) wanted is) shown
 
 told_set : (a b : HostState) (resource : Option Resource) (wanted : Wanted) (answer : SetAnswer)
     → option_and_then (λ r. result_ok (wanted_of r)) resource ≡ Some wanted
     → IsSomeAnd resource (λ x. SetsTrue a x.id (wanted_of x) answer b) → (id : List ℕ) × SetsKnown a id wanted answer b
-told_set a b None wanted answer is told = absurd (none-some wanted is)
-told_set a b (Some resource) wanted answer is told =
-    (resource.id, subst (λ (asks : Result Wanted Failure). SetsTrue a resource.id asks answer b) (result_is (wanted_of resource) wanted is) told)
+told_set a b None wanted answer is shown = absurd (none-some wanted is)
+told_set a b (Some resource) wanted answer is shown =
+    (resource.id, subst (λ (asks : Result Wanted Failure). SetsTrue a resource.id asks answer b) (result_is (wanted_of resource) wanted is) shown)
 
 answer_known : (document : Document) (a b : HostState) (p : ℕ) (wanted : Wanted) (answer : TestAnswer) → wanted_at document p ≡ Some wanted
     → IsTrueEntry a document (Tested p answer) b → AnswersKnown a wanted answer
-answer_known document a b p wanted answer asks told = told_answer a (slice_get document.resources p) wanted answer asks told.1
+answer_known document a b p wanted answer asks shown = told_answer a (slice_get document.resources p) wanted answer asks shown.1
 
 set_known : (document : Document) (a b : HostState) (p : ℕ) (wanted : Wanted) (answer : SetAnswer) → wanted_at document p ≡ Some wanted
     → IsTrueEntry a document (Set p answer) b → (id : List ℕ) × SetsKnown a id wanted answer b
-set_known document a b p wanted answer asks told = told_set a b (slice_get document.resources p) wanted answer asks told
+set_known document a b p wanted answer asks shown = told_set a b (slice_get document.resources p) wanted answer asks shown
 
 -- the faults of such a resource are the machine's
 test_blames : (failure : Failure) → failure ≡ faults.HostFailed → IsOfMachine failure

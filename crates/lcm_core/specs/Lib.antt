@@ -1,7 +1,9 @@
+-- what the layer above cites
 pub mod Bounds
 pub mod Ends
 pub mod Legal
 pub mod RepairLaws
 pub mod RunLaws
-pub mod Turn
 pub mod Whole
+-- for private clauses alone
+pub mod Turn

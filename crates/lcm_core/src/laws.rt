@@ -15,7 +15,7 @@ pub fn repair_laws()
     set_laws();
 }
 
-/// A run that does not end in a lack of memory can be reported: its entries are of resources of the document, none of them was
+/// A run that does not end out of memory can be reported: its entries are of resources of the document, none of them was
 /// refused memory, and no resource's last entry is a Set that was done, since a Test of it follows.
 pub fn report_laws()
     ensures traces { TracesAreReportable }

@@ -1,4 +1,4 @@
-//! Runs in both modes.
+//! Runs over a document: `monitor` tests, and `repair` also sets.
 ghost use Rattle.std.specs.Prelude.{◌≡◌, ◌⊎◌, ◌<◌, ◌≤◌, ◌+◌, ◌*◌, ◌^◌, ℕ, [], length, replicate, All, false};
 ghost use Rattle.dsc_terms.specs.Counts.{RoseBy};
 ghost use Rattle.dsc_document.specs.Dependencies.{HasDistinctIds, NamesResources};
@@ -37,13 +37,17 @@ pub fn run<R: Resources>(
     requires room { 3 * length document.now.resources ≤ R.spare resources.old }
 
     ensures legal { Legal document.now mode order.now (R.kept resources.new) }
-    ensures whole { Whole document.now mode order.now (R.kept resources.new) ⊎ IsUnbegun mode result (R.kept resources.new) }
+    ensures whole { Whole document.now mode order.now (R.kept resources.new)
+        ⊎ IsUnbegun mode result (R.kept resources.new) }
     ensures end { IsEnd mode result (R.kept resources.new) }
-    ensures chain { Chain R.does R.still document.now resources.old (R.kept resources.new) resources.new }
-    ensures faults { RoseBy (host_failures (R.kept resources.new)) (R.faults resources.old) (R.faults resources.new) }
+    ensures chain { Chain R.does R.still document.now resources.old
+        (R.kept resources.new) resources.new }
+    ensures faults { RoseBy (host_failures (R.kept resources.new)) (R.faults resources.old)
+        (R.faults resources.new) }
     ensures later { R.faults resources.old ≤ R.faults resources.new }
     ensures room { R.spare resources.old ≤ R.spare resources.new + length (R.kept resources.new) }
-    ensures bound { (r : ℕ) → (tests_of (R.kept resources.new) r ≤ 2) × (sets_of (R.kept resources.new) r ≤ 1) }
+    ensures bound { (r : ℕ) → (tests_of (R.kept resources.new) r ≤ 2)
+        × (sets_of (R.kept resources.new) r ≤ 1) }
 {
     match mode {
         RunMode::Monitor => monitor(document, order, resources),
@@ -60,8 +64,10 @@ fn monitor<R: Resources>(document: &Document, order: &[u32], resources: &mut R) 
     ensures legal { Legal document.now RunMode.Monitor order.now (R.kept resources.new) }
     ensures whole { Whole document.now RunMode.Monitor order.now (R.kept resources.new) }
     ensures end { IsEnd RunMode.Monitor result (R.kept resources.new) }
-    ensures chain { Chain R.does R.still document.now resources.old (R.kept resources.new) resources.new }
-    ensures faults { RoseBy (host_failures (R.kept resources.new)) (R.faults resources.old) (R.faults resources.new) }
+    ensures chain { Chain R.does R.still document.now resources.old
+        (R.kept resources.new) resources.new }
+    ensures faults { RoseBy (host_failures (R.kept resources.new)) (R.faults resources.old)
+        (R.faults resources.new) }
     ensures later { R.faults resources.old ≤ R.faults resources.new }
     ensures room { R.spare resources.old ≤ R.spare resources.new + length (R.kept resources.new) }
 {
@@ -88,18 +94,23 @@ fn repair<R: Resources>(
     requires room { 3 * length document.now.resources ≤ R.spare resources.old }
 
     ensures legal { Legal document.now RunMode.Repair order.now (R.kept resources.new) }
-    ensures whole { Whole document.now RunMode.Repair order.now (R.kept resources.new) ⊎ IsUnbegun RunMode.Repair result (R.kept resources.new) }
+    ensures whole { Whole document.now RunMode.Repair order.now (R.kept resources.new)
+        ⊎ IsUnbegun RunMode.Repair result (R.kept resources.new) }
     ensures end { IsEnd RunMode.Repair result (R.kept resources.new) }
-    ensures chain { Chain R.does R.still document.now resources.old (R.kept resources.new) resources.new }
-    ensures faults { RoseBy (host_failures (R.kept resources.new)) (R.faults resources.old) (R.faults resources.new) }
+    ensures chain { Chain R.does R.still document.now resources.old
+        (R.kept resources.new) resources.new }
+    ensures faults { RoseBy (host_failures (R.kept resources.new)) (R.faults resources.old)
+        (R.faults resources.new) }
     ensures later { R.faults resources.old ≤ R.faults resources.new }
     ensures room { R.spare resources.old ≤ R.spare resources.new + length (R.kept resources.new) }
 {
-    let Ok(depends) = dependencies(alloc, document) else {
-        return RunEnd::Memory;
+    let depends = match dependencies(alloc, document) {
+        Ok(depends) => depends,
+        Err(AllocError) => return RunEnd::Memory,
     };
-    let Ok(mut held) = vec![in alloc; false; depends.len()] else {
-        return RunEnd::Memory;
+    let mut held = match vec![in alloc; false; depends.len()] {
+        Ok(held) => held,
+        Err(AllocError) => return RunEnd::Memory,
     };
     match take_turns(document, order, &depends, &mut held, resources) {
         Ok(()) => RunEnd::Finished,
@@ -125,8 +136,10 @@ fn take_turns<R: Resources>(
     ensures legal { Legal document.now RunMode.Repair order.now (R.kept resources.new) }
     ensures whole { Whole document.now RunMode.Repair order.now (R.kept resources.new) }
     ensures end { IsStop result (R.kept resources.new) }
-    ensures chain { Chain R.does R.still document.now resources.old (R.kept resources.new) resources.new }
-    ensures faults { RoseBy (host_failures (R.kept resources.new)) (R.faults resources.old) (R.faults resources.new) }
+    ensures chain { Chain R.does R.still document.now resources.old
+        (R.kept resources.new) resources.new }
+    ensures faults { RoseBy (host_failures (R.kept resources.new)) (R.faults resources.old)
+        (R.faults resources.new) }
     ensures later { R.faults resources.old ≤ R.faults resources.new }
     ensures room { R.spare resources.old ≤ R.spare resources.new + length (R.kept resources.new) }
 {

@@ -22,7 +22,8 @@ pub fn take_turn<R: Resources>(
 ) -> Result<bool, Stop>
     requires place { place < length document.now.resources }
     requires room { 3 ≤ R.spare resources.old }
-    ensures turn { TookTurn R.kept R.spare R.does R.still R.faults document.now place resources.old resources.new result }
+    ensures turn { TookTurn R.kept R.spare R.does R.still R.faults document.now place resources.old
+        resources.new result }
     ensures room { R.spare resources.old ≤ R.spare resources.new + 3 }
 {
     match resources.test(document, place) {
@@ -39,7 +40,8 @@ fn set_and_test<R: Resources>(
 ) -> Result<bool, Stop>
     requires place { place < length document.now.resources }
     requires room { 2 ≤ R.spare resources.old }
-    ensures rest { TookRest R.kept R.spare R.does R.still R.faults document.now place resources.old resources.new result }
+    ensures rest { TookRest R.kept R.spare R.does R.still R.faults document.now place resources.old
+        resources.new result }
     ensures room { R.spare resources.old ≤ R.spare resources.new + 2 }
 {
     match resources.set(document, place) {

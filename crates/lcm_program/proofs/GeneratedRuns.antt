@@ -27,16 +27,16 @@ use Rattle.lcm_core.specs.declared.modes.RunEnd.TheVariants as ends
 use Rattle.lcm_core.specs.declared.modes.RunMode.TheVariants.{Repair}
 use Rattle.lcm_core.specs.RepairLaws.{EntryBlames, RepairSucceeds, SetBlames, TestBlames}
 use Rattle.lcm_core.proofs.Compliance.{none_missed as all_counted}
-use Rattle.dsc_node.specs.Ran.{Ran}
+use Rattle.dsc_node.specs.Ran.{RanOnHost}
 use Rattle.lcm_program.proofs.GeneratedVariables.{AskVariables, AsksVariable, each_sound, some_within}
 
 -- ---- one entry
 
 told_answer : (a : HostState) (resource : Option Resource) (answer : TestAnswer) → IsSomeAnd resource AsksVariable
     → IsSomeAnd resource (λ x. AnswersTrue a (wanted_of x) answer) → (name : List ℕ) × (value : List ℕ) × AnswersKnown a (Variable name value) answer
-told_answer a None answer asks told = absurd asks
-told_answer a (Some resource) answer asks told =
-    (asks.0, asks.1, subst (λ (w : Result Wanted Failure). AnswersTrue a w answer) asks.2 told)
+told_answer a None answer asks shown = absurd asks
+told_answer a (Some resource) answer asks shown =
+    (asks.0, asks.1, subst (λ (w : Result Wanted Failure). AnswersTrue a w answer) asks.2 shown)
 
 -- a Set of a variable, of a resource of that id
 abbrev SetsVariable : HostState → SetAnswer → HostState → Type 0
@@ -44,9 +44,9 @@ SetsVariable a answer b = (id : List ℕ) × (name : List ℕ) × (value : List 
 
 told_set : (a b : HostState) (resource : Option Resource) (answer : SetAnswer) → IsSomeAnd resource AsksVariable
     → IsSomeAnd resource (λ x. SetsTrue a x.id (wanted_of x) answer b) → SetsVariable a answer b
-told_set a b None answer asks told = absurd asks
-told_set a b (Some resource) answer asks told =
-    (resource.id, asks.0, asks.1, subst (λ (w : Result Wanted Failure). SetsTrue a resource.id w answer b) asks.2 told)
+told_set a b None answer asks shown = absurd asks
+told_set a b (Some resource) answer asks shown =
+    (resource.id, asks.0, asks.1, subst (λ (w : Result Wanted Failure). SetsTrue a resource.id w answer b) asks.2 shown)
 
 -- who wants a reboot stays
 set_keeps : (a b : HostState) (id name value : List ℕ) (answer : SetAnswer) → SetsKnown a id (Variable name value) answer b → b.wanting ≡ a.wanting
@@ -77,29 +77,29 @@ set_innocent a b id name value sets.Memory set none blames = blames
 
 module _ (document : Document) (ask : AskVariables document) where
   set_told : (a b : HostState) (p : ℕ) (answer : SetAnswer) → IsTrueEntry a document (Set p answer) b → SetsVariable a answer b
-  set_told a b p answer told =
+  set_told a b p answer shown =
       told_set a b (slice_get document.resources p) answer
-      (ask p (some_within (λ x. SetsTrue a x.id (wanted_of x) answer b) document.resources p told)) told
+      (ask p (some_within (λ x. SetsTrue a x.id (wanted_of x) answer b) document.resources p shown)) shown
 
   entry_keeps : (a b : HostState) (e : Entry) → IsTrueEntry a document e b → b.wanting ≡ a.wanting
-  entry_keeps a b (Tested p answer) told = ap (λ (h : HostState). h.wanting) told.0
-  entry_keeps a b (Set p answer) told =
-      let set = set_told a b p answer told in
+  entry_keeps a b (Tested p answer) shown = ap (λ (h : HostState). h.wanting) shown.0
+  entry_keeps a b (Set p answer) shown =
+      let set = set_told a b p answer shown in
       set_keeps a b set.0 set.1 set.2 answer set.3
 
   entry_innocent : (a b : HostState) (e : Entry) → IsTrueEntry a document e b → entry_failures e ≡ 0 → EntryBlames e → ⊥
-  entry_innocent a b (Tested p answer) told none blames =
-      let asks = ask p (some_within (λ x. AnswersTrue a (wanted_of x) answer) document.resources p told.1) in
-      let known = told_answer a (slice_get document.resources p) answer asks told.1 in
+  entry_innocent a b (Tested p answer) shown none blames =
+      let asks = ask p (some_within (λ x. AnswersTrue a (wanted_of x) answer) document.resources p shown.1) in
+      let known = told_answer a (slice_get document.resources p) answer asks shown.1 in
       test_innocent a known.0 known.1 answer known.2 none blames
-  entry_innocent a b (Set p answer) told none blames =
-      let set = set_told a b p answer told in
+  entry_innocent a b (Set p answer) shown none blames =
+      let set = set_told a b p answer shown in
       set_innocent a b set.0 set.1 set.2 answer set.3 none blames
 
   -- nobody wants a reboot
   no_reboot : (a b : HostState) (e : Entry) → IsTrueEntry a document e b → a.wanting ≡ [] → (r : ℕ) → e ≡ Set r sets.Reboot → ⊥
-  no_reboot a b e told nobody r is =
-      let step = subst (λ (x : Entry). IsTrueEntry a document x b) is told in
+  no_reboot a b e shown nobody r is =
+      let step = subst (λ (x : Entry). IsTrueEntry a document x b) is shown in
       let set = set_told a b r sets.Reboot step in
       let still = set_keeps a b set.0 set.1 set.2 sets.Reboot set.3 ∙ nobody in
       false≢true (ap (λ (w : List (List ℕ)). wants_reboot w (folded_utf8 set.0)) (sym still) ∙ set.3.1)
@@ -133,18 +133,18 @@ module _ (document : Document) (ask : AskVariables document) where
 
 module _ (succeeds : RepairSucceeds) (document : Document) (order : List ℕ) (trace : List Entry) (before after : HostState)
     (ask : AskVariables document) (nobody : before.wanting ≡ []) (none : host_failures trace ≡ 0) where
-  told_true : (end : RunEnd) → Ran document Repair order end trace (Some before) (Some after) 0 0 → True document before trace after
-  told_true end run = let (state, is, told) = run.is_true in subst (λ (h : HostState). True document before trace h) (sym (same_Some after state is)) told
+  told_true : (end : RunEnd) → RanOnHost document Repair order end trace (Some before) (Some after) 0 0 → True document before trace after
+  told_true end run = let (state, is, shown) = run.is_true in subst (λ (h : HostState). True document before trace h) (sym (same_Some after state is)) shown
 
   -- it comes to its last resource
-  pub finishes : (end : RunEnd) → (end ≡ ends.Finished) ⊎ ((r : ℕ) × (end ≡ ends.RebootAsked r)) → Ran document Repair order end trace (Some before) (Some after) 0 0
-      → Ran document Repair order ends.Finished trace (Some before) (Some after) 0 0
-  finishes end (inl is) run = subst (λ (e : RunEnd). Ran document Repair order e trace (Some before) (Some after) 0 0) is run
+  pub finishes : (end : RunEnd) → (end ≡ ends.Finished) ⊎ ((r : ℕ) × (end ≡ ends.RebootAsked r)) → RanOnHost document Repair order end trace (Some before) (Some after) 0 0
+      → RanOnHost document Repair order ends.Finished trace (Some before) (Some after) 0 0
+  finishes end (inl is) run = subst (λ (e : RunEnd). RanOnHost document Repair order e trace (Some before) (Some after) 0 0) is run
   finishes end (inr (r, is)) run =
-      let asked = subst (λ (e : RunEnd). Ran document Repair order e trace (Some before) (Some after) 0 0) is run in
+      let asked = subst (λ (e : RunEnd). RanOnHost document Repair order e trace (Some before) (Some after) 0 0) is run in
       absurd (ends_plain document ask trace (all_plain document ask before after trace (told_true end run) nobody none) r asked.ended)
 
-  module _ (run : Ran document Repair order ends.Finished trace (Some before) (Some after) 0 0) where
+  module _ (run : RanOnHost document Repair order ends.Finished trace (Some before) (Some after) 0 0) where
     pub each_succeeds : (r : ℕ) → r < length document.resources → Succeeded trace r
     each_succeeds r lt =
         let chain = told_true ends.Finished run in

@@ -36,7 +36,7 @@ module _ {H : Type 0} (host : hosts.Ghosts H) (before after : Kinds H) where
 
   monitored : (document : Document) (end : RunEnd) → Monitored (kinds_of host) nothing_further_of_runs document end before after → Monitored (kinds_of host) TrueRun document end before after
   monitored document end m =
-      let is_true = kinds_tell host.told document before after (calls_of after) m.chain in
+      let is_true = kinds_tell host.shown document before after (calls_of after) m.chain in
       record {
         order = m.order;
         is_order = m.is_order;
@@ -45,9 +45,10 @@ module _ {H : Type 0} (host : hosts.Ghosts H) (before after : Kinds H) where
         ended = m.ended;
         chain = m.chain;
         failures = m.failures;
+        later = m.later;
         more = record {
           is_true = is_true;
-          same = monitor_keeps document m.order (calls_of after) (host.told (host_of before)) (host.told (host_of after)) m.legal is_true;
+          same = monitor_keeps document m.order (calls_of after) (host.shown (host_of before)) (host.shown (host_of after)) m.legal is_true;
         };
       }
 

@@ -105,21 +105,21 @@ shown_decides reads shows decides all (Err e) (Err f) p q = decides all (Err e) 
 -- ---- what an input allows
 
 -- what holds of each input that is read so holds of the source's
-pub told : {A : Type 0} (reads : List ℕ → A → Type 0) (answer : A) (left : Option (List ℕ)) (Q : List ℕ → Type 0)
+pub shown : {A : Type 0} (reads : List ℕ → A → Type 0) (answer : A) (left : Option (List ℕ)) (Q : List ℕ → Type 0)
     → ((all : List ℕ) → reads all answer → Q all) → IsInput reads left answer → IfSome left Q
-told reads answer None Q f a = tt
-told reads answer (Some all) Q f a = subst Q (sym a.input_is) (f a.all a.is_answer)
+shown reads answer None Q f a = tt
+shown reads answer (Some all) Q f a = subst Q (sym a.input_is) (f a.all a.is_answer)
 
 module _ {A : Type 0} (reads : Reading A) (decides : Decides reads) (left : Option (List ℕ)) (before now : ℕ) where
   pub each_used : (value : A) (status : Status) → UsesInput status before now → IsInput reads left (Ok value) → EachAllows reads left status before now
-  each_used value status uses input = told reads (Ok value) left (λ all. (answer : Result A InputError) → reads all answer → Allows answer status before now) (λ all is. each all is) input
+  each_used value status uses input = shown reads (Ok value) left (λ all. (answer : Result A InputError) → reads all answer → Allows answer status before now) (λ all is. each all is) input
     where
       each : (all : List ℕ) → reads all (Ok value) → (answer : Result A InputError) → reads all answer → Allows answer status before now
       each all is (Ok other) also = uses
       each all is (Err error) also = absurd (decides all (Ok value) (Err error) is also)
 
   pub each_refused : (error : InputError) → IsInput reads left (Err error) → EachAllows reads left (InputRefused error) before now
-  each_refused error input = told reads (Err error) left (λ all. (answer : Result A InputError) → reads all answer → Allows answer (InputRefused error) before now) (λ all is. each all is) input
+  each_refused error input = shown reads (Err error) left (λ all. (answer : Result A InputError) → reads all answer → Allows answer (InputRefused error) before now) (λ all is. each all is) input
     where
       each : (all : List ℕ) → reads all (Err error) → (answer : Result A InputError) → reads all answer → Allows answer (InputRefused error) before now
       each all is (Ok other) also = absurd (decides all (Err error) (Ok other) is also)

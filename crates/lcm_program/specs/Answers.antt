@@ -6,7 +6,7 @@ use Rattle.dsc_node.specs.declared.status.Status.{Status}
 use Rattle.dsc_node.specs.declared.status.Status.TheVariants.{Done, NotCompliant, InputRefused, ReadFault, WriteFault, Memory}
 use Rattle.lcm_program.specs.Input.{Reading}
 
--- an input that is read is used, unless a read failed or memory was refused
+-- an input that is read is used, unless a read failed or memory ran out
 abbrev pub UsesInput : Status → ℕ → ℕ → Type 0
 UsesInput Done before now = ⊤
 UsesInput (NotCompliant count) before now = ⊤
@@ -15,7 +15,7 @@ UsesInput ReadFault before now = Rose before now
 UsesInput Memory before now = ⊤
 UsesInput _ before now = ⊥
 
--- one that is refused is refused with its error, unless a read failed or memory was refused
+-- one that is refused is refused with its error, unless a read failed or memory ran out
 abbrev pub RefusesInput : InputError → Status → ℕ → ℕ → Type 0
 RefusesInput error (InputRefused given) before now = given ≡ error
 RefusesInput error ReadFault before now = Rose before now

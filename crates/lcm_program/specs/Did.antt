@@ -39,7 +39,7 @@ Did o further Restore status before after = Started commands.Restore o further s
 Did o further (Remove stage) status before after = Started (commands.Remove stage) o further status before after
 Did o further Reports status before after = Started commands.Reports o further status before after
 
--- arguments in no form are refused with the place of the first argument that does not fit; or memory was refused and nothing is printed
+-- arguments in no form are refused with the place of the first argument that does not fit; or memory ran out and nothing is printed
 abbrev pub UsageEnds : {S K D M L C : Type 0} → Known S K D M L C → List (List ℕ) → Status → Objects S K D M L C → Objects S K D M L C → Type 0
 UsageEnds o words (Usage place) before after = IsUsage words place × PrintsRefusal o.sink (refusals.Usage place) before.output after.output
 UsageEnds o words Memory before after = after.output ≡ before.output

@@ -9,7 +9,7 @@ use Rattle.lcm_program.specs.declared.refusal.Refusal.{Refusal}
 use Rattle.lcm_program.specs.Printed.{Holds, IsCutShort, PrintsRefusal}
 use Rattle.lcm_program.specs.Refusal.{refusal_line, refusal_of, status_of}
 
--- memory was refused, and nothing is printed
+-- memory ran out, and nothing is printed
 abbrev pub EndsSilent : {K : Type 0} → Status → K → K → Type 0
 EndsSilent status old new = (status ≡ Memory) × (new ≡ old)
 

@@ -33,8 +33,8 @@ nothing_further = record { start = λ command before after status lines. ⊤; ru
 
 -- the trace is true of the host, which is as it was
 pub record IsTrueRun {H : Type 0} (host : hosts.Ghosts H) (document : Document) (before after : Kinds H) : Type 0 where
-  pub is_true : TellsTrue document (host.told (host_of before)) (calls_of after) (host.told (host_of after))
-  pub same : host.told (host_of after) ≡ host.told (host_of before)
+  pub is_true : TellsTrue document (host.shown (host_of before)) (calls_of after) (host.shown (host_of after))
+  pub same : host.shown (host_of after) ≡ host.shown (host_of before)
 
 -- the headline of each start over a host, and each run is true of the host
 abbrev pub further_of_host : {D H C : Type 0} → disks.Ghosts D → hosts.Ghosts H → clocks.Ghosts C → Further D (Kinds H) C

@@ -14,7 +14,7 @@ use Rattle.dsc_node.specs.declared.status.Status.{Status}
 use Rattle.dsc_node.specs.declared.status.Status.TheVariants.{Done, WriteFault, Memory}
 use Rattle.dsc_node.specs.Lines.{id_at, resources_line}
 use Rattle.dsc_node.specs.Quoted.{quoted}
-use Rattle.dsc_node.specs.Ran.{Ran}
+use Rattle.dsc_node.specs.Ran.{RanOnHost}
 use Rattle.lcm_program.specs.Objects.{IsUntouched, Known, Objects}
 use Rattle.lcm_program.specs.Printed.{Holds, IsCutShort}
 
@@ -48,12 +48,12 @@ pub record IsGeneratedText (count : ℕ) (text : List ℕ) : Type 0 where
   pub order : List ℕ
   pub trace : List Entry
   pub after : HostState
-  pub run : Ran document Repair order Finished trace (Some empty_host) (Some after) 0 0
+  pub run : RanOnHost document Repair order Finished trace (Some empty_host) (Some after) 0 0
   pub blameless : host_failures trace ≡ 0
   pub all : missed_count document trace ≡ 0
   pub lines : text ≡ generated_lines count document order trace
 
--- such a text is printed, or a part from its front where the output failed; or memory was refused and nothing is printed
+-- such a text is printed, or a part from its front where the output failed; or memory ran out and nothing is printed
 abbrev pub GenerateEnds : {S K D M L C : Type 0} → ℕ → Known S K D M L C → Status → Objects S K D M L C → Objects S K D M L C → Type 0
 GenerateEnds count o Done before after = (text : List ℕ) × IsGeneratedText count text × Holds o.sink text before.output after.output
 GenerateEnds count o WriteFault before after = (text : List ℕ) × IsGeneratedText count text × IsCutShort o.sink text before.output after.output

@@ -2,7 +2,8 @@
 use Rattle.std.specs.Prelude.{◌≡◌, ◌≢◌, ℕ, ◌<◌, ◌≤◌, List, [], ◌∷◌, length, Option, Result, Ok, Err, IfSome, ⊤}
 use Rattle.dsc_terms.specs.Counts.{Rose}
 use Rattle.mof_values.specs.declared.instance.Instance.{Instance}
-use Rattle.mof_syntax.specs.Limits.{document_limit}
+use Rattle.meta_config.specs.declared.limits.TheConstants.{MAX_META_TEXT}
+use Rattle.mof_syntax.specs.declared.limits.TheConstants.{MAX_DOCUMENT}
 use Rattle.mof_syntax.specs.Refusals as syntax
 use Rattle.dsc_document.specs.declared.document.Document.{Document}
 use Rattle.partial_merge.specs.declared.part.Part.{Part}
@@ -25,11 +26,11 @@ use Rattle.lcm_program.specs.declared.refusal.Refusal.TheVariants as refusals
 
 -- the most bytes of an input: those of a document
 abbrev pub input_limit : ℕ
-input_limit = document_limit
+input_limit = MAX_DOCUMENT
 
 -- and those of a meta-configuration
 abbrev pub meta_limit : ℕ
-meta_limit = 262144
+meta_limit = MAX_META_TEXT
 
 -- ---- readings: what bytes are read as, or the error for which they are refused
 
@@ -103,7 +104,7 @@ ReadsMeta all (Err (Parts walk)) = IsUnordered all walk
 -- the whole input, that of the source where it is exposed, is read so
 pub record IsInput {A : Type 0} (reads : List ℕ → A → Type 0) (input : Option (List ℕ)) (answer : A) : Type 0 where
   pub all : List ℕ
-  pub input_is : IfSome input (λ told. told ≡ all)
+  pub input_is : IfSome input (λ shown. shown ≡ all)
   pub is_answer : reads all answer
 
 -- the input has more bytes

@@ -20,7 +20,7 @@ use Rattle.dsc_node.specs.Quoted.{quoted}
 use Rattle.dsc_node.specs.declared.status.InputError.{InputError}
 use Rattle.dsc_node.specs.declared.status.InputError.TheVariants.{TooLong, Mof, Merge, Meta, Parts}
 
--- the name of a text's refusal, and its values; lack of memory has a status of its own, and is never reported so
+-- the name of a text's refusal, and its values; out of memory has a status of its own, and is never reported so
 abbrev pub mof_words : MofError → List ℕ
 mof_words faults.TooLong = codes "TooLong"
 mof_words (faults.Text at) = codes "Text " ++ decimal at

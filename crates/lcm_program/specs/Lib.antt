@@ -15,7 +15,6 @@ pub mod PeerWords
 pub mod Printed
 pub mod Refusal
 pub mod Started
-pub mod Streams
 pub mod Test
 pub mod Tool
 pub mod Words

@@ -37,7 +37,7 @@ message_words messages.Memory = codes "Memory"
 abbrev pub mismatch_words : List ℕ → List ℕ → List ℕ
 mismatch_words announced found = codes "Mismatch " ++ checksum_of announced ++ codes " " ++ checksum_of found
 
--- of an answer; a failed link and lack of memory have statuses of their own, and are never reported so
+-- of an answer; a failed link and out of memory have statuses of their own, and are never reported so
 abbrev pub answer_words : PeerError → List ℕ
 answer_words peers.NotServed = codes "NotServed"
 answer_words peers.Link = codes "Link"

@@ -7,7 +7,7 @@ use Rattle.dsc_node.specs.declared.status.Status.{Status}
 use Rattle.dsc_node.specs.declared.status.Status.TheVariants.{Done, WriteFault}
 use Rattle.lcm_program.specs.declared.refusal.Refusal.{Refusal}
 use Rattle.lcm_program.specs.Refusal.{refusal_line}
-use Rattle.lcm_program.specs.Streams.{AppendsPart}
+use Rattle.dsc_outside.specs.Streams.{AppendsPart}
 
 -- it holds the text, and nothing else was added
 abbrev pub Holds : {K : Type 0} → Ghosts K → List ℕ → K → K → Type 0

@@ -4,7 +4,7 @@ use Rattle.std.specs.Str.{chars}
 use Rattle.dsc_outside.specs.declared.ends.Ends as ends
 use Rattle.gate_log.specs.Standing.{AllStand, Any}
 use Rattle.node_store.specs.Stands.{Stands}
-use Rattle.node_pull.specs.Views.{view_of}
+use Rattle.dsc_outside.specs.LinkView.{view_of}
 use Rattle.dsc_node.specs.declared.command.Command.{Command}
 use Rattle.dsc_node.specs.declared.command.Command.TheVariants as commands
 use Rattle.dsc_node.specs.declared.status.Status.{Status}
@@ -51,7 +51,7 @@ abbrev pub MetaEnds : {S K D M C : Type 0} → ends.Ghosts S → ends.Ghosts K �
 MetaEnds source sink o further status input input_after old new before after =
     InputEnds ReadsMeta commands.Meta source sink o further status input input_after old new before after
 
--- A start with the registration under this name; or memory was refused for the name, and nothing was touched.
+-- A start with the registration under this name; or memory ran out for the name, and nothing was touched.
 abbrev pub RegisterEnds : {K D M C : Type 0} → ends.Ghosts K → starts.Known D M C → Further D M C → List ℕ → Status → K → K → Outside D M C → Outside D M C → Type 0
 RegisterEnds sink o further name status old new before after =
     IsStart sink o further (commands.Register (chars name)) status old new before after ⊎ (EndsSilent status old new × (after ≡ before))

@@ -1,5 +1,5 @@
 -- The command `test`: a run that monitors the document of the input.
-use Rattle.std.specs.Prelude.{◌≡◌, ◌⊎◌, ℕ, ◌<◌, List, Option, Ok, Err}
+use Rattle.std.specs.Prelude.{◌≡◌, ◌⊎◌, ℕ, ◌<◌, ◌≤◌, List, Option, Ok, Err}
 use Rattle.dsc_terms.specs.Counts.{Rose, RoseBy}
 use Rattle.dsc_outside.specs.declared.ends.Ends as ends
 use Rattle.dsc_document.specs.declared.document.Document.{Document}
@@ -34,16 +34,17 @@ pub record Monitored {M : Type 0} (machine : resources.Ghosts M) (further : Furt
   pub ended : EndsAs end (machine.kept after)
   pub chain : Chain machine.does machine.still document before (machine.kept after) after
   pub failures : RoseBy (host_failures (machine.kept after)) (machine.faults before) (machine.faults after)
+  pub later : machine.faults before ≤ machine.faults after
   pub more : further document before after
 
--- how the text of a run is printed in which so many resources did not succeed
+-- how the text of a run is printed in which this number of resources did not succeed
 abbrev pub PrintsRun : {K : Type 0} → ends.Ghosts K → List ℕ → ℕ → Status → K → K → Type 0
 PrintsRun sink text missed Done old new = (missed ≡ 0) × Holds sink text old new
 PrintsRun sink text missed (NotCompliant count) old new = (count ≡ missed) × (0 < missed) × Holds sink text old new
 PrintsRun sink text missed WriteFault old new = IsCutShort sink text old new
 PrintsRun sink text missed _ old new = ⊥
 
--- the text gives the run of the input's document to its last resource, in which so many resources did not succeed
+-- the text gives the run of the input's document to its last resource, in which this number of resources did not succeed
 pub record IsRunOf {M : Type 0} (machine : resources.Ghosts M) (further : FurtherOfRuns M) (input : Option (List ℕ)) (before after : M) (text : List ℕ) (missed : ℕ) : Type 0 where
   pub document : Document
   pub input_is : IsInput ReadsDocument input (Ok document)
@@ -68,12 +69,12 @@ TestedAll o further status before after =
     (text : List ℕ) × (missed : ℕ) × IsRunOf o.outside.resources further (o.source.left before.input) before.machine after.machine text missed
     × PrintsRun o.sink text missed status before.output after.output
 
--- why there was no run to the last resource: the input is refused and nothing was tested, or memory was refused
+-- why there was no run to the last resource: the input is refused and nothing was tested, or memory ran out
 abbrev pub IsUntested : {M : Type 0} → resources.Ghosts M → FurtherOfRuns M → Unread → Option (List ℕ) → ℕ → ℕ → M → M → Type 0
 IsUntested machine further (unread.Refused refusal) input faults_before faults_now before after = IsRefused ReadsDocument refusal input faults_before faults_now × (after ≡ before)
 IsUntested machine further unread.Memory input faults_before faults_now before after = StopsEarly machine further input before after
 
--- the run is printed whole; or the input is refused for its error, or a read failed, and nothing was tested; or memory was refused,
+-- the run is printed whole; or the input is refused for its error, or a read failed, and nothing was tested; or memory ran out,
 -- nothing is printed, and what was tested is the front of a run
 abbrev pub TestEnds : {S K D M L C : Type 0} → Known S K D M L C → FurtherOfRuns M → Status → Objects S K D M L C → Objects S K D M L C → Type 0
 TestEnds o further Done before after = TestedAll o further Done before after

@@ -15,7 +15,7 @@ Shows {A} reads shows all (Ok text) = (value : A) × reads all (Ok value) × sho
 Shows reads shows all (Err error) = reads all (Err error)
 
 -- the text is printed, or a part from its front where the output failed; or the input is refused for its error, or a read failed;
--- or memory was refused and nothing is printed
+-- or memory ran out and nothing is printed
 abbrev pub ToolEnds : {S K D M L C : Type 0} → Reading (List ℕ) → Known S K D M L C → Status → Objects S K D M L C → Objects S K D M L C → Type 0
 ToolEnds answers o Done before after =
     (text : List ℕ) × IsInput answers (o.source.left before.input) (Ok text) × Holds o.sink text before.output after.output

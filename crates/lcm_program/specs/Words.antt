@@ -3,14 +3,16 @@ use Rattle.std.specs.Prelude.{◌≡◌, ℕ, ◌+◌, ◌<◌, ◌≤◌, List,
 use Rattle.std.specs.Fmt.{decimal}
 use Rattle.std.specs.Int.{w128, from_be_bytes}
 use Rattle.uuid.specs.Text.{parsed}
+use Rattle.mof_values.specs.declared.limits.TheConstants.{MAX_NAME_BYTES}
 use Rattle.node_state.specs.declared.event.Stage.{Stage}
 use Rattle.node_state.specs.declared.event.Stage.TheVariants.{Pending, Current, Previous}
+use Rattle.lcm_program.specs.declared.words.TheConstants.{GENERATED_LIMIT}
 use Rattle.lcm_program.specs.declared.words.Command.{Command}
 use Rattle.lcm_program.specs.declared.words.Command.TheVariants.{Test, Check, Order, Canon, Checksum, Generate, Init, Meta, Register, Pull, Push, Consistency, Boot, Get, Restore, Remove, Reports}
 
 -- the most resources of a generated document
 abbrev pub generated_limit : ℕ
-generated_limit = 4096
+generated_limit = GENERATED_LIMIT
 
 -- the argument is this number of resources, in decimal
 abbrev pub IsCount : List ℕ → ℕ → Type 0
@@ -23,13 +25,9 @@ agent_of word = option_map (from_be_bytes w128) (parsed word)
 abbrev pub IsAgent : List ℕ → ℕ → Type 0
 IsAgent word agent = agent_of word ≡ Some agent
 
--- the most bytes of a node's name
-abbrev pub name_limit : ℕ
-name_limit = 255
-
 -- the argument can name a node
 abbrev pub IsName : List ℕ → Type 0
-IsName word = (0 < length word) × (length word ≤ name_limit)
+IsName word = (0 < length word) × (length word ≤ MAX_NAME_BYTES)
 
 abbrev pub stage_name : Stage → List ℕ
 stage_name Pending = codes "pending"

@@ -12,7 +12,8 @@ use std::alloc::Global;
 /// Reads the input to its end, and gives the canonical text of its instances.
 pub fn read_canonical<S: Source>(alloc: Global, input: &mut S) -> Result<Vec<u8>, Unread>
     ensures ok { IfOk result (λ text. IsInput AnswersCanon (S.left input.old) (Ok text.items)) }
-    ensures err { IfErr result (λ e. IsUnread AnswersCanon e (S.left input.old) (S.faults input.old) (S.faults input.new)) }
+    ensures err { IfErr result (λ e. IsUnread AnswersCanon e (S.left input.old) (S.faults input.old)
+        (S.faults input.new)) }
 {
     let instances = match read_instances(alloc, input) {
         Ok(instances) => instances,

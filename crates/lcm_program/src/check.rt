@@ -10,7 +10,8 @@ use std::alloc::Global;
 /// Reads the input to its end, and prints how many resources its document has.
 pub fn read_count<S: Source>(alloc: Global, input: &mut S) -> Result<Vec<u8>, Unread>
     ensures ok { IfOk result (λ text. IsInput AnswersCheck (S.left input.old) (Ok text.items)) }
-    ensures err { IfErr result (λ e. IsUnread AnswersCheck e (S.left input.old) (S.faults input.old) (S.faults input.new)) }
+    ensures err { IfErr result (λ e. IsUnread AnswersCheck e (S.left input.old) (S.faults input.old)
+        (S.faults input.new)) }
 {
     let document = match read_document(alloc, input) {
         Ok(document) => document,

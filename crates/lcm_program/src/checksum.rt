@@ -16,7 +16,8 @@ const LIMIT: usize = 67_108_864;
 pub fn read_checksum<S: Source>(input: &mut S) -> Result<[u8; 65], Refusal>
     ensures ok { IfOk result (λ line. IsInput AnswersChecksum (S.left input.old) (Ok line)) }
     ensures err { IfErr result (λ refusal.
-        IsRefused AnswersChecksum refusal (S.left input.old) (S.faults input.old) (S.faults input.new)) }
+        IsRefused AnswersChecksum refusal (S.left input.old) (S.faults input.old)
+        (S.faults input.new)) }
 {
     match read_digest(input) {
         Ok(digest) => Ok(checksum_line(&digest)),
@@ -26,9 +27,11 @@ pub fn read_checksum<S: Source>(input: &mut S) -> Result<[u8; 65], Refusal>
 
 // The digest of the input.
 fn read_digest<S: Source>(input: &mut S) -> Result<[u8; 32], Refusal>
-    ensures ok { IfOk result (λ digest. IsInput AnswersChecksum (S.left input.old) (Ok (checksum_line digest))) }
+    ensures ok { IfOk result (λ digest. IsInput AnswersChecksum (S.left input.old)
+        (Ok (checksum_line digest))) }
     ensures err { IfErr result (λ refusal.
-        IsRefused AnswersChecksum refusal (S.left input.old) (S.faults input.old) (S.faults input.new)) }
+        IsRefused AnswersChecksum refusal (S.left input.old) (S.faults input.old)
+        (S.faults input.new)) }
 {
     let mut hash = Sha256::new();
     let mut total = 0;

@@ -22,7 +22,8 @@ impl<'a> CommandLine<'a> {
     /// Reads the command line: the program's name, STORE, HOST and the arguments. Where STORE or HOST is missing or empty there are no
     /// arguments.
     pub fn of(arguments: &'a [String]) -> CommandLine<'a>
-        ensures { IsCommandLine (map string_bytes arguments.now) result.store.now result.host.now (map string_bytes result.words.now) }
+        ensures { IsCommandLine (map string_bytes arguments.now) result.store.now result.host.now
+            (map string_bytes result.words.now) }
     {
         match arguments {
             [_program, store, host, words @ ..] if !store.is_empty() && !host.is_empty() => {

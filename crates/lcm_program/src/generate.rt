@@ -1,24 +1,25 @@
 //! The command `generate`: the repair of a document that is made of a number, on an empty machine in memory.
 ghost use Rattle.std.specs.Prelude.{◌≡◌, ◌<◌, ◌≤◌, ◌-◌, ◌++◌, All, IfOk, OnOk, count_by, length, string_bytes};
+ghost use Rattle.dsc_document.specs.declared.limits.TheConstants.{MAX_RESOURCES};
 ghost use Rattle.resource_kinds.specs.Trace.{place_of};
 ghost use Rattle.lcm_core.specs.RunLaws.{EndsAtYes};
 ghost use Rattle.lcm_program.specs.Generate.{IsGeneratedText, calls_line, ends_line, generated_lines, is_set, is_test};
 
 use dsc_document::Document;
 use dsc_node::{id, order_of_merged, push_resources, run_kinds};
-use dsc_outside::{HostContents, ReliableHost};
 use generated_document::generated_document;
 use lcm_core::{RunEnd, RunMode, count_succeeded, repair_laws};
+use memory_outside::{HostContents, ReliableHost};
 use mof_codec::push_literal;
 use mof_values::Memory;
 use resource_kinds::{Entry, Kinds, Resources};
 use std::alloc::{AllocError, Global};
 
-/// Makes the document of so many resources, 1 to 4,096, repairs an empty machine in memory by it, and gives the lines that
+/// Makes the document of this number of resources, 1 to 4,096, repairs an empty machine in memory by it, and gives the lines that
 /// print that.
 pub fn repair_generated(alloc: Global, count: u32) -> Result<String, Memory>
     requires some { 0 < count }
-    requires few { count ≤ 4096 }
+    requires few { count ≤ MAX_RESOURCES }
     ensures { IfOk result (λ text. IsGeneratedText count (string_bytes text)) }
 {
     let document = generated_document(alloc, count)?;
@@ -45,7 +46,8 @@ fn lines(
     requires order { All (λ r. r < length document.now.resources) order.now }
     requires known { All (λ e. place_of e < length document.now.resources) calls.now }
     requires ends { EndsAtYes calls.now }
-    ensures { IfOk result (λ text. string_bytes text ≡ generated_lines count document.now order.now calls.now) }
+    ensures { IfOk result (λ text. string_bytes text
+        ≡ generated_lines count document.now order.now calls.now) }
 {
     let total = document.resources.as_slice().len();
     let good = count_succeeded(calls);
@@ -92,7 +94,8 @@ fn is_set(entry: &Entry) -> bool
 fn push_ends(text: &mut String, document: &Document, order: &[u32]) -> Result<(), AllocError>
     requires some { 0 < length order.now }
     requires order { All (λ r. r < length document.now.resources) order.now }
-    ensures { OnOk result (string_bytes text.new ≡ string_bytes text.old ++ ends_line document.now order.now) }
+    ensures { OnOk result (string_bytes text.new
+        ≡ string_bytes text.old ++ ends_line document.now order.now) }
 {
     text.push_str("first ")?;
     push_literal(text, id(document, order[0]))?;

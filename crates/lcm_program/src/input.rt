@@ -11,18 +11,13 @@ use depend_order::OrderError;
 use dsc_document::Document;
 use dsc_node::InputError;
 use dsc_outside::Source;
-use meta_config::{Meta, MetaError, parts_order};
+use meta_config::{MAX_META_TEXT, Meta, MetaError, parts_order};
 use mof_codec::{MofError, read};
+use mof_syntax::MAX_DOCUMENT;
 use mof_values::{Instance, Text};
 use partial_merge::{MergeError, OrderedDocument, merge_text};
 use std::alloc::{AllocError, AllocFailed, Global};
 use std::mem::forget;
-
-/// The most bytes of a document.
-const LIMIT: usize = 2_097_152;
-
-/// The most bytes of a meta-configuration.
-const META_LIMIT: usize = 262_144;
 
 /// Why there is no document, or why there are no instances.
 #[derive(Debug, Drop, PartialEq)]
@@ -49,9 +44,11 @@ impl<T: Drop> From<AllocFailed<T>> for Unread {
 
 /// Reads the input to its end, and the document that it declares, as one part without a name, with its order.
 pub fn read_ordered<S: Source>(alloc: Global, input: &mut S) -> Result<OrderedDocument, Unread>
-    ensures ok { IfOk result (λ ordered. IsInput ReadsDocument (S.left input.old) (Ok ordered.document)) }
+    ensures ok { IfOk result (λ ordered. IsInput ReadsDocument (S.left input.old)
+        (Ok ordered.document)) }
     ensures ordered { IfOk result IsOrdered }
-    ensures err { IfErr result (λ e. IsUnread ReadsDocument e (S.left input.old) (S.faults input.old) (S.faults input.new)) }
+    ensures err { IfErr result (λ e. IsUnread ReadsDocument e (S.left input.old)
+        (S.faults input.old) (S.faults input.new)) }
 {
     let bytes = match read_bytes(alloc, input) {
         Ok(bytes) => bytes,
@@ -73,7 +70,8 @@ pub fn leave<T: Drop>(document: T) {
 /// Reads the input to its end, and the document that it declares.
 pub fn read_document<S: Source>(alloc: Global, input: &mut S) -> Result<Document, Unread>
     ensures ok { IfOk result (λ document. IsInput ReadsDocument (S.left input.old) (Ok document)) }
-    ensures err { IfErr result (λ e. IsUnread ReadsDocument e (S.left input.old) (S.faults input.old) (S.faults input.new)) }
+    ensures err { IfErr result (λ e. IsUnread ReadsDocument e (S.left input.old)
+        (S.faults input.old) (S.faults input.new)) }
 {
     match read_ordered(alloc, input) {
         Ok(ordered) => Ok(ordered.document),
@@ -84,7 +82,8 @@ pub fn read_document<S: Source>(alloc: Global, input: &mut S) -> Result<Document
 // What a refusal of the merge is here.
 fn unmerged(error: MergeError) -> Unread
     ensures { ((error ≡ MergeError.Memory) × (result ≡ Unread.Memory))
-        ⊎ ((error ≢ MergeError.Memory) × (result ≡ Unread.Refused (Refusal.Input (InputError.Merge error)))) }
+        ⊎ ((error ≢ MergeError.Memory) × (result ≡ Unread.Refused
+        (Refusal.Input (InputError.Merge error)))) }
 {
     match error {
         MergeError::Memory => Unread::Memory,
@@ -94,8 +93,10 @@ fn unmerged(error: MergeError) -> Unread
 
 /// Reads the input to its end, and the instances that it spells.
 pub fn read_instances<S: Source>(alloc: Global, input: &mut S) -> Result<Vec<Instance>, Unread>
-    ensures ok { IfOk result (λ instances. IsInput ReadsInstances (S.left input.old) (Ok instances.items)) }
-    ensures err { IfErr result (λ e. IsUnread ReadsInstances e (S.left input.old) (S.faults input.old) (S.faults input.new)) }
+    ensures ok { IfOk result (λ instances. IsInput ReadsInstances (S.left input.old)
+        (Ok instances.items)) }
+    ensures err { IfErr result (λ e. IsUnread ReadsInstances e (S.left input.old)
+        (S.faults input.old) (S.faults input.new)) }
 {
     let bytes = match read_bytes(alloc, input) {
         Ok(bytes) => bytes,
@@ -111,9 +112,10 @@ pub fn read_instances<S: Source>(alloc: Global, input: &mut S) -> Result<Vec<Ins
 pub fn read_meta<S: Source>(alloc: Global, input: &mut S) -> Result<Meta, Unread>
     ensures ok { IfOk result (λ meta. IsInput ReadsMeta (S.left input.old) (Ok meta)) }
     ensures taken { IfOk result IsNodeMeta }
-    ensures err { IfErr result (λ e. IsUnread ReadsMeta e (S.left input.old) (S.faults input.old) (S.faults input.new)) }
+    ensures err { IfErr result (λ e. IsUnread ReadsMeta e (S.left input.old) (S.faults input.old)
+        (S.faults input.new)) }
 {
-    let bytes = match read_within(alloc, input, META_LIMIT) {
+    let bytes = match read_within(alloc, input, MAX_META_TEXT) {
         Ok(bytes) => bytes,
         Err(unread) => return Err(unread),
     };
@@ -133,17 +135,21 @@ pub fn read_meta<S: Source>(alloc: Global, input: &mut S) -> Result<Meta, Unread
 
 /// Reads the input to its end, as the bytes of a document.
 pub fn read_bytes<S: Source>(alloc: Global, input: &mut S) -> Result<Vec<u8>, Unread>
-    ensures ok { IfOk result (λ bytes. IsInput (ReadsBytes input_limit) (S.left input.old) (Ok bytes.items)) }
-    ensures err { IfErr result (λ e. IsUnread (ReadsBytes input_limit) e (S.left input.old) (S.faults input.old) (S.faults input.new)) }
+    ensures ok { IfOk result (λ bytes. IsInput (ReadsBytes input_limit) (S.left input.old)
+        (Ok bytes.items)) }
+    ensures err { IfErr result (λ e. IsUnread (ReadsBytes input_limit) e (S.left input.old)
+        (S.faults input.old) (S.faults input.new)) }
 {
-    read_within(alloc, input, LIMIT)
+    read_within(alloc, input, MAX_DOCUMENT)
 }
 
 // Reads the input to its end, if it has at most this number of bytes.
 fn read_within<S: Source>(alloc: Global, input: &mut S, limit: usize) -> Result<Vec<u8>, Unread>
     requires { limit ≤ input_limit }
-    ensures ok { IfOk result (λ bytes. IsInput (ReadsBytes limit) (S.left input.old) (Ok bytes.items)) }
-    ensures err { IfErr result (λ e. IsUnread (ReadsBytes limit) e (S.left input.old) (S.faults input.old) (S.faults input.new)) }
+    ensures ok { IfOk result (λ bytes. IsInput (ReadsBytes limit) (S.left input.old)
+        (Ok bytes.items)) }
+    ensures err { IfErr result (λ e. IsUnread (ReadsBytes limit) e (S.left input.old)
+        (S.faults input.old) (S.faults input.new)) }
 {
     match read_all(alloc, input, limit) {
         Ok(bytes) => Ok(bytes),
@@ -156,7 +162,8 @@ fn read_within<S: Source>(alloc: Global, input: &mut S, limit: usize) -> Result<
 // What a refusal of a meta-configuration is here.
 fn undeclared(error: MetaError) -> Unread
     ensures { ((error ≡ MetaError.Memory) × (result ≡ Unread.Memory))
-        ⊎ ((error ≢ MetaError.Memory) × (result ≡ Unread.Refused (Refusal.Input (InputError.Meta error)))) }
+        ⊎ ((error ≢ MetaError.Memory) × (result ≡ Unread.Refused
+        (Refusal.Input (InputError.Meta error)))) }
 {
     match error {
         MetaError::Memory => Unread::Memory,
@@ -167,7 +174,8 @@ fn undeclared(error: MetaError) -> Unread
 // What a refusal of the text is here.
 fn unspelled(error: MofError) -> Unread
     ensures { ((error ≡ MofError.Memory) × (result ≡ Unread.Memory))
-        ⊎ ((error ≢ MofError.Memory) × (result ≡ Unread.Refused (Refusal.Input (InputError.Mof error)))) }
+        ⊎ ((error ≢ MofError.Memory) × (result ≡ Unread.Refused
+        (Refusal.Input (InputError.Mof error)))) }
 {
     match error {
         MofError::Memory => Unread::Memory,

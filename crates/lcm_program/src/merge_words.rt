@@ -68,7 +68,8 @@ fn push_rule(out: &mut String, error: &DocError) -> Result<(), AllocError>
 
 // A name that an instance repeats.
 fn push_repeated(out: &mut String, index: u32, name: &Ident) -> Result<(), AllocError>
-    ensures { OnOk result (string_bytes out.new ≡ string_bytes out.old ++ repeated_words index name.now) }
+    ensures { OnOk result (string_bytes out.new
+        ≡ string_bytes out.old ++ repeated_words index name.now) }
 {
     write!(out, "DuplicateProperty {index}")?;
     push_ident(out, name)
@@ -76,7 +77,8 @@ fn push_repeated(out: &mut String, index: u32, name: &Ident) -> Result<(), Alloc
 
 /// Appends a name and the places of two instances.
 pub fn push_pair(out: &mut String, name: &str, first: u32, second: u32) -> Result<(), AllocError>
-    ensures { OnOk result (string_bytes out.new ≡ string_bytes out.old ++ pair_words name.now first second) }
+    ensures { OnOk result (string_bytes out.new
+        ≡ string_bytes out.old ++ pair_words name.now first second) }
 {
     out.push_str(name)?;
     write!(out, " {first} {second}")
@@ -84,7 +86,8 @@ pub fn push_pair(out: &mut String, name: &str, first: u32, second: u32) -> Resul
 
 /// Appends a space and a text as a literal.
 pub fn push_text(out: &mut String, text: &Text) -> Result<(), AllocError>
-    ensures { OnOk result (string_bytes out.new ≡ string_bytes out.old ++ codes " " ++ quoted text.now) }
+    ensures { OnOk result (string_bytes out.new
+        ≡ string_bytes out.old ++ codes " " ++ quoted text.now) }
 {
     out.push_str(" ")?;
     push_literal(out, text.as_slice())
@@ -92,7 +95,8 @@ pub fn push_text(out: &mut String, text: &Text) -> Result<(), AllocError>
 
 /// Appends a space and an identifier.
 pub fn push_ident(out: &mut String, name: &Ident) -> Result<(), AllocError>
-    ensures { OnOk result (string_bytes out.new ≡ string_bytes out.old ++ codes " " ++ encode_utf8_all name.now) }
+    ensures { OnOk result (string_bytes out.new
+        ≡ string_bytes out.old ++ codes " " ++ encode_utf8_all name.now) }
 {
     out.push_str(" ")?;
     let text: String = name.as_slice().iter().copied().collect(*out.allocator())?;
@@ -101,7 +105,8 @@ pub fn push_ident(out: &mut String, name: &Ident) -> Result<(), AllocError>
 
 // Two instances with the same id.
 fn push_same_ids(out: &mut String, first: Spot, second: Spot) -> Result<(), AllocError>
-    ensures { OnOk result (string_bytes out.new ≡ string_bytes out.old ++ same_id_words first second) }
+    ensures { OnOk result (string_bytes out.new
+        ≡ string_bytes out.old ++ same_id_words first second) }
 {
     out.push_str("DuplicateId ")?;
     push_spot(out, first)?;
@@ -118,7 +123,8 @@ fn push_spot(out: &mut String, spot: Spot) -> Result<(), AllocError>
 
 /// Appends the places of a walk, a space before each.
 pub fn push_places(out: &mut String, places: &[u32]) -> Result<(), AllocError>
-    ensures { OnOk result (string_bytes out.new ≡ string_bytes out.old ++ flat_map place_words places.now) }
+    ensures { OnOk result (string_bytes out.new
+        ≡ string_bytes out.old ++ flat_map place_words places.now) }
 {
     for place in places {
         write!(out, " {place}")?;

@@ -31,14 +31,16 @@ pub fn push_meta_error(out: &mut String, error: &MetaError) -> Result<(), AllocE
 
 // An instance and the name of its property.
 fn push_bad_value(out: &mut String, index: u32, name: &Ident) -> Result<(), AllocError>
-    ensures { OnOk result (string_bytes out.new ≡ string_bytes out.old ++ bad_value_words index name.now) }
+    ensures { OnOk result (string_bytes out.new
+        ≡ string_bytes out.old ++ bad_value_words index name.now) }
 {
     write!(out, "BadValue {index}")?;
     push_ident(out, name)
 }
 
 fn push_limit(out: &mut String, limit: Limit) -> Result<(), AllocError>
-    ensures { OnOk result (string_bytes out.new ≡ string_bytes out.old ++ meta_words (MetaError.TooMany limit)) }
+    ensures { OnOk result (string_bytes out.new
+        ≡ string_bytes out.old ++ meta_words (MetaError.TooMany limit)) }
 {
     out.push_str("TooMany ")?;
     out.push_str(limit_name(limit))
@@ -56,7 +58,8 @@ fn limit_name(limit: Limit) -> &'static str
 
 // An instance and a name that no partial configuration has.
 fn push_unknown_part(out: &mut String, index: u32, name: &Text) -> Result<(), AllocError>
-    ensures { OnOk result (string_bytes out.new ≡ string_bytes out.old ++ unknown_part_words index name.now) }
+    ensures { OnOk result (string_bytes out.new
+        ≡ string_bytes out.old ++ unknown_part_words index name.now) }
 {
     write!(out, "DependsUnknown {index}")?;
     push_text(out, name)

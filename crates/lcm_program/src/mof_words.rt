@@ -23,7 +23,8 @@ pub fn push_mof_error(out: &mut String, error: MofError) -> Result<(), AllocErro
 }
 
 fn push_out_of_profile(out: &mut String, at: usize, what: Form) -> Result<(), AllocError>
-    ensures { OnOk result (string_bytes out.new ≡ string_bytes out.old ++ codes "OutOfProfile " ++ decimal at ++ codes " " ++ form_name what) }
+    ensures { OnOk result (string_bytes out.new ≡ string_bytes out.old ++ codes "OutOfProfile "
+        ++ decimal at ++ codes " " ++ form_name what) }
 {
     let name = what.name();
     write!(out, "OutOfProfile {at} {name}")

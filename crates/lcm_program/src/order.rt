@@ -14,7 +14,8 @@ use std::alloc::{AllocError, Global};
 /// Reads the input to its end, and prints the ids of its document in the order of their dependencies, a line each.
 pub fn read_order<S: Source>(alloc: Global, input: &mut S) -> Result<Vec<u8>, Unread>
     ensures ok { IfOk result (λ text. IsInput AnswersOrder (S.left input.old) (Ok text.items)) }
-    ensures err { IfErr result (λ e. IsUnread AnswersOrder e (S.left input.old) (S.faults input.old) (S.faults input.new)) }
+    ensures err { IfErr result (λ e. IsUnread AnswersOrder e (S.left input.old) (S.faults input.old)
+        (S.faults input.new)) }
 {
     let ordered = match read_ordered(alloc, input) {
         Ok(ordered) => ordered,

@@ -89,7 +89,8 @@ fn push_message_error(out: &mut String, error: &MessageError) -> Result<(), Allo
 
 // What is wrong with a field, and its name.
 fn push_field(out: &mut String, fault: &str, field: Field) -> Result<(), AllocError>
-    ensures { OnOk result (string_bytes out.new ≡ string_bytes out.old ++ fault.now ++ name_of field) }
+    ensures { OnOk result (string_bytes out.new
+        ≡ string_bytes out.old ++ fault.now ++ name_of field) }
 {
     out.push_str(fault)?;
     out.push_str(field.name())
@@ -97,7 +98,8 @@ fn push_field(out: &mut String, fault: &str, field: Field) -> Result<(), AllocEr
 
 // The digest that was announced, and that of the body.
 fn push_mismatch(out: &mut String, announced: &[u8; 32], found: &[u8; 32]) -> Result<(), AllocError>
-    ensures { OnOk result (string_bytes out.new ≡ string_bytes out.old ++ mismatch_words announced.now found.now) }
+    ensures { OnOk result (string_bytes out.new
+        ≡ string_bytes out.old ++ mismatch_words announced.now found.now) }
 {
     out.push_str("Mismatch ")?;
     push_checksum(out, announced)?;

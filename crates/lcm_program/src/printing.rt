@@ -6,10 +6,9 @@ ghost use Rattle.lcm_program.specs.Test.{PrintsRun};
 
 use crate::input::Unread;
 use crate::refusal::Refusal;
-use crate::streams::write_all;
 use crate::test::Outcome;
 use dsc_node::{StartEnd, Status};
-use dsc_outside::{Failed, Sink};
+use dsc_outside::{Failed, Sink, write_all};
 use std::alloc::{AllocError, Global};
 
 /// Prints the text with which a tool answers, or the line of its refusal.
@@ -29,7 +28,8 @@ pub fn print_answer<K: Sink>(
 
 /// Prints the lines of a run, or the line of the refusal for which there was none.
 pub fn print_run<K: Sink>(alloc: Global, output: &mut K, run: Result<Outcome, Unread>) -> Status
-    ensures ok { IfOk run (λ outcome. PrintsRun K.Ends (string_bytes outcome.lines) outcome.missed result output.old output.new) }
+    ensures ok { IfOk run (λ outcome. PrintsRun K.Ends (string_bytes outcome.lines) outcome.missed
+        result output.old output.new) }
     ensures err { IfErr run (λ unread. UnreadEnds K.Ends unread result output.old output.new) }
 {
     let outcome = match run {
@@ -73,8 +73,9 @@ fn print_refused<K: Sink>(alloc: Global, output: &mut K, lines: String, refusal:
     ensures { RefusedStartEnds K.Ends (string_bytes lines) refusal result output.old output.new }
 {
     let mut text = lines;
-    let Ok(line) = refusal.line(alloc) else {
-        return Status::Memory;
+    let line = match refusal.line(alloc) {
+        Ok(line) => line,
+        Err(AllocError) => return Status::Memory,
     };
     if let Err(AllocError) = text.push_str(line.as_str()) {
         return Status::Memory;
@@ -83,7 +84,7 @@ fn print_refused<K: Sink>(alloc: Global, output: &mut K, lines: String, refusal:
     refusal.status()
 }
 
-// Prints the lines of a start that was not refused. Where memory was refused nothing is printed.
+// Prints the lines of a start that was not refused. Where memory ran out nothing is printed.
 fn print_other<K: Sink>(output: &mut K, lines: &str, status: Status) -> Status
     ensures { OtherStartEnds K.Ends status lines.now result output.old output.new }
 {

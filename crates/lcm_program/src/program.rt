@@ -1,5 +1,7 @@
 //! The program: one command, from its arguments and its input to its output.
 ghost use Rattle.std.specs.Prelude.{◌≡◌, ◌⊎◌, [], map, string_bytes, IfErr, IfOk};
+ghost use Rattle.dsc_outside.specs.Link.{GoesOn};
+ghost use Rattle.dsc_outside.specs.LinkView.{view_of};
 ghost use Rattle.resource_kinds.specs.Kinds.{calls_of};
 ghost use Rattle.dsc_node.specs.HostHeadline.{kinds_of, machine_of};
 ghost use Rattle.lcm_program.specs.declared.words.Command.{Command};
@@ -46,13 +48,22 @@ pub fn node<S: Source, K: Sink, D: Disk, H: Host, L: Link, C: Clock>(
 
     // What the arguments ask for was done, by the table of commands.
     ensures did { (command : Command) → IsForm command (map string_bytes words.now)
-        → Did (known S.Ends K.Ends D.Disk (kinds_of H.Host) (machine_of H.Host) L.Link C.Clock) (further_of_host D.Disk H.Host C.Clock) command result
-        (objects input.old output.old disk.old kinds.old link.old clock.old) (objects input.new output.new disk.new kinds.new link.new clock.new) }
+        → Did (known S.Ends K.Ends D.Disk (kinds_of H.Host) (machine_of H.Host) L.Link C.Clock)
+        (further_of_host D.Disk H.Host C.Clock) command result
+        (objects input.old output.old disk.old kinds.old link.old clock.old)
+        (objects input.new output.new disk.new kinds.new link.new clock.new) }
 
     // Arguments in no form ask for nothing, and are refused.
     ensures nothing { ((command : Command) → IsForm command (map string_bytes words.now) → ⊥)
-        → DidNothing (known S.Ends K.Ends D.Disk (kinds_of H.Host) (machine_of H.Host) L.Link C.Clock) (map string_bytes words.now) result
-        (objects input.old output.old disk.old kinds.old link.old clock.old) (objects input.new output.new disk.new kinds.new link.new clock.new) }
+        → DidNothing (known S.Ends K.Ends D.Disk (kinds_of H.Host) (machine_of H.Host) L.Link
+        C.Clock)
+        (map string_bytes words.now) result
+        (objects input.old output.old disk.old kinds.old link.old clock.old)
+        (objects input.new output.new disk.new kinds.new link.new clock.new) }
+
+    // The link is one that it may become, and its exchanges are only added.
+    ensures becomes { L.may_become link.old link.new }
+    ensures goes_on { GoesOn (view_of L.Link link.old) (view_of L.Link link.new) }
 {
     repair_laws();
     trace_laws();
@@ -76,13 +87,21 @@ pub fn node_over<S: Source, K: Sink, D: Disk, M: Machine, L: Link, C: Clock>(
 
     // What the arguments ask for was done, by the table of commands.
     ensures did { (command : Command) → IsForm command (map string_bytes words.now)
-        → Did (known S.Ends K.Ends D.Disk M.Resources M.Machine.own L.Link C.Clock) nothing_further command result
-        (objects input.old output.old disk.old machine.old link.old clock.old) (objects input.new output.new disk.new machine.new link.new clock.new) }
+        → Did (known S.Ends K.Ends D.Disk M.Resources M.Machine.own L.Link C.Clock) nothing_further
+        command result
+        (objects input.old output.old disk.old machine.old link.old clock.old)
+        (objects input.new output.new disk.new machine.new link.new clock.new) }
 
     // Arguments in no form ask for nothing, and are refused.
     ensures nothing { ((command : Command) → IsForm command (map string_bytes words.now) → ⊥)
-        → DidNothing (known S.Ends K.Ends D.Disk M.Resources M.Machine.own L.Link C.Clock) (map string_bytes words.now) result
-        (objects input.old output.old disk.old machine.old link.old clock.old) (objects input.new output.new disk.new machine.new link.new clock.new) }
+        → DidNothing (known S.Ends K.Ends D.Disk M.Resources M.Machine.own L.Link C.Clock)
+        (map string_bytes words.now) result
+        (objects input.old output.old disk.old machine.old link.old clock.old)
+        (objects input.new output.new disk.new machine.new link.new clock.new) }
+
+    // The link is one that it may become, and its exchanges are only added.
+    ensures becomes { L.may_become link.old link.new }
+    ensures goes_on { GoesOn (view_of L.Link link.old) (view_of L.Link link.new) }
 {
     match read_words(words) {
         Ok(command) => do_command(alloc, command, input, output, disk, machine, link, clock),
@@ -103,8 +122,13 @@ fn do_command<S: Source, K: Sink, D: Disk, M: Machine, L: Link, C: Clock>(
 ) -> Status
     requires fresh { M.kept machine.old ≡ [] }
     requires range { IsInRange command }
-    ensures did { Did (known S.Ends K.Ends D.Disk M.Resources M.Machine.own L.Link C.Clock) nothing_further command.entry result
-        (objects input.old output.old disk.old machine.old link.old clock.old) (objects input.new output.new disk.new machine.new link.new clock.new) }
+    ensures did { Did (known S.Ends K.Ends D.Disk M.Resources M.Machine.own L.Link C.Clock)
+        nothing_further
+        command.entry result
+        (objects input.old output.old disk.old machine.old link.old clock.old)
+        (objects input.new output.new disk.new machine.new link.new clock.new) }
+    ensures becomes { L.may_become link.old link.new }
+    ensures goes_on { GoesOn (view_of L.Link link.old) (view_of L.Link link.new) }
 {
     match command {
         Command::Test => print_run(alloc, output, read_and_monitor(alloc, input, machine)),

@@ -107,7 +107,8 @@ impl Refusal {
 
 // Appends the refusal's name, and its values.
 fn push_reason(out: &mut String, refusal: &Refusal) -> Result<(), AllocError>
-    ensures { OnOk result (string_bytes out.new ≡ string_bytes out.old ++ reason_words refusal.now) }
+    ensures { OnOk result (string_bytes out.new
+        ≡ string_bytes out.old ++ reason_words refusal.now) }
 {
     match refusal {
         Refusal::Usage { word } => write!(out, "Usage {word}"),
@@ -147,7 +148,8 @@ fn push_input_error(out: &mut String, error: &InputError) -> Result<(), AllocErr
 
 // Appends why a node does not allow a command.
 fn push_why(out: &mut String, why: Why) -> Result<(), AllocError>
-    ensures { OnOk result (string_bytes out.new ≡ string_bytes out.old ++ codes "NotAllowed " ++ why_word why) }
+    ensures { OnOk result (string_bytes out.new
+        ≡ string_bytes out.old ++ codes "NotAllowed " ++ why_word why) }
 {
     let name = name_of(why);
     write!(out, "NotAllowed {name}")

@@ -1,7 +1,7 @@
 //! The commands that start the node.
-ghost use Rattle.std.specs.Prelude.{◌≡◌, [], IfOk};
-ghost use Rattle.std.specs.Str.{chars};
-ghost use Rattle.node_pull.specs.Views.{view_of};
+ghost use Rattle.std.specs.Prelude.{◌≡◌, []};
+ghost use Rattle.dsc_outside.specs.Link.{GoesOn};
+ghost use Rattle.dsc_outside.specs.LinkView.{view_of};
 ghost use Rattle.dsc_node.specs.Commands.{IsTaken};
 ghost use Rattle.dsc_node.specs.Start.{outside};
 ghost use Rattle.dsc_node.specs.Work.{known};
@@ -28,8 +28,12 @@ pub fn start_node<K: Sink, D: Disk, M: Machine, L: Link, C: Clock>(
 ) -> Status
     requires taken { IsTaken command }
     requires fresh { M.kept machine.old ≡ [] }
-    ensures { IsStart K.Ends (known D.Disk M.Resources M.Machine.own C.Clock) nothing_further command result output.old output.new
-        (outside disk.old machine.old (view_of L.Link link.old) clock.old) (outside disk.new machine.new (view_of L.Link link.new) clock.new) }
+    ensures starts { IsStart K.Ends (known D.Disk M.Resources M.Machine.own C.Clock) nothing_further
+        command result output.old output.new
+        (outside disk.old machine.old (view_of L.Link link.old) clock.old)
+        (outside disk.new machine.new (view_of L.Link link.new) clock.new) }
+    ensures becomes { L.may_become link.old link.new }
+    ensures goes_on { GoesOn (view_of L.Link link.old) (view_of L.Link link.new) }
 {
     print_start(
         alloc,
@@ -49,10 +53,14 @@ pub fn register<K: Sink, D: Disk, M: Machine, L: Link, C: Clock>(
     clock: &mut C,
 ) -> Status
     requires fresh { M.kept machine.old ≡ [] }
-    ensures { RegisterEnds K.Ends (known D.Disk M.Resources M.Machine.own C.Clock) nothing_further name.now result output.old output.new
-        (outside disk.old machine.old (view_of L.Link link.old) clock.old) (outside disk.new machine.new (view_of L.Link link.new) clock.new) }
+    ensures ends { RegisterEnds K.Ends (known D.Disk M.Resources M.Machine.own C.Clock)
+        nothing_further name.now result output.old output.new
+        (outside disk.old machine.old (view_of L.Link link.old) clock.old)
+        (outside disk.new machine.new (view_of L.Link link.new) clock.new) }
+    ensures becomes { L.may_become link.old link.new }
+    ensures goes_on { GoesOn (view_of L.Link link.old) (view_of L.Link link.new) }
 {
-    match text_of(alloc, name) {
+    match Text::from_utf8(alloc, name) {
         Ok(text) => start_node(
             alloc,
             Command::Register(text),
@@ -64,12 +72,6 @@ pub fn register<K: Sink, D: Disk, M: Machine, L: Link, C: Clock>(
         ),
         Err(AllocError) => Status::Memory,
     }
-}
-
-fn text_of(alloc: Global, word: &str) -> Result<Text, AllocError>
-    ensures { IfOk result (λ text. text ≡ chars word.now) }
-{
-    Ok(Text::of(word.chars().collect(alloc)?))
 }
 
 /// Reads the input to its end, and starts the node with it as the document that is pushed; where it is not read nothing else is
@@ -84,8 +86,12 @@ pub fn push<S: Source, K: Sink, D: Disk, M: Machine, L: Link, C: Clock>(
     clock: &mut C,
 ) -> Status
     requires fresh { M.kept machine.old ≡ [] }
-    ensures { PushEnds S.Ends K.Ends (known D.Disk M.Resources M.Machine.own C.Clock) nothing_further result input.old input.new output.old output.new
-        (outside disk.old machine.old (view_of L.Link link.old) clock.old) (outside disk.new machine.new (view_of L.Link link.new) clock.new) }
+    ensures ends { PushEnds S.Ends K.Ends (known D.Disk M.Resources M.Machine.own C.Clock)
+        nothing_further result input.old input.new output.old output.new
+        (outside disk.old machine.old (view_of L.Link link.old) clock.old)
+        (outside disk.new machine.new (view_of L.Link link.new) clock.new) }
+    ensures becomes { L.may_become link.old link.new }
+    ensures goes_on { GoesOn (view_of L.Link link.old) (view_of L.Link link.new) }
 {
     match read_bytes(alloc, input) {
         Ok(bytes) => start_node(
@@ -113,8 +119,12 @@ pub fn set_meta<S: Source, K: Sink, D: Disk, M: Machine, L: Link, C: Clock>(
     clock: &mut C,
 ) -> Status
     requires fresh { M.kept machine.old ≡ [] }
-    ensures { MetaEnds S.Ends K.Ends (known D.Disk M.Resources M.Machine.own C.Clock) nothing_further result input.old input.new output.old output.new
-        (outside disk.old machine.old (view_of L.Link link.old) clock.old) (outside disk.new machine.new (view_of L.Link link.new) clock.new) }
+    ensures ends { MetaEnds S.Ends K.Ends (known D.Disk M.Resources M.Machine.own C.Clock)
+        nothing_further result input.old input.new output.old output.new
+        (outside disk.old machine.old (view_of L.Link link.old) clock.old)
+        (outside disk.new machine.new (view_of L.Link link.new) clock.new) }
+    ensures becomes { L.may_become link.old link.new }
+    ensures goes_on { GoesOn (view_of L.Link link.old) (view_of L.Link link.new) }
 {
     match read_meta(alloc, input) {
         Ok(meta) => start_node(

@@ -1,13 +1,11 @@
-//! Whole inputs and outputs.
-ghost use Rattle.std.specs.Prelude.{◌≡◌, ◌<◌, ◌≤◌, ◌^◌, length, OnOk, OnErr, IfOk, IfSome, IsErrOf};
-ghost use Rattle.std.specs.Io.KnownBytes.{Appends, IsAtEnd};
+//! Reads a whole input.
+ghost use Rattle.std.specs.Prelude.{◌≡◌, ◌<◌, ◌≤◌, ◌^◌, length, OnOk, IfOk, IfSome, IsErrOf};
+ghost use Rattle.std.specs.Io.KnownBytes.{IsAtEnd};
 ghost use Rattle.dsc_terms.specs.Counts.{Rose};
-ghost use Rattle.dsc_outside.specs.Causes.{HasCause};
-ghost use Rattle.lcm_program.specs.Streams.{AppendsPart};
 ghost use Rattle.lcm_program.specs.Input.{IsInput, IsLonger};
 
-use dsc_outside::{Failed, Sink, Source};
-use std::alloc::Global;
+use dsc_outside::{Failed, Source};
+use std::alloc::{AllocError, Global};
 
 /// Why an input was not read.
 #[derive(Clone, Copy, Debug, PartialEq, Eq)]
@@ -17,7 +15,7 @@ pub enum ReadError {
     Memory,
 }
 
-/// Reads to the end, where that is no more than so many bytes. A read that fails before more than those came is a failure.
+/// Reads to the end, where that is at most `limit` bytes. A read that fails before more bytes came is a failure.
 pub fn read_all<S: Source>(
     alloc: Global,
     source: &mut S,
@@ -28,8 +26,10 @@ pub fn read_all<S: Source>(
     ensures fits { IfOk result (λ v. length v.items ≤ limit) }
     ensures end { OnOk result (IsAtEnd (S.left source.new)) }
     ensures held { S.held source.new ≡ S.held source.old }
-    ensures too_long { IsErrOf result ReadError.TooLong → IsInput IsLonger (S.left source.old) limit }
-    ensures failed { IsErrOf result ReadError.Failed → Rose (S.faults source.old) (S.faults source.new) }
+    ensures too_long { IsErrOf result ReadError.TooLong → IsInput IsLonger (S.left source.old)
+        limit }
+    ensures failed { IsErrOf result ReadError.Failed → Rose (S.faults source.old)
+        (S.faults source.new) }
     ensures later { S.faults source.old ≤ S.faults source.new }
 {
     let mut bytes = Vec::new(alloc);
@@ -39,7 +39,7 @@ pub fn read_all<S: Source>(
             Err(Failed) => return Err(ReadError::Failed),
             Ok(0) => return Ok(bytes),
             Ok(count) => {
-                if bytes.extend_from_slice(&buffer[..count]).is_err() {
+                if let Err(AllocError) = bytes.extend_from_slice(&buffer[..count]) {
                     return Err(ReadError::Memory);
                 }
                 if bytes.len() > limit {
@@ -48,19 +48,4 @@ pub fn read_all<S: Source>(
             }
         }
     }
-}
-
-/// Writes all the bytes, or where the sink fails a part from their front.
-pub fn write_all<K: Sink>(sink: &mut K, bytes: &[u8]) -> Result<(), Failed>
-    ensures ok { OnOk result (Appends (K.held sink.old) (K.held sink.new) bytes.now) }
-    ensures err { OnErr result (AppendsPart (K.held sink.old) (K.held sink.new) bytes.now) }
-    ensures left { K.left sink.new ≡ K.left sink.old }
-    ensures cause { HasCause (K.faults sink.old) (K.faults sink.new) result }
-{
-    let mut rest = bytes;
-    while !rest.is_empty() {
-        let count = sink.write(rest)?;
-        rest = &rest[count..];
-    }
-    Ok(())
 }

@@ -37,8 +37,10 @@ pub fn read_and_monitor<S: Source, M: Machine>(
     machine: &mut M,
 ) -> Result<Outcome, Unread>
     requires fresh { M.kept machine.old ≡ [] }
-    ensures ok { IfOk result (λ outcome. IsRunOf M.Resources nothing_further_of_runs (S.left input.old) machine.old machine.new (string_bytes outcome.lines) outcome.missed) }
-    ensures err { IfErr result (λ e. IsUntested M.Resources nothing_further_of_runs e (S.left input.old) (S.faults input.old) (S.faults input.new) machine.old machine.new) }
+    ensures ok { IfOk result (λ outcome. IsRunOf M.Resources nothing_further_of_runs
+        (S.left input.old) machine.old machine.new (string_bytes outcome.lines) outcome.missed) }
+    ensures err { IfErr result (λ e. IsUntested M.Resources nothing_further_of_runs e
+        (S.left input.old) (S.faults input.old) (S.faults input.new) machine.old machine.new) }
 {
     let ordered = match read_ordered(alloc, input) {
         Ok(ordered) => ordered,
@@ -62,10 +64,14 @@ fn monitor_document<M: Machine>(
     requires merged { (parts : List Part) × Merged parts ordered.now.document }
     requires ordered { IsOrdered ordered.now }
 
-    ensures run { (machine.new ≡ machine.old) ⊎ ((end : RunEnd) × Monitored M.Resources nothing_further_of_runs ordered.now.document end machine.old machine.new) }
-    ensures ok { OnOk result (Monitored M.Resources nothing_further_of_runs ordered.now.document RunEnd.Finished machine.old machine.new) }
-    ensures lines { IfOk result (λ outcome. IsRunText ordered.now.document (M.kept machine.new) (string_bytes outcome.lines)) }
-    ensures missed { IfOk result (λ outcome. outcome.missed ≡ missed_count ordered.now.document (M.kept machine.new)) }
+    ensures run { (machine.new ≡ machine.old) ⊎ ((end : RunEnd) × Monitored M.Resources
+        nothing_further_of_runs ordered.now.document end machine.old machine.new) }
+    ensures ok { OnOk result (Monitored M.Resources nothing_further_of_runs ordered.now.document
+        RunEnd.Finished machine.old machine.new) }
+    ensures lines { IfOk result (λ outcome. IsRunText ordered.now.document (M.kept machine.new)
+        (string_bytes outcome.lines)) }
+    ensures missed { IfOk result (λ outcome. outcome.missed
+        ≡ missed_count ordered.now.document (M.kept machine.new)) }
 {
     let document = &ordered.document;
     let overlap = overlaps(alloc, document)?;
@@ -93,7 +99,8 @@ fn outcome_of(
     requires few { length document.now.resources < 2 ^ 32 }
     requires known { All (λ e. place_of e < length document.now.resources) calls.now }
     requires ends { EndsAtYes calls.now }
-    ensures lines { IfOk result (λ outcome. string_bytes outcome.lines ≡ run_lines document.now calls.now ++ overlap_line overlap) }
+    ensures lines { IfOk result (λ outcome. string_bytes outcome.lines
+        ≡ run_lines document.now calls.now ++ overlap_line overlap) }
     ensures missed { IfOk result (λ outcome. outcome.missed ≡ missed_count document.now calls.now) }
 {
     let count = document.resources.as_slice().len();

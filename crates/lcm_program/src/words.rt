@@ -2,19 +2,17 @@
 ghost use Rattle.std.specs.Prelude.{◌↔◌, ℕ, [], ◌∷◌, IfOk, IfErr, IfSome, IfNone, IsTrue, codes, map, string_bytes};
 ghost use Rattle.lcm_program.specs.Words.{IsAgent, IsCount, IsForm, IsName, IsStage, IsUsage};
 
+use mof_values::MAX_NAME_BYTES;
 use node_state::Stage;
 use uuid::Uuid;
 
 /// The most resources of a generated document.
 const GENERATED_LIMIT: u32 = 4096;
 
-/// The most bytes of a node's name.
-const NAME_LIMIT: usize = 255;
-
 /// What the program is asked to do.
 #[derive(Clone, Copy, Debug, PartialEq, Eq)]
 pub enum Command<'a> {
-    /// Tests the document that the input is.
+    /// Tests the machine by the document in the input.
     Test,
 
     /// Prints how many resources the document of the input has.
@@ -29,25 +27,25 @@ pub enum Command<'a> {
     /// Prints the checksum of the input.
     Checksum,
 
-    /// Repairs an empty machine in memory by a document of so many resources, 1 to 4,096, and prints what came of it.
+    /// Repairs an empty machine in memory by a document of this number of resources, 1 to 4,096, and prints the result.
     Generate { count: u32 },
 
-    /// Makes the node that of an agent.
+    /// Gives the node its agent id, a UUID.
     Init { agent: u128 },
 
-    /// Has the node behave as the meta-configuration that the input is says.
+    /// Applies the meta-configuration in the input.
     Meta,
 
     /// Registers the agent at the pull server, under this name of its node, 1 to 255 bytes.
     Register { name: &'a str },
 
-    /// Brings what the pull server has for the node, and brings the machine to it.
+    /// Fetches what the pull server has for the node, and brings the machine to it.
     Pull,
 
-    /// Keeps the document that the input is, and brings the machine to it.
+    /// Stores the document in the input, and brings the machine to it.
     Push,
 
-    /// Goes on with a document that was not reached; without one, looks after the one that was, as the meta-configuration says.
+    /// Goes on with the pending document; without one, monitors or repairs by the current one, as the meta-configuration says.
     Consistency,
 
     /// Does the same, also where a reboot was asked for: the machine booted.
@@ -56,7 +54,7 @@ pub enum Command<'a> {
     /// Prints what the node is and holds.
     Get,
 
-    /// Goes back to the document that was reached before the last one, and brings the machine to it.
+    /// Goes back to the previous document, and brings the machine to it.
     Restore,
 
     /// Drops a document.
@@ -126,8 +124,10 @@ fn command_of(word: &str) -> Option<Command<'static>>
 
 // What the arguments after `generate` ask for.
 fn read_generate(rest: &[String]) -> Result<Command<'static>, UsageError>
-    ensures ok { IfOk result (λ command. IsForm command (codes "generate" ∷ map string_bytes rest.now)) }
-    ensures usage { IfErr result (λ error. IsUsage (codes "generate" ∷ map string_bytes rest.now) error.word) }
+    ensures ok { IfOk result (λ command. IsForm command
+        (codes "generate" ∷ map string_bytes rest.now)) }
+    ensures usage { IfErr result (λ error. IsUsage (codes "generate" ∷ map string_bytes rest.now)
+        error.word) }
 {
     let [word, more @ ..] = rest else {
         return Err(UsageError { word: 1 });
@@ -143,8 +143,10 @@ fn read_generate(rest: &[String]) -> Result<Command<'static>, UsageError>
 
 // What the arguments after `init` ask for.
 fn read_init(rest: &[String]) -> Result<Command<'static>, UsageError>
-    ensures ok { IfOk result (λ command. IsForm command (codes "init" ∷ map string_bytes rest.now)) }
-    ensures usage { IfErr result (λ error. IsUsage (codes "init" ∷ map string_bytes rest.now) error.word) }
+    ensures ok { IfOk result (λ command. IsForm command
+        (codes "init" ∷ map string_bytes rest.now)) }
+    ensures usage { IfErr result (λ error. IsUsage (codes "init" ∷ map string_bytes rest.now)
+        error.word) }
 {
     let [word, more @ ..] = rest else {
         return Err(UsageError { word: 1 });
@@ -160,8 +162,10 @@ fn read_init(rest: &[String]) -> Result<Command<'static>, UsageError>
 
 // What the arguments after `register` ask for.
 fn read_register<'a>(rest: &'a [String]) -> Result<Command<'a>, UsageError>
-    ensures ok { IfOk result (λ command. IsForm command (codes "register" ∷ map string_bytes rest.now)) }
-    ensures usage { IfErr result (λ error. IsUsage (codes "register" ∷ map string_bytes rest.now) error.word) }
+    ensures ok { IfOk result (λ command. IsForm command
+        (codes "register" ∷ map string_bytes rest.now)) }
+    ensures usage { IfErr result (λ error. IsUsage (codes "register" ∷ map string_bytes rest.now)
+        error.word) }
 {
     let [word, more @ ..] = rest else {
         return Err(UsageError { word: 1 });
@@ -178,8 +182,10 @@ fn read_register<'a>(rest: &'a [String]) -> Result<Command<'a>, UsageError>
 
 // What the arguments after `remove` ask for.
 fn read_remove(rest: &[String]) -> Result<Command<'static>, UsageError>
-    ensures ok { IfOk result (λ command. IsForm command (codes "remove" ∷ map string_bytes rest.now)) }
-    ensures usage { IfErr result (λ error. IsUsage (codes "remove" ∷ map string_bytes rest.now) error.word) }
+    ensures ok { IfOk result (λ command. IsForm command
+        (codes "remove" ∷ map string_bytes rest.now)) }
+    ensures usage { IfErr result (λ error. IsUsage (codes "remove" ∷ map string_bytes rest.now)
+        error.word) }
 {
     let [word, more @ ..] = rest else {
         return Err(UsageError { word: 1 });
@@ -197,7 +203,7 @@ fn read_remove(rest: &[String]) -> Result<Command<'static>, UsageError>
 fn is_name(word: &str) -> bool
     ensures { IsTrue result ↔ IsName word.now }
 {
-    !word.is_empty() && word.len() <= NAME_LIMIT
+    !word.is_empty() && word.len() <= MAX_NAME_BYTES
 }
 
 // The stage that the argument names.

@@ -33,7 +33,7 @@ fn make_exchanges(rt: &HostRuntime) -> io::Result<()> {
         let mut answer = b"kept".to_vec(rt.alloc())?;
         let outcome = match request_of(rt.alloc(), line.as_str()) {
             Ok(request) => link.exchange(&peer, &request, &mut answer),
-            Err(_) => Err(LinkError::Memory),
+            Err(AllocError) => Err(LinkError::Memory),
         };
         let whole = answer.as_slice().starts_with(b"kept");
         match outcome {

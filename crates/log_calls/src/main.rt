@@ -12,9 +12,9 @@ mod changes;
 mod passing;
 
 use changes::{append_all, rewrite_all};
-use dsc_outside::real::FileDisk;
 use gate_log::{Bodies, LogError, Shape, replay_log};
 use passing::Passing;
+use real_outside::{FileDisk, hold_standard_descriptors};
 use std::cmp::min;
 use std::env;
 use std::process::ExitCode;
@@ -29,6 +29,9 @@ enum Ask {
 }
 
 fn main(rt: HostRuntime) -> ExitCode {
+    let Ok(_held) = hold_standard_descriptors(&rt) else {
+        return ExitCode::from(4);
+    };
     let Some((file, ask)) = read_arguments(&rt) else {
         return ExitCode::from(2);
     };

@@ -1,9 +1,9 @@
 //! Merges parts from files: a tool for measurements and checks.
 //!
-//! The arguments are FILE.., 1 to 8. Each file is read whole and is a part, with the name `part0`, `part1` and so on. It prints the ids of
-//! the merged document in the order of dependencies, a line each, as the command `order` of the node program does.
-//! It ends with 0; with 2 where the arguments are others; with 3 where the parts are refused, for which it prints the reason; and
-//! with 4 where a file could not be read, nothing could be printed, or memory was refused.
+//! The arguments are FILE.., 1 to 8. Each file is read whole and is a part, with the name `part0`, `part1` and so on.
+//! It prints the ids of the merged document in the order of dependencies, a line each, as the command `order` of the
+//! node program does. It ends with 0; with 2 where the arguments are others; with 3 where the parts are refused, for
+//! which it prints the reason; and with 4 where a file could not be read, nothing could be printed, or memory ran out.
 #![tactic(auto)]
 
 ghost use Rattle.std.specs.Prelude.{◌<◌, ◌≤◌, IfSome, length, vec_len};

@@ -15,7 +15,7 @@ use Rattle.meta_config.specs.declared.tables.Class.{Class}
 use Rattle.meta_config.specs.declared.tables.Class.TheVariants as classes
 use Rattle.meta_config.specs.Making.{meta_of}
 use Rattle.meta_config.specs.Parts.{IsMeta}
-use Rattle.meta_config.specs.Refusals.{Answers, Means, Refuses, bad_url, bad_value, depends_unknown, duplicate_partial, first_found, first_of, has_other_site, no_meta, refusal_of, refusal_of_text, second_from, site_at, too_long, too_many_names, too_many_partials, two_managers, two_metas, two_servers}
+use Rattle.meta_config.specs.Refusals.{Answers, Means, Refuses, bad_url, bad_value, depends_unknown, duplicate_partial, first_found, first_of, has_other_site, no_meta, refusal_of, refusal_of_text, second_from, manager_site, too_long, too_many_names, too_many_partials, two_managers, two_metas, two_servers}
 
 -- a refusal of instances
 abbrev pub IsOfInstances : MetaError → Type 0
@@ -57,7 +57,7 @@ of_bad_url is = mapped _ (λ index. BadUrl index) (λ index. tt)
 of_two_servers : (is : List Instance) → IfSome (two_servers is) IsOfInstances
 unfolding two_servers
 of_two_servers is =
-    bound (first_found site_at 0 is) (λ (p : ℕ × Site). option_map (λ (q : ℕ × ℕ). TwoServers q.0 q.1) (second_from (has_other_site p.1) is p.0))
+    bound (first_found manager_site 0 is) (λ (p : ℕ × Site). option_map (λ (q : ℕ × ℕ). TwoServers q.0 q.1) (second_from (has_other_site p.1) is p.0))
     (λ p. mapped (second_from (has_other_site p.1) is p.0) (λ (q : ℕ × ℕ). TwoServers q.0 q.1) (λ q. tt))
 
 of_bad_value : (is : List Instance) → IfSome (bad_value is) IsOfInstances

@@ -15,6 +15,7 @@ use Rattle.meta_config.proofs.WellFormed.{IsWellFormed}
 use Rattle.meta_config.proofs.WrittenAccepted.{written_accepted}
 use Rattle.meta_config.proofs.WrittenMetas.{written_declare}
 use Rattle.meta_config.proofs.WrittenTexts.{at_most, written_reads}
+use Rattle.meta_config.specs.declared.limits.TheConstants.{MAX_META_TEXT}
 
 -- ---- the usual meta-configuration
 
@@ -41,9 +42,9 @@ fifteen = sym (port_spelled (codes "15") 15 refl).spelled
 thirty : decimal 30 ≡ codes "30"
 thirty = sym (port_spelled (codes "30") 30 refl).spelled
 
-usual_is_short : nat_le (length (text_of_meta usual)) 262144 ≡ true
+usual_is_short : nat_le (length (text_of_meta usual)) MAX_META_TEXT ≡ true
 unfolding usual_text line encode
-usual_is_short = λ k. nat_le (length (usual_text (fifteen k) (thirty k))) 262144
+usual_is_short = λ k. nat_le (length (usual_text (fifteen k) (thirty k))) MAX_META_TEXT
 
 usual_is_well_formed : IsWellFormed usual
 usual_is_well_formed = record {
@@ -76,8 +77,8 @@ reads_back meta is =
       made = sym (written_declare meta w);
     }
 
-pub text_fits : (meta : Meta) → IsMeta meta → length (text_of_meta meta) ≤ 262144
-text_fits meta is = at_most (length (text_of_meta meta)) 262144 (is_well_formed meta is).short
+pub text_fits : (meta : Meta) → IsMeta meta → length (text_of_meta meta) ≤ MAX_META_TEXT
+text_fits meta is = at_most (length (text_of_meta meta)) MAX_META_TEXT (is_well_formed meta is).short
 
 pub means_one : (bytes : List ℕ) (one other : Meta) → Means bytes one → Means bytes other → one ≡ other
 means_one bytes one other a b = a.made ∙ ap meta_of (reads_once bytes a.instances b.instances a.read b.read) ∙ sym b.made

@@ -39,6 +39,7 @@ use Rattle.meta_config.proofs.GivenValues.{class_is, given_has, given_text, prop
 use Rattle.meta_config.proofs.Searches.{cond_none, each_both, each_weaker, find_none, found_has, found_none, map_none, no_any, or_none, position_none}
 use Rattle.meta_config.proofs.WellFormed.{HasManagers, IsNameText, IsPart, IsWellFormed, is_known}
 use Rattle.meta_config.proofs.WrittenUrls.{IsSite, site_is}
+use Rattle.meta_config.specs.declared.limits.TheConstants.{MAX_META_TEXT, MAX_NAMES, MAX_PARTIALS}
 
 -- ---- what is not refused
 
@@ -58,15 +59,15 @@ values_fit : (is : List Instance) → bad_value is ≡ None → AllByRecursion (
 unfolding bad_value
 values_fit is e = found_none wrong_in 0 is (map_none _ _ e)
 
-few_partials : (is : List Instance) → too_many_partials is ≡ None → nat_le (count_by (is_of classes.Partial) is) 8 ≡ true
+few_partials : (is : List Instance) → too_many_partials is ≡ None → nat_le (count_by (is_of classes.Partial) is) MAX_PARTIALS ≡ true
 unfolding too_many_partials
 few_partials is e = test_none _ _ e
 
-few_names : (is : List Instance) → too_many_names is ≡ None → nat_le (length (names_of is)) 8 ≡ true
+few_names : (is : List Instance) → too_many_names is ≡ None → nat_le (length (names_of is)) MAX_NAMES ≡ true
 unfolding too_many_names
 few_names is e = test_none _ _ e
 
-short_text : (meta : Meta) → too_long meta ≡ None → nat_le (length (text_of_meta meta)) 262144 ≡ true
+short_text : (meta : Meta) → too_long meta ≡ None → nat_le (length (text_of_meta meta)) MAX_META_TEXT ≡ true
 unfolding too_long
 short_text meta e = test_none _ _ e
 
@@ -319,9 +320,9 @@ known_at is i false e none = cc
 pub record AreAccepted (is : List Instance) : Type 0 where
   pub urls : AllByRecursion (λ i. has_bad_url i ≡ false) is
   pub read : AllByRecursion IsRead is
-  pub few_names : nat_le (length (names_of is)) 8 ≡ true
-  pub few_partials : nat_le (length (parts_of is)) 8 ≡ true
-  pub short : nat_le (length (text_of_meta (meta_of is))) 262144 ≡ true
+  pub few_names : nat_le (length (names_of is)) MAX_NAMES ≡ true
+  pub few_partials : nat_le (length (parts_of is)) MAX_PARTIALS ≡ true
+  pub short : nat_le (length (text_of_meta (meta_of is))) MAX_META_TEXT ≡ true
   pub apart : AreApart [] (parts_of is)
   pub known : AllByRecursion (λ i. unknown_in is i ≡ None) is
 
@@ -338,7 +339,7 @@ accepted bytes meta m =
     record {
       urls = urls_named is urls.0;
       read = all_read is (values_fit is values.0) (texts_read bytes is m.read) m.read.spelled.limits.each;
-      few_partials = ap (λ n. nat_le n 8) (sym (parts_count is)) ∙ few_partials is values.1.0;
+      few_partials = ap (λ n. nat_le n MAX_PARTIALS) (sym (parts_count is)) ∙ few_partials is values.1.0;
       few_names = few_names is values.1.1.0;
       short = short_text (meta_of is) values.1.1.1.0;
       apart = parts_apart is values.1.1.1.1.0;

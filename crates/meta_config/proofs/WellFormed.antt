@@ -11,8 +11,9 @@ use Rattle.meta_config.specs.Words.{is_name}
 use Rattle.meta_config.specs.Writing.{site_at_server, text_of_meta}
 use Rattle.meta_config.proofs.Apart.{AreApart}
 use Rattle.meta_config.proofs.WrittenUrls.{IsSite}
+use Rattle.meta_config.specs.declared.limits.TheConstants.{MAX_META_TEXT, MAX_NAMES, MAX_PARTIALS}
 
--- a name of 1 to 255 bytes
+-- a name of 1 to MAX_NAME_BYTES bytes
 pub record IsNameText (name : List ℕ) : Type 0 where
   pub sized : is_name name ≡ true
   pub chars : AreChars name
@@ -44,9 +45,9 @@ pub record IsWellFormed (meta : Meta) : Type 0 where
   pub managers : HasManagers meta.server meta.pulls meta.reports meta.names
   pub names : AllByRecursion IsNameText meta.names
   pub names_once : with_names [] meta.names ≡ meta.names
-  pub few_names : nat_le (length meta.names) 8 ≡ true
+  pub few_names : nat_le (length meta.names) MAX_NAMES ≡ true
   pub partials : AllByRecursion IsPart meta.partials
-  pub few_partials : nat_le (length meta.partials) 8 ≡ true
+  pub few_partials : nat_le (length meta.partials) MAX_PARTIALS ≡ true
   pub apart : AreApart [] meta.partials
   pub known : AllByRecursion (λ (p : Partial). AllByRecursion (λ name. is_known meta.partials name ≡ true) p.depends) meta.partials
-  pub short : nat_le (length (text_of_meta meta)) 262144 ≡ true
+  pub short : nat_le (length (text_of_meta meta)) MAX_META_TEXT ≡ true

@@ -24,7 +24,7 @@ use Rattle.meta_config.specs.declared.server.Site.{Site}
 use Rattle.meta_config.specs.declared.tables.Class.TheVariants as classes
 use Rattle.meta_config.specs.Making.{meta_of}
 use Rattle.meta_config.specs.Properties.{first_name, from_given}
-use Rattle.meta_config.specs.Refusals.{bad_url, bad_value, beside, depends_unknown, duplicate_partial, first_found, first_of, first_two, has_bad_url, has_other_site, is_partial_named, no_meta, refusal_of, refusals_of, second_from, site_at, too_long, too_many_names, too_many_partials, two_managers, two_metas, two_servers, unknown_in}
+use Rattle.meta_config.specs.Refusals.{bad_url, bad_value, beside, depends_unknown, duplicate_partial, first_found, first_of, first_two, has_bad_url, has_other_site, is_partial_named, no_meta, refusal_of, refusals_of, second_from, manager_site, too_long, too_many_names, too_many_partials, two_managers, two_metas, two_servers, unknown_in}
 use Rattle.meta_config.specs.Tables.{Row, download_rows, is_of, or_wrong, partial_rows, report_rows, resource_rows, settings_rows, wrong_from, wrong_in, wrong_in_row}
 use Rattle.meta_config.specs.Urls.{same_site, same_truth, site_named, url_of}
 use Rattle.meta_config.specs.Words.{after_name, after_named, fits, is_name, is_reference, is_text_that, mode_name, mode_named, refresh_name, refresh_named}
@@ -34,6 +34,7 @@ use Rattle.meta_config.proofs.ReadMetas.{parts_count}
 use Rattle.meta_config.proofs.Searches.{each_map, each_of, each_weaker, no_find, no_position, nothing_found}
 use Rattle.meta_config.proofs.WellFormed.{HasManagers, IsNameText, IsPart, IsServer, IsWellFormed, is_known}
 use Rattle.meta_config.proofs.WrittenMetas.{depends_back, managers_each, parts_each, written, written_declare, written_names, written_parts}
+use Rattle.meta_config.specs.declared.limits.TheConstants.{MAX_META_TEXT, MAX_NAMES, MAX_PARTIALS}
 
 -- ---- what holds of each instance that is written
 
@@ -111,7 +112,7 @@ second_found site is n = option_map (λ (q : ℕ × ℕ). TwoServers q.0 q.1) (s
 at_first : List Instance → ℕ × Site → Option MetaError
 at_first is p = second_found p.1 is p.0
 
-servers_at : (is : List Instance) (site : Site) (n : ℕ) → first_found site_at 0 is ≡ Some (beside n site) → position_from (has_other_site site) (n + 1) (drop (n + 1) is) ≡ None → two_servers is ≡ None
+servers_at : (is : List Instance) (site : Site) (n : ℕ) → first_found manager_site 0 is ≡ Some (beside n site) → position_from (has_other_site site) (n + 1) (drop (n + 1) is) ≡ None → two_servers is ≡ None
 unfolding two_servers second_found at_first pair
 servers_at is site n e f = ap (option_and_then (at_first is)) e ∙ ap (λ o. option_map (λ (q : ℕ × ℕ). TwoServers q.0 q.1) (option_map (pair n) o)) f
 
@@ -123,7 +124,7 @@ one_server : (settings : Meta) (o : Option Server) (pulls reports : Bool) (names
 unfolding two_servers second_found at_first
 one_server settings None pulls reports names ps h =
     ap (option_and_then (at_first (written settings None pulls reports names ps)))
-    (nothing_found site_at 1 (map partial_instance ps) (parts_each (λ i. site_at i ≡ None) (λ p. refl) ps))
+    (nothing_found manager_site 1 (map partial_instance ps) (parts_each (λ i. manager_site i ≡ None) (λ p. refl) ps))
 one_server settings (Some server) true true names ps h =
     servers_at (written settings (Some server) true true names ps) (site_at_server server) 1 (first_server server h.0 _)
     (ap (λ b. cond b (Some 2) (position_from (has_other_site (site_at_server server)) 3 (map partial_instance ps))) (not_other server h.0)
@@ -270,16 +271,16 @@ parts_written meta = written_parts meta meta.server meta.pulls meta.reports meta
 not_too_many_partials : (meta : Meta) → IsWellFormed meta → too_many_partials (instances_of meta) ≡ None
 unfolding too_many_partials
 not_too_many_partials meta w =
-    ap (λ n. cond (nat_le n 8) None (Some (TooMany limits.Partials))) (parts_count (instances_of meta) ∙ ap length (parts_written meta))
+    ap (λ n. cond (nat_le n MAX_PARTIALS) None (Some (TooMany limits.Partials))) (parts_count (instances_of meta) ∙ ap length (parts_written meta))
     ∙ ap (λ b. cond b None (Some (TooMany limits.Partials))) w.few_partials
 
 not_too_many_names : (meta : Meta) → IsWellFormed meta → too_many_names (instances_of meta) ≡ None
 unfolding too_many_names
 not_too_many_names meta w =
-    ap (λ l. cond (nat_le (length l) 8) None (Some (TooMany limits.Names))) (written_names meta meta.server meta.pulls meta.reports meta.names meta.partials w.managers w.names_once)
+    ap (λ l. cond (nat_le (length l) MAX_NAMES) None (Some (TooMany limits.Names))) (written_names meta meta.server meta.pulls meta.reports meta.names meta.partials w.managers w.names_once)
     ∙ ap (λ b. cond b None (Some (TooMany limits.Names))) w.few_names
 
-is_short : (meta : Meta) → nat_le (length (text_of_meta meta)) 262144 ≡ true → too_long meta ≡ None
+is_short : (meta : Meta) → nat_le (length (text_of_meta meta)) MAX_META_TEXT ≡ true → too_long meta ≡ None
 unfolding too_long
 is_short meta e = ap (λ b. cond b None (Some (TooMany limits.Text))) e
 

@@ -26,6 +26,7 @@ use Rattle.meta_config.specs.Writing.{download_instance, instances_of, key_prope
 use Rattle.meta_config.proofs.CharsRead.{chars_join}
 use Rattle.meta_config.proofs.WellFormed.{IsNameText, IsPart, IsServer, IsWellFormed}
 use Rattle.meta_config.proofs.WrittenAccepted.{managed, rest_each}
+use Rattle.meta_config.specs.declared.limits.TheConstants.{MAX_META_TEXT, MAX_NAMES, MAX_PARTIALS}
 
 -- a property, or an instance, that is valid and within the limits
 record PropertyIsGood (p : Property) : Type 0 where
@@ -175,7 +176,7 @@ all_good meta w = (
   rest_each InstanceIsGood meta.server meta.pulls meta.reports meta.names
       (λ server e.
       let s = managed meta.server meta.pulls meta.reports meta.names w.managers server e in
-      (download_good meta.names server s w.names (omega (arith, at_most (length meta.names) 8 w.few_names)), report_good server s, resource_good server s))
+      (download_good meta.names server s w.names (omega (arith, at_most (length meta.names) MAX_NAMES w.few_names)), report_good server s, resource_good server s))
       meta.partials (parts_good meta.partials w.partials),
 )
 
@@ -196,10 +197,10 @@ managers_few (Some server) false true names ps = omega (arith, length-map ps par
 managers_few (Some server) false false names ps = omega (arith, length-map ps partial_instance)
 
 few : (meta : Meta) → IsWellFormed meta → length (instances_of meta) ≤ 4097
-few meta w = omega (arith, managers_few meta.server meta.pulls meta.reports meta.names meta.partials, at_most (length meta.partials) 8 w.few_partials)
+few meta w = omega (arith, managers_few meta.server meta.pulls meta.reports meta.names meta.partials, at_most (length meta.partials) MAX_PARTIALS w.few_partials)
 
-below : (n : ℕ) → nat_le n 262144 ≡ true → n ≤ document_limit
-below n e = omega (arith, at_most n 262144 e)
+below : (n : ℕ) → nat_le n MAX_META_TEXT ≡ true → n ≤ document_limit
+below n e = omega (arith, at_most n MAX_META_TEXT e)
 
 -- the instances are those that the text spells
 pub written_reads : (meta : Meta) → IsWellFormed meta → Reads (text_of_meta meta) (instances_of meta)

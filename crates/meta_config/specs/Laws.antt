@@ -1,5 +1,6 @@
 -- Laws of the definitions.
 use Rattle.std.specs.Prelude.{◌≡◌, ◌≤◌, ◌↔◌, ℕ, List, Some, length}
+use Rattle.meta_config.specs.declared.limits.TheConstants.{MAX_META_TEXT}
 use Rattle.meta_config.specs.declared.meta.Meta.{Meta}
 use Rattle.meta_config.specs.declared.server.Site.{Site}
 use Rattle.meta_config.specs.Parts.{IsMeta}
@@ -17,7 +18,7 @@ MetasReadBack = (meta : Meta) → IsMeta meta → Means (text_of_meta meta) meta
 
 -- and is within the limit of canonical texts
 abbrev pub TextsFit : Type 0
-TextsFit = (meta : Meta) → IsMeta meta → length (text_of_meta meta) ≤ 262144
+TextsFit = (meta : Meta) → IsMeta meta → length (text_of_meta meta) ≤ MAX_META_TEXT
 
 -- meta-configurations that were read and have one text are equal
 abbrev pub TextsTellApart : Type 0

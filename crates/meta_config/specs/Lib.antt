@@ -1,9 +1,9 @@
+pub mod Laws
+pub mod Making
+pub mod Parts
 pub mod Properties
-pub mod Words
+pub mod Refusals
 pub mod Tables
 pub mod Urls
-pub mod Making
+pub mod Words
 pub mod Writing
-pub mod Refusals
-pub mod Parts
-pub mod Laws

@@ -10,6 +10,7 @@ use Rattle.mof_values.specs.Fold.{same_name}
 use Rattle.meta_config.specs.declared.error.Limit.TheVariants as limits
 use Rattle.meta_config.specs.declared.error.MetaError.{MetaError}
 use Rattle.meta_config.specs.declared.error.MetaError.TheVariants.{Mof, NoMeta, TwoMetas, TwoManagers, BadUrl, TwoServers, BadValue, TooMany, DuplicatePartial, DependsUnknown, Memory}
+use Rattle.meta_config.specs.declared.limits.TheConstants.{MAX_META_TEXT, MAX_NAMES, MAX_PARTIALS}
 use Rattle.meta_config.specs.declared.meta.Meta.{Meta}
 use Rattle.meta_config.specs.declared.server.Site.{Site}
 use Rattle.meta_config.specs.declared.tables.Class.{Class}
@@ -59,29 +60,29 @@ has_bad_url i = is_manager i && is_none (site_given i.properties)
 unfoldable pub bad_url : List Instance → Option MetaError
 bad_url instances = option_map (λ index. BadUrl index) (position_from has_bad_url 0 instances)
 
-abbrev pub site_at : Instance → Option Site
-site_at i = if is_manager i then site_given i.properties else None
+abbrev pub manager_site : Instance → Option Site
+manager_site i = if is_manager i then site_given i.properties else None
 
 abbrev pub has_other_site : Site → Instance → Bool
-has_other_site site i = option_map_or (λ s. not (same_site site s)) (site_at i) false
+has_other_site site i = option_map_or (λ s. not (same_site site s)) (manager_site i) false
 
 -- the first manager, and the first one that names another server
 unfoldable pub two_servers : List Instance → Option MetaError
 two_servers instances =
-    option_and_then (λ p. option_map (λ q. TwoServers q.0 q.1) (second_from (has_other_site p.1) instances p.0)) (first_found site_at 0 instances)
+    option_and_then (λ p. option_map (λ q. TwoServers q.0 q.1) (second_from (has_other_site p.1) instances p.0)) (first_found manager_site 0 instances)
 
 unfoldable pub bad_value : List Instance → Option MetaError
 bad_value instances = option_map (λ p. BadValue p.0 p.1) (first_found wrong_in 0 instances)
 
 unfoldable pub too_many_partials : List Instance → Option MetaError
 too_many_partials instances =
-    if nat_le (count_by (is_of classes.Partial) instances) 8 then None else Some (TooMany limits.Partials)
+    if nat_le (count_by (is_of classes.Partial) instances) MAX_PARTIALS then None else Some (TooMany limits.Partials)
 
 unfoldable pub too_many_names : List Instance → Option MetaError
-too_many_names instances = if nat_le (length (names_of instances)) 8 then None else Some (TooMany limits.Names)
+too_many_names instances = if nat_le (length (names_of instances)) MAX_NAMES then None else Some (TooMany limits.Names)
 
 unfoldable pub too_long : Meta → Option MetaError
-too_long meta = if nat_le (length (text_of_meta meta)) 262144 then None else Some (TooMany limits.Text)
+too_long meta = if nat_le (length (text_of_meta meta)) MAX_META_TEXT then None else Some (TooMany limits.Text)
 
 -- a partial configuration of that name
 abbrev pub is_partial_named : List ℕ → Instance → Bool
@@ -150,7 +151,7 @@ pub record IsRefused (bytes : List ℕ) (refusal : MetaError) : Type 0 where
   pub read : mof.Reads bytes instances
   pub refused : refusal_of instances ≡ Some refusal
 
--- the bytes are refused so. Lack of memory has no cause here
+-- the bytes are refused so. `Memory` has no cause here
 abbrev pub Refuses : List ℕ → MetaError → Type 0
 Refuses bytes (Mof fault) = mof.Refuses bytes fault × (fault ≢ mof_errors.Memory)
 Refuses bytes Memory = ⊤

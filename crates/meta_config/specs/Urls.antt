@@ -5,6 +5,7 @@ use Rattle.std.specs.Char.{digit_value, is_digit}
 use Rattle.std.specs.Fmt.{decimal}
 use Rattle.mof_values.specs.Fold.{fold_case, SameName, same_name}
 use Rattle.meta_config.specs.declared.server.Site.{Site}
+use Rattle.meta_config.specs.declared.limits.TheConstants.{MAX_URL}
 
 -- an ASCII letter or digit, `.` or `-`
 abbrev pub is_host_char : ℕ → Bool
@@ -118,9 +119,9 @@ site_of text =
 abbrev pub url_of : Site → List ℕ
 url_of site = scheme_of site.https ++ (site.peer.host ++ (codes ":" ++ (decimal site.peer.port ++ site.prefix)))
 
--- at most 2,048 bytes of UTF-8
+-- at most MAX_URL bytes of UTF-8
 abbrev pub is_short : List ℕ → Bool
-is_short text = nat_le (length (encode_utf8_all text)) 2048
+is_short text = nat_le (length (encode_utf8_all text)) MAX_URL
 
 abbrev pub if_short : Site → Option Site
 if_short site = if is_short (url_of site) then Some site else None

@@ -7,6 +7,7 @@ use Rattle.mof_values.specs.declared.value.Scalar.TheVariants as scalars
 use Rattle.mof_values.specs.declared.value.Value.{Value}
 use Rattle.mof_values.specs.declared.value.Value.TheVariants.{One}
 use Rattle.mof_values.specs.Fold.{same_name}
+use Rattle.mof_values.specs.declared.limits.TheConstants.{MAX_NAME_BYTES}
 use Rattle.mof_values.specs.Values.{text_of, text_of_scalar, scalars_of}
 use Rattle.dsc_document.specs.Declarations.{is_text}
 use Rattle.meta_config.specs.declared.modes.ConfigMode.{ConfigMode}
@@ -56,10 +57,10 @@ after_named word =
 
 -- ---- names
 
--- a name has 1 to 255 bytes of UTF-8
+-- a name has a byte of UTF-8, and at most MAX_NAME_BYTES
 abbrev pub is_name : List ℕ → Bool
 is_name [] = false
-is_name (c ∷ cs) = nat_le (length (encode_utf8_all (c ∷ cs))) 255
+is_name (c ∷ cs) = nat_le (length (encode_utf8_all (c ∷ cs))) MAX_NAME_BYTES
 
 -- `[PartialConfiguration]`, by fold, and a name
 abbrev pub is_reference : List ℕ → Bool

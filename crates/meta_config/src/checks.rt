@@ -3,16 +3,16 @@ ghost use Rattle.std.specs.Prelude.{◌≡◌, ◌<◌, ◌+◌, ◌^◌, IfOk, 
 ghost use Rattle.std.specs.List.{list_any, position_from};
 ghost use Rattle.std.specs.Option.{option_copied};
 ghost use Rattle.meta_config.specs.Making.{depends_of};
-ghost use Rattle.meta_config.specs.Refusals.{Answers, bad_url, bad_value, depends_unknown, duplicate_from, duplicate_partial, earlier_of, first_found, first_two, has_bad_url, has_other_site, is_partial_named, no_meta, site_at, too_many_names, too_many_partials, two_managers, two_metas, two_servers, unknown_in};
+ghost use Rattle.meta_config.specs.Refusals.{Answers, bad_url, bad_value, depends_unknown, duplicate_from, duplicate_partial, earlier_of, first_found, first_two, has_bad_url, has_other_site, is_partial_named, no_meta, manager_site, too_many_names, too_many_partials, two_managers, two_metas, two_servers, unknown_in};
 ghost use Rattle.meta_config.specs.Tables.{is_of, wrong_in};
 
+use crate::limits::{MAX_NAMES, MAX_PARTIALS};
 use crate::making::{has, names_of, site_given};
 use crate::partials::{depends_of, partial_name};
 use crate::tables::{Class, is_manager, is_of, wrong_in};
 use crate::urls::same_site;
-use crate::words::same_chars;
 use crate::{Limit, MetaError, Site};
-use mof_values::{Ident, Instance, Text};
+use mof_values::{Ident, Instance, Text, folds_equal};
 use std::alloc::{AllocError, Global};
 
 /// There is a MSFT_DSCMetaConfiguration.
@@ -139,12 +139,12 @@ pub fn check_one_server(alloc: Global, instances: &[Instance]) -> Result<(), Met
 // The first manager whose ServerURL names a site, and the site.
 fn first_site(alloc: Global, instances: &[Instance]) -> Result<Option<(u32, Site)>, AllocError>
     requires { length instances.now < 2 ^ 32 }
-    ensures found { IfOk result (λ found. found ≡ first_found site_at 0 instances.now) }
+    ensures found { IfOk result (λ found. found ≡ first_found manager_site 0 instances.now) }
     ensures within { IfOk result (λ found. IfSome found (λ p. p.0 < length instances.now)) }
 {
     let (mut place, mut left): (u32, &[Instance]) = (0, instances);
     while let [instance, rest @ ..] = left {
-        if let Some(site) = site_at(alloc, instance)? {
+        if let Some(site) = manager_site(alloc, instance)? {
             return Ok(Some((place, site)));
         }
         (place, left) = (place + 1, rest);
@@ -152,8 +152,8 @@ fn first_site(alloc: Global, instances: &[Instance]) -> Result<Option<(u32, Site
     Ok(None)
 }
 
-fn site_at(alloc: Global, instance: &Instance) -> Result<Option<Site>, AllocError>
-    ensures { IfOk result (λ site. site ≡ site_at instance.now) }
+fn manager_site(alloc: Global, instance: &Instance) -> Result<Option<Site>, AllocError>
+    ensures { IfOk result (λ site. site ≡ manager_site instance.now) }
 {
     if is_manager(instance) {
         site_given(alloc, instance.properties.as_slice())
@@ -170,7 +170,8 @@ fn other_site_from(
     from: u32,
 ) -> Result<Option<u32>, AllocError>
     requires { from + length instances.now < 2 ^ 32 }
-    ensures { IfOk result (λ place. place ≡ position_from (has_other_site site.now) from instances.now) }
+    ensures { IfOk result (λ place.
+        place ≡ position_from (has_other_site site.now) from instances.now) }
 {
     let (mut place, mut left) = (from, instances);
     while let [instance, rest @ ..] = left {
@@ -185,7 +186,7 @@ fn other_site_from(
 fn has_other_site(alloc: Global, site: &Site, instance: &Instance) -> Result<bool, AllocError>
     ensures { IfOk result (λ other. other ≡ has_other_site site.now instance.now) }
 {
-    match site_at(alloc, instance)? {
+    match manager_site(alloc, instance)? {
         Some(other) => Ok(!same_site(site, &other)),
         None => Ok(false),
     }
@@ -217,12 +218,12 @@ fn first_wrong(alloc: Global, instances: &[Instance]) -> Result<Option<(u32, Ide
     Ok(None)
 }
 
-/// There are at most 8 partial configurations.
+/// There are at most `MAX_PARTIALS` partial configurations.
 #[tactic(auto, unfolding(crate::specs::Refusals::too_many_partials))]
 pub fn check_partials_count(instances: &[Instance]) -> Result<(), MetaError>
     ensures { Answers (too_many_partials instances.now) result }
 {
-    if partials_count(instances) <= 8 {
+    if partials_count(instances) <= MAX_PARTIALS {
         Ok(())
     } else {
         Err(MetaError::TooMany {
@@ -244,12 +245,12 @@ fn partials_count(instances: &[Instance]) -> usize
     count
 }
 
-/// There are at most 8 names.
+/// There are at most `MAX_NAMES` names.
 #[tactic(auto, unfolding(crate::specs::Refusals::too_many_names))]
 pub fn check_names_count(alloc: Global, instances: &[Instance]) -> Result<(), MetaError>
     ensures { Answers (too_many_names instances.now) result }
 {
-    if names_of(alloc, instances)?.len() <= 8 {
+    if names_of(alloc, instances)?.len() <= MAX_NAMES {
         Ok(())
     } else {
         Err(MetaError::TooMany { name: Limit::Names })
@@ -312,7 +313,7 @@ fn is_partial_named(instance: &Instance, name: &[char]) -> bool
     ensures { result ≡ is_partial_named name.now instance.now }
 {
     is_of(Class::Partial, instance)
-        && same_chars(partial_name(instance.properties.as_slice()), name)
+        && folds_equal(partial_name(instance.properties.as_slice()), name)
 }
 
 /// What a partial configuration depends on is one.
@@ -329,7 +330,8 @@ pub fn check_depends(alloc: Global, instances: &[Instance]) -> Result<(), MetaEr
 
 fn first_unknown(alloc: Global, instances: &[Instance]) -> Result<Option<(u32, Text)>, AllocError>
     requires { length instances.now < 2 ^ 32 }
-    ensures { IfOk result (λ found. found ≡ first_found (unknown_in instances.now) 0 instances.now) }
+    ensures { IfOk result (λ found.
+        found ≡ first_found (unknown_in instances.now) 0 instances.now) }
 {
     let (mut place, mut left): (u32, &[Instance]) = (0, instances);
     while let [instance, rest @ ..] = left {
@@ -360,7 +362,8 @@ fn unknown_in(
 }
 
 fn first_unnamed<'a>(instances: &[Instance], names: &'a [Text]) -> Option<&'a Text>
-    ensures { option_copied result ≡ find (λ name. not (list_any (is_partial_named name) instances.now)) names.now }
+    ensures { option_copied result ≡
+        find (λ name. not (list_any (is_partial_named name) instances.now)) names.now }
 {
     let mut left = names;
     while let [name, rest @ ..] = left {

@@ -23,7 +23,7 @@ pub enum MetaError {
     /// Two download managers, or else two report managers.
     TwoManagers { first: u32, second: u32 },
 
-    /// The ServerURL of a manager is missing, is not of its form, or has more than 2,048 bytes, as it is given or as it
+    /// The ServerURL of a manager is missing, is not of its form, or has more than `MAX_URL` bytes, as it is given or as it
     /// is written.
     BadUrl { index: u32 },
 
@@ -48,13 +48,13 @@ pub enum MetaError {
 /// What there may be only so much of in a meta-configuration.
 #[derive(Clone, Copy, Debug, PartialEq, Eq)]
 pub enum Limit {
-    /// 8 partial configurations.
+    /// `MAX_PARTIALS` partial configurations.
     Partials,
 
-    /// 8 names.
+    /// `MAX_NAMES` names.
     Names,
 
-    /// 262,144 bytes of canonical text.
+    /// `MAX_META_TEXT` bytes of canonical text.
     Text,
 }
 

@@ -7,7 +7,7 @@ pub fn urls_have_their_sites()
 {}
 
 /// The canonical text of a meta-configuration that `read_meta` or `usual` gives declares that very meta-configuration,
-/// has at most 262,144 bytes, and is the text of no other one. Bytes declare at most one, so what `read_meta` answers to
+/// has at most `MAX_META_TEXT` bytes, and is the text of no other one. Bytes declare at most one, so what `read_meta` answers to
 /// that text is that meta-configuration, or that memory is out.
 pub fn metas_read_back()
     ensures read_back { MetasReadBack }

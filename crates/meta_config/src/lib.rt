@@ -8,6 +8,7 @@
 mod checks;
 mod error;
 mod laws;
+mod limits;
 mod making;
 mod meta;
 mod modes;
@@ -23,6 +24,7 @@ mod writing;
 
 pub use error::{Limit, MetaError};
 pub use laws::{metas_read_back, urls_have_their_sites};
+pub use limits::{MAX_META_TEXT, MAX_NAMES, MAX_PARTIALS, MAX_URL};
 pub use meta::{Meta, Partial};
 pub use modes::{AfterReboot, ConfigMode, RefreshMode};
 pub use parts::parts_order;

@@ -119,7 +119,8 @@ fn minutes_given(properties: &[Property], name: &str, default: u32) -> u32
 
 // The server of the first manager.
 fn server_of(alloc: Global, instances: &[Instance]) -> Result<Option<Server>, AllocError>
-    ensures { IfOk result (λ server. server ≡ option_map (server_at (key_of instances.now)) (first_site instances.now)) }
+    ensures { IfOk result (λ server.
+        server ≡ option_map (server_at (key_of instances.now)) (first_site instances.now)) }
 {
     match first_site(alloc, instances)? {
         Some(site) => Ok(Some(server_at(alloc, instances, site)?)),
@@ -264,7 +265,8 @@ fn texts_in(alloc: Global, scalars: &[Scalar]) -> Result<Vec<Text>, AllocError>
 }
 
 fn push_text(texts: &mut Vec<Text>, scalar: &Scalar) -> Result<(), AllocError>
-    ensures { OnOk result (texts.new.items ≡ texts.old.items ++ option_to_list (text_of_scalar scalar.now)) }
+    ensures { OnOk result (texts.new.items ≡
+        texts.old.items ++ option_to_list (text_of_scalar scalar.now)) }
 {
     if let Scalar::Text(text) = scalar {
         texts.push(text.copy()?)?;

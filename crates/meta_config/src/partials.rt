@@ -14,7 +14,8 @@ use mof_values::{Instance, Items, Property, Text};
 use std::alloc::{AllocError, Global};
 
 pub fn partials_of(alloc: Global, instances: &[Instance]) -> Result<Vec<Partial>, AllocError>
-    ensures { IfOk result (λ partials. partials.items ≡ map partial_of (filter (is_of Class.Partial) instances.now)) }
+    ensures { IfOk result (λ partials.
+        partials.items ≡ map partial_of (filter (is_of Class.Partial) instances.now)) }
 {
     let mut partials = Vec::new(alloc);
     let mut left = instances;
@@ -30,7 +31,8 @@ fn put_partial(
     partials: &mut Vec<Partial>,
     instance: &Instance,
 ) -> Result<(), AllocError>
-    ensures { OnOk result (partials.new.items ≡ partials.old.items ++ map partial_of (filter (is_of Class.Partial) (instance.now ∷ []))) }
+    ensures { OnOk result (partials.new.items ≡ partials.old.items ++
+        map partial_of (filter (is_of Class.Partial) (instance.now ∷ []))) }
 {
     if is_of(Class::Partial, instance) {
         partials.push(partial_of(alloc, instance)?)?;

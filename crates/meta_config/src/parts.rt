@@ -19,7 +19,8 @@ pub fn parts_order(alloc: Global, meta: &Meta) -> Result<Vec<u32>, OrderError>
     requires { IsMeta meta.now }
     ensures order { IfOk result (λ order. IsOrderOfParts meta.now order.items) }
     ensures cycle { IfCycle result (IsCycleOfParts meta.now) }
-    ensures no_order { OnCycle result ((order : List ℕ) → IsOrderOfParts meta.now order → ⊥) }
+    ensures no_order { OnCycle result
+        ((order : List ℕ) → IsOrderOfParts meta.now order → ⊥) }
 {
     let depends = places_of_names(alloc, meta.partials.as_slice())?;
     order_of(alloc, &depends)

@@ -9,6 +9,7 @@ use crate::checks::{
     check_depends, check_meta, check_names_count, check_one_manager, check_one_meta,
     check_one_server, check_partial_names, check_partials_count, check_urls, check_values,
 };
+use crate::limits::MAX_META_TEXT;
 use crate::making::meta_of;
 use crate::tables::Class;
 use crate::writing::write_meta;
@@ -16,9 +17,6 @@ use crate::{Limit, Meta, MetaError};
 use mof_codec::{MofError, read};
 use mof_values::{Instance, Memory};
 use std::alloc::Global;
-
-/// The most bytes of a canonical text.
-const TEXT_LIMIT: usize = 262_144;
 
 /// The meta-configuration that the bytes declare.
 ///
@@ -29,7 +27,8 @@ pub fn read_meta(alloc: Global, bytes: &[u8]) -> Result<Meta, MetaError>
     ensures ok { IfOk result (λ meta. Means bytes.now meta) }
     ensures is_meta { IfOk result IsMeta }
     ensures refused { IfErr result (λ e. Refuses bytes.now e) }
-    ensures only { IfErr result (λ e. e ≢ MetaError.Memory → (meta : Meta) → Means bytes.now meta → ⊥) }
+    ensures only { IfErr result (λ e. e ≢ MetaError.Memory
+        → (meta : Meta) → Means bytes.now meta → ⊥) }
 {
     let instances = match read(alloc, bytes) {
         Ok(instances) => instances,
@@ -76,7 +75,7 @@ fn check_length(alloc: Global, meta: &Meta) -> Result<(), MetaError>
     ensures { Answers (too_long meta.now) result }
 {
     match write_meta(alloc, meta) {
-        Ok(text) if text.len() <= TEXT_LIMIT => Ok(()),
+        Ok(text) if text.len() <= MAX_META_TEXT => Ok(()),
         Ok(_) => Err(MetaError::TooMany { name: Limit::Text }),
         Err(Memory) => Err(MetaError::Memory),
     }

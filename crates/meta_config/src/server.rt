@@ -1,4 +1,4 @@
-//! Servers.
+//! The pull server of a node, and what the URL of a server names.
 use dsc_outside::Peer;
 use mof_values::Text;
 

@@ -35,7 +35,7 @@ pub enum Domain {
     Text,
     Texts,
 
-    /// Texts of 1 to 255 bytes.
+    /// Texts of 1 to `MAX_NAME_BYTES` bytes.
     Names,
 
     /// `[PartialConfiguration]` and a name.
@@ -165,7 +165,8 @@ fn or_wrong<'a>(
     name: &str,
     domain: Domain,
 ) -> Option<&'a Ident>
-    ensures { option_copied result ≡ option_or (option_copied found.entry) (wrong_in_row (row name.now domain) properties.now) }
+    ensures { option_copied result ≡ option_or (option_copied found.entry)
+        (wrong_in_row (row name.now domain) properties.now) }
 {
     match found {
         Some(name) => Some(name),

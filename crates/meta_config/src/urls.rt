@@ -5,19 +5,17 @@ ghost use Rattle.mof_values.specs.Fold.{fold_case};
 ghost use Rattle.meta_config.specs.Urls.{default_port, if_short, is_host_char, is_in_name, is_path_char, number_after, port_behind, port_of, same_site, scheme_of, site_at, site_behind, site_in, site_named, site_of, url_of, without_slashes};
 
 use crate::Site;
+use crate::limits::MAX_URL;
 use crate::words::{behind, front};
 use dsc_outside::Peer;
 use mof_values::{Text, is_named};
 use std::alloc::{AllocError, Global};
 
-/// The most bytes of a URL.
-const URL_LIMIT: usize = 2_048;
-
-/// The site of a URL that has at most 2,048 bytes, as it is given and as it is written.
+/// The site of a URL that has at most `MAX_URL` bytes, as it is given and as it is written.
 pub fn site_named(alloc: Global, text: &Text) -> Result<Option<Site>, AllocError>
     ensures { IfOk result (λ site. site ≡ site_named text.now) }
 {
-    if !text.fits_utf8(URL_LIMIT) {
+    if !text.fits_utf8(MAX_URL) {
         return Ok(None);
     }
     match site_of(alloc, text.as_slice())? {
@@ -30,7 +28,7 @@ fn if_short(alloc: Global, site: Site) -> Result<Option<Site>, AllocError>
     ensures { IfOk result (λ short. short ≡ if_short site) }
 {
     let url = url_of(alloc, site.https, &site.peer, &site.prefix)?;
-    if url.fits_utf8(URL_LIMIT) {
+    if url.fits_utf8(MAX_URL) {
         Ok(Some(site))
     } else {
         Ok(None)
@@ -200,7 +198,8 @@ fn without_slashes(chars: &[char]) -> &[char]
 
 /// The URL of a site, with its port.
 pub fn url_of(alloc: Global, https: bool, peer: &Peer, prefix: &Text) -> Result<Text, AllocError>
-    ensures { IfOk result (λ url. url ≡ url_of (record { https = https; peer = peer.now; prefix = prefix.now })) }
+    ensures { IfOk result (λ url.
+        url ≡ url_of (record { https = https; peer = peer.now; prefix = prefix.now })) }
 {
     let port = peer.port;
     let port = format!(in alloc; "{port}")?;

@@ -1,5 +1,5 @@
 //! What the values of settings mean.
-ghost use Rattle.std.specs.Prelude.{◌≡◌, codes, drop, encode_utf8_all, length, nat_le, take};
+ghost use Rattle.std.specs.Prelude.{◌≡◌, codes, drop, take};
 ghost use Rattle.mof_values.specs.declared.value.Scalar.TheVariants.{Integer};
 ghost use Rattle.mof_values.specs.declared.value.Value.TheVariants.{One};
 ghost use Rattle.std.specs.List.{list_all};
@@ -9,7 +9,7 @@ ghost use Rattle.meta_config.specs.Words.{after_named, after_of, boolean_of, fit
 
 use crate::tables::Domain;
 use crate::{AfterReboot, ConfigMode, RefreshMode};
-use mof_values::{Scalar, Value, is_named};
+use mof_values::{MAX_NAME_BYTES, Scalar, Value, fits_utf8, is_named};
 
 /// Returns whether the value may stand where the domain is asked.
 pub fn fits(domain: Domain, value: &Value) -> bool
@@ -171,39 +171,10 @@ fn is_reference_scalar(scalar: &Scalar) -> bool
     }
 }
 
-/// Returns whether the characters are the same but for the case of ASCII letters.
-pub fn same_chars(a: &[char], b: &[char]) -> bool
-    ensures { result ≡ same_name a.now b.now }
-{
-    let (mut left, mut right) = (a, b);
-    while let ([x, rest @ ..], [y, behind @ ..]) = (left, right) {
-        if x.to_ascii_lowercase() != y.to_ascii_lowercase() {
-            return false;
-        }
-        (left, right) = (rest, behind);
-    }
-    left.is_empty() && right.is_empty()
-}
-
 fn is_name(chars: &[char]) -> bool
     ensures { result ≡ is_name chars.now }
 {
-    !chars.is_empty() && fits_utf8(chars, 255)
-}
-
-// Returns whether the characters have at most so many bytes of UTF-8.
-fn fits_utf8(chars: &[char], limit: usize) -> bool
-    ensures { result ≡ nat_le (length (encode_utf8_all chars.now)) limit }
-{
-    let (mut room, mut left) = (limit, chars);
-    while let [c, rest @ ..] = left {
-        let size = c.len_utf8();
-        if room < size {
-            return false;
-        }
-        (room, left) = (room - size, rest);
-    }
-    true
+    !chars.is_empty() && fits_utf8(chars, MAX_NAME_BYTES)
 }
 
 // Returns whether the characters are `[PartialConfiguration]`, by fold, and a name.
@@ -225,7 +196,7 @@ fn has_word(chars: &[char], word: &str) -> bool
     is_named(chars, word)
 }
 
-/// The first characters, at most so many.
+/// The first `count` characters, or all where there are fewer.
 pub fn front(chars: &[char], count: usize) -> &[char]
     ensures { result.now ≡ take count chars.now }
 {
@@ -236,7 +207,7 @@ pub fn front(chars: &[char], count: usize) -> &[char]
     }
 }
 
-/// The characters but the first so many.
+/// The characters but the first `count`.
 pub fn behind(chars: &[char], count: usize) -> &[char]
     ensures { result.now ≡ drop count chars.now }
 {

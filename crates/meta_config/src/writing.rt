@@ -36,7 +36,8 @@ fn push_partials(
     instances: &mut Vec<Instance>,
     partials: &[Partial],
 ) -> Result<(), AllocError>
-    ensures { OnOk result (instances.new.items ≡ instances.old.items ++ map partial_instance partials.now) }
+    ensures { OnOk result (instances.new.items ≡
+        instances.old.items ++ map partial_instance partials.now) }
 {
     let mut left = partials;
     while let [partial, rest @ ..] = left {
@@ -65,7 +66,8 @@ fn id_property(alloc: Global, name: &[char]) -> Result<Property, AllocError>
 }
 
 fn depends_property(alloc: Global, names: &[Text]) -> Result<Property, AllocError>
-    ensures { IfOk result (λ p. p ≡ list_property (codes "DependsOn") (map reference_to names.now)) }
+    ensures { IfOk result (λ p.
+        p ≡ list_property (codes "DependsOn") (map reference_to names.now)) }
 {
     let mut references = Vec::new(alloc);
     let mut left = names;
@@ -90,7 +92,8 @@ fn push_refresh(
     properties: &mut Vec<Property>,
     refresh: Option<RefreshMode>,
 ) -> Result<(), AllocError>
-    ensures { OnOk result (properties.new.items ≡ properties.old.items ++ refresh_properties refresh) }
+    ensures { OnOk result (properties.new.items ≡
+        properties.old.items ++ refresh_properties refresh) }
 {
     if let Some(mode) = refresh {
         properties.push(refresh_property(alloc, mode)?)?;
@@ -206,7 +209,8 @@ fn integer_property(alloc: Global, name: &str, n: u32) -> Result<Property, Alloc
 
 fn list_property(alloc: Global, name: &str, texts: &[Text]) -> Result<Property, AllocError>
     requires name { IsIdent name.now }
-    ensures { IfOk result (λ p. p ≡ list_property name.now texts.now) }
+    ensures { IfOk result (λ p.
+        p ≡ list_property name.now texts.now) }
 {
     let scalars = scalars_of(alloc, texts)?;
     property(alloc, name, Value::Many(Items::of(scalars)))

@@ -18,6 +18,7 @@ use Rattle.mof_syntax.specs.Limits.{IsInRange}
 use Rattle.mof_syntax.specs.Tokens.{Identifier, identifier, Word, AliasName, Literal, Number, IsToken, word, alias, literal, integer}
 use Rattle.mof_syntax.proofs.Scans.{test_or}
 use Rattle.mof_codec.proofs.MarkFronts.{equal}
+use Rattle.mof_values.specs.declared.limits.TheConstants.{MAX_IDENTIFIER}
 
 -- characters of literals
 
@@ -142,7 +143,7 @@ identifier_there [] rest h s = absurd (nothing h)
     nothing : false ≡ true → ⊥
     nothing e = cc
 identifier_there (c ∷ cs) rest h s =
-    let p = and_parts (is_first c && list_all is_next cs) (nat_le (length (c ∷ cs)) 255) h in
+    let p = and_parts (is_first c && list_all is_next cs) (nat_le (length (c ∷ cs)) MAX_IDENTIFIER) h in
     let q = and_parts (is_first c) (list_all is_next cs) p.0 in
     identifier c (cs ++ rest) cs rest q.0 (next_run cs rest q.1) s
 

@@ -29,6 +29,7 @@ use Rattle.mof_codec.proofs.Fronts.{is_front, events_here}
 use Rattle.mof_codec.proofs.CountsFit.{declared, are_within, have_few_parts, tells-counted, within-counted}
 use Rattle.mof_codec.proofs.Excess.{counts_excess, long_excess, too_many_told, LongName}
 use Rattle.mof_codec.proofs.Stepping.{Stepped, stepped_none, stepped_more, behind_of, place_is, place_within, left_is, walked_there, char_is, stuck_fault, end_behind}
+use Rattle.mof_values.specs.declared.limits.TheConstants.{MAX_IDENTIFIER}
 
 -- identifiers
 
@@ -48,7 +49,7 @@ run_here (c ∷ cs) = elim (test_or (is_next c)) [
     test_or true = inl refl
     test_or false = inr refl
 
-pub long_name : (c : ℕ) (cs : List ℕ) → is_first c ≡ true → 255 ≤ name_length cs → BeginsLongName (c ∷ cs)
+pub long_name : (c : ℕ) (cs : List ℕ) → is_first c ≡ true → MAX_IDENTIFIER ≤ name_length cs → BeginsLongName (c ∷ cs)
 long_name c cs first le =
     let r = run_here cs in
     record { name = c ∷ r.0; rest = r.1; stands = stands c cs r.0 r.1 first r.2 r.3; long = omega (arith, le, run_length cs r.0 r.1 r.2 r.3) }
@@ -56,7 +57,7 @@ long_name c cs first le =
 identifier_length : (c : ℕ) (cs name rest : List ℕ) → Identifier (c ∷ cs) name rest → (is_first c ≡ true) × (length name ≡ suc (name_length cs))
 identifier_length c cs name rest (stands d us w r first run s) = (first, ap suc (run_length us w r run s))
 
-pub name_is_long : (c : ℕ) (cs : List ℕ) → BeginsLongName (c ∷ cs) → (is_first c ≡ true) × (255 ≤ name_length cs)
+pub name_is_long : (c : ℕ) (cs : List ℕ) → BeginsLongName (c ∷ cs) → (is_first c ≡ true) × (MAX_IDENTIFIER ≤ name_length cs)
 name_is_long c cs l = let is = identifier_length c cs l.name l.rest l.stands in (is.0, omega (arith, l.long, is.1))
 
 no_identifier : (name rest : List ℕ) → Identifier [] name rest → ⊥

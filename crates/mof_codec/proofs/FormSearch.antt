@@ -1,8 +1,8 @@
 -- The form that stands where a text goes wrong.
-use Rattle.std.proofs.Common.{◌≡◌, inl, inr, ℕ, zero, suc, ◌+◌, ◌-◌, ◌<◌, ◌≤◌, true, false, List, [], ◌∷◌, ◌++◌, length, take, drop, refl, sym, ◌∙◌, ap, subst, arith}
+use Rattle.std.proofs.Common.{◌≡◌, inl, inr, ℕ, zero, suc, ◌+◌, ◌-◌, ◌<◌, ◌≤◌, true, List, [], ◌∷◌, ◌++◌, length, take, drop, refl, sym, ◌∙◌, ap, subst, arith}
 use Rattle.std.specs.Prelude.{slice_index, slice_range, codes}
 use Rattle.std.proofs.lemmas.Bool.{eq-eqb, eqb-true}
-use Rattle.std.proofs.lemmas.List.{drop-drop, take_all}
+use Rattle.std.proofs.lemmas.List.{drop-drop}
 use Rattle.std.specs.Char.{to_ascii_lowercase}
 use Rattle.mof_values.specs.Ident.{is_next}
 use Rattle.mof_values.specs.Fold.{SameName, fold_case}
@@ -14,7 +14,7 @@ use Rattle.mof_syntax.specs.Profile as profile
 use Rattle.mof_syntax.specs.Profile.{OutOfProfile, WordStands, BeginsReal}
 use Rattle.mof_codec.specs.declared.machine.state.State.{State}
 use Rattle.mof_codec.specs.declared.refusing.scalar.Wanted.TheVariants.{Real}
-use Rattle.mof_codec.specs.Searching.{FirstOf, ScalarStands, StandsBehind, IsFirstForm, HasNoForm, BeginsWord, BeginsForm, pragma, qualifiers, class, qualifier, StandsForm, character, declared, begins_with}
+use Rattle.mof_codec.specs.Searching.{FirstOf, ScalarStands, StandsAfter, IsFirstForm, HasNoForm, BeginsWord, BeginsForm, pragma, qualifiers, class, qualifier, StandsForm, character, declared, begins_with}
 use Rattle.mof_codec.proofs.Standing.{scalar_begins, scalar_there, declaration_begins, begins_there}
 use Rattle.mof_codec.proofs.Stepping.{behind_of}
 
@@ -47,14 +47,6 @@ drop_take (suc m) (suc n) (x ∷ xs) = drop_take m n xs ∙ ap (λ (k : ℕ). ta
   where
     same : (n m : ℕ) → n - m ≡ suc n - suc m
     same n m = omega arith
-
-pub behind_is : (n : ℕ) (xs : List ℕ) → take (length xs - n) (drop n xs) ≡ drop n xs
-behind_is n xs = take_all (length xs - n) (drop n xs) (omega (arith, dropped n xs))
-  where
-    dropped : (n : ℕ) (xs : List ℕ) → length (drop n xs) ≤ length xs - n
-    dropped zero xs = omega arith
-    dropped (suc n) [] = omega arith
-    dropped (suc n) (x ∷ xs) = omega (arith, dropped n xs)
 
 pub length_front : (n : ℕ) (xs : List ℕ) → n ≤ length xs → length (take n xs) ≡ n
 length_front zero xs le = refl
@@ -123,9 +115,6 @@ stands_word text at word w = record {
     dropped : (a n : ℕ) (xs : List ℕ) → drop n (drop a xs) ≡ drop (a + n) xs
     dropped a n xs = drop-drop n a xs
 
-clash : true ≡ false → ⊥
-clash e = cc
-
 -- a word does not begin with a point
 no_point : (cs : List ℕ) (l : ℕ) (ls : List ℕ) → (to_ascii_lowercase 46 ≡ l → ⊥) → fold_case (take (length (l ∷ ls)) cs) ≡ l ∷ ls → begins_with cs 46 ≡ true → ⊥
 no_point [] l ls n same e = absurd cc
@@ -192,7 +181,7 @@ module _ (text : List ℕ) (fault : ℕ) (within : fault ≤ length text) where
   pub real_none : begins_with (drop fault text) 46 ≡ true → ((n : ℕ) → ScalarStands Real (take fault text) n → ⊥) → HasNoForm text fault
   real_none e f = λ other what o. f other (stands_there other what o e)
 
-  module _ (state : State) (s : StandsBehind (take fault text) state) (no_point_here : NoPoint) where
+  module _ (state : State) (s : StandsAfter (take fault text) state) (no_point_here : NoPoint) where
     -- a form that stands there is known by the state and the characters
     told : (at : ℕ) (what : Form) → OutOfProfile text fault at what → StandsForm state (drop fault text) what × (at ≡ fault)
     told at what (profile.pragma b c) = (declared forms.Pragma (begins_there text fault (behind_of state s.begun) s.behind b) (pragma (is_indexed fault text 35 (omega arith) c)), refl)

@@ -15,14 +15,14 @@ use Rattle.mof_syntax.proofs.FirstTokens.{magnitude_first}
 use Rattle.mof_syntax.proofs.Suffixes.{token_ends}
 use Rattle.mof_syntax.proofs.UniqueTokens.{nothing_within, magnitude_is}
 use Rattle.mof_codec.specs.Reading.{Only, BeginsWith, Lacks}
-use Rattle.mof_codec.specs.Values.{IsNumber, IsCapped, signed, is_negative, behind_sign}
+use Rattle.mof_codec.specs.Values.{IsNumber, IsCapped, signed, is_negative, sign_rest}
 use Rattle.mof_codec.proofs.MarkFronts.{equal}
 use Rattle.mof_codec.proofs.TokenFronts.{begins_token, begins_as, first_of}
 
 -- a sign and a magnitude
 
 abbrev SignedMagnitude : List ℕ → ℤ → List ℕ → Type 0
-SignedMagnitude cs z rest = (n : ℕ) × Magnitude (behind_sign cs) n rest × Stops is_next rest × (z ≡ signed (is_negative cs) n)
+SignedMagnitude cs z rest = (n : ℕ) × Magnitude (sign_rest cs) n rest × Stops is_next rest × (z ≡ signed (is_negative cs) n)
 
 no_magnitude : (n : ℕ) (rest : List ℕ) → Magnitude [] n rest → Stops is_next rest → ⊥
 no_magnitude n rest m s = nothing_within rest (token_ends [] (Number (pos n)) rest (integer [] (pos n) rest (unsigned [] n rest m) s))
@@ -40,7 +40,7 @@ number_signed cs z rest (integer us x r (unsigned vs n q m) s) = unsigned_number
 number_signed cs z rest (integer us x r (plus vs n q m) s) = (n, m, s, refl)
 number_signed cs z rest (integer us x r (minus vs n q m) s) = (n, m, s, refl)
 
-pub signed_number : (cs : List ℕ) (n : ℕ) (rest : List ℕ) → Magnitude (behind_sign cs) n rest → Stops is_next rest → IsToken cs (Number (signed (is_negative cs) n)) rest
+pub signed_number : (cs : List ℕ) (n : ℕ) (rest : List ℕ) → Magnitude (sign_rest cs) n rest → Stops is_next rest → IsToken cs (Number (signed (is_negative cs) n)) rest
 signed_number [] n rest m s = absurd (no_magnitude n rest m s)
 signed_number (c ∷ cs) n rest m s = elim (test_or (c == minus_sign)) [
   | inl is_minus ↦ at_minus (equal c minus_sign is_minus) m
@@ -50,17 +50,17 @@ signed_number (c ∷ cs) n rest m s = elim (test_or (c == minus_sign)) [
   ]
 ]
   where
-    at_minus : c ≡ minus_sign → Magnitude (behind_sign (c ∷ cs)) n rest → IsToken (c ∷ cs) (Number (signed (is_negative (c ∷ cs)) n)) rest
-    at_minus e = subst (λ (d : ℕ). Magnitude (behind_sign (d ∷ cs)) n rest → IsToken (d ∷ cs) (Number (signed (is_negative (d ∷ cs)) n)) rest) (sym e)
+    at_minus : c ≡ minus_sign → Magnitude (sign_rest (c ∷ cs)) n rest → IsToken (c ∷ cs) (Number (signed (is_negative (c ∷ cs)) n)) rest
+    at_minus e = subst (λ (d : ℕ). Magnitude (sign_rest (d ∷ cs)) n rest → IsToken (d ∷ cs) (Number (signed (is_negative (d ∷ cs)) n)) rest) (sym e)
         (λ h. integer (minus_sign ∷ cs) (neg_ℤ (pos n)) rest (minus cs n rest h) s)
 
-    at_plus : c ≡ plus_sign → Magnitude (behind_sign (c ∷ cs)) n rest → IsToken (c ∷ cs) (Number (signed (is_negative (c ∷ cs)) n)) rest
-    at_plus e = subst (λ (d : ℕ). Magnitude (behind_sign (d ∷ cs)) n rest → IsToken (d ∷ cs) (Number (signed (is_negative (d ∷ cs)) n)) rest) (sym e)
+    at_plus : c ≡ plus_sign → Magnitude (sign_rest (c ∷ cs)) n rest → IsToken (c ∷ cs) (Number (signed (is_negative (c ∷ cs)) n)) rest
+    at_plus e = subst (λ (d : ℕ). Magnitude (sign_rest (d ∷ cs)) n rest → IsToken (d ∷ cs) (Number (signed (is_negative (d ∷ cs)) n)) rest) (sym e)
         (λ h. integer (plus_sign ∷ cs) (pos n) rest (plus cs n rest h) s)
 
-    at_digit : (c == minus_sign) ≡ false → (c == plus_sign) ≡ false → Magnitude (behind_sign (c ∷ cs)) n rest → IsToken (c ∷ cs) (Number (signed (is_negative (c ∷ cs)) n)) rest
+    at_digit : (c == minus_sign) ≡ false → (c == plus_sign) ≡ false → Magnitude (sign_rest (c ∷ cs)) n rest → IsToken (c ∷ cs) (Number (signed (is_negative (c ∷ cs)) n)) rest
     at_digit no_minus no_plus h =
-        let there : behind_sign (c ∷ cs) ≡ c ∷ cs = rw (no_minus, no_plus) refl in
+        let there : sign_rest (c ∷ cs) ≡ c ∷ cs = rw (no_minus, no_plus) refl in
         rw no_minus (integer (c ∷ cs) (pos n) rest (unsigned (c ∷ cs) n rest (subst (λ (xs : List ℕ). Magnitude xs n rest) there h)) s)
 
 -- ranges
@@ -86,12 +86,12 @@ only_number us z ts e = record { holds = e; only = λ b vs n f. same b vs f }
     same : (b : ℤ) (vs : List Lexeme) → us ≡ Number b ∷ vs → (b ≡ z) × (vs ≡ ts)
     same b vs f = (cc, cc)
 
-module _ (cs left : List ℕ) (s : Separators cs left) (digits : List ℕ) (behind : digits ≡ behind_sign left) where
-  read_there : (rest : List ℕ) → Some rest ≡ magnitude_rest digits → (n : ℕ) × Magnitude (behind_sign left) n rest × Stops is_next rest
-  read_there rest e = read-magnitude (behind_sign left) rest (sym (e ∙ ap magnitude_rest behind))
+module _ (cs left : List ℕ) (s : Separators cs left) (digits : List ℕ) (behind : digits ≡ sign_rest left) where
+  read_there : (rest : List ℕ) → Some rest ≡ magnitude_rest digits → (n : ℕ) × Magnitude (sign_rest left) n rest × Stops is_next rest
+  read_there rest e = read-magnitude (sign_rest left) rest (sym (e ∙ ap magnitude_rest behind))
 
-  value_there : (n : ℕ) (rest : List ℕ) → Magnitude (behind_sign left) n rest → Stops is_next rest → magnitude_value digits ≡ n
-  value_there n rest m stops = ap (λ (xs : List ℕ). magnitude_value xs) behind ∙ magnitude_is (behind_sign left) n rest m stops
+  value_there : (n : ℕ) (rest : List ℕ) → Magnitude (sign_rest left) n rest → Stops is_next rest → magnitude_value digits ≡ n
+  value_there n rest m stops = ap (λ (xs : List ℕ). magnitude_value xs) behind ∙ magnitude_is (sign_rest left) n rest m stops
 
   pub reads_integer : (rest : List ℕ) (negative : Bool) (capped : ℕ) (z : ℤ) → negative ≡ is_negative left → Some rest ≡ magnitude_rest digits → IsCapped (magnitude_value digits) capped
       → z ≡ signed negative capped → IsInRange (signed negative capped) → BeginsWith IsNumber IsInRange cs z rest
@@ -110,7 +110,7 @@ module _ (cs left : List ℕ) (s : Separators cs left) (digits : List ℕ) (behi
     lacks_integer e us ts z n l is fits =
         let f = first_of cs left us (Number z) ts s stops l is in
         let m = number_signed left z f.0 f.1 in
-        apart f.0 (sym e ∙ ap magnitude_rest behind ∙ magnitude-read (behind_sign left) m.0 f.0 m.1 m.2)
+        apart f.0 (sym e ∙ ap magnitude_rest behind ∙ magnitude-read (sign_rest left) m.0 f.0 m.1 m.2)
       where
         apart : (xs : List ℕ) → None ≡ Some xs → ⊥
         apart xs h = cc

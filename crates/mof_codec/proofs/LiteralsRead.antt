@@ -10,10 +10,10 @@ use Rattle.mof_syntax.specs.Scanning.{separator_rest, StandsQuoted}
 use Rattle.mof_syntax.proofs.Scans.{separator-read}
 use Rattle.mof_syntax.proofs.FirstTokens.{token_stands}
 use Rattle.mof_syntax.proofs.Suffixes.{EndsWith-length, EndsWithin-length, separators_end, token_ends}
-use Rattle.mof_syntax.proofs.UniqueRules.{string_same, string_first}
+use Rattle.mof_syntax.proofs.UniqueRules.{string_same}
 use Rattle.mof_codec.specs.Reading.{Begins, Only, BeginsWith, Lacks}
-use Rattle.mof_codec.specs.Values.{behind_char, BeginsQuote, NoLiteralFirst, AddsQuoted, NoQuoted, is_plain, IsPlainTo, GoesOnBy, GoesOnByOne, OnlyQuoteFirst, AnyText}
-use Rattle.mof_codec.proofs.MarkFronts.{behind_char-split, behind_char-none}
+use Rattle.mof_codec.specs.Values.{char_rest, BeginsQuote, NoLiteralFirst, AddsQuoted, NoQuoted, is_plain, IsPlainTo, GoesOnBy, GoesOnByOne, OnlyQuoteFirst, AnyText}
+use Rattle.mof_codec.proofs.MarkFronts.{char_rest-split, char_rest-none}
 use Rattle.mof_codec.proofs.Escapes.{goes_on_by_plain}
 use Rattle.mof_codec.proofs.TokenFronts.{begins_token, begins_as, begins_at, Joined, begins_join, first_of, skip_only}
 
@@ -32,9 +32,6 @@ goes_on_further cs text left more rest first then = record {
   only = λ whole behind q. let x = first.only whole behind q in then.only x.0 behind x.1;
 }
 
-pub quoted_start : (before all : List ℕ) → QuotedSoFar before all before all
-quoted_start before all = record { text = []; added = sym (append-nil before); goes = goes_on_at_start all }
-
 pub quoted_next : (before all done left text rest : List ℕ) → QuotedSoFar before all done left → GoesOnBy left text rest → QuotedSoFar before all (done ++ text) rest
 quoted_next before all done left text rest s g = record {
   text = s.text ++ text;
@@ -42,13 +39,13 @@ quoted_next before all done left text rest s g = record {
   goes = goes_on_further all s.text left text rest s.goes g;
 }
 
-pub quoted_end : (before all done left rest : List ℕ) → QuotedSoFar before all done left → behind_char quote left ≡ Some rest → AddsQuoted before all done rest
+pub quoted_end : (before all done left rest : List ℕ) → QuotedSoFar before all done left → char_rest quote left ≡ Some rest → AddsQuoted before all done rest
 quoted_end before all done left rest s e =
-    let q : Quoted left [] rest = subst (λ (xs : List ℕ). Quoted xs [] rest) (sym (behind_char-split quote left rest e)) (closed rest) in
+    let q : Quoted left [] rest = subst (λ (xs : List ℕ). Quoted xs [] rest) (sym (char_rest-split quote left rest e)) (closed rest) in
     (s.text, subst (λ (xs : List ℕ). Quoted all xs rest) (append-nil s.text) (s.goes.on [] rest q), s.added)
 
-pub quoted_stuck : (before all done left : List ℕ) → QuotedSoFar before all done left → behind_char quote left ≡ None → OnlyQuoteFirst left → NoQuoted all
-quoted_stuck before all done left s e absent text rest q = let x = s.goes.only text rest q in behind_char-none quote left rest e (absent x.0 rest x.1)
+pub quoted_stuck : (before all done left : List ℕ) → QuotedSoFar before all done left → char_rest quote left ≡ None → OnlyQuoteFirst left → NoQuoted all
+quoted_stuck before all done left s e absent text rest q = let x = s.goes.only text rest q in char_rest-none quote left rest e (absent x.0 rest x.1)
 
 -- the characters that a literal goes on by as they stand
 
@@ -82,11 +79,11 @@ shorter_behind left front behind rest split less =
 
 -- literals as tokens
 
-pub no_literal_first : (cs left : List ℕ) → Separators cs left → separator_rest left ≡ None → behind_char quote left ≡ None → NoLiteralFirst cs
+pub no_literal_first : (cs left : List ℕ) → Separators cs left → separator_rest left ≡ None → char_rest quote left ≡ None → NoLiteralFirst cs
 no_literal_first cs left s stops e [] l = tt
 no_literal_first cs left s stops e (Literal text ∷ ts) l =
     let f = first_of cs left (Literal text ∷ ts) (Literal text) ts s stops l refl in
-    behind_char-none quote left (quoted_of left text f.0 f.1).0 e (quoted_of left text f.0 f.1).1
+    char_rest-none quote left (quoted_of left text f.0 f.1).0 e (quoted_of left text f.0 f.1).1
   where
     quoted_of : (xs text rest : List ℕ) → IsToken xs (Literal text) rest → (us : List ℕ) × (xs ≡ quote ∷ us)
     quoted_of xs text rest (literal us t r q) = (us, refl)
@@ -159,9 +156,6 @@ reads_string cs done left s absent = record {
   fits = tt;
   begins = begins_at (λ us ts. StringsOn us done ts) (λ us ts. Only StringValue us done ts) cs left (λ us ts l x. only_string us done ts (absent ts l) x.last) s;
 }
-
-pub lacks_string : (cs : List ℕ) → NoLiteralFirst cs → Lacks StringValue AnyText cs
-lacks_string cs absent us ts text n l s fits = string_first us text ts s (absent us l)
 
 pub lacks_open : (cs behind : List ℕ) → BeginsQuote cs behind → NoQuoted behind → Lacks StringValue AnyText cs
 lacks_open cs behind b absent us ts text n l s fits = no_tokens cs behind us b absent l

@@ -11,10 +11,11 @@ use Rattle.mof_syntax.specs.Separators.{Separators}
 use Rattle.mof_syntax.specs.Scanning.{separator_rest, identifier_rest}
 use Rattle.mof_syntax.specs.Limits.{IsShortName}
 use Rattle.mof_syntax.specs.Tokens.{Lexeme, Word, AliasName, Identifier, identifier, IsToken, word, alias}
-use Rattle.mof_syntax.proofs.Scans.{identifier-read, read-identifier}
+use Rattle.mof_syntax.proofs.Scans.{read-identifier}
 use Rattle.mof_codec.specs.Reading.{Begins, BeginsNo, Only, BeginsWith, Lacks}
 use Rattle.mof_codec.specs.Values.{IsKeyword, IsWord, IsAlias, NoIdentifier, DollarIdentifier, NoDollarIdentifier}
 use Rattle.mof_codec.proofs.TokenFronts.{begins_token, begins_as, first_of}
+use Rattle.mof_values.specs.declared.limits.TheConstants.{MAX_IDENTIFIER}
 
 run_split : (p : ℕ → Bool) (cs run rest : List ℕ) → Run p cs run rest → cs ≡ run ++ rest
 run_split p cs run rest (stop r) = refl
@@ -33,13 +34,7 @@ identifier_front cs name rest e split =
     let i = read-identifier cs rest (sym e) in
     subst (λ (xs : List ℕ). Identifier cs xs rest) (append_cancel_right i.0 name rest (sym (identifier_split cs i.0 rest i.1) ∙ split)) i.1
 
-pub no_identifier_there : (cs : List ℕ) → identifier_rest cs ≡ None → NoIdentifier cs
-no_identifier_there cs e name rest i = apart rest (sym e ∙ identifier-read cs name rest i)
-  where
-    apart : (xs : List ℕ) → None ≡ Some xs → ⊥
-    apart xs h = cc
-
--- identifiers of at most 255 characters
+-- identifiers that are not too long
 
 run_all : (p : ℕ → Bool) (cs run rest : List ℕ) → Run p cs run rest → list_all p run ≡ true
 run_all p cs run rest (stop r) = refl
@@ -51,7 +46,7 @@ short_ident cs name rest (identifier c us tail r e run s) short absent = absurd 
     clash : false ≡ true → ⊥
     clash h = cc
 
-    fits : nat_le (length (c ∷ tail)) 255 ≡ true
+    fits : nat_le (length (c ∷ tail)) MAX_IDENTIFIER ≡ true
     fits = grind (arith, nat_tests)
 
     holds : is_ident (c ∷ tail) ≡ true

@@ -13,6 +13,7 @@ use Rattle.mof_codec.specs.declared.machine.counts.Counts.{Counts}
 use Rattle.mof_codec.specs.Machine.{begin}
 use Rattle.mof_codec.specs.Winning.{sooner, number_range, too_many, syntax_fault}
 use Rattle.mof_codec.proofs.Searches.{first_state, no_counts, fault_in, excess_in, is_excess_integer, scalar_in, number_in, refusal_at, refusal_in}
+use Rattle.mof_syntax.specs.declared.limits.TheConstants.{MAX_PROPERTIES, MAX_ELEMENTS, MAX_INSTANCES}
 
 abbrev integer_in : List ℕ → List ℕ → State → Option ℕ
 integer_in front left state = scalar_in is_excess_integer front left state
@@ -105,7 +106,7 @@ abbrev with_properties : ℕ → Counts
 with_properties k = record { declarations = 1; properties = k; elements = 0 }
 
 module _ (tail : List ℕ) (fault : (text : List ℕ) → fault_in text tail in_body ≡ None) (integer : (text : List ℕ) → integer_in text tail in_body ≡ None) where
-  many_properties : Repeats (codes "instance of A{") (codes "P=1;") tail in_body with_properties 256
+  many_properties : Repeats (codes "instance of A{") (codes "P=1;") tail in_body with_properties MAX_PROPERTIES
   unfolding begin
   many_properties = record {
     head_fault = λ text rest. refl;
@@ -113,19 +114,19 @@ module _ (tail : List ℕ) (fault : (text : List ℕ) → fault_in text tail in_
     head_excess = λ text rest. refl;
     part_fault = λ text rest. refl;
     part_integer = λ text rest. refl;
-    part_excess = λ text rest k lt. rw (below k 256 lt) refl;
+    part_excess = λ text rest k lt. rw (below k MAX_PROPERTIES lt) refl;
     tail_fault = fault;
     tail_integer = integer;
   }
 
 module _ (parts : ℕ → List ℕ) (one : (n : ℕ) → parts (suc n) ≡ codes "P=1;" ++ parts n) where
-  pub properties_refused : parts 0 ≡ codes "P=1;};" → refusal_in (codes "instance of A{" ++ parts 256) ≡ Some (TooMany 1038)
+  pub properties_refused : parts 0 ≡ codes "P=1;};" → refusal_in (codes "instance of A{" ++ parts MAX_PROPERTIES) ≡ Some (TooMany 1038)
   unfolding begin
-  properties_refused none = past_refused (codes "instance of A{") (codes "P=1;") (codes "P=1;};") in_body with_properties 256 (many_properties (codes "P=1;};") (λ text. refl) (λ text. refl)) parts none one refl
+  properties_refused none = past_refused (codes "instance of A{") (codes "P=1;") (codes "P=1;};") in_body with_properties MAX_PROPERTIES (many_properties (codes "P=1;};") (λ text. refl) (λ text. refl)) parts none one refl
 
-  pub properties_taken : parts 0 ≡ codes "};" → refusal_in (codes "instance of A{" ++ parts 256) ≡ None
+  pub properties_taken : parts 0 ≡ codes "};" → refusal_in (codes "instance of A{" ++ parts MAX_PROPERTIES) ≡ None
   unfolding begin
-  properties_taken none = within_taken (codes "instance of A{") (codes "P=1;") (codes "};") in_body with_properties 256 (many_properties (codes "};") (λ text. refl) (λ text. refl)) parts none one refl
+  properties_taken none = within_taken (codes "instance of A{") (codes "P=1;") (codes "};") in_body with_properties MAX_PROPERTIES (many_properties (codes "};") (λ text. refl) (λ text. refl)) parts none one refl
 
 -- elements, of which the first is in the head
 
@@ -144,7 +145,7 @@ module _ (tail : List ℕ) (count : ℕ) (few : count ≤ 4095) (fault : (text :
     head_excess = λ text rest. refl;
     part_fault = λ text rest. refl;
     part_integer = λ text rest. refl;
-    part_excess = λ text rest k lt. rw (below (k + 1) 4096 (omega (arith, lt, few))) refl;
+    part_excess = λ text rest k lt. rw (below (k + 1) MAX_ELEMENTS (omega (arith, lt, few))) refl;
     tail_fault = fault;
     tail_integer = integer;
   }
@@ -164,7 +165,7 @@ abbrev with_declarations : ℕ → Counts
 with_declarations k = record { declarations = k; properties = 0; elements = 0 }
 
 module _ (tail : List ℕ) (fault : (text : List ℕ) → fault_in text tail first_state ≡ None) (integer : (text : List ℕ) → integer_in text tail first_state ≡ None) where
-  many_declarations : Repeats [] (codes "instance of A{};") tail first_state with_declarations 4097
+  many_declarations : Repeats [] (codes "instance of A{};") tail first_state with_declarations MAX_INSTANCES
   unfolding begin
   many_declarations = record {
     head_fault = λ text rest. refl;
@@ -172,16 +173,16 @@ module _ (tail : List ℕ) (fault : (text : List ℕ) → fault_in text tail fir
     head_excess = λ text rest. refl;
     part_fault = λ text rest. refl;
     part_integer = λ text rest. refl;
-    part_excess = λ text rest k lt. rw (below k 4097 lt) refl;
+    part_excess = λ text rest k lt. rw (below k MAX_INSTANCES lt) refl;
     tail_fault = fault;
     tail_integer = integer;
   }
 
 module _ (parts : ℕ → List ℕ) (one : (n : ℕ) → parts (suc n) ≡ codes "instance of A{};" ++ parts n) where
-  pub declarations_refused : parts 0 ≡ codes "instance of A{};" → refusal_in (parts 4097) ≡ Some (TooMany 65552)
+  pub declarations_refused : parts 0 ≡ codes "instance of A{};" → refusal_in (parts MAX_INSTANCES) ≡ Some (TooMany 65552)
   unfolding begin
-  declarations_refused none = past_refused [] (codes "instance of A{};") (codes "instance of A{};") first_state with_declarations 4097 (many_declarations (codes "instance of A{};") (λ text. refl) (λ text. refl)) parts none one refl
+  declarations_refused none = past_refused [] (codes "instance of A{};") (codes "instance of A{};") first_state with_declarations MAX_INSTANCES (many_declarations (codes "instance of A{};") (λ text. refl) (λ text. refl)) parts none one refl
 
-  pub declarations_taken : parts 0 ≡ [] → refusal_in (parts 4097) ≡ None
+  pub declarations_taken : parts 0 ≡ [] → refusal_in (parts MAX_INSTANCES) ≡ None
   unfolding begin
-  declarations_taken none = within_taken [] (codes "instance of A{};") [] first_state with_declarations 4097 (many_declarations [] (λ text. refl) (λ text. refl)) parts none one refl
+  declarations_taken none = within_taken [] (codes "instance of A{};") [] first_state with_declarations MAX_INSTANCES (many_declarations [] (λ text. refl) (λ text. refl)) parts none one refl

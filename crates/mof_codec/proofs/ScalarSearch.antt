@@ -41,9 +41,6 @@ test_or : (b : Bool) → (b ≡ true) ⊎ (b ≡ false)
 test_or true = inl refl
 test_or false = inr refl
 
-clash : true ≡ false → ⊥
-clash e = cc
-
 digit_sign : (c : ℕ) → digit_of 10 c ≡ true → is_sign c ≡ true → ⊥
 digit_sign c d s = grind (arith, nat_tests)
 

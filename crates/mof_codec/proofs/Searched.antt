@@ -27,8 +27,8 @@ use Rattle.mof_codec.specs.Machine.{step, is_whole}
 use Rattle.mof_codec.specs.Walked.{walked}
 use Rattle.mof_codec.specs.Beginnings.{start_place, begins_declaration, begins_scalar, begins_identifier}
 use Rattle.mof_codec.specs.Counting.{counted, is_excess, name_length}
-use Rattle.mof_codec.specs.Searching.{FirstOf, StandsBehind, IsWanted, ScalarStands, BeginsExcessInteger, BeginsLongName, IsFirstExcess, HasNoExcess, HasFewParts, IsFirstForm, HasNoForm, BeginsWord, BeginsForm, pragma, qualifiers, class, qualifier, StandsForm, character, declared, begins_with, is_real}
-use Rattle.mof_codec.specs.Values.{signed, is_negative, behind_sign}
+use Rattle.mof_codec.specs.Searching.{FirstOf, StandsAfter, IsWanted, ScalarStands, BeginsExcessInteger, BeginsLongName, IsFirstExcess, HasNoExcess, HasFewParts, IsFirstForm, HasNoForm, BeginsWord, BeginsForm, pragma, qualifiers, class, qualifier, StandsForm, character, declared, begins_with, is_real}
+use Rattle.mof_codec.specs.Values.{signed, is_negative, sign_rest}
 use Rattle.mof_codec.specs.Winning.{end_of}
 use Rattle.mof_codec.proofs.Runs.{Whole}
 use Rattle.mof_codec.proofs.Options.{of_some, of_none}
@@ -40,6 +40,7 @@ use Rattle.mof_codec.proofs.FormSearch.{real_found, real_none, here_found, here_
 use Rattle.mof_codec.proofs.IntegerFronts.{told_within, told_excess, told_none}
 use Rattle.mof_codec.proofs.RefusalFound.{Found, found_wins, none_spells, front_there}
 use Rattle.mof_codec.proofs.Searches.{first_state, no_counts, when, next, both, is_end, fault_in, state_in, is_long, is_past, excess_in, in_range, out_of, is_excess_integer, stands, scalar_in, same, stops, begins_word, declared_in, here_in, as_form, as_real, form_in, left_out, number_in, refusal_at, refusal_in, is_taken}
+use Rattle.mof_values.specs.declared.limits.TheConstants.{MAX_IDENTIFIER}
 
 clash : {b : Bool} → b ≡ true → b ≡ false → ⊥
 clash e f = cc
@@ -90,7 +91,7 @@ fault_told text (c ∷ cs) state s = next_is (ToldFault text) (step state.half s
     (λ n e. fault_told text cs n (stepped_more text c cs state n s e))
 
 abbrev ToldState : List ℕ → Option State → Type 0
-ToldState text o = IfSome o (λ state. StandsBehind text state) × IfNone o (walked text ≡ None)
+ToldState text o = IfSome o (λ state. StandsAfter text state) × IfNone o (walked text ≡ None)
 
 state_told : (text left : List ℕ) (state : State) → Stepped text left state → ToldState text (state_in left state)
 state_told text [] state s = (record { begun = s.begun; behind = end_behind text state s }, tt)
@@ -100,19 +101,19 @@ state_told text (c ∷ cs) state s = next_is (ToldState text) (step state.half s
 
 -- the first part past its limit
 
-le_of : (n : ℕ) → nat_le 255 n ≡ true → 255 ≤ n
+le_of : (n : ℕ) → nat_le MAX_IDENTIFIER n ≡ true → MAX_IDENTIFIER ≤ n
 le_of n h = grind (arith, nat_tests)
 
-of_le : (n : ℕ) → 255 ≤ n → nat_le 255 n ≡ true
+of_le : (n : ℕ) → MAX_IDENTIFIER ≤ n → nat_le MAX_IDENTIFIER n ≡ true
 of_le n h = grind (arith, nat_tests)
 
 long_is : (cs : List ℕ) → is_long cs ≡ true → BeginsLongName cs
 long_is [] e = absurd cc
-long_is (c ∷ cs) e = long_name c cs (both_one (is_first c) _ e) (le_of (name_length cs) (both_other (is_first c) (λ _. nat_le 255 (name_length cs)) e))
+long_is (c ∷ cs) e = long_name c cs (both_one (is_first c) _ e) (le_of (name_length cs) (both_other (is_first c) (λ _. nat_le MAX_IDENTIFIER (name_length cs)) e))
 
 is_long_is : (cs : List ℕ) → BeginsLongName cs → is_long cs ≡ true
 is_long_is [] l = absurd (no_name_empty l)
-is_long_is (c ∷ cs) l = let is = name_is_long c cs l in both_is (is_first c) (λ _. nat_le 255 (name_length cs)) is.0 (of_le (name_length cs) is.1)
+is_long_is (c ∷ cs) l = let is = name_is_long c cs l in both_is (is_first c) (λ _. nat_le MAX_IDENTIFIER (name_length cs)) is.0 (of_le (name_length cs) is.1)
 
 module _ (state : State) (counts : Counts) (begun : Event) (left : List ℕ) where
   long_here : Bool
@@ -167,12 +168,12 @@ abbrev Decides : Bool → Type 0 → Type 0
 Decides b P = (b ≡ true → P) × (P → b ≡ true)
 
 integer_told : (cs : List ℕ) → Decides (is_excess_integer cs) (BeginsExcessInteger cs)
-integer_told cs = from (magnitude_rest (behind_sign cs)) (in_range (is_negative cs) (magnitude_value (behind_sign cs))) refl refl
+integer_told cs = from (magnitude_rest (sign_rest cs)) (in_range (is_negative cs) (magnitude_value (sign_rest cs))) refl refl
   where
-    from : (o : Option (List ℕ)) (b : Bool) → o ≡ magnitude_rest (behind_sign cs) → in_range (is_negative cs) (magnitude_value (behind_sign cs)) ≡ b → Decides (out_of o b) (BeginsExcessInteger cs)
-    from None b e f = told_none cs (behind_sign cs) refl e
-    from (Some rest) true e f = told_within cs (behind_sign cs) refl (is_negative cs) refl (magnitude_value (behind_sign cs)) (inl refl) (within_is (is_negative cs) (magnitude_value (behind_sign cs)) f)
-    from (Some rest) false e f = told_excess cs (behind_sign cs) refl (is_negative cs) refl (magnitude_value (behind_sign cs)) (inl refl) rest e (out_is (is_negative cs) (magnitude_value (behind_sign cs)) f)
+    from : (o : Option (List ℕ)) (b : Bool) → o ≡ magnitude_rest (sign_rest cs) → in_range (is_negative cs) (magnitude_value (sign_rest cs)) ≡ b → Decides (out_of o b) (BeginsExcessInteger cs)
+    from None b e f = told_none cs (sign_rest cs) refl e
+    from (Some rest) true e f = told_within cs (sign_rest cs) refl (is_negative cs) refl (magnitude_value (sign_rest cs)) (inl refl) (within_is (is_negative cs) (magnitude_value (sign_rest cs)) f)
+    from (Some rest) false e f = told_excess cs (sign_rest cs) refl (is_negative cs) refl (magnitude_value (sign_rest cs)) (inl refl) rest e (out_is (is_negative cs) (magnitude_value (sign_rest cs)) f)
 
 real_told : (cs : List ℕ) → Decides (is_real cs) (IsWanted Real cs)
 real_told cs = (λ e. real_begins cs e, λ r. begins_real cs r)
@@ -273,7 +274,7 @@ module _ (text : List ℕ) (fault : ℕ) (is : IsSyntaxFault text fault) where
   as_real_told None e t = (tt, real_none text fault is.within e t.1)
   as_real_told (Some at) e t = (real_found text fault is.within at e t.0, tt)
 
-  as_form_told : (state : State) (o : Option Form) → begins_with (drop fault text) 46 ≡ false → StandsBehind (take fault text) state → ToldHere state (drop fault text) o → ToldForm text fault (as_form fault o)
+  as_form_told : (state : State) (o : Option Form) → begins_with (drop fault text) 46 ≡ false → StandsAfter (take fault text) state → ToldHere state (drop fault text) o → ToldForm text fault (as_form fault o)
   as_form_told state None not_so s t = (tt, here_none text fault is.within state s (λ e. clash e not_so) t.1)
   as_form_told state (Some form) not_so s t = (here_found text fault is.within state s (λ e. clash e not_so) form t.0, tt)
 

@@ -16,8 +16,9 @@ use Rattle.mof_codec.specs.Machine.{step, is_whole}
 use Rattle.mof_codec.specs.Beginnings.{start_place, begins_declaration, begins_scalar, begins_identifier}
 use Rattle.mof_codec.specs.Counting.{counted, is_excess, name_length}
 use Rattle.mof_codec.specs.Searching.{begins_with, is_real}
-use Rattle.mof_codec.specs.Values.{is_negative, behind_sign}
+use Rattle.mof_codec.specs.Values.{is_negative, sign_rest}
 use Rattle.mof_codec.specs.Winning.{end_of, sooner, out_of_profile, number_range, too_many, syntax_fault}
+use Rattle.mof_values.specs.declared.limits.TheConstants.{MAX_IDENTIFIER}
 
 abbrev pub first_state : State
 first_state = record { place = Start; half = halves.Gap; begun = events.Quiet }
@@ -55,7 +56,7 @@ state_in (c ∷ cs) state = next (step state.half state.place c) (λ _. None) (�
 
 abbrev pub is_long : List ℕ → Bool
 is_long [] = false
-is_long (c ∷ cs) = both (is_first c) (λ _. nat_le 255 (name_length cs))
+is_long (c ∷ cs) = both (is_first c) (λ _. nat_le MAX_IDENTIFIER (name_length cs))
 
 abbrev pub is_past : State → Counts → Event → List ℕ → Bool
 is_past state counts begun left = when (is_excess begun counts) (λ _. true) (λ _. both (begins_identifier state.half state.place) (λ _. is_long left))
@@ -78,7 +79,7 @@ out_of (Some rest) true = false
 out_of (Some rest) false = true
 
 abbrev pub is_excess_integer : List ℕ → Bool
-is_excess_integer cs = out_of (magnitude_rest (behind_sign cs)) (in_range (is_negative cs) (magnitude_value (behind_sign cs)))
+is_excess_integer cs = out_of (magnitude_rest (sign_rest cs)) (in_range (is_negative cs) (magnitude_value (sign_rest cs)))
 
 abbrev pub stands : (List ℕ → Bool) → State → List ℕ → Bool
 stands test state left = both (begins_scalar state.half state.place) (λ _. test left)

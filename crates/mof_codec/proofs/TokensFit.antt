@@ -19,6 +19,7 @@ use Rattle.mof_codec.specs.Machine.{letters}
 use Rattle.mof_codec.proofs.Goes.{IsKey}
 use Rattle.mof_codec.proofs.Left.{Common}
 use Rattle.mof_codec.specs.Searching.{HasFewElements, HasFewParts}
+use Rattle.mof_syntax.specs.declared.limits.TheConstants.{MAX_ELEMENTS}
 
 abbrev pub TokenFits : Lexeme → Type 0
 TokenFits (Word name) = IsShortName name
@@ -77,7 +78,7 @@ initializer_fits ts v rest (array us behind r s ss is more) e =
     let there = elements_fit behind ss r more here.1 in
     ((here.0, there.0), there.1)
 
-value_fits : (v : Value) → ValueParts v → elements_of v ≤ 4096 → ValueFits v
+value_fits : (v : Value) → ValueParts v → elements_of v ≤ MAX_ELEMENTS → ValueFits v
 value_fits (One s) parts few = parts
 value_fits (Many ss) parts few = (few, parts)
 

@@ -1,10 +1,12 @@
-pub mod Machine
-pub mod Events
-pub mod Walked
+-- what the layer above cites
 pub mod Beginnings
 pub mod Counting
+pub mod Events
+pub mod Machine
 pub mod Searching
-pub mod Winning
 pub mod Values
-pub mod Reading
+pub mod Walked
 pub mod Written
+-- for private clauses alone
+pub mod Reading
+pub mod Winning

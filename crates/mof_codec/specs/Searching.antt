@@ -27,7 +27,7 @@ pub record FirstOf (P : ℕ → Type 0) (at : ℕ) : Type 0 where
   pub first : (other : ℕ) → P other → at ≤ other
 
 -- the machine is in the state after the characters
-pub record StandsBehind (chars : List ℕ) (state : State) : Type 0 where
+pub record StandsAfter (chars : List ℕ) (state : State) : Type 0 where
   pub begun : List Event
   pub behind : walked chars ≡ Some (record { half = state.half; place = state.place; begun = begun })
 

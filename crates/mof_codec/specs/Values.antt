@@ -19,9 +19,9 @@ use Rattle.mof_codec.specs.declared.values.marks.Mark.TheVariants as marks
 -- tokens
 
 -- after the character, where it comes first
-abbrev pub behind_char : ℕ → List ℕ → Option (List ℕ)
-behind_char code [] = None
-behind_char code (c ∷ cs) = if c == code then Some cs else None
+abbrev pub char_rest : ℕ → List ℕ → Option (List ℕ)
+char_rest code [] = None
+char_rest code (c ∷ cs) = if c == code then Some cs else None
 
 abbrev pub lexeme_of : Mark → Lexeme
 lexeme_of marks.LeftBrace = LeftBrace
@@ -76,9 +76,9 @@ abbrev pub is_negative : List ℕ → Bool
 is_negative [] = false
 is_negative (c ∷ cs) = c == minus_sign
 
-abbrev pub behind_sign : List ℕ → List ℕ
-behind_sign [] = []
-behind_sign (c ∷ cs) = if c == minus_sign || c == plus_sign then cs else c ∷ cs
+abbrev pub sign_rest : List ℕ → List ℕ
+sign_rest [] = []
+sign_rest (c ∷ cs) = if c == minus_sign || c == plus_sign then cs else c ∷ cs
 
 -- the number, or both are past all that the integers of a text may be
 abbrev pub IsCapped : ℕ → ℕ → Type 0

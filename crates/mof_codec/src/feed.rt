@@ -1,8 +1,7 @@
 //! A document that comes in pieces.
-ghost use Rattle.std.specs.Prelude.{◌≡◌, ◌≢◌, ◌<◌, ◌↔◌, ◌++◌, [], List, length, OnOk, OnErr, IfOk, IfErr, IsErrOf};
-ghost use Rattle.mof_values.specs.declared.instance.Instance.{Instance};
+ghost use Rattle.std.specs.Prelude.{◌≡◌, ◌≢◌, ◌<◌, ◌↔◌, ◌++◌, [], length, OnOk, OnErr, IfOk, IfErr, IsErrOf};
 ghost use Rattle.mof_syntax.specs.Limits.{document_limit};
-ghost use Rattle.mof_syntax.specs.Refusals.{Reads, Refuses};
+ghost use Rattle.mof_syntax.specs.Refusals.{Reads, ReadsNothing, Refuses};
 
 use crate::reader::read;
 use mof_syntax::{MAX_DOCUMENT, MofError};
@@ -69,7 +68,8 @@ impl Feed {
     /// Takes one more piece, or leaves the feed as it was.
     pub fn feed(&mut self, piece: &[u8]) -> Result<(), FeedError>
         ensures ok { OnOk result (self.new ≡ self.old ++ piece.now) }
-        ensures too_long { IsErrOf result FeedError.TooLong ↔ (document_limit < length (self.old ++ piece.now)) }
+        ensures too_long { IsErrOf result FeedError.TooLong
+            ↔ (document_limit < length (self.old ++ piece.now)) }
         ensures unchanged { OnErr result (self.new ≡ self.old) }
     {
         if piece.len() > MAX_DOCUMENT - self.bytes.len() {
@@ -83,7 +83,7 @@ impl Feed {
     pub fn finish(self) -> Result<Vec<Instance>, MofError>
         ensures ok { IfOk result (λ instances. Reads self instances.items) }
         ensures refused { IfErr result (λ e. Refuses self e) }
-        ensures only { IfErr result (λ e. e ≢ MofError.Memory → (is : List Instance) → Reads self is → ⊥) }
+        ensures only { IfErr result (λ e. e ≢ MofError.Memory → ReadsNothing self) }
     {
         let alloc = *self.bytes.allocator();
         read(alloc, &self.bytes)

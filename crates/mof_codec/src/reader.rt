@@ -1,22 +1,22 @@
-//! Bytes to instances.
+//! Reads instances from bytes.
 ghost use Rattle.std.specs.Prelude.{◌≡◌, ◌≢◌, List, IfOk, IfErr};
 ghost use Rattle.std.specs.Str.{chars};
 ghost use Rattle.mof_values.specs.declared.instance.Instance.{Instance};
 ghost use Rattle.mof_syntax.specs.declared.mof_error.MofError.TheVariants.{Memory};
 ghost use Rattle.mof_syntax.specs.Limits.{Spells};
-ghost use Rattle.mof_syntax.specs.Refusals.{Reads, Refuses, Wins};
+ghost use Rattle.mof_syntax.specs.Refusals.{Reads, ReadsNothing, Refuses, Wins};
 
 use crate::refusing::refusal::refusal_of;
 use crate::values::instances_of;
 use mof_syntax::{MAX_DOCUMENT, MofError, TextError, decode_text};
 use mof_values::Instance;
-use std::alloc::Global;
+use std::alloc::{AllocError, Global};
 
 /// The instances that the bytes spell (DSP0004, in this profile), or why they spell none.
 pub fn read(alloc: Global, bytes: &[u8]) -> Result<Vec<Instance>, MofError>
     ensures ok { IfOk result (λ instances. Reads bytes.now instances.items) }
     ensures refused { IfErr result (λ e. Refuses bytes.now e) }
-    ensures only { IfErr result (λ e. e ≢ Memory → (is : List Instance) → Reads bytes.now is → ⊥) }
+    ensures only { IfErr result (λ e. e ≢ Memory → ReadsNothing bytes.now) }
 {
     if bytes.len() > MAX_DOCUMENT {
         return Err(MofError::TooLong);
@@ -30,7 +30,7 @@ pub fn read(alloc: Global, bytes: &[u8]) -> Result<Vec<Instance>, MofError>
     match instances_of(alloc, text) {
         Ok(Some(instances)) => Ok(instances),
         Ok(None) => Err(refusal(text)),
-        Err(_) => Err(MofError::Memory),
+        Err(AllocError) => Err(MofError::Memory),
     }
 }
 

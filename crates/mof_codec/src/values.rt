@@ -1,6 +1,6 @@
-//! The instances that characters spell within the limits.
+//! The instances that a text spells within the limits.
 //!
-//! Each function reads what a rule of the grammar spells, from the front of the characters, and gives what is after.
+//! Each function reads what a rule of the grammar spells, from the front of a text, and gives what is after.
 //! None of them makes a list of tokens or calls itself.
 mod arrays;
 mod declarations;

@@ -1,4 +1,4 @@
-//! Instances to their canonical text.
+//! Writes instances as their canonical text.
 ghost use Rattle.std.specs.Prelude.{◌≡◌, ◌≤◌, length, IfOk};
 ghost use Rattle.mof_syntax.specs.Canonical.{canonical_bytes};
 ghost use Rattle.mof_syntax.specs.Limits.{IsWithinLimits, document_limit};
@@ -17,7 +17,8 @@ use std::alloc::Global;
 /// document, `read` gives the instances back.
 pub fn write(alloc: Global, instances: &[Instance]) -> Result<Vec<u8>, Memory>
     ensures text { IfOk result (λ bytes. bytes.items ≡ canonical_bytes instances.now) }
-    ensures reads_back { IfOk result (λ bytes. IsWithinLimits instances.now → length bytes.items ≤ document_limit → Reads bytes.items instances.now) }
+    ensures reads_back { IfOk result (λ bytes. IsWithinLimits instances.now
+        → length bytes.items ≤ document_limit → Reads bytes.items instances.now) }
 {
     let mut out = String::new(alloc);
     push_instances(&mut out, instances)?;

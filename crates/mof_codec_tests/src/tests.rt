@@ -3,6 +3,7 @@
 //! What the real program shows of texts stands with the checks of the program: what is read of them, why they are
 //! refused and where, and how instances are written.
 use mof_codec::{Feed, FeedError, push_literal, read, write};
+use mof_syntax::MAX_DOCUMENT;
 use mof_values::Text;
 use std::fmt::Display;
 use std::test::Fail;
@@ -75,7 +76,7 @@ fn count_fed(rt: &impl AllocGlobal, bytes: &[u8], piece: usize) -> Option<usize>
 fn a_feed_takes_pieces_of_each_size(rt: HostRuntime) -> Result<(), Fail> {
     for count in SIZES.iter() {
         let bytes = repeated(&rt, b"instance of \xc3\xa9{};", *count)?;
-        for piece in [1, 7, 64, 4096, 2_097_152] {
+        for piece in [1, 7, 64, 4096, MAX_DOCUMENT] {
             holds(count_fed(&rt, &bytes, piece) == Some(*count), *count)?;
         }
     }
@@ -84,8 +85,8 @@ fn a_feed_takes_pieces_of_each_size(rt: HostRuntime) -> Result<(), Fail> {
 
 #[test]
 fn a_feed_takes_pieces_up_to_its_limit(rt: HostRuntime) -> Result<(), Fail> {
-    let bytes = repeated(&rt, b" ", 2_097_152)?;
-    for piece in [1, 4095, 2_097_152] {
+    let bytes = repeated(&rt, b" ", MAX_DOCUMENT)?;
+    for piece in [1, 4095, MAX_DOCUMENT] {
         holds(count_fed(&rt, &bytes, piece) == Some(0), piece)?;
     }
     Ok(())

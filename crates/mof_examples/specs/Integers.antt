@@ -27,4 +27,4 @@ pub record IntegerExamples : Type 0 where
   pub no_hex_g : NoToken (codes "0xg")
   pub no_binary_2 : NoToken (codes "12b")
   pub no_binary_tail : NoToken (codes "0b1")
-  pub no_letter_behind : NoToken (codes "1a")
+  pub no_letter_after : NoToken (codes "1a")

@@ -36,7 +36,7 @@ GoesWrongByTheNext = (text : List ℕ) (at : ℕ) → (Wide text → ⊥) → at
 abbrev pub TextsHaveAnAnswer : Type 0
 TextsHaveAnAnswer = (text : List ℕ) → ((is : List Instance) × Spells text is) ⊎ ((refusal : MofError) × Wins text refusal)
 
--- bytes are read as instances, or are refused, and not for lack of memory
+-- bytes are read as instances, or are refused, and not for memory
 abbrev pub BytesHaveAnAnswer : Type 0
 BytesHaveAnAnswer = (bytes : List ℕ) → ((is : List Instance) × Reads bytes is) ⊎ ((refusal : MofError) × (refusal ≢ Memory) × Refuses bytes refusal)
 

@@ -1,9 +1,9 @@
-pub mod Separating
-pub mod Literals
-pub mod Integers
-pub mod Identifiers
-pub mod Rules
 pub mod Canon
+pub mod Identifiers
+pub mod Integers
 pub mod Laws
-pub mod Refused
+pub mod Literals
 pub mod Placed
+pub mod Refused
+pub mod Rules
+pub mod Separating

@@ -27,7 +27,7 @@ pub record FormExamples : Type 0 where
   pub character : Wins (given (codes "'a'")) (OutOfProfile 20 forms.Character)
   pub element : Wins (given (codes "{1, 'a'}")) (OutOfProfile 24 forms.Character)
   pub apostrophe_in_a_literal : Spelled (given (codes "\"'\""))
-  pub apostrophe_behind_a_value : Wins (given (codes "1'")) (Syntax 21)
+  pub apostrophe_after_a_value : Wins (given (codes "1'")) (Syntax 21)
   pub real : Wins (given (codes "1.5")) (OutOfProfile 20 forms.Real)
   pub sign_and_point : Wins (given (codes "-.5")) (OutOfProfile 20 forms.Real)
   pub point_alone : Wins (given (codes ".5")) (OutOfProfile 20 forms.Real)
@@ -45,7 +45,7 @@ pub record NumberExamples : Type 0 where
   pub third_property : Wins (codes "instance of A { X = -9223372036854775808; Y = 18446744073709551615; Z = 18446744073709551616; };") (NumberRange 72)
   pub at_the_end : Wins (codes "instance of A { X = 99999999999999999999") (NumberRange 20)
   pub before_a_fault : Wins (codes "instance of A { X = 99999999999999999999 }") (NumberRange 20)
-  pub behind_a_fault : Wins (codes "instance of { X = 99999999999999999999; };") (Syntax 12)
+  pub after_a_fault : Wins (codes "instance of { X = 99999999999999999999; };") (Syntax 12)
   pub before_a_point : Wins (given (codes "99999999999999999999.5")) (OutOfProfile 20 forms.Real)
   pub octal_before_a_point : Wins (given (codes "07777777777777777777777.5")) (OutOfProfile 20 forms.Real)
   pub octal_before_a_decimal : Wins (given (codes "077777777777777777777778")) (NumberRange 20)
@@ -60,7 +60,7 @@ pub record LongNameExamples : Type 0 where
   pub where_none_stands : Wins (codes "instance of A { X = true" ++ letters 256) (Syntax 24)
   pub in_a_literal : Spelled long_literal
   -- a `z` may stand there and a `1` may not, but so may a `#`
-  pub not_behind_an_escape : BeginsIdentifier long_literal 26 → ⊥
+  pub not_after_an_escape : BeginsIdentifier long_literal 26 → ⊥
 
 -- the part so many times, and then the rest
 unfoldable pub many : ℕ → List ℕ → List ℕ → List ℕ
@@ -87,5 +87,5 @@ pub record SyntaxExamples : Type 0 where
 pub record ByteExamples : Type 0 where
   pub too_long : (bytes : List ℕ) → length bytes ≡ 2097153 → Refuses bytes TooLong
   pub longest : (bytes : List ℕ) → length bytes ≡ 2097152 → Refuses bytes TooLong → ⊥
-  pub behind_a_mark : Refuses (0xEF ∷ 0xBB ∷ 0xBF ∷ given (codes "1.5")) (OutOfProfile 20 forms.Real)
+  pub after_a_mark : Refuses (0xEF ∷ 0xBB ∷ 0xBF ∷ given (codes "1.5")) (OutOfProfile 20 forms.Real)
   pub no_character : Refuses (codes "instance" ++ 0xFF ∷ []) (Text 8)

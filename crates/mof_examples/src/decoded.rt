@@ -11,9 +11,11 @@ pub fn bytes_that_are_characters_have_no_fault()
 {}
 
 pub fn bytes_have_at_most_one_fault()
-    ensures { (bytes : List ℕ) (one other : ℕ) → IsTextFault bytes one → IsTextFault bytes other → one ≡ other }
+    ensures { (bytes : List ℕ) (one other : ℕ)
+        → IsTextFault bytes one → IsTextFault bytes other → one ≡ other }
 {}
 
 pub fn bytes_are_characters_or_go_wrong()
-    ensures { (bytes : List ℕ) → ((text : List ℕ) × Chars bytes text) ⊎ ((at : ℕ) × IsTextFault bytes at) }
+    ensures { (bytes : List ℕ)
+        → ((text : List ℕ) × Chars bytes text) ⊎ ((at : ℕ) × IsTextFault bytes at) }
 {}

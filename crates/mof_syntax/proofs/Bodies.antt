@@ -16,7 +16,7 @@ use Rattle.mof_syntax.specs.declared.encoding.Encoding.{Encoding}
 use Rattle.mof_syntax.specs.declared.encoding.Encoding.TheVariants.{Utf8, Utf8Marked, Utf16}
 use Rattle.mof_syntax.specs.declared.encoding.ByteOrder.{ByteOrder}
 use Rattle.mof_syntax.specs.declared.encoding.ByteOrder.TheVariants.{LittleEndian, BigEndian}
-use Rattle.mof_syntax.specs.Encodings.{unit_bytes, char_bytes, body_bytes, mark_of, encoding_of, encoded, Chars, IsTextFault, StartsNoChar, RefusesBytes}
+use Rattle.mof_syntax.specs.Encodings.{unit_bytes, char_bytes, body_bytes, mark_of, encoding_of, encoded, Chars, IsTextFault, StartsNoChar, RefusesBytes, HasUtf16Mark, IsRestOf}
 use Rattle.mof_syntax.specs.Decoding.{RefusesBody, IsBody, StartsChar, IsBodyFault}
 
 -- UTF-8
@@ -161,7 +161,7 @@ marked_body body chars b = record { scalars = b.scalars; spelled = b.spelled }
 
 marked_refusal : (body : List ℕ) (marked : ℕ) (error : TextError) → RefusesBody Utf8 body marked error → RefusesBody Utf8Marked body marked error
 marked_refusal body marked (TextFault at) r = (r.0, r.1, record { before = r.2.before; is = marked_body _ _ r.2.is; within = r.2.within; no_char = r.2.no_char })
-marked_refusal body marked Memory r = tt
+marked_refusal body marked Memory r = r
 
 pub ok_behind_utf8 : {T : Type 0} (view : T → List ℕ) (bytes body : List ℕ) (e : Encoding) (r : Result T TextError) → (e ≡ Utf8) ⊎ (e ≡ Utf8Marked) → e ≡ encoding_of bytes
     → bytes ≡ mark_of e ++ body → IfOk r (λ t. IsBody Utf8 body (view t)) → IfOk r (λ t. Chars bytes (view t))
@@ -180,6 +180,27 @@ refused_behind_utf8 bytes body marked e (Err error) one is split m h = RefusesBy
     either : (e ≡ Utf8) ⊎ (e ≡ Utf8Marked) → RefusesBody e body marked error
     either (inl u) = subst (λ (f : Encoding). RefusesBody f body marked error) (sym u) h
     either (inr n) = subst (λ (f : Encoding). RefusesBody f body marked error) (sym n) (marked_refusal body marked error h)
+
+-- memory runs out only where UTF-16 is rewritten, and UTF-8 is borrowed
+
+pub never_memory : {T : Type 0} (body : List ℕ) (marked : ℕ) (r : Result T TextError) → IfErr r (λ error. RefusesBody Utf8 body marked error) → r ≡ Err Memory → ⊥
+never_memory {T} body marked r h e = subst (λ (x : Result T TextError). IfErr x (λ error. RefusesBody Utf8 body marked error)) e h
+
+pub has_utf16_mark : (bytes body : List ℕ) (order : ByteOrder) (e : Encoding) → e ≡ Utf16 order → bytes ≡ mark_of e ++ body → HasUtf16Mark bytes
+has_utf16_mark bytes body order e one split = (order, body, subst (λ (f : Encoding). bytes ≡ mark_of f ++ body) one split)
+
+pub rest_of_bytes : {T : Type 0} (borrowed : T → Type 0) (view : T → List ℕ) (bytes body : List ℕ) (e : Encoding) (r : Result T TextError) → e ≡ encoding_of bytes
+    → bytes ≡ mark_of e ++ body → IfOk r (λ text. view text ≡ body) → IfOk r (λ text. borrowed text → IsRestOf bytes (view text))
+rest_of_bytes borrowed view bytes body e (Err error) is split h = tt
+rest_of_bytes borrowed view bytes body e (Ok text) is split h = λ _. subst (λ (f : Encoding). bytes ≡ mark_of f ++ view text) is (split ∙ ap (λ bs. mark_of e ++ bs) (sym h))
+
+pub no_case : {T : Type 0} (case : T → Type 0) (then : T → Type 0) (r : Result T TextError) → IfOk r (λ text. case text → ⊥) → IfOk r (λ text. case text → then text)
+no_case case then (Err error) h = tt
+no_case case then (Ok text) h = λ is. absurd (h is)
+
+pub each_case : {T : Type 0} (case : T → Type 0) (fact : Type 0) (r : Result T TextError) → fact → IfOk r (λ text. case text → fact)
+each_case case fact (Err error) is = tt
+each_case case fact (Ok text) is = λ _. is
 
 -- characters in UTF-8 without a mark
 

@@ -194,7 +194,7 @@ one_fault bytes m n f g =
     sym (length-drop m bytes) ∙ ap length rests ∙ length-drop n bytes in
     omega (arith, f.within, g.within)
 
--- bytes that are refused, not for lack of memory, are no characters
+-- bytes that are refused, out of memory aside, are no characters
 pub only_refused : {T : Type 0} (bytes : List ℕ) (r : Result T TextError) → IfErr r (λ e. RefusesBytes bytes e)
     → IfErr r (λ e. e ≢ Memory → (chars : List ℕ) → Chars bytes chars → ⊥)
 only_refused bytes (Ok t) h = tt

@@ -10,7 +10,7 @@ use Rattle.mof_syntax.specs.Strings.{short_escape, is_surrogate, HexDigits, full
 use Rattle.mof_syntax.specs.Integers.{Magnitude, decimal_value, octal_value, hex_value, binary_value}
 use Rattle.mof_syntax.specs.Tokens.{Identifier, identifier}
 use Rattle.mof_syntax.specs.Leads.{StandsMagnitude}
-use Rattle.mof_syntax.specs.Scanning.{is_in_line, after, block_rest, comment_rest, separator_rest, identifier_rest, hex_tail, scalar_rest, hex_escape_rest, escape_rest, stopped, behind_b, binary_rest, behind_x, zero_rest, unmarked_rest, either_rest, magnitude_rest}
+use Rattle.mof_syntax.specs.Scanning.{is_in_line, after, block_rest, comment_rest, separator_rest, identifier_rest, hex_tail, scalar_rest, hex_escape_rest, escape_rest, stopped, suffix_rest, binary_rest, hex_rest, zero_rest, unmarked_rest, either_rest, magnitude_rest}
 
 -- choices
 
@@ -173,12 +173,6 @@ read-identifier (c ∷ cs) rest e = elim (chosen (is_first c) _ _ _ e) [
 
 -- integers
 
-pub binary_step : (cs rest behind : List ℕ) (c : ℕ) → cs ≡ c ∷ rest → digit_of 2 c ≡ true → behind ≡ after (digit_of 2) rest → behind_b behind ≡ binary_rest cs
-binary_step cs rest behind c split is b = rw (split, b, is) refl
-
-pub behind_x_step : (cs rest behind : List ℕ) (c : ℕ) → cs ≡ c ∷ rest → digit_of 16 c ≡ true → behind ≡ after (digit_of 16) rest → stopped behind ≡ behind_x cs
-behind_x_step cs rest behind c split is b = rw (split, b, is) refl
-
 pub stopped-stops : (cs : List ℕ) → Stops is_next cs → stopped cs ≡ Some cs
 stopped-stops [] s = refl
 stopped-stops (c ∷ cs) s = rw s refl
@@ -203,7 +197,7 @@ run_stopped base cs rest e =
     (taken (digit_of base) cs, subst (λ (r : List ℕ). Run (digit_of base) cs (taken (digit_of base) cs) r) s.0 (run_taken (digit_of base) cs), s.1)
 
 -- after digits that no b follows no binary integer ends
-pub no_b : (base : ℕ) (cs ds rest : List ℕ) → base ≤ 10 → Run (digit_of base) cs ds rest → Stops is_next rest → behind_b (after (digit_of 2) cs) ≡ None
+pub no_b : (base : ℕ) (cs ds rest : List ℕ) → base ≤ 10 → Run (digit_of base) cs ds rest → Stops is_next rest → suffix_rest (after (digit_of 2) cs) ≡ None
 no_b base cs ds [] small (stop r) s = refl
 no_b base cs ds (c ∷ cs') small (stop r) s = rw (two, none_b) refl
   where
@@ -247,14 +241,14 @@ zero-read cs ds [] (stop r) s = refl
 zero-read cs ds (c ∷ rest) (stop r) s = rw (no_x c s) (stopped-run 8 (c ∷ rest) (c ∷ rest) (omega arith) ([], stop (c ∷ rest), s))
 zero-read cs ds rest (more c us v r e run) s = rw (digit_no_x 8 c (omega arith) e) (stopped-run 8 (c ∷ us) r (omega arith) (c ∷ v, more c us v r e run, s))
 
-pub no_binary_x : (x : ℕ) (cs : List ℕ) → is_x x ≡ true → behind_b (after (digit_of 2) (x ∷ cs)) ≡ None
+pub no_binary_x : (x : ℕ) (cs : List ℕ) → is_x x ≡ true → suffix_rest (after (digit_of 2) (x ∷ cs)) ≡ None
 no_binary_x x cs is = rw (two, x_no_b x is) refl
   where
     two : digit_of 2 x ≡ false
     two = elim (test_or (digit_of 2 x)) [ inl d ↦ absurd (clash (sym (digit_wider 2 16 x (omega arith) d) ∙ x_no_digit x is)) | inr not_two ↦ not_two ]
 
-behind_x-read : (cs rest : List ℕ) (d : ℕ) (ds : List ℕ) → Run (digit_of 16) cs (d ∷ ds) rest → Stops is_next rest → behind_x cs ≡ Some rest
-behind_x-read cs rest d ds (more c us v r e run) s = rw e (stopped-run 16 us r (omega arith) (v, run, s))
+hex_rest-read : (cs rest : List ℕ) (d : ℕ) (ds : List ℕ) → Run (digit_of 16) cs (d ∷ ds) rest → Stops is_next rest → hex_rest cs ≡ Some rest
+hex_rest-read cs rest d ds (more c us v r e run) s = rw e (stopped-run 16 us r (omega arith) (v, run, s))
 
 pub binary-read : (cs rest : List ℕ) (d b : ℕ) (ds : List ℕ) → Run (digit_of 2) cs (d ∷ ds) (b ∷ rest) → is_b b ≡ true → Stops is_next rest → binary_rest cs ≡ Some rest
 binary-read cs rest d b ds (more c us v r e run) is s = rw (e, after-run (digit_of 2) us v (b ∷ rest) run two, is) (stopped-stops rest s)
@@ -268,13 +262,13 @@ magnitude-read cs n rest (decimal_value d us ds r nz is run) s =
 magnitude-read cs n rest (octal_value us ds r run) s =
     either-none (binary_rest (digit_zero ∷ us)) (unmarked_rest (digit_zero ∷ us)) (Some r) (no_b 8 us ds r (omega arith) run s) (zero-read us ds r run s)
 magnitude-read cs n rest (hex_value x d us ds r is run) s =
-    either-none (binary_rest (digit_zero ∷ x ∷ us)) (unmarked_rest (digit_zero ∷ x ∷ us)) (Some r) (no_binary_x x us is) (rw is (behind_x-read us r d ds run s))
+    either-none (binary_rest (digit_zero ∷ x ∷ us)) (unmarked_rest (digit_zero ∷ x ∷ us)) (Some r) (no_binary_x x us is) (rw is (hex_rest-read us r d ds run s))
 magnitude-read cs n rest (binary_value d b us ds r run is) s = either-some (binary_rest us) (unmarked_rest us) r (binary-read us r d b ds run is s)
 
-read-behind_b : (cs xs rest : List ℕ) (c : ℕ) → digit_of 2 c ≡ true → Run (digit_of 2) cs xs (after (digit_of 2) cs) → (zs : List ℕ) → after (digit_of 2) cs ≡ zs
-    → behind_b zs ≡ Some rest → StandsMagnitude (c ∷ cs) rest
-read-behind_b cs xs rest c is run [] same e = absurd (none_some rest e)
-read-behind_b cs xs rest c is run (b ∷ zs) same e = elim (chosen (is_b b) _ _ _ e) [
+read-suffix_rest : (cs xs rest : List ℕ) (c : ℕ) → digit_of 2 c ≡ true → Run (digit_of 2) cs xs (after (digit_of 2) cs) → (zs : List ℕ) → after (digit_of 2) cs ≡ zs
+    → suffix_rest zs ≡ Some rest → StandsMagnitude (c ∷ cs) rest
+read-suffix_rest cs xs rest c is run [] same e = absurd (none_some rest e)
+read-suffix_rest cs xs rest c is run (b ∷ zs) same e = elim (chosen (is_b b) _ _ _ e) [
   | inl marked ↦
       let end = stops_stopped zs rest marked.1 in
       let whole : Run (digit_of 2) cs xs (b ∷ rest) = subst (λ (r : List ℕ). Run (digit_of 2) cs xs r) (same ∙ ap (λ (r : List ℕ). b ∷ r) end.0) run in
@@ -285,13 +279,13 @@ read-behind_b cs xs rest c is run (b ∷ zs) same e = elim (chosen (is_b b) _ _ 
 read-binary : (cs rest : List ℕ) → binary_rest cs ≡ Some rest → StandsMagnitude cs rest
 read-binary [] rest e = absurd (none_some rest e)
 read-binary (c ∷ cs) rest e = elim (chosen (digit_of 2 c) _ _ _ e) [
-  | inl is ↦ read-behind_b cs (taken (digit_of 2) cs) rest c is.0 (run_taken (digit_of 2) cs) (after (digit_of 2) cs) refl is.1
+  | inl is ↦ read-suffix_rest cs (taken (digit_of 2) cs) rest c is.0 (run_taken (digit_of 2) cs) (after (digit_of 2) cs) refl is.1
   | inr other ↦ absurd (none_some rest other.1)
 ]
 
-read-behind_x : (x : ℕ) (cs rest : List ℕ) → is_x x ≡ true → behind_x cs ≡ Some rest → StandsMagnitude (digit_zero ∷ x ∷ cs) rest
-read-behind_x x [] rest is e = absurd (none_some rest e)
-read-behind_x x (c ∷ cs) rest is e = elim (chosen (digit_of 16 c) _ _ _ e) [
+read-hex_rest : (x : ℕ) (cs rest : List ℕ) → is_x x ≡ true → hex_rest cs ≡ Some rest → StandsMagnitude (digit_zero ∷ x ∷ cs) rest
+read-hex_rest x [] rest is e = absurd (none_some rest e)
+read-hex_rest x (c ∷ cs) rest is e = elim (chosen (digit_of 16 c) _ _ _ e) [
   | inl hex_is ↦
       let run = run_stopped 16 cs rest hex_is.1 in
       (_, hex_value x c (c ∷ cs) run.0 rest is (more c cs run.0 rest hex_is.0 run.1), run.2)
@@ -301,7 +295,7 @@ read-behind_x x (c ∷ cs) rest is e = elim (chosen (digit_of 16 c) _ _ _ e) [
 read-zero : (cs rest : List ℕ) → zero_rest cs ≡ Some rest → StandsMagnitude (digit_zero ∷ cs) rest
 read-zero [] rest e = subst (λ (r : List ℕ). StandsMagnitude (digit_zero ∷ []) r) (some_same [] rest e) (_, octal_value [] [] [] (stop []), tt)
 read-zero (c ∷ cs) rest e = elim (chosen (is_x c) _ _ _ e) [
-  | inl is ↦ read-behind_x c cs rest is.0 is.1
+  | inl is ↦ read-hex_rest c cs rest is.0 is.1
   | inr other ↦ let run = run_stopped 8 (c ∷ cs) rest other.1 in (_, octal_value (c ∷ cs) run.0 rest run.1, run.2)
 ]
 

@@ -1,6 +1,5 @@
 -- What is after a construct is the end of the characters that it was read from.
-use Rattle.std.proofs.Common.{◌≡◌, ◌<◌, ◌≤◌, ◌+◌, ◌-◌, ℕ, Bool, List, [], ◌∷◌, ◌++◌, length, drop, refl, sym, ap, ◌∙◌, append_assoc, length-append, arith}
-use Rattle.std.proofs.lemmas.List.{drop_at}
+use Rattle.std.proofs.Common.{◌≡◌, ◌<◌, ◌≤◌, ◌+◌, ℕ, Bool, List, [], ◌∷◌, ◌++◌, length, refl, sym, ap, ◌∙◌, append_assoc, length-append, arith}
 use Rattle.mof_values.specs.Ident.{is_next}
 use Rattle.mof_syntax.specs.Characters.{EndsWith, digit_of, Run, stop, more}
 use Rattle.mof_syntax.specs.Separators.{LineComment, at_end, at_feed, over, BlockComment, shut, inside, Separator, blank, line, block, Separators, none, another}
@@ -95,12 +94,6 @@ token_ends cs t rest (semicolon_mark r) = within 59 r r (all_of r)
 token_ends cs t rest (comma_mark r) = within 44 r r (all_of r)
 
 -- places
-
-pub EndsWith-drop : (cs rest : List ℕ) → EndsWith cs rest → rest ≡ drop (length cs - length rest) cs
-EndsWith-drop cs rest e =
-    let sum : length cs ≡ length e.0 + length rest = ap length e.1 ∙ length-append e.0 rest in
-    let at : length e.0 ≡ length cs - length rest = omega arith in
-    sym (ap (drop (length cs - length rest)) e.1 ∙ drop_at e.0 rest (length cs - length rest) at)
 
 pub EndsWith-length : (cs rest : List ℕ) → EndsWith cs rest → length rest ≤ length cs
 EndsWith-length cs rest e =

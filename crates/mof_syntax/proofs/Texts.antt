@@ -1,6 +1,6 @@
 -- A text, and what it ends with, as bytes and as characters.
-use Rattle.std.proofs.Common.{◌≡◌, ◌≤◌, ◌+◌, ◌-◌, ℕ, List, [], ◌∷◌, ◌++◌, length, take, drop, refl, sym, ap, subst, ◌∙◌, length-append, length-drop, arith}
-use Rattle.std.proofs.lemmas.List.{take-append-drop, take_at, drop_at, drop-drop}
+use Rattle.std.proofs.Common.{◌≡◌, ◌≤◌, ◌+◌, ◌-◌, ℕ, List, [], ◌∷◌, ◌++◌, length, take, drop, refl, sym, ap, subst, ◌∙◌, length-append, arith}
+use Rattle.std.proofs.lemmas.List.{take-append-drop, drop_at, drop-drop}
 use Rattle.std.proofs.lemmas.Str.{encodes-append, encodes-chars, length-le-encodes, chars-nil, chars-append, IsUtf8-take, IsCharBoundary-at_seam}
 use Rattle.std.specs.Prelude.{encode_utf8_all, IsUtf8, slice_range}
 use Rattle.std.specs.Str.{chars, IsCharBoundary}
@@ -43,11 +43,6 @@ ends_after cs n = (take n cs, sym (take-append-drop n cs))
 
 pub drop_next : (cs left rest : List ℕ) (n : ℕ) → left ≡ drop n cs → rest ≡ drop 1 left → rest ≡ drop (n + 1) cs
 drop_next cs left rest n is next = next ∙ ap (drop 1) is ∙ drop-drop 1 n cs
-
-pub front_is : (cs front : List ℕ) (n : ℕ) → n ≤ length cs → cs ≡ front ++ drop n cs → front ≡ take n cs
-front_is cs front n h split =
-    let long : length front ≡ n = omega (arith, ap length split ∙ length-append front (drop n cs), length-drop n cs) in
-    sym (ap (take n) split ∙ take_at front (drop n cs) n long)
 
 pub place_is : (cs front rest : List ℕ) → cs ≡ front ++ rest → length front ≡ length cs - length rest
 place_is cs front rest split = omega (arith, ap length split ∙ length-append front rest)

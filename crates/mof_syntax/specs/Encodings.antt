@@ -50,6 +50,10 @@ pub record Chars (bytes chars : List ℕ) : Type 0 where
   pub scalars : all_scalars chars ≡ true
   pub spelled : bytes ≡ encoded (encoding_of bytes) chars
 
+-- the bytes are no characters
+abbrev pub AreNoChars : List ℕ → Type 0
+AreNoChars bytes = (chars : List ℕ) → Chars bytes chars → ⊥
+
 -- no character begins the bytes
 abbrev pub StartsNoChar : Encoding → List ℕ → Type 0
 StartsNoChar encoding bytes = (c : ℕ) (rest : List ℕ) → IsScalar c → bytes ≢ char_bytes encoding c ++ rest
@@ -62,7 +66,15 @@ pub record IsTextFault (bytes : List ℕ) (at : ℕ) : Type 0 where
   pub within : at < length bytes
   pub no_char : StartsNoChar (encoding_of bytes) (drop at bytes)
 
--- the bytes are refused so. Lack of memory has no cause here
+-- the bytes begin with a mark of UTF-16
+abbrev pub HasUtf16Mark : List ℕ → Type 0
+HasUtf16Mark bytes = (order : ByteOrder) × (rest : List ℕ) × (bytes ≡ mark_of (Utf16 order) ++ rest)
+
+-- the text is the bytes after their mark
+abbrev pub IsRestOf : List ℕ → List ℕ → Type 0
+IsRestOf bytes text = bytes ≡ mark_of (encoding_of bytes) ++ text
+
+-- the bytes are refused so. Out of memory has no cause here
 abbrev pub RefusesBytes : List ℕ → TextError → Type 0
 RefusesBytes bytes (TextFault at) = IsTextFault bytes at
 RefusesBytes bytes Memory = ⊤

@@ -1,20 +1,20 @@
--- the syntax, and what is said of documents
+-- what the layer above cites
+pub mod Canonical
 pub mod Characters
+pub mod Counts
+pub mod Encodings
+pub mod Forms
+pub mod Fronts
+pub mod Grammar
+pub mod Integers
+pub mod Limits
+pub mod Profile
+pub mod Refusals
+pub mod Scanning
 pub mod Separators
 pub mod Strings
-pub mod Integers
 pub mod Tokens
-pub mod Grammar
-pub mod Encodings
-pub mod Limits
-pub mod Canonical
-pub mod Fronts
-pub mod Profile
-pub mod Forms
-pub mod Counts
-pub mod Refusals
 pub mod Walk
--- what the steps of the code say
+-- for private clauses alone
 pub mod Decoding
 pub mod Leads
-pub mod Scanning

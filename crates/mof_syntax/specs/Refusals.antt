@@ -19,6 +19,10 @@ pub record Reads (bytes : List ℕ) (instances : List Instance) : Type 0 where
   pub decoded : Chars bytes text
   pub spelled : Spells text instances
 
+-- nothing is read of the bytes
+abbrev pub ReadsNothing : List ℕ → Type 0
+ReadsNothing bytes = (instances : List Instance) → Reads bytes instances → ⊥
+
 -- an integer literal begins at `at`, is as long as the text up to `end` allows, and is out of range. It is the literal that
 -- stands in the text as it is, also where the text ends after it or it might still go on
 pub record BeginsExcessNumber (text : List ℕ) (end at : ℕ) : Type 0 where
@@ -76,7 +80,7 @@ pub record RefusesText (bytes : List ℕ) (refusal : MofError) : Type 0 where
   pub decoded : Chars bytes text
   pub wins : Wins text refusal
 
--- the bytes are refused so. Lack of memory has no cause here
+-- the bytes are refused so. Out of memory has no cause here
 abbrev pub Refuses : List ℕ → MofError → Type 0
 Refuses bytes TooLong = document_limit < length bytes
 Refuses bytes (Text at) = (length bytes ≤ document_limit) × IsTextFault bytes at

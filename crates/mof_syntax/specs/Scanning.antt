@@ -80,22 +80,22 @@ abbrev pub stopped : List ℕ → Option (List ℕ)
 stopped [] = Some []
 stopped (c ∷ cs) = if is_next c then None else Some (c ∷ cs)
 
-abbrev pub behind_b : List ℕ → Option (List ℕ)
-behind_b [] = None
-behind_b (c ∷ cs) = if is_b c then stopped cs else None
+abbrev pub suffix_rest : List ℕ → Option (List ℕ)
+suffix_rest [] = None
+suffix_rest (c ∷ cs) = if is_b c then stopped cs else None
 
 abbrev pub binary_rest : List ℕ → Option (List ℕ)
 binary_rest [] = None
-binary_rest (c ∷ cs) = if digit_of 2 c then behind_b (after (digit_of 2) cs) else None
+binary_rest (c ∷ cs) = if digit_of 2 c then suffix_rest (after (digit_of 2) cs) else None
 
-abbrev pub behind_x : List ℕ → Option (List ℕ)
-behind_x [] = None
-behind_x (c ∷ cs) = if digit_of 16 c then stopped (after (digit_of 16) cs) else None
+abbrev pub hex_rest : List ℕ → Option (List ℕ)
+hex_rest [] = None
+hex_rest (c ∷ cs) = if digit_of 16 c then stopped (after (digit_of 16) cs) else None
 
 -- after a 0
 abbrev pub zero_rest : List ℕ → Option (List ℕ)
 zero_rest [] = Some []
-zero_rest (c ∷ cs) = if is_x c then behind_x cs else stopped (after (digit_of 8) (c ∷ cs))
+zero_rest (c ∷ cs) = if is_x c then hex_rest cs else stopped (after (digit_of 8) (c ∷ cs))
 
 abbrev pub unmarked_rest : List ℕ → Option (List ℕ)
 unmarked_rest [] = None

@@ -1,4 +1,4 @@
-//! Encodings of texts.
+//! The encodings of texts as bytes.
 ghost use Rattle.std.specs.Prelude.{◌≡◌, ◌++◌};
 ghost use Rattle.mof_syntax.specs.Encodings.{encoding_of, mark_of};
 
@@ -18,7 +18,7 @@ pub(crate) enum ByteOrder {
 }
 
 /// The encoding, and the bytes after its mark.
-pub(crate) fn behind_mark(bytes: &[u8]) -> (Encoding, &[u8])
+pub(crate) fn split_mark(bytes: &[u8]) -> (Encoding, &[u8])
     ensures encoding { result.0 ≡ encoding_of bytes.now }
     ensures body { bytes.now ≡ mark_of result.0 ++ result.1.now }
 {

@@ -27,7 +27,7 @@ pub(crate) fn first_token(text: &str) -> Option<(TokenKind, &str)>
 {
     let (c, others) = first_char(text)?;
     let lead = lead_of(c);
-    Some((lead.kind(), behind(lead, text, others)?))
+    Some((lead.kind(), token_rest(lead, text, others)?))
 }
 
 fn lead_of(c: char) -> Lead
@@ -58,7 +58,7 @@ impl Lead {
 }
 
 // After the token, of which the first character is known; `others` is what is after that.
-fn behind<'a>(lead: Lead, text: &'a str, others: &'a str) -> Option<&'a str>
+fn token_rest<'a>(lead: Lead, text: &'a str, others: &'a str) -> Option<&'a str>
     ensures some { IfSome result (λ rest. OnlyBy lead (chars text.now) (chars others.now) (chars rest.now)) }
     ensures none { IfNone result (NoneBy lead (chars text.now) (chars others.now)) }
 {

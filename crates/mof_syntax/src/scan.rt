@@ -2,7 +2,7 @@
 ghost use Rattle.std.specs.Prelude.{◌≡◌, ◌<◌, IfSome, IfNone};
 ghost use Rattle.std.specs.Str.{chars};
 ghost use Rattle.mof_syntax.specs.Characters.{digit_of, Stops};
-ghost use Rattle.mof_syntax.specs.Scanning.{left_of, BeginsWithDigit, is_in, after, block_rest, comment_rest, separator_rest, identifier_rest, hex_tail, hex_escape_rest, escape_rest, stopped, behind_b, binary_rest, behind_x, zero_rest, unmarked_rest, magnitude_rest};
+ghost use Rattle.mof_syntax.specs.Scanning.{left_of, BeginsWithDigit, is_in, after, block_rest, comment_rest, separator_rest, identifier_rest, hex_tail, hex_escape_rest, escape_rest, stopped, suffix_rest, binary_rest, hex_rest, zero_rest, unmarked_rest, magnitude_rest};
 
 use crate::text::first_char;
 use mof_values::{may_begin, may_follow};
@@ -74,9 +74,9 @@ fn block_rest(text: &str) -> Option<&str>
     let mut left = text;
     while let Some((first, rest)) = first_char(left) {
         if first == '*'
-            && let Some(('/', behind)) = first_char(rest)
+            && let Some(('/', after)) = first_char(rest)
         {
-            return Some(behind);
+            return Some(after);
         }
         left = rest;
     }
@@ -111,11 +111,11 @@ pub fn binary_rest(text: &str) -> Option<&str>
     if !Class::Binary.contains(c) {
         return None;
     }
-    behind_b(after(rest, Class::Binary))
+    suffix_rest(after(rest, Class::Binary))
 }
 
-fn behind_b(text: &str) -> Option<&str>
-    ensures { left_of result ≡ behind_b (chars text.now) }
+fn suffix_rest(text: &str) -> Option<&str>
+    ensures { left_of result ≡ suffix_rest (chars text.now) }
 {
     match first_char(text)? {
         ('b' | 'B', rest) => stopped(rest),
@@ -138,13 +138,13 @@ fn zero_rest(text: &str) -> Option<&str>
     ensures { left_of result ≡ zero_rest (chars text.now) }
 {
     match first_char(text) {
-        Some(('x' | 'X', rest)) => behind_x(rest),
+        Some(('x' | 'X', rest)) => hex_rest(rest),
         _ => stopped(after(text, Class::Octal)),
     }
 }
 
-fn behind_x(text: &str) -> Option<&str>
-    ensures { left_of result ≡ behind_x (chars text.now) }
+fn hex_rest(text: &str) -> Option<&str>
+    ensures { left_of result ≡ hex_rest (chars text.now) }
 {
     let (c, rest) = first_char(text)?;
     if !Class::Hexadecimal.contains(c) {
@@ -177,8 +177,8 @@ pub(crate) fn escape_rest(text: &str) -> Option<&str>
 fn hex_escape_rest(text: &str) -> Option<&str>
     ensures { left_of result ≡ hex_escape_rest (chars text.now) }
 {
-    let (first, behind) = hex_digit(text)?;
-    let (value, rest) = hex_tail(behind, first);
+    let (first, others) = hex_digit(text)?;
+    let (value, rest) = hex_tail(others, first);
     match value {
         0xd800..=0xdfff => None,
         _ => Some(rest),
@@ -191,23 +191,24 @@ pub fn hex_tail(text: &str, first: u32) -> (u32, &str)
     ensures value { result.0 ≡ (hex_tail 3 first (chars text.now)).0 }
     ensures rest { chars result.1.now ≡ (hex_tail 3 first (chars text.now)).1 }
 {
-    let Some((second, behind)) = hex_digit(text) else {
+    let Some((second, after_two)) = hex_digit(text) else {
         return (first, text);
     };
     let two = first * 16 + second;
-    let Some((third, after)) = hex_digit(behind) else {
-        return (two, behind);
+    let Some((third, after_three)) = hex_digit(after_two) else {
+        return (two, after_two);
     };
     let three = two * 16 + third;
-    match hex_digit(after) {
+    match hex_digit(after_three) {
         Some((fourth, rest)) => (three * 16 + fourth, rest),
-        None => (three, after),
+        None => (three, after_three),
     }
 }
 
 /// The value of the digit that comes first, and what is after.
 pub fn hex_digit(text: &str) -> Option<(u32, &str)>
-    ensures some { IfSome result (λ found. BeginsWithDigit (chars text.now) found.0 (chars found.1.now)) }
+    ensures some { IfSome result (λ found.
+        BeginsWithDigit (chars text.now) found.0 (chars found.1.now)) }
     ensures none { IfNone result (Stops (digit_of 16) (chars text.now)) }
 {
     let (c, rest) = first_char(text)?;

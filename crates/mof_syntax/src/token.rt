@@ -1,4 +1,4 @@
-//! Tokens.
+//! The tokens of the instance syntax.
 
 /// A token of the instance syntax. Places count characters from 0.
 #[derive(Clone, Copy, Debug, PartialEq, Eq)]

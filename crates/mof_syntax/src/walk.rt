@@ -66,12 +66,12 @@ impl<'a> Iterator for Tokens<'a> {
     ghost remaining = { λ t. at_most (length t.text - t.place) };
 
     fn next(&mut self) -> Option<Token<'a>> {
-        let behind = separators_rest(self.left);
-        let from = self.place + char_count(before(self.left, behind)) as u32;
-        self.left = behind;
+        let start = separators_rest(self.left);
+        let from = self.place + char_count(before(self.left, start)) as u32;
+        self.left = start;
         self.place = from;
-        let (kind, rest) = first_token(behind)?;
-        let text = before(behind, rest);
+        let (kind, rest) = first_token(start)?;
+        let text = before(start, rest);
         let to = from + char_count(text) as u32;
         self.left = rest;
         self.place = to;

@@ -23,11 +23,11 @@ pub fn is_spelled(chars: &[char], word: &str) -> bool
     ensures { IsTrue result ↔ (chars.now ≡ word.now) }
 {
     let (mut left, mut codes) = (chars, word.as_bytes());
-    while let ([c, rest @ ..], [code, behind @ ..]) = (left, codes) {
+    while let ([c, rest @ ..], [code, others @ ..]) = (left, codes) {
         if *c as u32 != *code as u32 {
             return false;
         }
-        (left, codes) = (rest, behind);
+        (left, codes) = (rest, others);
     }
     left.is_empty() && codes.is_empty()
 }
@@ -37,24 +37,25 @@ pub fn is_named(chars: &[char], word: &str) -> bool
     ensures { IsTrue result ↔ SameName chars.now word.now }
 {
     let (mut left, mut codes) = (chars, word.as_bytes());
-    while let ([c, rest @ ..], [code, behind @ ..]) = (left, codes) {
+    while let ([c, rest @ ..], [code, others @ ..]) = (left, codes) {
         if c.to_ascii_lowercase() as u32 != code.to_ascii_lowercase() as u32 {
             return false;
         }
-        (left, codes) = (rest, behind);
+        (left, codes) = (rest, others);
     }
     left.is_empty() && codes.is_empty()
 }
 
-fn folds_equal(a: &[char], b: &[char]) -> bool
+/// Returns whether the folds of two lists of characters are equal; an equivalence.
+pub fn folds_equal(a: &[char], b: &[char]) -> bool
     ensures { IsTrue result ↔ SameName a.now b.now }
 {
     let (mut left, mut right) = (a, b);
-    while let ([x, rest @ ..], [y, behind @ ..]) = (left, right) {
+    while let ([x, rest @ ..], [y, others @ ..]) = (left, right) {
         if x.to_ascii_lowercase() != y.to_ascii_lowercase() {
             return false;
         }
-        (left, right) = (rest, behind);
+        (left, right) = (rest, others);
     }
     left.is_empty() && right.is_empty()
 }

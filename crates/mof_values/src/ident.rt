@@ -79,7 +79,7 @@ impl Ident {
         })
     }
 
-    /// The identifier that the text spells.
+    /// The identifier that a text in UTF-8 spells; a text that is too long takes no memory.
     pub fn parse(alloc: Global, text: &str) -> Result<Ident, IdentError>
         ensures ok { IfOk result (λ ident. ident ≡ chars text.now) }
         ensures valid { IfOk result (λ _. IsIdent (chars text.now)) }

@@ -16,11 +16,11 @@ mod text;
 mod value;
 
 pub use bytes::Bytes;
-pub use fold::{is_named, is_spelled, same_name, same_text};
+pub use fold::{folds_equal, is_named, is_spelled, same_name, same_text};
 pub use ident::{Ident, IdentError, may_begin, may_follow};
 pub use instance::{Instance, Property};
 pub use items::Items;
-pub use limits::MAX_IDENTIFIER;
+pub use limits::{MAX_IDENTIFIER, MAX_NAME_BYTES};
 pub use memory::Memory;
-pub use text::{Text, char_count};
+pub use text::{Text, char_count, fits_utf8};
 pub use value::{Scalar, Value};

@@ -1,8 +1,8 @@
-//! Lack of memory.
+//! The answer of a call that ran out of memory.
 use std::alloc::{AllocError, AllocFailed};
 use std::fmt;
 
-/// Memory was refused.
+/// Out of memory: a growth was refused.
 #[derive(Clone, Copy, Debug, PartialEq, Eq)]
 pub struct Memory;
 

@@ -78,18 +78,25 @@ impl Text {
     pub fn fits_utf8(&self, limit: usize) -> bool
         ensures { IsTrue result ↔ (length (encode_utf8_all self.now) ≤ limit) }
     {
-        let mut left = limit;
-        let mut chars = self.as_slice();
-        while let [c, rest @ ..] = chars {
-            let size = c.len_utf8();
-            if left < size {
-                return false;
-            }
-            left -= size;
-            chars = rest;
-        }
-        true
+        fits_utf8(self.as_slice(), limit)
     }
+}
+
+/// Returns whether the characters have at most so many bytes of UTF-8.
+pub fn fits_utf8(chars: &[char], limit: usize) -> bool
+    ensures { IsTrue result ↔ (length (encode_utf8_all chars.now) ≤ limit) }
+{
+    let mut left = limit;
+    let mut rest = chars;
+    while let [c, after @ ..] = rest {
+        let size = c.len_utf8();
+        if left < size {
+            return false;
+        }
+        left -= size;
+        rest = after;
+    }
+    true
 }
 
 /// How many characters the text has.

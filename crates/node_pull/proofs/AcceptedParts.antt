@@ -3,17 +3,19 @@ use Rattle.std.proofs.Common.{◌≡◌, inl, inr, ℕ, suc, Bool, true, false, 
 use Rattle.std.proofs.lemmas.Option.{none-some, same_Some}
 use Rattle.std.specs.Bool.{⊤}
 use Rattle.std.specs.List.{AllByRecursion, Contains}
-use Rattle.std.specs.Prelude.{IfOk, IfSome, bytes_eq, if◌then◌else◌}
+use Rattle.std.specs.Prelude.{IfOk, IfSome, if◌then◌else◌}
+use Rattle.mof_values.specs.Fold.{same_name}
 use Rattle.dsc_outside.specs.declared.entries.Package.{Package}
 use Rattle.meta_config.specs.declared.meta.Meta.{Meta}
 use Rattle.meta_config.specs.declared.server.Server.{Server}
 use Rattle.node_state.specs.declared.list.Staged.{Staged}
 use Rattle.node_state.specs.StagedParts.{parts_of}
 use Rattle.partial_merge.specs.declared.part.Part.{Part}
+use Rattle.pull_client.specs.Asks.{Asks}
 use Rattle.pull_client.specs.declared.error.PeerError.{PeerError}
 use Rattle.pull_client.specs.Content.{GivesPart}
 use Rattle.pull_client.specs.Requests.{content_request}
-use Rattle.node_pull.specs.declared.error.PullError.{PullError}
+use Rattle.node_pull.specs.declared.error.PullFault.{PullFault}
 use Rattle.node_pull.specs.Contents as contents
 use Rattle.node_pull.specs.Contents.{Contents, IsHeldOrAccepted, PartFor, WasAccepted, before_others, kept_part, part_under}
 use Rattle.node_pull.specs.Listing as listing
@@ -21,7 +23,8 @@ use Rattle.node_pull.specs.Listing.{Listed}
 use Rattle.node_pull.specs.Marks.{same_marks}
 use Rattle.node_pull.specs.Pulling as pulling
 use Rattle.node_pull.specs.Pulling.{Pulled, brought_of}
-use Rattle.node_pull.specs.Views.{Accepts, AsksServer, GoesOn, LinkView, MadeSince}
+use Rattle.dsc_outside.specs.Link.{GoesOn, LinkView}
+use Rattle.node_pull.specs.Views.{Accepts, MadeSince}
 use Rattle.node_pull.proofs.GoingOn.{asks_goes_on, contents_go_on, packages_go_on, part_goes_on}
 use Rattle.node_pull.proofs.ListedParts.{all_of}
 use Rattle.node_pull.proofs.Since.{asked_since, since_before, since_then}
@@ -54,7 +57,7 @@ chosen_held first held rest part false later is = let there = later is in (suc t
 
 under_held : (held : List Part) (name : List ℕ) (part : Part) → part_under held name ≡ Some part → Contains held part
 under_held [] name part is = absurd (none-some part is)
-under_held (first ∷ held) name part is = chosen_held first held (part_under held name) part (bytes_eq first.name name) (under_held held name part) is
+under_held (first ∷ held) name part is = chosen_held first held (part_under held name) part (same_name first.name name) (under_held held name part) is
 
 kept_held : (held : List Part) (name : List ℕ) (fetches : List Bool) (part : Part) → kept_part held name fetches ≡ Some part → Contains held part
 kept_held held name [] part is = absurd (none-some part is)
@@ -63,7 +66,7 @@ kept_held held name (false ∷ fetches) part is = under_held held name part is
 
 -- a content that was given
 asked_part : (server : Server) (agent : ℕ) (name : List ℕ) (before after : LinkView) (part : Part) → part.name ≡ name
-    → AsksServer server (content_request server agent name) (GivesPart name) before after (Ok part) → WasAccepted server agent before after part
+    → Asks server (content_request server agent name) (GivesPart name) before after (Ok part) → WasAccepted server agent before after part
 asked_part server agent name before after part named asks =
     subst (λ (n : List ℕ). MadeSince (Accepts server (content_request server agent n) (GivesPart n) part) before after) (sym named)
     (asked_since server (content_request server agent name) (GivesPart name) before after part asks)
@@ -99,11 +102,11 @@ contents_accepted (contents.no_memory names fetches view) = tt
 listed_accepted : {meta : Meta} {server : Server} {agent : ℕ} {held : List Part} {before after : LinkView} {result : Result (List Part) PeerError}
     → Listed meta server agent held before after result → AllAccepted server agent held before after result
 listed_accepted (listing.not_told names error before after asked queries) = tt
-listed_accepted {server = server} {agent = agent} {held = held} (listing.told names fetches before mid after result asked queries given) =
+listed_accepted {server = server} {agent = agent} {held = held} (listing.answered names fetches before mid after result asked queries given) =
     others_from server agent held before mid after result (asks_goes_on server _ _ before mid (Ok fetches) queries) (contents_accepted given)
 listed_accepted (listing.no_memory view) = tt
 
-abbrev pub Brought : Server → ℕ → List Part → LinkView → LinkView → Result (Option Staged) PullError → Type 0
+abbrev pub Brought : Server → ℕ → List Part → LinkView → LinkView → Result (Option Staged) PullFault → Type 0
 Brought server agent held before after result = IfOk result (λ brought. IfSome brought (λ staged. All (IsHeldOrAccepted server agent held before after) (parts_of staged)))
 
 brought_accepted : (server : Server) (agent : ℕ) (held : List Part) (before after : LinkView) (staged : Staged) (brings : Option Staged) → brings ≡ brought_of held staged
@@ -116,7 +119,7 @@ brought_accepted server agent held before after staged brings is all =
     go false = all_of (IsHeldOrAccepted server agent held before after) (parts_of staged) all
 
 pub pulled_accepted : {S : Type 0} {packages : S → Option (List Package)} {faults : S → ℕ} {meta : Meta} {server : Server} {agent : ℕ} {held : List Part} {before after : LinkView} {old new : S}
-    {result : Result (Option Staged) PullError}
+    {result : Result (Option Staged) PullFault}
     → Pulled packages faults meta server agent held before after old new result → Brought server agent held before after result
 pulled_accepted (pulling.not_listed before after state error listed) = tt
 pulled_accepted (pulling.not_staged before after state parts error listed refused) = tt

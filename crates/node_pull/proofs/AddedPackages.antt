@@ -11,12 +11,13 @@ use Rattle.meta_config.specs.declared.server.Server.{Server}
 use Rattle.resource_kinds.specs.Packages.{AddsPackage}
 use Rattle.pull_client.specs.Content.{GivesBody}
 use Rattle.pull_client.specs.Requests.{module_request}
-use Rattle.node_pull.specs.declared.error.PullError.{PullError}
+use Rattle.node_pull.specs.declared.error.PullFault.{PullFault}
 use Rattle.node_pull.specs.declared.modules.Module.{Module}
 use Rattle.node_pull.specs.Laws.{PackagesAreAccepted, PackagesAreThere}
 use Rattle.node_pull.specs.Packages as rows
 use Rattle.node_pull.specs.Packages.{Adds, AddsAccepted, AreLacking, AsksModule, Has, HasAll, OnePackage, Packages, SamePackages, WasGiven}
-use Rattle.node_pull.specs.Views.{Accepts, GoesOn, LinkView, MadeSince}
+use Rattle.dsc_outside.specs.Link.{GoesOn, LinkView}
+use Rattle.node_pull.specs.Views.{Accepts, MadeSince}
 use Rattle.node_pull.proofs.GoingOn.{package_goes_on, packages_go_on}
 use Rattle.node_pull.proofs.Since.{asked_since, since_before, since_then}
 
@@ -41,7 +42,7 @@ lacking_both there (found ∷ first) rest one other =
 
 -- the packages that are exposed lack that of the module
 abbrev pub Lacks : Module → Told → Type 0
-Lacks wanted told = IfSome told (λ list. false ≡ has_package list (encode_utf8_all wanted.name) (encode_utf8_all wanted.version))
+Lacks wanted shown = IfSome shown (λ list. false ≡ has_package list (encode_utf8_all wanted.name) (encode_utf8_all wanted.version))
 
 module _ (server : Server) where
   abbrev pub Given : List Module → LinkView → LinkView → Package → Type 0
@@ -130,7 +131,7 @@ module _ {S : Type 0} (packages : S → Option (List Package)) (faults : S → �
   added_or_not wanted modules before after old looked new body has same asks (inl still) = adds_same server (wanted ∷ modules) before after (packages old) (packages new) (still ∙ same)
   added_or_not wanted modules before after old looked new body has same asks (inr adds) = added wanted modules before after old looked new body has same asks adds
 
-  one_accepted : {before after : LinkView} {old new : S} {result : Result (Unit {0}) PullError} (wanted : Module) (modules : List Module)
+  one_accepted : {before after : LinkView} {old new : S} {result : Result (Unit {0}) PullFault} (wanted : Module) (modules : List Module)
       → OnePackage packages faults server wanted before after old new result → AddsAccepted server (wanted ∷ modules) before after (packages old) (packages new)
   one_accepted wanted modules (rows.is_there view old new has same) = adds_same server (wanted ∷ modules) view view (packages old) (packages new) same
   one_accepted wanted modules (rows.is_added before after old looked new body has same asks adds) = added wanted modules before after old looked new body has same asks adds
@@ -155,7 +156,7 @@ packages_are_accepted packages faults server (_ ∷ _) _ _ _ _ _ (rows.ended wan
 -- ---- where all came, they are there
 
 abbrev pub HasOne : Module → Told → Type 0
-HasOne wanted told = IfSome told (λ list. IsTrue (has_package list (encode_utf8_all wanted.name) (encode_utf8_all wanted.version)))
+HasOne wanted shown = IfSome shown (λ list. IsTrue (has_package list (encode_utf8_all wanted.name) (encode_utf8_all wanted.version)))
 
 or_left : (a b : Bool) → IsTrue a → IsTrue (a || b)
 or_left true b is = refl
@@ -189,11 +190,11 @@ has_added : (wanted : Module) (body : List ℕ) (before after : Told) → AddsPa
 has_added wanted body None after adds = subst (HasOne wanted) (sym adds) tt
 has_added wanted body (Some list) after adds = subst (HasOne wanted) (sym adds) (has_last list (encode_utf8_all wanted.name) (encode_utf8_all wanted.version) body)
 
-has_one : (wanted : Module) (told : Told) → IfSome told (λ list. true ≡ has_package list (encode_utf8_all wanted.name) (encode_utf8_all wanted.version)) → HasOne wanted told
+has_one : (wanted : Module) (shown : Told) → IfSome shown (λ list. true ≡ has_package list (encode_utf8_all wanted.name) (encode_utf8_all wanted.version)) → HasOne wanted shown
 has_one wanted None has = tt
 has_one wanted (Some list) has = sym has
 
-with_one : (wanted : Module) (modules : List Module) (told : Told) → HasOne wanted told → HasAll modules told → HasAll (wanted ∷ modules) told
+with_one : (wanted : Module) (modules : List Module) (shown : Told) → HasOne wanted shown → HasAll modules shown → HasAll (wanted ∷ modules) shown
 with_one wanted modules None one all = tt
 with_one wanted modules (Some list) one all = go
   where
@@ -204,7 +205,7 @@ with_one wanted modules (Some list) one all = go
     go zero d lt = one
     go (suc k) d lt = all k d (omega arith)
 
-has_none : (told : Told) → HasAll [] told
+has_none : (shown : Told) → HasAll [] shown
 has_none None = tt
 has_none (Some list) = all_none (λ (wanted : Module). IsTrue (has_package list (encode_utf8_all wanted.name) (encode_utf8_all wanted.version)))
 

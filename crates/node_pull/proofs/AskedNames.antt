@@ -9,6 +9,7 @@ use Rattle.dsc_document.specs.Sizes.{Fits}
 use Rattle.depend_order.specs.Cycle.{DependsOn}
 use Rattle.depend_order.proofs.Options.{some_of}
 use Rattle.depend_order.proofs.Orders.{earliest_below, earliest_count}
+use Rattle.mof_values.specs.declared.limits.TheConstants.{MAX_NAME_BYTES}
 use Rattle.meta_config.specs.declared.meta.Meta.{Meta}
 use Rattle.meta_config.specs.declared.meta.Partial.{Partial}
 use Rattle.meta_config.specs.Parts.{IsMeta, IsOrderOfParts, NamesPart}
@@ -17,20 +18,21 @@ use Rattle.meta_config.proofs.PartPlaces.{zip_more}
 use Rattle.meta_config.proofs.ReadBack.{is_well_formed}
 use Rattle.meta_config.proofs.WellFormed.{IsNameText, IsPart}
 use Rattle.meta_config.proofs.WrittenTexts.{at_most}
-use Rattle.node_state.specs.declared.limits.TheConstants.{MAX_NAME, MAX_PARTS}
+use Rattle.mof_values.specs.declared.limits.TheConstants.{MAX_NAME_BYTES}
+use Rattle.report_log.specs.declared.limits.TheConstants.{MAX_PARTS}
 use Rattle.node_pull.specs.Names.{AreAsked, AreAskedOf, AreNamesAt, CanAsk, CanAskOf, HasOneName}
 
 -- 1 to 8 names that are not too long
 pub record AreFew (names : List (List ℕ)) : Type 0 where
   pub some : 1 ≤ length names
   pub few : length names ≤ MAX_PARTS
-  pub fit : AllByRecursion (Fits MAX_NAME) names
+  pub fit : AllByRecursion (Fits MAX_NAME_BYTES) names
 
-name_fits : (name : List ℕ) → is_name name ≡ true → Fits MAX_NAME name
+name_fits : (name : List ℕ) → is_name name ≡ true → Fits MAX_NAME_BYTES name
 name_fits [] is = omega arith
-name_fits (c ∷ cs) is = at_most (length (encode_utf8_all (c ∷ cs))) 255 is
+name_fits (c ∷ cs) is = at_most (length (encode_utf8_all (c ∷ cs))) MAX_NAME_BYTES is
 
-names_fit : (names : List (List ℕ)) → AllByRecursion IsNameText names → AllByRecursion (Fits MAX_NAME) names
+names_fit : (names : List (List ℕ)) → AllByRecursion IsNameText names → AllByRecursion (Fits MAX_NAME_BYTES) names
 names_fit [] all = tt
 names_fit (name ∷ names) all = (name_fits name all.0.sized, names_fit names all.1)
 
@@ -40,14 +42,14 @@ part_at (p ∷ ps) zero partial all is = subst IsPart (same_Some p partial is) a
 part_at (p ∷ ps) (suc place) partial all is = part_at ps place partial all.1 is
 
 names_at_fit : (partials : List Partial) (places : List ℕ) (names : List (List ℕ)) → AllByRecursion IsPart partials → AreNamesAt partials places names
-    → AllByRecursion (Fits MAX_NAME) names
+    → AllByRecursion (Fits MAX_NAME_BYTES) names
 names_at_fit partials [] [] all are = tt
 names_at_fit partials [] (name ∷ names) all are = absurd are
 names_at_fit partials (place ∷ places) [] all are = absurd are
 names_at_fit partials (place ∷ places) (name ∷ names) all are =
     let found = some_of (slice_get partials place) (λ partial. name ≡ partial.name) are.0 in
     let part = part_at partials place found.0 all found.1 in
-    (subst (Fits MAX_NAME) (sym found.2) (name_fits found.0.name part.name.sized), names_at_fit partials places names all are.1)
+    (subst (Fits MAX_NAME_BYTES) (sym found.2) (name_fits found.0.name part.name.sized), names_at_fit partials places names all are.1)
 
 one_name : (names : List (List ℕ)) → HasOneName names → length names ≡ 1
 one_name [] has = absurd has

@@ -10,8 +10,8 @@ use Rattle.node_state.specs.declared.list.Staged.{Staged}
 use Rattle.partial_merge.specs.declared.part.Part.{Part}
 use Rattle.report_log.specs.declared.report.Report.{Report}
 use Rattle.pull_client.specs.declared.error.PeerError.{PeerError}
-use Rattle.pull_client.specs.Asks.{Exchanged}
-use Rattle.node_pull.specs.declared.error.PullError.{PullError}
+use Rattle.pull_client.specs.Asks.{Asks, Exchanged}
+use Rattle.node_pull.specs.declared.error.PullFault.{PullFault}
 use Rattle.node_pull.specs.declared.modules.Module.{Module}
 use Rattle.node_pull.specs.Contents as contents
 use Rattle.node_pull.specs.Contents.{Contents, PartFor}
@@ -23,9 +23,9 @@ use Rattle.node_pull.specs.Pulling as pulling
 use Rattle.node_pull.specs.Pulling.{Pulled}
 use Rattle.node_pull.specs.Registering.{Registers}
 use Rattle.node_pull.specs.Reporting.{SendsReport}
-use Rattle.node_pull.specs.Views.{AddsExchanges, AsksServer, GoesOn, LinkView}
+use Rattle.dsc_outside.specs.Link.{AddsExchanges, GoesOn, LinkView}
 
-adds_none : (told : Option (List Exchange)) → AddsExchanges told told
+adds_none : (shown : Option (List Exchange)) → AddsExchanges shown shown
 adds_none None = refl
 adds_none (Some exchanges) = ([], ap Some (sym (append-nil exchanges)))
 
@@ -39,13 +39,13 @@ adds_more (Some exchanges) mid after first second =
     (first.0 ++ rest.0, rest.1 ∙ ap Some (append_assoc exchanges first.0 rest.0))
 
 pub stays : (view : LinkView) → GoesOn view view
-stays view = record { told = adds_none view.told; later = omega arith }
+stays view = record { shown = adds_none view.shown; later = omega arith }
 
 pub stays_at : (before after : LinkView) → after ≡ before → GoesOn before after
 stays_at before after is = subst (GoesOn before) (sym is) (stays before)
 
 pub on_and_on : (before mid after : LinkView) → GoesOn before mid → GoesOn mid after → GoesOn before after
-on_and_on before mid after first second = record { told = adds_more before.told mid.told after.told first.told second.told; later = omega (arith, first.later, second.later) }
+on_and_on before mid after first second = record { shown = adds_more before.shown mid.shown after.shown first.shown second.shown; later = omega (arith, first.later, second.later) }
 
 -- ---- of a request
 
@@ -55,17 +55,17 @@ exchanged_adds peer request Says before after result (inl (outcome, heard, last)
 exchanged_adds peer request Says before after result (inr (none, last)) = ([], last ∙ ap Some (sym (append-nil before)))
 
 pub asks_goes_on : {T : Type 0} (server : Server) (request : List ℕ) (Says : Reply → Result T PeerError → Type 0) (before after : LinkView) (result : Result T PeerError)
-    → AsksServer server request Says before after result → GoesOn before after
-asks_goes_on server request Says before after result asks = record { told = go before.told server.https refl refl; later = asks.later }
+    → Asks server request Says before after result → GoesOn before after
+asks_goes_on server request Says before after result asks = record { shown = go before.shown server.https refl refl; later = asks.later }
   where
-    go : (told : Option (List Exchange)) (https : Bool) → before.told ≡ told → server.https ≡ https → AddsExchanges before.told after.told
-    go told true is secure = adds_same before.told after.told (asks.unserved secure).1
-    go None false is secure = subst (λ (t : Option (List Exchange)). AddsExchanges t after.told) (sym is) (asks.untold is)
+    go : (shown : Option (List Exchange)) (https : Bool) → before.shown ≡ shown → server.https ≡ https → AddsExchanges before.shown after.shown
+    go shown true is secure = adds_same before.shown after.shown (asks.unserved secure).1
+    go None false is secure = subst (λ (t : Option (List Exchange)). AddsExchanges t after.shown) (sym is) (asks.unshown is)
     go (Some exchanges) false is secure =
-        subst (λ (t : Option (List Exchange)). AddsExchanges t after.told) (sym is)
-        (exchanged_adds server.peer request Says exchanges after.told result (asks.exchanged secure exchanges is))
+        subst (λ (t : Option (List Exchange)). AddsExchanges t after.shown) (sym is)
+        (exchanged_adds server.peer request Says exchanges after.shown result (asks.exchanged secure exchanges is))
 
-pub registers_goes_on : (meta : Meta) (server : Server) (agent : ℕ) (node_name : List ℕ) (moment : ℕ) (before after : LinkView) (result : Result (Unit {0}) PullError)
+pub registers_goes_on : (meta : Meta) (server : Server) (agent : ℕ) (node_name : List ℕ) (moment : ℕ) (before after : LinkView) (result : Result (Unit {0}) PullFault)
     → Registers meta server agent node_name moment before after result → GoesOn before after
 registers_goes_on meta server agent node_name moment before after result (inl sent) = asks_goes_on server _ _ before after sent.answer sent.asks
 registers_goes_on meta server agent node_name moment before after result (inr unsent) = stays_at before after unsent.1
@@ -93,12 +93,12 @@ contents_go_on (contents.no_memory names fetches view) = stays view
 pub listed_goes_on : {meta : Meta} {server : Server} {agent : ℕ} {held : List Part} {before after : LinkView} {result : Result (List Part) PeerError}
     → Listed meta server agent held before after result → GoesOn before after
 listed_goes_on {server = server} (listing.not_told names error before after asked queries) = asks_goes_on server _ _ before after (Err error) queries
-listed_goes_on {server = server} (listing.told names fetches before mid after result asked queries given) =
+listed_goes_on {server = server} (listing.answered names fetches before mid after result asked queries given) =
     on_and_on before mid after (asks_goes_on server _ _ before mid (Ok fetches) queries) (contents_go_on given)
 listed_goes_on (listing.no_memory view) = stays view
 
 module _ {S : Type 0} {packages : S → Option (List Package)} {faults : S → ℕ} {server : Server} where
-  pub package_goes_on : {wanted : Module} {before after : LinkView} {old new : S} {result : Result (Unit {0}) PullError}
+  pub package_goes_on : {wanted : Module} {before after : LinkView} {old new : S} {result : Result (Unit {0}) PullFault}
       → OnePackage packages faults server wanted before after old new result → GoesOn before after
   package_goes_on (rows.is_there view old new has same) = stays view
   package_goes_on (rows.is_added before after old looked new body has same asks adds) = asks_goes_on server _ _ before after (Ok body) asks
@@ -108,13 +108,13 @@ module _ {S : Type 0} {packages : S → Option (List Package)} {faults : S → �
   package_goes_on (rows.no_memory view old new same) = stays view
   package_goes_on (rows.no_memory_to_add before after old looked new body has same asks whole) = asks_goes_on server _ _ before after (Ok body) asks
 
-  pub packages_go_on : {modules : List Module} {before after : LinkView} {old new : S} {result : Result (Unit {0}) PullError}
+  pub packages_go_on : {modules : List Module} {before after : LinkView} {old new : S} {result : Result (Unit {0}) PullFault}
       → Packages packages faults server modules before after old new result → GoesOn before after
   packages_go_on (rows.no_more view state) = stays view
   packages_go_on (rows.one_more wanted modules before mid after old next new result one rest) = on_and_on before mid after (package_goes_on one) (packages_go_on rest)
   packages_go_on (rows.ended wanted modules before after old new error one) = package_goes_on one
 
-  pub pulled_goes_on : {meta : Meta} {agent : ℕ} {held : List Part} {before after : LinkView} {old new : S} {result : Result (Option Staged) PullError}
+  pub pulled_goes_on : {meta : Meta} {agent : ℕ} {held : List Part} {before after : LinkView} {old new : S} {result : Result (Option Staged) PullFault}
       → Pulled packages faults meta server agent held before after old new result → GoesOn before after
   pulled_goes_on (pulling.not_listed before after state error listed) = listed_goes_on listed
   pulled_goes_on (pulling.not_staged before after state parts error listed refused) = listed_goes_on listed

@@ -2,6 +2,7 @@ pub mod AcceptedParts
 pub mod AddedPackages
 pub mod AskedNames
 pub mod Exits
+pub mod FoldSizes
 pub mod GoingOn
 pub mod ListRows
 pub mod ListedParts

@@ -8,17 +8,17 @@ use Rattle.dsc_outside.specs.declared.host.HostError.{HostError}
 use Rattle.dsc_outside.specs.declared.host.HostError.TheVariants.{Failed, Memory}
 use Rattle.meta_config.specs.declared.server.Server.{Server}
 use Rattle.resource_kinds.specs.Packages.{AddsPackage}
-use Rattle.node_pull.specs.declared.error.PullError.{PullError}
+use Rattle.node_pull.specs.declared.error.PullFault.{PullFault}
 use Rattle.node_pull.specs.declared.modules.Module.{Module}
 use Rattle.node_pull.specs.Errors.{host_error}
 use Rattle.node_pull.specs.Packages.{Adds, AsksModule, Has, OnePackage, Packages, SamePackages, ended, is_added, is_there, no_memory, no_memory_to_add, no_more, not_added, not_looked, one_more}
-use Rattle.node_pull.specs.Views.{LinkView}
+use Rattle.dsc_outside.specs.Link.{LinkView}
 use Rattle.node_pull.proofs.PartRows.{no_name}
 
 -- ---- the texts that were handed over
 
-has_is : (told : Option (List Package)) (n v name version : List ℕ) (found there : Bool) → found ≡ there → n ≡ name → v ≡ version
-    → IfSome told (λ list. found ≡ has_package list n v) → IfSome told (λ list. there ≡ has_package list name version)
+has_is : (shown : Option (List Package)) (n v name version : List ℕ) (found there : Bool) → found ≡ there → n ≡ name → v ≡ version
+    → IfSome shown (λ list. found ≡ has_package list n v) → IfSome shown (λ list. there ≡ has_package list name version)
 has_is None n v name version found there is named versioned has = tt
 has_is (Some list) n v name version found there is named versioned has = sym is ∙ has ∙ ap (λ x. has_package list x v) named ∙ ap (λ x. has_package list name x) versioned
 
@@ -75,14 +75,14 @@ module _ {S : Type 0} (packages : S → Option (List Package)) (faults : S → �
   at_end modules view state lt =
       subst (λ (ms : List Module). Packages packages faults server ms view view state state (Ok tt)) (sym (no_name modules lt)) (no_more view state)
 
-  pub at_one : (modules left : List Module) (wanted : Module) (before mid after : LinkView) (old next new : S) (result : Result (Unit {0}) PullError) → modules ≡ wanted ∷ drop 1 modules
+  pub at_one : (modules left : List Module) (wanted : Module) (before mid after : LinkView) (old next new : S) (result : Result (Unit {0}) PullFault) → modules ≡ wanted ∷ drop 1 modules
       → left ≡ drop 1 modules → OnePackage packages faults server wanted before mid old next (Ok tt) → Packages packages faults server left mid after next new result
       → Packages packages faults server modules before after old new result
   at_one modules left wanted before mid after old next new result first others one rest =
       subst (λ (ms : List Module). Packages packages faults server ms before after old new result) (sym first)
       (one_more wanted (drop 1 modules) before mid after old next new result one (subst (λ (ms : List Module). Packages packages faults server ms mid after next new result) others rest))
 
-  pub at_error : (modules : List Module) (wanted : Module) (before after : LinkView) (old new : S) (error : PullError) → modules ≡ wanted ∷ drop 1 modules
+  pub at_error : (modules : List Module) (wanted : Module) (before after : LinkView) (old new : S) (error : PullFault) → modules ≡ wanted ∷ drop 1 modules
       → OnePackage packages faults server wanted before after old new (Err error) → Packages packages faults server modules before after old new (Err error)
   at_error modules wanted before after old new error first one =
       subst (λ (ms : List Module). Packages packages faults server ms before after old new (Err error)) (sym first) (ended wanted (drop 1 modules) before after old new error one)

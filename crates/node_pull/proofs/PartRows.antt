@@ -5,7 +5,7 @@ use Rattle.partial_merge.specs.declared.part.Part.{Part}
 use Rattle.pull_client.specs.declared.error.PeerError.{PeerError}
 use Rattle.pull_client.specs.declared.error.PeerError.TheVariants.{Memory}
 use Rattle.node_pull.specs.Contents.{Contents, ContentsAfter, PartFor, after_earlier, before_others, later_answers, no_more, one_more, ended, no_memory}
-use Rattle.node_pull.specs.Views.{LinkView}
+use Rattle.dsc_outside.specs.Link.{LinkView}
 
 -- ---- the parts after earlier ones
 

@@ -15,11 +15,12 @@ use Rattle.partial_merge.specs.declared.part.Part.{Part}
 use Rattle.partial_merge.specs.Merged.{Merged}
 use Rattle.partial_merge.specs.Refused.{Refused}
 use Rattle.partial_merge.proofs.OneMerge.{never_both}
+use Rattle.pull_client.specs.Asks.{Asks}
 use Rattle.pull_client.specs.declared.error.PeerError.{PeerError}
 use Rattle.pull_client.specs.Heard.{IsDone}
 use Rattle.pull_client.specs.Moments.{IsMomentText}
 use Rattle.pull_client.specs.Requests.{registration_of, registration_request}
-use Rattle.node_pull.specs.declared.error.PullError.{PullError}
+use Rattle.node_pull.specs.declared.error.PullFault.{PullFault}
 use Rattle.node_pull.specs.declared.modules.Module.{Module}
 use Rattle.node_pull.specs.Errors.{told_as}
 use Rattle.node_pull.specs.Listing.{Listed}
@@ -27,7 +28,7 @@ use Rattle.node_pull.specs.Names.{registered_names}
 use Rattle.node_pull.specs.Packages.{Packages, modules_of}
 use Rattle.node_pull.specs.Pulling.{Pulled, brought, brought_of, no_package}
 use Rattle.node_pull.specs.Registering.{Registers}
-use Rattle.node_pull.specs.Views.{AsksServer, LinkView}
+use Rattle.dsc_outside.specs.Link.{LinkView}
 
 -- ---- parts that are merged
 
@@ -55,7 +56,7 @@ of_shown : (shown parts : List Part) (modules : List Module) → shown ≡ parts
 of_shown shown parts modules is are = subst (λ (ps : List Part). AreOf ps modules) is are
 
 module _ {S : Type 0} (packages : S → Option (List Package)) (faults : S → ℕ) (meta : Meta) (server : Server) (agent : ℕ) (held : List Part) where
-  pub pulled_short : (before mid after : LinkView) (old new : S) (parts shown : List Part) (staged : Staged) (modules handed : List Module) (error : PullError)
+  pub pulled_short : (before mid after : LinkView) (old new : S) (parts shown : List Part) (staged : Staged) (modules handed : List Module) (error : PullFault)
       → parts_of staged ≡ parts → shown ≡ parts_of staged → handed ≡ modules → Listed meta server agent held before mid (Ok parts) → AreFitting meta parts → AreOf shown modules
       → Packages packages faults server handed mid after old new (Err error)
       → Pulled packages faults meta server agent held before after old new (Err error)
@@ -81,10 +82,10 @@ module _ {S : Type 0} (packages : S → Option (List Package)) (faults : S → �
 abbrev pub RegistersAs : Server → ℕ → List ℕ → List (List ℕ) → ℕ → LinkView → LinkView → Result (Unit {0}) PeerError → Type 0
 RegistersAs server agent node_name names moment before after answer =
     (date : List ℕ) × IsMomentText (Some 7) moment date
-    × AsksServer server (registration_request server agent (registration_of node_name names) date) IsDone before after answer
+    × Asks server (registration_request server agent (registration_of node_name names) date) IsDone before after answer
 
 pub registered : (meta : Meta) (server : Server) (agent : ℕ) (node_name : List ℕ) (moment : ℕ) (before after : LinkView) (names : List (List ℕ)) (answer : Result (Unit {0}) PeerError)
-    (result : Result (Unit {0}) PullError) → names ≡ registered_names meta → RegistersAs server agent node_name names moment before after answer → result ≡ told_as answer
+    (result : Result (Unit {0}) PullFault) → names ≡ registered_names meta → RegistersAs server agent node_name names moment before after answer → result ≡ told_as answer
     → Registers meta server agent node_name moment before after result
 registered meta server agent node_name moment before after names answer result are sent is =
     let own = subst (λ (ns : List (List ℕ)). RegistersAs server agent node_name ns moment before after answer) are sent in

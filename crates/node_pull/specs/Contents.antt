@@ -1,17 +1,20 @@
 -- The parts under the names that were asked about: fetched, or as they are held.
-use Rattle.std.specs.Prelude.{◌≡◌, ◌⊎◌, ℕ, Bool, true, false, List, [], ◌∷◌, ◌++◌, Contains, Option, Some, None, Result, Ok, Err, IfOk, bytes_eq, if◌then◌else◌}
+use Rattle.std.specs.Prelude.{◌≡◌, ◌⊎◌, ℕ, Bool, true, false, List, [], ◌∷◌, ◌++◌, All, Contains, Option, Some, None, Result, Ok, Err, IfOk, if◌then◌else◌}
+use Rattle.mof_values.specs.Fold.{same_name}
 use Rattle.meta_config.specs.declared.server.Server.{Server}
 use Rattle.partial_merge.specs.declared.part.Part.{Part}
+use Rattle.pull_client.specs.Asks.{Asks}
 use Rattle.pull_client.specs.declared.error.PeerError.{PeerError}
 use Rattle.pull_client.specs.declared.error.PeerError.TheVariants.{Memory}
 use Rattle.pull_client.specs.Content.{GivesPart}
 use Rattle.pull_client.specs.Requests.{content_request}
-use Rattle.node_pull.specs.Views.{Accepts, AsksServer, LinkView, MadeSince}
+use Rattle.dsc_outside.specs.Link.{LinkView}
+use Rattle.node_pull.specs.Views.{Accepts, MadeSince}
 
--- the first part that is held under the name
+-- the first part that is held under the name; names of parts compare by fold, and the part keeps its own spelling
 abbrev pub part_under : List Part → List ℕ → Option Part
 part_under [] name = None
-part_under (part ∷ parts) name = if bytes_eq part.name name then Some part else part_under parts name
+part_under (part ∷ parts) name = if same_name part.name name then Some part else part_under parts name
 
 -- the part that is kept under the next name, of whose content the server says whether it is to be fetched: the one that is held, where it is not.
 -- Where a server says anything, it says this of each name; under a name without an answer nothing is kept
@@ -34,7 +37,7 @@ before_others part (Err error) = Err error
 pub data PartFor (server : Server) (agent : ℕ) (held : List Part) (name : List ℕ) (fetches : List Bool) : LinkView → LinkView → Result Part PeerError → Type 0 where
   is_kept : (part : Part) (view : LinkView) → kept_part held name fetches ≡ Some part → PartFor server agent held name fetches view view (Ok part)
   is_fetched : (before after : LinkView) (result : Result Part PeerError) → kept_part held name fetches ≡ None
-      → AsksServer server (content_request server agent name) (GivesPart name) before after result
+      → Asks server (content_request server agent name) (GivesPart name) before after result
       → IfOk result (λ part. part.name ≡ name)
       → PartFor server agent held name fetches before after result
   has_no_room : (view : LinkView) → PartFor server agent held name fetches view view (Err Memory)
@@ -60,6 +63,10 @@ WasAccepted server agent before after part = MadeSince (Accepts server (content_
 -- the part is held, or was accepted since
 abbrev pub IsHeldOrAccepted : Server → ℕ → List Part → LinkView → LinkView → Part → Type 0
 IsHeldOrAccepted server agent held before after part = Contains held part ⊎ WasAccepted server agent before after part
+
+-- so is each of the parts
+abbrev pub AreHeldOrAccepted : Server → ℕ → List Part → LinkView → LinkView → List Part → Type 0
+AreHeldOrAccepted server agent held before after parts = All (IsHeldOrAccepted server agent held before after) parts
 
 -- ---- for private clauses
 

@@ -6,6 +6,6 @@ pub mod Marks
 pub mod Names
 pub mod Packages
 pub mod Pulling
-pub mod Reporting
 pub mod Registering
+pub mod Reporting
 pub mod Views

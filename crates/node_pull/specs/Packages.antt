@@ -11,14 +11,16 @@ use Rattle.dsc_document.specs.declared.document.Resource.{Resource}
 use Rattle.meta_config.specs.declared.server.Server.{Server}
 use Rattle.meta_config.specs.Words.{is_name}
 use Rattle.resource_kinds.specs.Packages.{AddsPackage}
+use Rattle.pull_client.specs.Asks.{Asks}
 use Rattle.pull_client.specs.declared.error.PeerError.{PeerError}
 use Rattle.pull_client.specs.Content.{GivesBody}
 use Rattle.pull_client.specs.Requests.{module_request}
-use Rattle.node_pull.specs.declared.error.PullError.{PullError}
-use Rattle.node_pull.specs.declared.error.PullError.TheVariants.{Host, Memory}
+use Rattle.node_pull.specs.declared.error.PullFault.{PullFault}
+use Rattle.node_pull.specs.declared.error.PullFault.TheVariants.{Host, Memory}
 use Rattle.node_pull.specs.declared.modules.Module.{Module}
 use Rattle.node_pull.specs.Errors.{error_of}
-use Rattle.node_pull.specs.Views.{Accepts, AsksServer, LinkView, MadeSince}
+use Rattle.dsc_outside.specs.Link.{LinkView}
+use Rattle.node_pull.specs.Views.{Accepts, MadeSince}
 
 -- ---- which packages
 
@@ -66,10 +68,10 @@ abbrev pub Adds : {S : Type 0} → (S → Option (List Package)) → Module → 
 Adds packages wanted body before after = AddsPackage (packages before) (packages after) (encode_utf8_all wanted.name) (encode_utf8_all wanted.version) body
 
 abbrev pub AsksModule : Server → Module → LinkView → LinkView → Result (List ℕ) PeerError → Type 0
-AsksModule server wanted before after result = AsksServer server (module_request server wanted.name wanted.version) GivesBody before after result
+AsksModule server wanted before after result = Asks server (module_request server wanted.name wanted.version) GivesBody before after result
 
 -- the package of one module: where the machine does not have it, it is fetched, and its accepted body is kept there
-pub data OnePackage {S : Type 0} (packages : S → Option (List Package)) (faults : S → ℕ) (server : Server) (wanted : Module) : LinkView → LinkView → S → S → Result (Unit {0}) PullError → Type 0 where
+pub data OnePackage {S : Type 0} (packages : S → Option (List Package)) (faults : S → ℕ) (server : Server) (wanted : Module) : LinkView → LinkView → S → S → Result (Unit {0}) PullFault → Type 0 where
   is_there : (view : LinkView) (old new : S) → Has packages old wanted true → SamePackages packages old new
       → OnePackage packages faults server wanted view view old new (Ok tt)
   is_added : (before after : LinkView) (old looked new : S) (body : List ℕ)
@@ -92,13 +94,13 @@ pub data OnePackage {S : Type 0} (packages : S → Option (List Package)) (fault
       → OnePackage packages faults server wanted before after old new (Err Memory)
 
 -- that of each module, one after the other, up to the first that does not come
-pub data Packages {S : Type 0} (packages : S → Option (List Package)) (faults : S → ℕ) (server : Server) : List Module → LinkView → LinkView → S → S → Result (Unit {0}) PullError → Type 0 where
+pub data Packages {S : Type 0} (packages : S → Option (List Package)) (faults : S → ℕ) (server : Server) : List Module → LinkView → LinkView → S → S → Result (Unit {0}) PullFault → Type 0 where
   no_more : (view : LinkView) (state : S) → Packages packages faults server [] view view state state (Ok tt)
-  one_more : (wanted : Module) (modules : List Module) (before mid after : LinkView) (old next new : S) (result : Result (Unit {0}) PullError)
+  one_more : (wanted : Module) (modules : List Module) (before mid after : LinkView) (old next new : S) (result : Result (Unit {0}) PullFault)
       → OnePackage packages faults server wanted before mid old next (Ok tt)
       → Packages packages faults server modules mid after next new result
       → Packages packages faults server (wanted ∷ modules) before after old new result
-  ended : (wanted : Module) (modules : List Module) (before after : LinkView) (old new : S) (error : PullError)
+  ended : (wanted : Module) (modules : List Module) (before after : LinkView) (old new : S) (error : PullFault)
       → OnePackage packages faults server wanted before after old new (Err error)
       → Packages packages faults server (wanted ∷ modules) before after old new (Err error)
 
@@ -125,4 +127,4 @@ AddsAccepted server modules before after (Some old) packages =
 
 -- where the packages are exposed, that of each module is there
 abbrev pub HasAll : List Module → Option (List Package) → Type 0
-HasAll modules told = IfSome told (λ list. All (λ wanted. IsTrue (has_package list (encode_utf8_all wanted.name) (encode_utf8_all wanted.version))) modules)
+HasAll modules shown = IfSome shown (λ list. All (λ wanted. IsTrue (has_package list (encode_utf8_all wanted.name) (encode_utf8_all wanted.version))) modules)

@@ -11,12 +11,12 @@ use Rattle.node_state.specs.declared.list.Staged.{Staged}
 use Rattle.node_state.specs.StagedParts.{parts_of}
 use Rattle.node_state.specs.Staging.{AreFitting, AreRefused}
 use Rattle.pull_client.specs.declared.error.PeerError.{PeerError}
-use Rattle.node_pull.specs.declared.error.PullError.{PullError}
+use Rattle.node_pull.specs.declared.error.PullFault.{PullFault}
 use Rattle.node_pull.specs.Errors.{error_of, staging_error}
 use Rattle.node_pull.specs.Listing.{Listed}
 use Rattle.node_pull.specs.Marks.{same_marks}
 use Rattle.node_pull.specs.Packages.{Packages, modules_of}
-use Rattle.node_pull.specs.Views.{LinkView}
+use Rattle.dsc_outside.specs.Link.{LinkView}
 
 -- the list, where its names and digests are not those of the parts that are held
 abbrev pub brought_of : List Part → Staged → Option Staged
@@ -24,13 +24,13 @@ brought_of held staged = if same_marks held (parts_of staged) then None else Som
 
 -- the list of parts comes first, then it is staged, then the packages come that its document names
 pub data Pulled {S : Type 0} (packages : S → Option (List Package)) (faults : S → ℕ) (meta : Meta) (server : Server) (agent : ℕ) (held : List Part) :
-    LinkView → LinkView → S → S → Result (Option Staged) PullError → Type 0 where
+    LinkView → LinkView → S → S → Result (Option Staged) PullFault → Type 0 where
   not_listed : (before after : LinkView) (state : S) (error : PeerError) → Listed meta server agent held before after (Err error)
       → Pulled packages faults meta server agent held before after state state (Err (error_of error))
   not_staged : (before after : LinkView) (state : S) (parts : List Part) (error : StageError) → Listed meta server agent held before after (Ok parts)
       → AreRefused meta parts error
       → Pulled packages faults meta server agent held before after state state (Err (staging_error error))
-  no_package : (before mid after : LinkView) (old new : S) (staged : Staged) (document : Document) (error : PullError)
+  no_package : (before mid after : LinkView) (old new : S) (staged : Staged) (document : Document) (error : PullFault)
       → Listed meta server agent held before mid (Ok (parts_of staged)) → AreFitting meta (parts_of staged) → Merged (parts_of staged) document
       → Packages packages faults server (modules_of document) mid after old new (Err error)
       → Pulled packages faults meta server agent held before after old new (Err error)

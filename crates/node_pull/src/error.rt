@@ -1,7 +1,7 @@
 //! Why a node was not registered, or a pull brought nothing.
 ghost use Rattle.std.specs.Prelude.{◌≡◌};
 ghost use Rattle.node_pull.specs.Errors.{error_of, host_error, staging_error};
-ghost use Rattle.node_pull.specs.declared.error.PullError.TheVariants.{Memory as OutOfMemory};
+ghost use Rattle.node_pull.specs.declared.error.PullFault.TheVariants.{Memory as OutOfMemory};
 
 use dsc_outside::HostError;
 use mof_values::Memory;
@@ -22,13 +22,13 @@ pub enum PeerFault {
     /// The document of the parts does not fit the meta-configuration.
     Fit(FitError),
 
-    /// The parts have more than 16,777,216 bytes together: so many.
+    /// The parts have more than 16,777,216 bytes together: this number.
     ListTooLong { bytes: u64 },
 }
 
 /// Why a node was not registered, or a pull brought nothing.
 #[derive(Debug, Drop, PartialEq)]
-pub enum PullError {
+pub enum PullFault {
     /// The link failed.
     Link,
 
@@ -41,59 +41,59 @@ pub enum PullError {
     Memory,
 }
 
-impl From<AllocError> for PullError {
+impl From<AllocError> for PullFault {
     ghost from_gives = { λ _ e. e ≡ OutOfMemory };
 
     fn from(_: AllocError) -> Self {
-        PullError::Memory
+        PullFault::Memory
     }
 }
 
-impl<T: Drop> From<AllocFailed<T>> for PullError {
+impl<T: Drop> From<AllocFailed<T>> for PullFault {
     ghost from_gives = { λ _ e. e ≡ OutOfMemory };
 
     fn from(_: AllocFailed<T>) -> Self {
-        PullError::Memory
+        PullFault::Memory
     }
 }
 
-impl From<Memory> for PullError {
+impl From<Memory> for PullFault {
     ghost from_gives = { λ _ e. e ≡ OutOfMemory };
 
     fn from(_: Memory) -> Self {
-        PullError::Memory
+        PullFault::Memory
     }
 }
 
 // The error of a pull in which a request gave nothing.
-pub(crate) fn error_of(error: PeerError) -> PullError
+pub(crate) fn error_of(error: PeerError) -> PullFault
     ensures { result ≡ error_of error }
 {
     match error {
-        PeerError::Link => PullError::Link,
-        PeerError::Memory => PullError::Memory,
-        other => PullError::Refused(PeerFault::Answer(other)),
+        PeerError::Link => PullFault::Link,
+        PeerError::Memory => PullFault::Memory,
+        other => PullFault::Refused(PeerFault::Answer(other)),
     }
 }
 
 // The error of a pull whose parts are not staged.
-pub(crate) fn staging_error(error: StageError) -> PullError
+pub(crate) fn staging_error(error: StageError) -> PullFault
     ensures { result ≡ staging_error error }
 {
     match error {
-        StageError::Merge(refusal) => PullError::Refused(PeerFault::Document(refusal)),
-        StageError::Fit(misfit) => PullError::Refused(PeerFault::Fit(misfit)),
-        StageError::TooLong { bytes } => PullError::Refused(PeerFault::ListTooLong { bytes }),
-        StageError::Memory => PullError::Memory,
+        StageError::Merge(refusal) => PullFault::Refused(PeerFault::Document(refusal)),
+        StageError::Fit(misfit) => PullFault::Refused(PeerFault::Fit(misfit)),
+        StageError::TooLong { bytes } => PullFault::Refused(PeerFault::ListTooLong { bytes }),
+        StageError::Memory => PullFault::Memory,
     }
 }
 
 // The error of a pull in which a call on the machine's packages gave nothing.
-pub(crate) fn host_error(error: HostError) -> PullError
+pub(crate) fn host_error(error: HostError) -> PullFault
     ensures { result ≡ host_error error }
 {
     match error {
-        HostError::Failed => PullError::Host,
-        HostError::Memory => PullError::Memory,
+        HostError::Failed => PullFault::Host,
+        HostError::Memory => PullFault::Memory,
     }
 }

@@ -16,7 +16,7 @@ mod pulling;
 mod registering;
 mod reporting;
 
-pub use error::{PeerFault, PullError};
+pub use error::{PeerFault, PullFault};
 pub use laws::package_laws;
 pub use marks::marks_of;
 pub use modules::Module;

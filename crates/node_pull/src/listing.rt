@@ -3,16 +3,17 @@ ghost use Rattle.std.specs.Prelude.{◌≡◌, IfOk, option_copied};
 ghost use Rattle.pull_client.specs.Content.{items_in};
 ghost use Rattle.node_state.specs.Lists.{AreNamed};
 ghost use Rattle.node_state.specs.Metas.{IsNodeMeta};
+ghost use Rattle.mof_values.specs.Fold.{same_name};
 ghost use Rattle.node_pull.specs.Contents.{ContentsAfter, PartFor, kept_part, later_answers, part_under};
 ghost use Rattle.node_pull.specs.Listing.{Listed};
 ghost use Rattle.node_pull.specs.Names.{CanAsk};
-ghost use Rattle.node_pull.specs.Views.{view_of};
+ghost use Rattle.dsc_outside.specs.LinkView.{view_of};
 
 use crate::marks::marks_of;
 use crate::names::names_asked;
 use dsc_outside::Link;
 use meta_config::{Meta, Server};
-use mof_values::Text;
+use mof_values::{Text, folds_equal};
 use partial_merge::Part;
 use pull_client::{PeerError, ask, fetch};
 use std::alloc::Global;
@@ -29,7 +30,9 @@ pub(crate) fn listed<L: Link>(
 ) -> Result<Vec<Part>, PeerError>
     requires meta { IsNodeMeta meta.now }
     requires names { CanAsk meta.now }
-    ensures listed { Listed meta.now server.now agent held.now (view_of L.Link link.old) (view_of L.Link link.new) (items_in result (λ v. v.items)) }
+    ensures listed { Listed meta.now server.now agent held.now (view_of L.Link link.old)
+        (view_of L.Link link.new) (items_in result (λ v. v.items)) }
+    ensures becomes { L.may_become link.old link.new }
     ensures named { IfOk result (λ parts. AreNamed parts.items) }
 {
     let names = names_asked(alloc, meta)?;
@@ -60,7 +63,9 @@ fn contents<L: Link>(
     fetches: &[bool],
     mut earlier: Vec<Part>,
 ) -> Result<Vec<Part>, PeerError>
-    ensures { ContentsAfter server.now agent held.now names.now fetches.now earlier.items (view_of L.Link link.old) (view_of L.Link link.new) (items_in result (λ v. v.items)) }
+    ensures contents { ContentsAfter server.now agent held.now names.now fetches.now earlier.items
+        (view_of L.Link link.old) (view_of L.Link link.new) (items_in result (λ v. v.items)) }
+    ensures becomes { L.may_become link.old link.new }
 {
     let [name, rest @ ..] = names else {
         return Ok(earlier);
@@ -92,7 +97,9 @@ fn part_for<L: Link>(
     name: &Text,
     fetches: &[bool],
 ) -> Result<Part, PeerError>
-    ensures { PartFor server.now agent held.now name.now fetches.now (view_of L.Link link.old) (view_of L.Link link.new) result }
+    ensures part { PartFor server.now agent held.now name.now fetches.now (view_of L.Link link.old)
+        (view_of L.Link link.new) result }
+    ensures becomes { L.may_become link.old link.new }
 {
     match kept_part(held, name, fetches) {
         Some(part) => Ok(part.copy()?),
@@ -110,18 +117,25 @@ fn kept_part<'a>(held: &'a [Part], name: &Text, fetches: &[bool]) -> Option<&'a 
     }
 }
 
-// The first part that is held under the name.
+// The first part that is held under the name, by fold.
 fn part_under<'a>(held: &'a [Part], name: &Text) -> Option<&'a Part>
     ensures { option_copied result ≡ part_under held.now name.now }
 {
     let mut left = held;
     while let [part, rest @ ..] = left {
-        if part.name == *name {
+        if is_under(part, name) {
             return Some(part);
         }
         left = rest;
     }
     None
+}
+
+// Names of parts compare by fold.
+fn is_under(part: &Part, name: &Text) -> bool
+    ensures { result ≡ same_name part.now.name name.now }
+{
+    folds_equal(part.name.as_slice(), name.as_slice())
 }
 
 fn later_answers(fetches: &[bool]) -> &[bool]

@@ -26,13 +26,13 @@ pub(crate) fn same_marks(others: &[Part], parts: &[Part]) -> bool
 {
     let (mut left, mut right) = (others, parts);
     while let [other, rest @ ..] = left {
-        let [part, behind @ ..] = right else {
+        let [part, later @ ..] = right else {
             return false;
         };
         if other.name != part.name || other.digest != part.digest {
             return false;
         }
-        (left, right) = (rest, behind);
+        (left, right) = (rest, later);
     }
     right.is_empty()
 }

@@ -5,7 +5,7 @@ ghost use Rattle.meta_config.specs.Words.{is_name};
 ghost use Rattle.node_pull.specs.Packages.{is_own, module_by, module_of, modules_of, same_module};
 
 use dsc_document::{Document, Resource};
-use mof_values::{Text, is_named};
+use mof_values::{MAX_NAME_BYTES, Text, is_named};
 use std::alloc::{AllocError, Global};
 
 /// A module of a certain version, whose package a machine is to have.
@@ -56,7 +56,8 @@ fn module_of(resource: &Resource) -> Result<Option<Module>, AllocError>
 
 // The module of a name and a version of 1 to 255 bytes of UTF-8, unless every machine has it.
 fn module_by(name: Option<&Text>, version: Option<&Text>) -> Result<Option<Module>, AllocError>
-    ensures { IfOk result (λ found. found ≡ module_by (option_copied name.entry) (option_copied version.entry)) }
+    ensures { IfOk result (λ found. found
+        ≡ module_by (option_copied name.entry) (option_copied version.entry)) }
 {
     let (Some(name), Some(version)) = (name, version) else {
         return Ok(None);
@@ -80,7 +81,7 @@ fn copied(name: &Text, version: &Text) -> Result<Module, AllocError>
 fn is_name(text: &Text) -> bool
     ensures { result ≡ is_name text.now }
 {
-    !text.as_slice().is_empty() && text.fits_utf8(255)
+    !text.as_slice().is_empty() && text.fits_utf8(MAX_NAME_BYTES)
 }
 
 fn is_own(name: &Text) -> bool

@@ -1,10 +1,10 @@
-//! The packages of modules, and how they come to a machine.
+//! Fetches the packages of modules, and keeps them on a machine.
 ghost use Rattle.std.specs.Prelude.{◌≡◌, ◌≤◌};
 ghost use Rattle.node_pull.specs.Packages.{OnePackage, Packages};
-ghost use Rattle.node_pull.specs.Views.{view_of};
+ghost use Rattle.dsc_outside.specs.LinkView.{view_of};
 
 use crate::error::{error_of, host_error};
-use crate::{Module, PullError};
+use crate::{Module, PullFault};
 use dsc_outside::Link;
 use meta_config::Server;
 use pull_client::fetch_module;
@@ -19,8 +19,10 @@ pub(crate) fn packages<L: Link, M: Machine>(
     server: &Server,
     agent: u128,
     modules: &[Module],
-) -> Result<(), PullError>
-    ensures packages { Packages M.packages M.faults server.now modules.now (view_of L.Link link.old) (view_of L.Link link.new) machine.old machine.new result }
+) -> Result<(), PullFault>
+    ensures packages { Packages M.packages M.faults server.now modules.now (view_of L.Link link.old)
+        (view_of L.Link link.new) machine.old machine.new result }
+    ensures becomes { L.may_become link.old link.new }
     ensures kept { M.kept machine.new ≡ M.kept machine.old }
     ensures changed { M.packages_changed machine.old machine.new }
     ensures later { M.faults machine.old ≤ M.faults machine.new }
@@ -42,8 +44,10 @@ fn one_package<L: Link, M: Machine>(
     server: &Server,
     agent: u128,
     wanted: &Module,
-) -> Result<(), PullError>
-    ensures one { OnePackage M.packages M.faults server.now wanted.now (view_of L.Link link.old) (view_of L.Link link.new) machine.old machine.new result }
+) -> Result<(), PullFault>
+    ensures one { OnePackage M.packages M.faults server.now wanted.now (view_of L.Link link.old)
+        (view_of L.Link link.new) machine.old machine.new result }
+    ensures becomes { L.may_become link.old link.new }
     ensures kept { M.kept machine.new ≡ M.kept machine.old }
     ensures changed { M.packages_changed machine.old machine.new }
     ensures later { M.faults machine.old ≤ M.faults machine.new }

@@ -1,7 +1,8 @@
 //! The sending of reports.
 ghost use Rattle.report_log.specs.Sizes.{ReportInSize};
 ghost use Rattle.node_pull.specs.Reporting.{SendsReport};
-ghost use Rattle.node_pull.specs.Views.{GoesOn, view_of};
+ghost use Rattle.dsc_outside.specs.Link.{GoesOn};
+ghost use Rattle.dsc_outside.specs.LinkView.{view_of};
 
 use dsc_outside::Link;
 use meta_config::Server;
@@ -10,6 +11,10 @@ use report_log::Report;
 use std::alloc::Global;
 
 /// Sends the server the message of a report of the agent.
+///
+/// # Errors
+///
+/// Those of `pull_client::report`, in its order.
 pub fn send_report<L: Link>(
     alloc: Global,
     link: &mut L,
@@ -18,7 +23,9 @@ pub fn send_report<L: Link>(
     report: &Report,
 ) -> Result<(), PeerError>
     requires size { ReportInSize report.now }
-    ensures sends { SendsReport server.now agent report.now (view_of L.Link link.old) (view_of L.Link link.new) result }
+    ensures sends { SendsReport server.now agent report.now
+        (view_of L.Link link.old) (view_of L.Link link.new) result }
+    ensures becomes { L.may_become link.old link.new }
     ensures goes_on { GoesOn (view_of L.Link link.old) (view_of L.Link link.new) }
 {
     let message = message_of(alloc, report, agent)?;

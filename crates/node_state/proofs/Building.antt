@@ -20,6 +20,7 @@ use Rattle.node_state.specs.Table.{new_node}
 use Rattle.node_state.specs.Sound.{AreKept, Sound}
 use Rattle.node_state.specs.Pieces.{base_of, slot_of, report_of, is_before, fits, placed, IsPiece, Builds, FrontsBuild, FrontsAreSmall, BuiltIsSound}
 use Rattle.node_state.proofs.SoundSteps.{agent_there, only_one, new_sound, Rises}
+use Rattle.node_state.specs.declared.limits.TheConstants.{MAX_REPORTS, OLDER_REPORTS}
 
 pub both_true : (a b : Bool) → a ≡ true → b ≡ true → (a && b) ≡ true
 both_true true true p q = refl
@@ -84,14 +85,14 @@ reports_built : (node : Node) (done rest : List Kept) → is_some node.agent ≡
     → AllPairs Rises rest
     → All (λ (k : Kept). ReportInSize k.report) rest
     → ((j : ℕ) (d : Kept) → j < length rest → All (λ (k : Kept). k.report.job < (get_or rest j d).report.job) done)
-    → length done + length rest ≤ 16
+    → length done + length rest ≤ MAX_REPORTS
     → Builds (with_reports done node) (map report_of rest) (with_reports (done ++ rest) node)
 reports_built node done [] agent jobs rise sizes behind few = ap (λ (l : List Kept). with_reports l node) (append-nil done)
 reports_built node done (kept ∷ rest) agent jobs rise sizes behind few = (
   sizes 0 kept (omega arith),
   both_true _ _ agent
       (both_true _ _ (lt-ltb kept.report.job node.next_job (jobs 0 kept (omega arith)))
-      (both_true _ _ (all_before kept.report.job done (behind 0 kept (omega arith))) (le-leb (length done) 15 (omega (arith, few))))),
+      (both_true _ _ (all_before kept.report.job done (behind 0 kept (omega arith))) (le-leb (length done) OLDER_REPORTS (omega (arith, few))))),
   subst (λ (l : List Kept). Builds (with_reports (done ++ kept ∷ []) node) (map report_of rest) (with_reports l node)) (append_assoc done (kept ∷ []) rest)
       (reports_built node (done ++ kept ∷ []) rest agent
       (λ k d below. jobs (suc k) d (omega (arith, below)))
@@ -200,7 +201,7 @@ piece_sound node (pieces.Kept kept) sound whole fit =
         rise = all_pairs_push Rises node.reports kept sound.reports.rise below;
         below = All-append (λ (k : Kept). k.report.job < node.next_job) node.reports (kept ∷ []) sound.reports.below
             (only_one (λ (k : Kept). k.report.job < node.next_job) kept (ltb-true kept.report.job node.next_job b.0));
-        few = omega (arith, leb-true (length node.reports) 15 c.1, length-append node.reports (kept ∷ []));
+        few = omega (arith, leb-true (length node.reports) OLDER_REPORTS c.1, length-append node.reports (kept ∷ []));
         sizes = All-append (λ (k : Kept). ReportInSize k.report) node.reports (kept ∷ []) sound.reports.sizes
             (only_one (λ (k : Kept). ReportInSize k.report) kept whole);
       };

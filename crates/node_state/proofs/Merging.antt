@@ -19,6 +19,7 @@ use Rattle.meta_config.specs.Parts.{IsMeta}
 use Rattle.meta_config.proofs.ReadBack.{is_well_formed}
 use Rattle.meta_config.proofs.WrittenTexts.{at_most}
 use Rattle.node_state.specs.Lists.{bytes_of, IsMerged}
+use Rattle.mof_syntax.specs.declared.limits.TheConstants.{MAX_DOCUMENT}
 
 -- the document names its parts
 pub parts_named : (parts : List Part) (document : Document) → Merged parts document → length document.parts ≡ length parts
@@ -26,7 +27,7 @@ parts_named parts document merged =
     ap (λ (d : Document). length d.parts) merged.parts_are.are_joined.joined ∙ length-map parts (λ part. part.name)
 
 -- whole parts are not too long together
-whole_small : (parts : List Part) (documents : List Document) → AllZip IsWhole parts documents → bytes_of parts ≤ length parts * 2097152
+whole_small : (parts : List Part) (documents : List Document) → AllZip IsWhole parts documents → bytes_of parts ≤ length parts * MAX_DOCUMENT
 whole_small [] documents whole = omega arith
 whole_small (part ∷ parts) [] whole = absurd whole
 whole_small (part ∷ parts) (document ∷ documents) whole =

@@ -20,6 +20,7 @@ use Rattle.node_state.specs.declared.event.Why.TheVariants.{NoReport}
 use Rattle.meta_config.specs.Parts.{HasPartsOrder}
 use Rattle.node_state.specs.Table.{check, refusal, after, is_next, is_unsent, newest, unsent, marked, with_report, promoted, new_node, IsWithin}
 use Rattle.node_state.specs.Sound.{AreKept, Sound, StepsAreSound, StepsHaveAgents}
+use Rattle.node_state.specs.declared.limits.TheConstants.{OLDER_REPORTS}
 
 -- ---- what an allowed event says
 
@@ -48,25 +49,25 @@ pub only_one : {X : Type 0} (P : X → Type 0) (x : X) → P x → All P (x ∷ 
 only_one P x p zero d below = p
 only_one P x p (suc k) d below = absurd (omega arith)
 
-newest_few : (reports : List Kept) → length (newest 15 reports) ≤ 15
-newest_few reports = omega (arith, length-drop (length reports - 15) reports)
+newest_few : (reports : List Kept) → length (newest OLDER_REPORTS reports) ≤ OLDER_REPORTS
+newest_few reports = omega (arith, length-drop (length reports - OLDER_REPORTS) reports)
 
 later_jobs : (n : ℕ) (reports : List Kept) → All (λ (kept : Kept). kept.report.job < n) reports → All (λ (kept : Kept). kept.report.job < n + 1) reports
 later_jobs n reports all = λ k d below. omega (arith, all k d below)
 
 one_more : (n : ℕ) (reports : List Kept) (report : Report) → AreKept n reports → report.job ≡ n → ReportInSize report
-    → AreKept (n + 1) (newest 15 reports ++ unsent report ∷ [])
+    → AreKept (n + 1) (newest OLDER_REPORTS reports ++ unsent report ∷ [])
 one_more n reports report kept job size =
-    let left = newest 15 reports in
-    let below : All (λ (k : Kept). k.report.job < n) left = All-drop (λ (k : Kept). k.report.job < n) (length reports - 15) reports kept.below in
+    let left = newest OLDER_REPORTS reports in
+    let below : All (λ (k : Kept). k.report.job < n) left = All-drop (λ (k : Kept). k.report.job < n) (length reports - OLDER_REPORTS) reports kept.below in
     record {
-      rise = all_pairs_push Rises left (unsent report) (pairs_drop Rises (length reports - 15) reports kept.rise)
+      rise = all_pairs_push Rises left (unsent report) (pairs_drop Rises (length reports - OLDER_REPORTS) reports kept.rise)
           (λ k d within. omega (arith, below k d within, job));
       below = All-append (λ (k : Kept). k.report.job < n + 1) left (unsent report ∷ []) (later_jobs n left below)
           (only_one (λ (k : Kept). k.report.job < n + 1) (unsent report) (omega (arith, job)));
       few = omega (arith, newest_few reports, length-append left (unsent report ∷ []));
       sizes = All-append (λ (k : Kept). ReportInSize k.report) left (unsent report ∷ [])
-          (All-drop (λ (k : Kept). ReportInSize k.report) (length reports - 15) reports kept.sizes)
+          (All-drop (λ (k : Kept). ReportInSize k.report) (length reports - OLDER_REPORTS) reports kept.sizes)
           (only_one (λ (k : Kept). ReportInSize k.report) (unsent report) size);
     }
 

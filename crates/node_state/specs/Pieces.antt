@@ -13,6 +13,7 @@ use Rattle.node_state.specs.Lists.{IsStaged}
 use Rattle.node_state.specs.Metas.{IsNodeMeta}
 use Rattle.node_state.specs.Sound.{Sound}
 use Rattle.node_state.specs.Table.{new_node}
+use Rattle.node_state.specs.declared.limits.TheConstants.{OLDER_REPORTS}
 
 -- ---- the pieces of a node
 
@@ -52,7 +53,7 @@ fits node (pieces.Base agent registered reboot next_job meta) = is_none node.age
 fits node (pieces.Slot stage parts) = is_some node.agent && (is_free stage node && (length node.reports == 0))
 fits node (pieces.Kept kept) =
     is_some node.agent
-    && (ltb kept.report.job node.next_job && (list_all (is_before kept.report.job) node.reports && leb (length node.reports) 15))
+    && (ltb kept.report.job node.next_job && (list_all (is_before kept.report.job) node.reports && leb (length node.reports) OLDER_REPORTS))
 
 abbrev pub with_parts : Stage → List Part → Node → Node
 with_parts Pending parts node = record node { pending = Some parts }

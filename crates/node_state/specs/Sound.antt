@@ -7,6 +7,7 @@ use Rattle.node_state.specs.declared.event.Event.{Event}
 use Rattle.node_state.specs.Lists.{IsStaged}
 use Rattle.node_state.specs.Metas.{IsNodeMeta}
 use Rattle.node_state.specs.Table.{Step}
+use Rattle.node_state.specs.declared.limits.TheConstants.{MAX_REPORTS}
 
 -- it has no parts, no mark and no reports, and is not registered
 pub record IsBare (node : Node) : Type 0 where
@@ -21,7 +22,7 @@ pub record IsBare (node : Node) : Type 0 where
 pub record AreKept (next_job : ℕ) (reports : List Kept) : Type 0 where
   pub rise : AllPairs (λ earlier later. earlier.report.job < later.report.job) reports
   pub below : All (λ kept. kept.report.job < next_job) reports
-  pub few : length reports ≤ 16
+  pub few : length reports ≤ MAX_REPORTS
   pub sizes : All (λ kept. ReportInSize kept.report) reports
 
 pub record Sound (node : Node) : Type 0 where

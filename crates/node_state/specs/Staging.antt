@@ -31,7 +31,7 @@ pub record AreTooLong (meta : Meta) (parts : List Part) (bytes : ℕ) : Type 0 w
   pub counted : bytes ≡ bytes_of parts
   pub long : MAX_BYTES < bytes
 
--- the parts are refused so. Lack of memory has no cause here
+-- the parts are refused so. `Memory` has no cause here
 abbrev pub AreRefused : Meta → List Part → StageError → Type 0
 AreRefused meta parts (Merge error) = (error ≢ merging.Memory) × Refused parts error
 AreRefused meta parts (Fit error) = AreMisfits meta parts error

@@ -14,6 +14,7 @@ use Rattle.node_state.specs.declared.event.Why.{Why}
 use Rattle.node_state.specs.declared.event.Why.TheVariants.{NoAgent, HasAgent, NoServer, NoPrevious, NoPending, NoDocument, NoReboot, WrongJob, NoReport}
 use Rattle.node_state.specs.StagedParts.{parts_of}
 use Rattle.node_state.specs.Metas.{IsNodeMeta}
+use Rattle.node_state.specs.declared.limits.TheConstants.{OLDER_REPORTS}
 
 -- a node that nothing has happened to
 abbrev pub new_node : Node
@@ -73,11 +74,11 @@ newest count items = drop (length items - count) items
 abbrev pub unsent : Report → Kept
 unsent report = record { report = report; sent = false }
 
--- the report is kept, with the newest fifteen of the others
+-- the report is kept, with the newest of the others
 abbrev pub with_report : Report → Node → Node
 with_report report node = record node {
   next_job = node.next_job + 1;
-  reports = newest 15 node.reports ++ unsent report ∷ [];
+  reports = newest OLDER_REPORTS node.reports ++ unsent report ∷ [];
 }
 
 -- Previous takes Current, and Current takes Pending

@@ -2,7 +2,9 @@
 ghost use Rattle.std.specs.Prelude.{◌≡◌, ◌<◌, ◌^◌, ◌-◌, ◌∷◌, ◌++◌, ◌≤◌, [], None, IfOk, map, vec_len};
 ghost use Rattle.node_state.specs.Supply.{Supplies, IsRoom};
 ghost use Rattle.node_state.specs.Table.{after, marked, new_node, newest, promoted, refusal, unsent, with_report, without};
+ghost use Rattle.node_state.specs.declared.limits.TheConstants.{OLDER_REPORTS};
 
+use crate::limits::OLDER_REPORTS;
 use crate::supply::{Room, Supply};
 use crate::{Event, Kept, Node, Stage};
 use meta_config::Meta;
@@ -139,9 +141,9 @@ impl Node {
     }
 }
 
-// The newest fifteen and the report.
+// The newest reports, and this one.
 fn kept_in(room: Room, reports: Items<Kept>, report: Report) -> Items<Kept>
-    ensures { result ≡ newest 15 reports ++ unsent report ∷ [] }
+    ensures { result ≡ newest OLDER_REPORTS reports ++ unsent report ∷ [] }
 {
     let mut kept = room.reports;
     let mut newest = newest_of(reports.into_vec());
@@ -156,13 +158,13 @@ fn kept_in(room: Room, reports: Items<Kept>, report: Report) -> Items<Kept>
     Items::of(kept)
 }
 
-// The newest fifteen.
+// The newest reports, of which one more may be kept.
 fn newest_of(reports: Vec<Kept>) -> Vec<Kept>
-    ensures newest { result.items ≡ newest 15 reports.items }
-    ensures few { vec_len result ≤ 15 }
+    ensures newest { result.items ≡ newest OLDER_REPORTS reports.items }
+    ensures few { vec_len result ≤ OLDER_REPORTS }
 {
     let mut left = reports;
-    while left.len() > 15 {
+    while left.len() > OLDER_REPORTS {
         left.remove(0);
     }
     left

@@ -8,7 +8,7 @@ use std::alloc::{AllocError, AllocFailed};
 /// Why a document does not fit a meta-configuration, in the order in which the reasons win.
 #[derive(Clone, Copy, Debug, PartialEq, Eq)]
 pub enum FitError {
-    /// No partial configuration is declared, and the parts are not one but so many.
+    /// No partial configuration is declared, and the parts are not one but this many.
     PartCount { found: u32 },
 
     /// The first partial configuration that has no part.
@@ -31,7 +31,7 @@ pub enum StageError {
     /// Their document does not fit the meta-configuration.
     Fit(FitError),
 
-    /// They have more than 16,777,216 bytes together: so many.
+    /// They have more than `MAX_BYTES` bytes together: this many.
     TooLong { bytes: u64 },
 
     Memory,

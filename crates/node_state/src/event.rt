@@ -1,4 +1,4 @@
-//! Events.
+//! The events that change a node, the stages of its lists, and why an event is not allowed.
 use crate::Staged;
 use meta_config::Meta;
 use report_log::Report;

@@ -1,13 +1,12 @@
 //! Whether a document fits a meta-configuration.
 ghost use Rattle.std.specs.Prelude.{◌≡◌, ◌<◌, ◌^◌, ℕ, not, ◌&&◌, ◌==◌, None, Some, ◌≤◌, IfOk, IfErr, IfSome, List, drop, length, unwrap_or, slice_get, if◌then◌else◌};
 ghost use Rattle.std.specs.List.{list_any, position, prefix_len};
-ghost use Rattle.mof_values.specs.Fold.{same_name};
 ghost use Rattle.node_state.specs.Fits.{claimed, claims, has_part, is_backslash, is_inside, is_partial, is_taken, misfit, misfit_of_parts, missing_part, part_name, strange_part, taken_from, type_of, wrong_count};
 
 use crate::FitError;
 use dsc_document::{Document, Resource};
 use meta_config::{Meta, Partial};
-use mof_values::{Text, same_text};
+use mof_values::{Text, folds_equal};
 
 /// Returns whether the document of parts fits the meta-configuration: one part where no partial configuration is declared, else a
 /// part for each partial configuration, no other part, and no resource whose type another partial configuration claims. Takes no
@@ -21,7 +20,8 @@ pub fn fits(meta: &Meta, document: &Document) -> Result<(), FitError>
     requires parts { length document.now.parts < 2 ^ 32 }
     requires resources { length document.now.resources < 2 ^ 32 }
     ensures fits { IfOk result (λ _. misfit meta.now.partials document.now ≡ None) }
-    ensures refused { IfErr result (λ error. misfit meta.now.partials document.now ≡ Some error) }
+    ensures refused { IfErr result (λ error.
+        misfit meta.now.partials document.now ≡ Some error) }
 {
     match misfit(meta.partials.as_slice(), document) {
         None => Ok(()),
@@ -81,7 +81,8 @@ fn missing_part(partials: &[Partial], parts: &[Text]) -> Option<FitError>
 }
 
 fn first_missing(partials: &[Partial], parts: &[Text]) -> Option<usize>
-    ensures place { result ≡ position (λ partial. not (has_part parts.now partial)) partials.now }
+    ensures place { result ≡
+        position (λ partial. not (has_part parts.now partial)) partials.now }
     ensures within { IfSome result (λ place. place < length partials.now) }
 {
     partials
@@ -130,15 +131,13 @@ fn first_taken(partials: &[Partial], parts: &[Text], resources: &[Resource]) -> 
 fn has_part(parts: &[Text], partial: &Partial) -> bool
     ensures { result ≡ has_part parts.now partial.now }
 {
-    parts
-        .iter()
-        .any(|name| is_same(name.as_slice(), partial.name.as_slice()))
+    parts.iter().any(|name| folds_equal(name.as_slice(), partial.name.as_slice()))
 }
 
 fn is_partial(partials: &[Partial], name: &Text) -> bool
     ensures { result ≡ is_partial partials.now name.now }
 {
-    partials.iter().any(|partial| is_same(name.as_slice(), partial.name.as_slice()))
+    partials.iter().any(|partial| folds_equal(name.as_slice(), partial.name.as_slice()))
 }
 
 // The name of the part that declares the resource.
@@ -155,7 +154,8 @@ fn part_name<'a>(parts: &'a [Text], resource: &Resource) -> &'a [char]
 fn is_taken(partials: &[Partial], name: &[char], kind: &[char]) -> bool
     ensures { result ≡ is_taken partials.now name.now kind.now }
 {
-    partials.iter().any(|partial| !is_same(name, partial.name.as_slice()) && claims(kind, partial))
+    partials.iter().any(|partial| !folds_equal(name, partial.name.as_slice())
+        && claims(kind, partial))
 }
 
 fn claims(kind: &[char], partial: &Partial) -> bool
@@ -165,7 +165,7 @@ fn claims(kind: &[char], partial: &Partial) -> bool
         .exclusive
         .as_slice()
         .iter()
-        .any(|claim| is_same(claimed(claim.as_slice()), kind))
+        .any(|claim| folds_equal(claimed(claim.as_slice()), kind))
 }
 
 // What stands in the first brackets of an id.
@@ -217,17 +217,4 @@ fn after_char<'a>(c: char, rest: &'a [char], before: &'a [char]) -> &'a [char]
     ensures { result.now ≡ (if is_backslash c then rest.now else before.now) }
 {
     if c == '\\' { rest } else { before }
-}
-
-fn is_same(a: &[char], b: &[char]) -> bool
-    ensures { result ≡ same_name a.now b.now }
-{
-    let (mut left, mut right) = (a, b);
-    while let ([x, rest @ ..], [y, behind @ ..]) = (left, right) {
-        if x.to_ascii_lowercase() != y.to_ascii_lowercase() {
-            return false;
-        }
-        (left, right) = (rest, behind);
-    }
-    left.is_empty() && right.is_empty()
 }

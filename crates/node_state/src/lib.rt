@@ -25,6 +25,7 @@ pub use error::{FitError, StageError};
 pub use event::{Event, Stage, Why};
 pub use fitting::fits;
 pub use laws::{parts_come_from_stages, piece_laws, step_laws};
+pub use limits::{MAX_BYTES, MAX_REPORTS, OLDER_REPORTS};
 pub use list::Staged;
 pub use node::{Kept, Node};
 pub use piece::Piece;

@@ -5,7 +5,8 @@ ghost use Rattle.node_state.specs.Lists.{IsStaged};
 use mof_values::Items;
 use partial_merge::Part;
 
-/// A list of 1 to 8 parts that are merged to a document: names of at most 255 bytes of UTF-8, and at most 16,777,216 bytes together.
+/// A list of 1 to `MAX_PARTS` parts that are merged to a document: names of at most `MAX_NAME_BYTES` bytes of UTF-8, and at
+/// most `MAX_BYTES` bytes together.
 #[derive(Debug, Drop)]
 pub struct Staged {
     pub(crate) parts: Items<Part>,

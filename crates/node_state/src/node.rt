@@ -1,4 +1,4 @@
-//! Nodes.
+//! The state of a node.
 use meta_config::Meta;
 use mof_values::Items;
 use partial_merge::Part;
@@ -39,6 +39,6 @@ pub struct Node {
     /// The number of the next report.
     pub next_job: u64,
 
-    /// The newest 16, the oldest first.
+    /// The newest `MAX_REPORTS`, the oldest first.
     pub reports: Items<Kept>,
 }

@@ -1,4 +1,4 @@
-//! Nodes in pieces.
+//! The pieces that a node is written as, and from which it is made again.
 use crate::{Kept, Stage};
 use meta_config::Meta;
 use mof_values::Items;

@@ -1,8 +1,9 @@
-//! Nodes made of pieces.
+//! Makes a node from its pieces, one after another.
 ghost use Rattle.std.specs.Prelude.{◌≡◌, ◌<◌, IfOk, OnOk, OnErr, length};
 ghost use Rattle.std.specs.List.{list_all};
 ghost use Rattle.node_state.specs.Pieces.{fits, is_before, is_free, placed, with_parts};
 
+use crate::limits::OLDER_REPORTS;
 use crate::{Kept, Node, Piece, Stage};
 use mof_values::{Items, Memory};
 use partial_merge::Part;
@@ -26,7 +27,7 @@ impl Node {
                 self.agent.is_some()
                     && kept.report.job < self.next_job
                     && are_before(self.reports.as_slice(), kept.report.job)
-                    && self.reports.as_slice().len() <= 15
+                    && self.reports.as_slice().len() <= OLDER_REPORTS
             }
         }
     }

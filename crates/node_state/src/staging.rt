@@ -1,6 +1,7 @@
-//! How parts are staged.
+//! Stages parts: a list of them that a node may keep, or why there is none.
 ghost use Rattle.std.specs.Prelude.{◌≡◌, ◌≢◌, ◌<◌, ◌^◌, ◌↔◌, false, All, IsTrue, IfOk, IfErr, IfSome, IfNone, length, vec_len};
 ghost use Rattle.dsc_document.specs.Sizes.{DocumentInSize, Fits};
+ghost use Rattle.mof_values.specs.declared.limits.TheConstants.{MAX_NAME_BYTES};
 ghost use Rattle.depend_order.specs.Ordered.{IsOrdered};
 ghost use Rattle.meta_config.specs.Parts.{IsMeta};
 ghost use Rattle.partial_merge.specs.Merged.{Merged};
@@ -8,11 +9,12 @@ ghost use Rattle.node_state.specs.Lists.{AreNamed, IsMerged, IsStaged, bytes_of}
 ghost use Rattle.node_state.specs.StagedParts.{parts_of};
 ghost use Rattle.node_state.specs.Staging.{AreFitting, AreRefused};
 
-use crate::limits::{MAX_BYTES, MAX_NAME, MAX_PARTS};
+use crate::limits::MAX_BYTES;
 use crate::{StageError, Staged, fits};
 use meta_config::Meta;
-use mof_values::{Items, Memory};
+use mof_values::{Items, MAX_NAME_BYTES, Memory};
 use partial_merge::{MergeError, OrderedDocument, Part, merge, merge_ordered};
+use report_log::MAX_PARTS;
 use std::alloc::Global;
 
 /// The list of these parts, which are to fit the meta-configuration.
@@ -27,10 +29,8 @@ pub fn staged(alloc: Global, meta: &Meta, parts: Vec<Part>) -> Result<Staged, St
     ensures fits { IfOk result (λ staged. AreFitting meta.now parts.items) }
     ensures refused { IfErr result (AreRefused meta.now parts.items) }
 {
-    match staged_in_order(alloc, meta, parts) {
-        Ok((staged, _)) => Ok(staged),
-        Err(error) => Err(error),
-    }
+    let (staged, _) = staged_in_order(alloc, meta, parts)?;
+    Ok(staged)
 }
 
 /// The list of these parts, as of [`staged`], together with the document that they are merged to and its order.
@@ -66,10 +66,11 @@ pub fn staged_in_order(
     Ok((staged, ordered))
 }
 
-/// The list of these parts, where they can be one, whether they fit a meta-configuration or not: 1 to 8 parts with names of at
-/// most 255 bytes of UTF-8 and at most 16,777,216 bytes together, which are merged to a document.
+/// The list of these parts, where they can be one, whether they fit a meta-configuration or not: 1 to `MAX_PARTS` parts with
+/// names of at most `MAX_NAME_BYTES` bytes of UTF-8 and at most `MAX_BYTES` bytes together, which are merged to a document.
 pub fn stored(alloc: Global, parts: Vec<Part>) -> Result<Option<Staged>, Memory>
-    ensures staged { IfOk result (λ found. IfSome found (λ staged. parts_of staged ≡ parts.items)) }
+    ensures staged { IfOk result (λ found.
+        IfSome found (λ staged. parts_of staged ≡ parts.items)) }
     ensures none { IfOk result (λ found. IfNone found (IsStaged parts.items → ⊥)) }
 {
     if !are_named(&parts) || !are_merged(alloc, &parts)? {
@@ -120,9 +121,9 @@ fn are_named(parts: &[Part]) -> bool
 }
 
 fn names_fit(parts: &[Part]) -> bool
-    ensures { IsTrue result ↔ All (λ part. Fits MAX_NAME part.name) parts.now }
+    ensures { IsTrue result ↔ All (λ part. Fits MAX_NAME_BYTES part.name) parts.now }
 {
-    parts.iter().all(|part| part.name.fits_utf8(MAX_NAME))
+    parts.iter().all(|part| part.name.fits_utf8(MAX_NAME_BYTES))
 }
 
 fn bytes_of(parts: &[Part]) -> u64

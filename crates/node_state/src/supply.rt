@@ -1,5 +1,6 @@
 //! The memory that events need.
 ghost use Rattle.std.specs.Prelude.{◌≡◌, ◌≤◌, vec_len, vec_capacity};
+ghost use Rattle.node_state.specs.declared.limits.TheConstants.{MAX_REPORTS};
 
 use crate::Kept;
 use crate::limits::MAX_REPORTS;
@@ -7,13 +8,13 @@ use mof_values::{Items, Memory};
 use partial_merge::Part;
 use std::alloc::Global;
 
-/// Room for the reports of a node.
+/// Capacity for the reports of a node.
 #[derive(Debug, Drop)]
 pub struct Room {
     pub(crate) reports: Vec<Kept>,
 
     ghost empty: { vec_len reports ≡ 0 },
-    ghost wide: { 16 ≤ vec_capacity reports },
+    ghost wide: { MAX_REPORTS ≤ vec_capacity reports },
 }
 
 /// The memory that an event needs.
@@ -29,7 +30,7 @@ pub enum Supply {
 }
 
 impl Room {
-    /// Room for the reports that a node keeps.
+    /// Capacity for the reports that a node keeps.
     pub fn new(alloc: Global) -> Result<Room, Memory> {
         let reports = Vec::with_capacity(alloc, MAX_REPORTS)?;
         Ok(Room { reports })

@@ -10,6 +10,7 @@ use Rattle.dsc_document.specs.Sizes.{Fits}
 use Rattle.store_fields.specs.Fields.{IsBlob}
 use Rattle.partial_merge.specs.declared.part.Part.{Part}
 use Rattle.node_state.specs.Lists.{bytes_of, IsStaged}
+use Rattle.store_fields.specs.declared.limits.TheConstants.{MAX_TEXT}
 
 -- a character has at most 4 bytes in UTF-8
 pub utf8_most : (text : List ℕ) → length (encode_utf8_all text) ≤ 4 * length text
@@ -23,7 +24,7 @@ weaker name n m (x ∷ xs) le all = (omega (arith, le, all.0), weaker name n m x
 pub all_fit : {X : Type 0} (name : X → List ℕ) (n m : ℕ) (xs ys : List X) → ys ≡ xs → n ≤ m → All (λ x. Fits n (name x)) xs → AllByRecursion (λ x. Fits m (name x)) ys
 all_fit name n m xs ys same le all = subst (λ l. AllByRecursion (λ x. Fits m (name x)) l) (sym same) (weaker name n m xs le (recursion_from_All (λ x. Fits n (name x)) xs all))
 
-parts_fit : (parts : List Part) (total : ℕ) → bytes_of parts ≤ total → total < 2 ^ 32 → AllByRecursion (λ part. Fits 255 part.name) parts → AllByRecursion (λ (part : Part). (length (encode_utf8_all part.name) ≤ 65535) × IsBlob part.bytes) parts
+parts_fit : (parts : List Part) (total : ℕ) → bytes_of parts ≤ total → total < 2 ^ 32 → AllByRecursion (λ part. Fits 255 part.name) parts → AllByRecursion (λ (part : Part). (length (encode_utf8_all part.name) ≤ MAX_TEXT) × IsBlob part.bytes) parts
 parts_fit [] total long less named = tt
 parts_fit (part ∷ parts) total long less named =
     ((omega (arith, named.0), omega (arith, long, less, part_first part parts)), parts_fit parts total (omega (arith, long, part_first part parts)) less named.1)
@@ -31,5 +32,5 @@ parts_fit (part ∷ parts) total long less named =
     part_first : (part : Part) (parts : List Part) → bytes_of (part ∷ parts) ≡ length part.bytes + bytes_of parts
     part_first part parts = sum_by-cons (λ (p : Part). length p.bytes) part parts
 
-pub staged_fit : (parts : List Part) → IsStaged parts → AllByRecursion (λ (part : Part). (length (encode_utf8_all part.name) ≤ 65535) × IsBlob part.bytes) parts
+pub staged_fit : (parts : List Part) → IsStaged parts → AllByRecursion (λ (part : Part). (length (encode_utf8_all part.name) ≤ MAX_TEXT) × IsBlob part.bytes) parts
 staged_fit parts staged = parts_fit parts 16777216 staged.long (omega arith) (recursion_from_All (λ part. Fits 255 part.name) parts staged.named.names)

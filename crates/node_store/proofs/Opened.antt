@@ -20,11 +20,11 @@ fails : (node : Node) (begun : Bool) (image : List ℕ) (at : ℕ) → FailsFirs
 fails node begun image at (no_text place wrong took) = no_text place wrong (node, took.leads)
 fails node begun image at (no_meaning second front body live cells refused) = no_meaning second front body live cells refused
 
-pub fails_at : (seen : Option (List ℕ)) (node : Node) (begun : Bool) (at : ℕ) → IfSome seen (λ held. IsRefused node_shape (λ l. Reached node begun l) (λ l b. EndsAt l b) held at) → IfSome seen (λ held. FailsAt held at)
+pub fails_at : (shown : Option (List ℕ)) (node : Node) (begun : Bool) (at : ℕ) → IfSome shown (λ held. IsRefused node_shape (λ l. Reached node begun l) (λ l b. EndsAt l b) held at) → IfSome shown (λ held. FailsAt held at)
 fails_at None node begun at refused = refused
 fails_at (Some held) node begun at refused = record { long = refused.long; fails = fails node begun held at refused.fails }
 
-found_stands : (seen : Option (List ℕ)) (bodies : List (List ℕ)) (node : Node) → Leads bodies node → IfSome seen (λ held. Gives node_shape held bodies) → IfSome seen (λ held. Stands held node)
+found_stands : (shown : Option (List ℕ)) (bodies : List (List ℕ)) (node : Node) → Leads bodies node → IfSome shown (λ held. Gives node_shape held bodies) → IfSome shown (λ held. Stands held node)
 found_stands None bodies node leads gave = gave
 found_stands (Some held) bodies node leads gave = record { bodies = bodies; gives = gave; leads = leads }
 
@@ -33,7 +33,7 @@ module _ {D : Type 0} (d : Ghosts D) (old new : D) where
   is_kept log node begun opened = record { bodies = opened.found; of = opened.of; leads = opened.took.leads; shape = opened.same_shape; unspent = opened.spent }
 
   pub reads_as : (log : LogTerm) (node : Node) (begun : Bool) → Opened d old new node_shape (λ l. Reached node begun l) log → ReadsAs d old Stands node
-  reads_as log node begun opened = found_stands (d.seen old) opened.found node opened.took.leads opened.gave
+  reads_as log node begun opened = found_stands (d.shown old) opened.found node opened.took.leads opened.gave
 
   -- what an image stood for it still stands for
   pub keeps_standing : AtAnyMoment d old new (From (Keeps node_shape) (d.images old)) → AllStand d old Stands Any → StandsAtAnyMoment d old new Stands (StoodFor d old Stands)
@@ -52,4 +52,4 @@ module _ {D : Type 0} (d : Ghosts D) (old new : D) where
       → IsNoStore d old new at
   not_a_store node begun error at is unopened =
       let refused = subst (λ (e : LogError). Unopened d old new node_shape (λ l. Reached node begun l) (λ l b. EndsAt l b) e) is unopened in
-      record { fails = fails_at (d.seen old) node begun at refused.refused; still = refused.still }
+      record { fails = fails_at (d.shown old) node begun at refused.refused; still = refused.still }

@@ -10,6 +10,7 @@ use Rattle.store_fields.proofs.Numbers.{digest_unique}
 use Rattle.store_fields.proofs.Texts.{text_unique, blob_unique}
 use Rattle.store_fields.proofs.Composing.{taken, wrong}
 use Rattle.node_store.specs.Parts.{bytes_of_part, IsPart}
+use Rattle.store_fields.specs.declared.limits.TheConstants.{MAX_TEXT}
 
 made : (name digest bytes : List ℕ) → digest ≡ sha256 bytes → Part
 made n d b w = record { name = n; digest = d; bytes = b; whole = w }
@@ -35,16 +36,16 @@ part_opened part rest =
 
 pub part_unique : IsUnique bytes_of_part IsPart
 part_unique x y r s one other e =
-    let name = text_unique 65535 (omega arith) x.name y.name _ _ one.0 other.0 (sym (part_opened x r) ∙ e ∙ part_opened y s) in
+    let name = text_unique MAX_TEXT (omega arith) x.name y.name _ _ one.0 other.0 (sym (part_opened x r) ∙ e ∙ part_opened y s) in
     let digest = digest_unique x.digest y.digest _ _ one.1 other.1 name.1 in
     let bytes = blob_unique x.bytes y.bytes r s one.2 other.2 digest.1 in
     (part_same x y name.0 digest.0 bytes.0, bytes.1)
 
-module _ (before m1 m2 after name digest bytes : List ℕ) (first : Reads bytes_of_text (IsText 65535) before m1 (Ok name)) (second : Reads bytes_of_digest IsDigest m1 m2 (Ok digest)) (last : Reads bytes_of_blob IsBlob m2 after (Ok bytes)) where
+module _ (before m1 m2 after name digest bytes : List ℕ) (first : Reads bytes_of_text (IsText MAX_TEXT) before m1 (Ok name)) (second : Reads bytes_of_digest IsDigest m1 m2 (Ok digest)) (last : Reads bytes_of_blob IsBlob m2 after (Ok bytes)) where
   pub part_taken : (part : Part) → part.name ≡ name → part.digest ≡ digest → part.bytes ≡ bytes → Reads bytes_of_part IsPart before after (Ok part)
   part_taken part n d b =
       taken bytes_of_part IsPart before after part part_unique
-      (subst (IsText 65535) (sym n) first.found.0, subst IsDigest (sym d) second.found.0, subst IsBlob (sym b) last.found.0)
+      (subst (IsText MAX_TEXT) (sym n) first.found.0, subst IsDigest (sym d) second.found.0, subst IsBlob (sym b) last.found.0)
       (first.found.1 ∙ ap (λ (l : List ℕ). bytes_of_text name ++ l) (second.found.1 ∙ ap (λ (l : List ℕ). bytes_of_digest digest ++ l) last.found.1)
       ∙ ap (λ (l : List ℕ). bytes_of_text l ++ (bytes_of_digest digest ++ (bytes_of_blob bytes ++ after))) (sym n)
       ∙ ap (λ (l : List ℕ). bytes_of_text part.name ++ (bytes_of_digest l ++ (bytes_of_blob bytes ++ after))) (sym d)

@@ -20,6 +20,7 @@ use Rattle.report_log.specs.declared.report.PartMark.{PartMark}
 use Rattle.report_log.specs.declared.report.Report.{Report}
 use Rattle.report_log.specs.Sizes.{ReportInSize}
 use Rattle.node_store.specs.Reports.{byte_of_outcome, byte_of_reason, bytes_of_outcome, bytes_of_reason, bytes_of_missed, bytes_of_mark, bytes_of_report, bytes_of_job, bytes_of_run, bytes_of_result, bytes_of_lists, IsMissed, IsMark, IsReport, IsJob, IsRun, IsResult, AreLists}
+use Rattle.store_fields.specs.declared.limits.TheConstants.{MAX_TEXT}
 
 outcome_small : (outcome : Outcome) → IsByte (byte_of_outcome outcome)
 outcome_small Success = omega arith
@@ -84,7 +85,7 @@ no_reason before end after e reads =
 pub missed_unique : IsUnique bytes_of_missed IsMissed
 missed_unique x y r s one other e =
     let start = sym (append_assoc (bytes_of_text x.id) (bytes_of_reason x.reason) r) ∙ e ∙ append_assoc (bytes_of_text y.id) (bytes_of_reason y.reason) s in
-    let id = text_unique 65535 (omega arith) x.id y.id _ _ one other start in
+    let id = text_unique MAX_TEXT (omega arith) x.id y.id _ _ one other start in
     let reason = reason_unique x.reason y.reason r s tt tt id.1 in
     (ap₂ (λ (i : List ℕ) (z : Reason). made i z) id.0 reason.0, reason.1)
   where
@@ -94,7 +95,7 @@ missed_unique x y r s one other e =
 pub mark_unique : IsUnique bytes_of_mark IsMark
 mark_unique x y r s one other e =
     let start = sym (append_assoc (bytes_of_text x.name) (bytes_of_digest x.digest) r) ∙ e ∙ append_assoc (bytes_of_text y.name) (bytes_of_digest y.digest) s in
-    let name = text_unique 65535 (omega arith) x.name y.name _ _ one.0 other.0 start in
+    let name = text_unique MAX_TEXT (omega arith) x.name y.name _ _ one.0 other.0 start in
     let digest = digest_unique x.digest y.digest r s one.1 other.1 name.1 in
     (ap₂ (λ (n d : List ℕ). made n d) name.0 digest.0, digest.1)
   where
@@ -137,7 +138,7 @@ pub run_unique : IsUnique bytes_of_run IsRun
 run_unique x y r s one other e =
     let start = number_unique w64 wide64 x.0 y.0 _ _ one.0 other.0 (sym (run_opened x r) ∙ e ∙ run_opened y s) in
     let end = number_unique w64 wide64 x.1 y.1 _ _ one.1 other.1 start.1 in
-    let version = text_unique 65535 (omega arith) x.2 y.2 r s one.2 other.2 end.1 in
+    let version = text_unique MAX_TEXT (omega arith) x.2 y.2 r s one.2 other.2 end.1 in
     (ap₂ (λ (a : ℕ) (f : ℕ × List ℕ). triple a f.0 f.1) start.0 (ap₂ (λ (b : ℕ) (v : List ℕ). pair b v) end.0 version.0), version.1)
   where
     triple : ℕ → ℕ → List ℕ → ℕ × ℕ × List ℕ

@@ -12,6 +12,7 @@ use Rattle.node_store.specs.declared.error.StoreError.{StoreError}
 use Rattle.node_store.specs.declared.error.StoreError.TheVariants.{Spent, NotAllowed, Disk, NotAStore, Memory}
 use Rattle.node_store.specs.Rewriting.{Broken, CanPut, PutAnswer, Putting, Puts}
 use Rattle.node_store.specs.Stands.{node_shape}
+use Rattle.node_store.specs.declared.limits.TheConstants.{BANK, MAX_BODY}
 
 length-cells : (body : List ℕ) (bodies : List (List ℕ)) → length (cells (body ∷ bodies)) ≡ need_of body + length (cells bodies)
 length-cells body bodies = omega (arith, length-append (behind body) (cells bodies), length-behind body)
@@ -25,9 +26,9 @@ fit-append largest [] ys p q = q
 fit-append largest (x ∷ xs) ys p q = (p.0, fit-append largest xs ys p.1 q)
 
 -- there is room for the next body
-pub room_left : (seen : Option (List ℕ)) (log : LogTerm) (put rest : List (List ℕ)) (body : List ℕ) → log.shape ≡ node_shape → HasPut seen log put → length (cells (put ++ (body ∷ rest))) < 67108864 → need_of body ≤ room_to_put log
-room_left seen log put rest body same has small =
-    let bank : log.shape.bank ≡ 67108864 = ap (λ (s : Shape). s.bank) same in
+pub room_left : (shown : Option (List ℕ)) (log : LogTerm) (put rest : List (List ℕ)) (body : List ℕ) → log.shape ≡ node_shape → HasPut shown log put → length (cells (put ++ (body ∷ rest))) < BANK → need_of body ≤ room_to_put log
+room_left shown log put rest body same has small =
+    let bank : log.shape.bank ≡ BANK = ap (λ (s : Shape). s.bank) same in
     subst (λ (o : Option ℕ). need_of body ≤ left_behind log.shape log.second o) (sym has.filled)
     (omega (arith, bank, length-cells-append put (body ∷ rest), length-cells body rest, small))
 
@@ -90,8 +91,8 @@ can_front d now log xs ys can = record {
   bodies = can.bodies;
   putting = can.putting;
   of = can.of;
-  fits = subst (λ (l : List (List ℕ)). length (cells (can.put ++ l)) < 67108864) (append_assoc xs ys can.rest) can.fits;
-  largest = fit_front 16842752 xs ys can.largest;
+  fits = subst (λ (l : List (List ℕ)). length (cells (can.put ++ l)) < BANK) (append_assoc xs ys can.rest) can.fits;
+  largest = fit_front MAX_BODY xs ys can.largest;
 }
 
 -- once those in front were put, the others can be
@@ -104,8 +105,8 @@ can_back d old new log_old log_new xs ys can puts = record {
   bodies = can.bodies;
   putting = puts can.first can.begun can.put can.putting;
   of = can.of;
-  fits = subst (λ (l : List (List ℕ)). length (cells l) < 67108864) (ap (λ (l : List (List ℕ)). can.put ++ l) (append_assoc xs ys can.rest) ∙ sym (append_assoc can.put xs (ys ++ can.rest))) can.fits;
-  largest = fit_back 16842752 xs ys can.largest;
+  fits = subst (λ (l : List (List ℕ)). length (cells l) < BANK) (ap (λ (l : List (List ℕ)). can.put ++ l) (append_assoc xs ys can.rest) ∙ sym (append_assoc can.put xs (ys ++ can.rest))) can.fits;
+  largest = fit_back MAX_BODY xs ys can.largest;
 }
 
 -- some were put, and then others

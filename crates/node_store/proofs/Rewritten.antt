@@ -25,6 +25,7 @@ use Rattle.node_store.specs.Reports.{IsReport}
 use Rattle.node_store.specs.Rewriting.{CanPut, FinishAnswer, PutAnswer, Putting, Puts, front_bodies}
 use Rattle.node_store.specs.Stands.{BeforeOrAfter, Leads, Stands, node_shape}
 use Rattle.node_store.specs.Store.{IsKeptBy, Wrote}
+use Rattle.node_store.specs.declared.limits.TheConstants.{BANK, MAX_BODY}
 use Rattle.node_store.proofs.Fronts.{front_is}
 use Rattle.node_store.proofs.Ranges.{InRange, front_in_range, leads_in_range, leads_sound, step_in_range}
 use Rattle.node_store.proofs.Replay.{built_leads, either, still_old, stepped}
@@ -41,7 +42,7 @@ can_end d old new log_old log_new xs can puts = record {
   bodies = can.bodies;
   putting = puts can.first can.begun can.put can.putting;
   of = can.of;
-  fits = subst (λ (l : List (List ℕ)). length (cells l) < 67108864) (sym (append_assoc can.put xs can.rest)) can.fits;
+  fits = subst (λ (l : List (List ℕ)). length (cells l) < BANK) (sym (append_assoc can.put xs can.rest)) can.fits;
   largest = tt;
 }
 
@@ -78,8 +79,8 @@ module _ {D : Type 0} (d : Ghosts D) (only_now : (disk : D) (c : List ℕ) → d
   begun_putting = record {
     unspent = kept.unspent;
     shape = kept.shape;
-    of = λ bodies of. begun_of (d.seen first) (d.images first) log bodies of;
-    has = begun_put (d.seen first) log (subst (λ (s : Shape). 1 ≤ s.bank) (sym kept.shape) (omega arith));
+    of = λ bodies of. begun_of (d.shown first) (d.images first) log bodies of;
+    has = begun_put (d.shown first) log (subst (λ (s : Shape). 1 ≤ s.bank) (sym kept.shape) (omega arith));
     any_moment = λ bodies of. started d.moment d.left_since first (λ c. Gives node_shape c bodies)
         (λ c left. subst (λ (s : Shape). Gives s c bodies) kept.shape (text_gives log.shape log.second log.closed c bodies (of.each c (only_now first c left))));
     count = omega arith;
@@ -97,8 +98,8 @@ module _ {D : Type 0} (d : Ghosts D) (only_now : (disk : D) (c : List ℕ) → d
           bodies = kept.bodies;
           putting = begun_putting;
           of = kept.of;
-          fits = subst (λ (l : List (List ℕ)). length (cells l) < 67108864) (sym (append-nil (front_bodies agent node event) ∙ front_is agent node event)) small.0;
-          largest = subst (λ (l : List (List ℕ)). AllFit 16842752 l) (sym (front_is agent node event)) small.1;
+          fits = subst (λ (l : List (List ℕ)). length (cells l) < BANK) (sym (append-nil (front_bodies agent node event) ∙ front_is agent node event)) small.0;
+          largest = subst (λ (l : List (List ℕ)). AllFit MAX_BODY l) (sym (front_is agent node event)) small.1;
         }
 
     pub leads_after : Leads (front_bodies agent node event) (after node event)

@@ -8,7 +8,7 @@ use Rattle.std.proofs.lemmas.List.Sums.{sum_by-cons}
 use Rattle.std.proofs.lemmas.List.Elements.{recursion_from_All, All-from_recursion}
 use Rattle.sha2.proofs.Facts256.{length-sha256}
 use Rattle.store_fields.specs.Fields.{bytes_of_number, bytes_of_flag, bytes_of_text, bytes_of_digest, bytes_of_blob, bytes_of_list, IsDigest}
-use Rattle.gate_log.specs.Text.{AllFit, behind, cells}
+use Rattle.gate_log.specs.Text.{AllFit, behind, cells, need_of}
 use Rattle.meta_config.specs.Writing.{text_of_meta}
 use Rattle.meta_config.proofs.ReadBack.{text_fits}
 use Rattle.partial_merge.specs.declared.part.Part.{Part}
@@ -34,6 +34,9 @@ use Rattle.node_state.specs.Table.{IsWithin}
 use Rattle.node_store.specs.Bodies.{body_of_event, body_of_piece, bytes_of_base, HasDigests, HaveDigests, IsEventInRange}
 use Rattle.node_store.specs.Parts.{bytes_of_part, bytes_of_parts}
 use Rattle.node_store.specs.Reports.{bytes_of_missed, bytes_of_mark, bytes_of_reason, bytes_of_outcome, bytes_of_report, bytes_of_job, bytes_of_run, bytes_of_result, bytes_of_lists, IsMark, IsReport}
+use Rattle.node_store.specs.declared.limits.TheConstants.{BANK, MAX_BODY}
+use Rattle.node_state.specs.declared.limits.TheConstants.{MAX_BYTES, MAX_REPORTS}
+use Rattle.report_log.specs.declared.limits.TheConstants.{MAX_PARTS}
 use Rattle.gate_log.proofs.Cells.{length-behind}
 use Rattle.node_store.proofs.Lengths.{utf8_most}
 use Rattle.node_store.proofs.Reported.{job_of, run_of, result_of, lists_of, spelled}
@@ -92,10 +95,14 @@ parts_long (part ∷ parts) all =
       sum_by-cons (λ (p : Part). length p.bytes) part parts,
     )
 
-pub staged_long : (parts : List Part) → IsStaged parts → length (bytes_of_parts parts) ≤ 16779561
+-- the most bytes of the parts of a Stage: each has a name, a digest and two lengths beside its document
+abbrev pub parts_most : ℕ
+parts_most = 1 + 293 * MAX_PARTS + MAX_BYTES
+
+pub staged_long : (parts : List Part) → IsStaged parts → length (bytes_of_parts parts) ≤ parts_most
 staged_long parts staged =
-    let few : length parts ≤ 8 = staged.named.few in
-    let long : bytes_of parts ≤ 16777216 = staged.long in
+    let few : length parts ≤ MAX_PARTS = staged.named.few in
+    let long : bytes_of parts ≤ MAX_BYTES = staged.long in
     omega (arith, few, long, parts_long parts (recursion_from_All (λ part. Fits 255 part.name) parts staged.named.names))
 
 -- ---- reports
@@ -201,10 +208,10 @@ has_digests report is = All-from_recursion (λ mark. IsDigest mark.digest) repor
 
 -- ---- events
 
-run_fits : (report : Report) → IsReport report → length (bytes_of_report report) ≤ 16842751
+run_fits : (report : Report) → IsReport report → 1 + length (bytes_of_report report) ≤ MAX_BODY
 run_fits report is = omega (arith, report_long report is.size (has_digests report is))
 
-pub event_fits : (event : Event) → IsEventInRange event → length (body_of_event event) ≤ 16842752
+pub event_fits : (event : Event) → IsEventInRange event → length (body_of_event event) ≤ MAX_BODY
 event_fits (events.Init agent) range = omega (arith, long_128 agent)
 event_fits (events.SetMeta meta) range = omega (arith, text_fits meta range.is)
 event_fits events.Registered range = omega arith
@@ -218,7 +225,7 @@ event_fits (events.Remove stage) range = omega arith
 event_fits events.Restore range = omega arith
 
 -- the same of an event that is to be written
-pub event_long : (event : Event) → IsWithin event → HaveDigests event → length (body_of_event event) ≤ 16842747
+pub event_long : (event : Event) → IsWithin event → HaveDigests event → need_of (body_of_event event) ≤ MAX_BODY
 event_long (events.Init agent) within digests = omega (arith, long_128 agent)
 event_long (events.SetMeta meta) within digests = omega (arith, text_fits meta within.is)
 event_long events.Registered within digests = omega arith
@@ -247,13 +254,13 @@ base_long base =
 
 -- at most so many bytes with their gates and lengths, and none longer than the largest
 Small : ℕ → List Piece → Type 0
-Small most pieces = (length (cells (map body_of_piece pieces)) ≤ most) × AllFit 16842752 (map body_of_piece pieces)
+Small most pieces = (length (cells (map body_of_piece pieces)) ≤ most) × AllFit MAX_BODY (map body_of_piece pieces)
 
 small_none : Small 0 []
 unfolding Small
 small_none = (omega arith, tt)
 
-small_one : (piece : Piece) (rest : List Piece) (n m : ℕ) → length (body_of_piece piece) ≤ n → n ≤ 16842752 → Small m rest → Small (5 + n + m) (piece ∷ rest)
+small_one : (piece : Piece) (rest : List Piece) (n m : ℕ) → length (body_of_piece piece) ≤ n → n ≤ MAX_BODY → Small m rest → Small (5 + n + m) (piece ∷ rest)
 unfolding Small
 small_one piece rest n m long most small =
     (omega (arith, long, small.0, length-cells-append (body_of_piece piece ∷ []) (map body_of_piece rest), one_cell (body_of_piece piece)), (omega (arith, long, most), small.1))
@@ -265,11 +272,11 @@ small_more : (n m : ℕ) → n ≤ m → (pieces : List Piece) → Small n piece
 unfolding Small
 small_more n m le pieces small = (omega (arith, le, small.0), small.1)
 
-small_slot : (stage : Stage) (slot : Option (List Part)) (rest : List Piece) (m : ℕ) → IfSome slot IsStaged → Small m rest → Small (16779568 + m) (slot_of stage slot ++ rest)
-small_slot stage None rest m staged small = small_more m (16779568 + m) (omega arith) rest small
+small_slot : (stage : Stage) (slot : Option (List Part)) (rest : List Piece) (m : ℕ) → IfSome slot IsStaged → Small m rest → Small ((7 + parts_most) + m) (slot_of stage slot ++ rest)
+small_slot stage None rest m staged small = small_more m ((7 + parts_most) + m) (omega arith) rest small
 small_slot stage (Some parts) rest m staged small =
-    small_more (5 + 16779563 + m) (16779568 + m) (omega arith) (pieces.Slot stage parts ∷ rest)
-    (small_one (pieces.Slot stage parts) rest 16779563 m (omega (arith, staged_long parts staged)) (omega arith) small)
+    small_more (5 + (2 + parts_most) + m) ((7 + parts_most) + m) (omega arith) (pieces.Slot stage parts ∷ rest)
+    (small_one (pieces.Slot stage parts) rest (2 + parts_most) m (omega (arith, staged_long parts staged)) (omega arith) small)
 
 small_reports : (kept : List Kept) → AllByRecursion (λ k. ReportInSize k.report) kept → AllByRecursion (λ k. HasDigests k.report) kept → Small (19190 * length kept) (map report_of kept)
 small_reports [] sizes digests = small_none
@@ -277,25 +284,32 @@ small_reports (k ∷ kept) sizes digests =
     small_more (5 + 19185 + 19190 * length kept) (19190 * length (k ∷ kept)) (omega arith) (map report_of (k ∷ kept))
     (small_one (report_of k) (map report_of kept) 19185 (19190 * length kept) (omega (arith, report_long k.report sizes.0 digests.0)) (omega arith) (small_reports kept sizes.1 digests.1))
 
-small_base : (agent : ℕ) (node : Node) (rest : List Piece) (m : ℕ) → IsNodeMeta node.meta → Small m rest → Small (262176 + m) (base_of agent node ∷ rest)
+-- the most bytes of the cells of a base, and of those of all reports
+abbrev base_most : ℕ
+base_most = 262176
+
+abbrev reports_most : ℕ
+reports_most = 19190 * MAX_REPORTS
+
+small_base : (agent : ℕ) (node : Node) (rest : List Piece) (m : ℕ) → IsNodeMeta node.meta → Small m rest → Small (base_most + m) (base_of agent node ∷ rest)
 small_base agent node rest m meta small =
     let base = bytes_of_base (agent, node.registered, node.reboot, node.next_job) in
-    small_more (5 + 262171 + m) (262176 + m) (omega arith) (base_of agent node ∷ rest)
+    small_more (5 + 262171 + m) (base_most + m) (omega arith) (base_of agent node ∷ rest)
     (small_one (base_of agent node) rest 262171 m
     (omega (arith, base_long (agent, node.registered, node.reboot, node.next_job), text_fits node.meta meta.is, length-append base (text_of_meta node.meta))) (omega arith) small)
 
-small_front : (agent : ℕ) (node : Node) → Sound node → All (λ kept. HasDigests kept.report) node.reports → Small 50907920 (front agent node)
+small_front : (agent : ℕ) (node : Node) → Sound node → All (λ kept. HasDigests kept.report) node.reports → Small (base_most + (7 + parts_most + (7 + parts_most + (7 + parts_most + reports_most)))) (front agent node)
 small_front agent node sound digests =
     let reports = small_reports node.reports (recursion_from_All (λ k. ReportInSize k.report) node.reports sound.reports.sizes) (recursion_from_All (λ k. HasDigests k.report) node.reports digests) in
-    let few = small_more (19190 * length node.reports) 307040 (omega (arith, sound.reports.few)) _ reports in
-    let previous = small_slot Previous node.previous _ 307040 sound.previous few in
-    let current = small_slot Current node.current _ 17086608 sound.current previous in
-    let pending = small_slot Pending node.pending _ 33866176 sound.pending current in
-    small_base agent node _ 50645744 sound.meta pending
+    let few = small_more (19190 * length node.reports) reports_most (omega (arith, sound.reports.few)) _ reports in
+    let previous = small_slot Previous node.previous _ reports_most sound.previous few in
+    let current = small_slot Current node.current _ (7 + parts_most + reports_most) sound.current previous in
+    let pending = small_slot Pending node.pending _ (7 + parts_most + (7 + parts_most + reports_most)) sound.pending current in
+    small_base agent node _ (7 + parts_most + (7 + parts_most + (7 + parts_most + reports_most))) sound.meta pending
 
 -- a rewrite has room for all of a sound node
 pub front_small : (agent : ℕ) (node : Node) → Sound node → All (λ kept. HasDigests kept.report) node.reports
-    → (length (cells (map body_of_piece (front agent node))) < 67108864) × AllFit 16842752 (map body_of_piece (front agent node))
+    → (length (cells (map body_of_piece (front agent node))) < BANK) × AllFit MAX_BODY (map body_of_piece (front agent node))
 unfolding Small
 front_small agent node sound digests =
     let small = small_front agent node sound digests in

@@ -12,6 +12,7 @@ use Rattle.node_state.specs.Table.{IsWithin}
 use Rattle.node_store.specs.Bodies.{body_of_event, HaveDigests}
 use Rattle.node_store.specs.Split.{after_room, front_of_part, front_of_parts, head_of, last_document, tail_of}
 use Rattle.node_store.specs.Parts.{bytes_of_part}
+use Rattle.node_store.specs.declared.limits.TheConstants.{MAX_BODY}
 use Rattle.node_store.proofs.Sizes.{event_long}
 
 part_whole : (part : Part) → front_of_part part ++ part.bytes ≡ bytes_of_part part
@@ -47,5 +48,5 @@ pub head_size : (event : Event) → length (after_room (head_of event)) + length
 head_size event = omega (arith, ap length (body_whole event), length-append (head_of event) (tail_of event))
 
 -- the room suffices for it
-pub head_small : (event : Event) → IsWithin event → HaveDigests event → length (after_room (head_of event)) ≤ 16842752
+pub head_small : (event : Event) → IsWithin event → HaveDigests event → length (after_room (head_of event)) ≤ MAX_BODY
 head_small event within digests = omega (arith, head_size event, event_long event within digests)

@@ -1,10 +1,12 @@
+-- what the layer above cites
 pub mod Bodies
 pub mod Laws
-pub mod Next
 pub mod Parts
 pub mod Reports
-pub mod Rewriting
-pub mod Split
 pub mod Stands
 pub mod Store
+-- for private clauses alone
+pub mod Next
+pub mod Rewriting
+pub mod Split
 pub mod Taking

@@ -11,6 +11,7 @@ use Rattle.report_log.specs.declared.report.Missed.{Missed}
 use Rattle.report_log.specs.declared.report.PartMark.{PartMark}
 use Rattle.report_log.specs.declared.report.Report.{Report}
 use Rattle.report_log.specs.Sizes.{ReportInSize}
+use Rattle.store_fields.specs.declared.limits.TheConstants.{MAX_TEXT}
 
 abbrev pub byte_of_outcome : Outcome → ℕ
 byte_of_outcome Success = 0
@@ -64,16 +65,16 @@ bytes_of_report report =
 -- ---- the values that have such bytes
 
 abbrev pub IsMissed : Missed → Type 0
-IsMissed missed = IsText 65535 missed.id
+IsMissed missed = IsText MAX_TEXT missed.id
 
 abbrev pub IsMark : PartMark → Type 0
-IsMark mark = IsText 65535 mark.name × IsDigest mark.digest
+IsMark mark = IsText MAX_TEXT mark.name × IsDigest mark.digest
 
 abbrev pub IsJob : ℕ × Bool × Bool → Type 0
 IsJob job = IsNumber w64 job.0
 
 abbrev pub IsRun : ℕ × ℕ × List ℕ → Type 0
-IsRun run = IsNumber w64 run.0 × IsNumber w64 run.1 × IsText 65535 run.2
+IsRun run = IsNumber w64 run.0 × IsNumber w64 run.1 × IsText MAX_TEXT run.2
 
 abbrev pub IsResult : Outcome × ℕ × ℕ → Type 0
 IsResult result = IsNumber w32 result.1 × IsNumber w32 result.2

@@ -15,6 +15,7 @@ use Rattle.node_state.specs.Pieces.{base_of, report_of, slot_of}
 use Rattle.node_store.specs.Bodies.{body_of_piece}
 use Rattle.node_store.specs.Next.{added, at_end, kept_before, sent_in, with_mark}
 use Rattle.node_store.specs.Stands.{node_shape}
+use Rattle.node_store.specs.declared.limits.TheConstants.{BANK, MAX_BODY}
 
 -- the body of a report, as sent where it is that of this job
 abbrev pub marked_body : Option ℕ → Kept → List ℕ
@@ -75,8 +76,8 @@ pub record CanPut {D : Type 0} (d : Ghosts D) (now : D) (log : LogTerm) (more : 
   pub bodies : List (List ℕ)
   pub putting : Putting d first now begun log put
   pub of : IsLogOf d first begun bodies
-  pub fits : length (cells (put ++ (more ++ rest))) < 67108864
-  pub largest : AllFit 16842752 more
+  pub fits : length (cells (put ++ (more ++ rest))) < BANK
+  pub largest : AllFit MAX_BODY more
 
 -- what the end of a rewrite answers, after whatever was put: these bodies are the log's, or the disk failed. A crash leaves the old
 -- bodies or the new ones

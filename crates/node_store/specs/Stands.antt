@@ -10,10 +10,11 @@ use Rattle.node_state.specs.declared.piece.Piece.{Piece}
 use Rattle.node_state.specs.Table.{new_node, Step, Steps}
 use Rattle.node_state.specs.Pieces.{Builds}
 use Rattle.node_store.specs.Bodies.{IsEventInRange, IsPieceInRange, body_of_event, body_of_piece}
+use Rattle.node_store.specs.declared.limits.TheConstants.{BANK, MAX_BODY}
 
 -- the sizes of a node's store
 abbrev pub node_shape : Shape
-node_shape = record { bank = 67108864; largest = 16842752 }
+node_shape = record { bank = BANK; largest = MAX_BODY }
 
 -- Pieces in front make a node of the new one, and events lead on from there. The bodies are theirs; each field is in its range.
 pub record Leads (bodies : List (List ℕ)) (node : Node) : Type 0 where

@@ -80,8 +80,8 @@ Committed d old event before now (Err (NotAStore at)) new = ⊥
 
 -- the file fails at that byte, and it is as it was
 pub record IsNoStore {D : Type 0} (d : Ghosts D) (old new : D) (at : ℕ) : Type 0 where
-  pub fails : IfSome (d.seen old) (λ held. FailsAt held at)
-  pub still : Still d.seen d.images d.moment d.left_since old new
+  pub fails : IfSome (d.shown old) (λ held. FailsAt held at)
+  pub still : Still d.shown d.images d.moment d.left_since old new
 
 -- the cause of an opening's error
 abbrev pub Unopened : {D : Type 0} → Ghosts D → D → D → StoreError → Type 0

@@ -9,6 +9,7 @@ ghost use Rattle.node_state.specs.Table.{IsWithin, Step, after, refusal};
 ghost use Rattle.node_store.specs.Bodies.{IsEventInRange, body_of_event};
 ghost use Rattle.node_store.specs.Stands.{BeforeOrAfter, Stands};
 ghost use Rattle.node_store.specs.Store.{IsKeptBy, Wrote};
+ghost use Rattle.node_store.specs.declared.limits.TheConstants.{MAX_BODY};
 
 use crate::error::StoreError;
 use dsc_outside::Disk;
@@ -23,7 +24,7 @@ pub fn append<D: Disk>(
     tail: &[u8],
 ) -> Result<(), StoreError>
     requires whole { 4 ≤ length head.old }
-    requires size { length head.old + length tail.now ≤ 16842752 }
+    requires size { length head.old + length tail.now ≤ MAX_BODY + 4 }
     requires room { length head.old + length tail.now + 1 ≤ room_in log.old }
     requires kept { (node : Node) × IsKeptBy D.Disk disk.old log.old node }
     ensures answer { (node new : Node) (event : Event) → IsKeptBy D.Disk disk.old log.old node → body_in head.old tail.now ≡ body_of_event event → IsEventInRange event → Step node event new

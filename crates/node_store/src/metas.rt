@@ -1,17 +1,19 @@
 //! Meta-configurations.
-ghost use Rattle.std.specs.Prelude.{◌≡◌, ◌↔◌, IsTrue, IfOk, IfErr};
+ghost use Rattle.std.specs.Prelude.{◌≡◌, ◌↔◌, IfOk, IfErr, IsTrue};
 ghost use Rattle.meta_config.specs.Refusals.{Means};
 ghost use Rattle.node_store.specs.Bodies.{SpellsMeta};
 
 use depend_order::OrderError;
 use meta_config::{Meta, MetaError, metas_read_back, parts_order, read_meta, write_meta};
+use mof_values::Memory;
 use std::alloc::Global;
 use store_fields::FieldError;
 
 /// The meta-configuration of which the bytes are the canonical text, and whose partial configurations have an order.
 pub fn read_node_meta(alloc: Global, text: &[u8]) -> Result<Meta, FieldError>
     ensures found { IfOk result (λ meta. SpellsMeta text.now meta) }
-    ensures wrong { IfErr result (λ e. e ≡ FieldError.Wrong → (meta : Meta) → SpellsMeta text.now meta → ⊥) }
+    ensures wrong { IfErr result (λ e. e ≡ FieldError.Wrong → (meta : Meta)
+        → SpellsMeta text.now meta → ⊥) }
 {
     metas_read_back();
     let meta = match declared(alloc, text) {
@@ -20,7 +22,7 @@ pub fn read_node_meta(alloc: Global, text: &[u8]) -> Result<Meta, FieldError>
     };
     let canonical = match write_meta(alloc, &meta) {
         Ok(canonical) => canonical,
-        Err(_) => return Err(FieldError::Memory),
+        Err(Memory) => return Err(FieldError::Memory),
     };
     if canonical.as_slice() == text {
         match parts_order(alloc, &meta) {

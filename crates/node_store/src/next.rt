@@ -4,12 +4,9 @@ ghost use Rattle.node_state.specs.Table.{after, newest, refusal};
 ghost use Rattle.node_store.specs.Next.{added, kept_before, sent_in};
 
 use mof_values::Items;
-use node_state::{Event, Kept, Node, Stage};
+use node_state::{Event, Kept, Node, OLDER_REPORTS, Stage};
 use partial_merge::Part;
 use report_log::Report;
-
-/// How many of the reports stay where another is kept.
-const OLDER_REPORTS: usize = 15;
 
 /// The agent after the event.
 pub fn agent_after(node: &Node, event: &Event) -> Option<u128>

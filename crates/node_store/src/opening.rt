@@ -5,6 +5,7 @@ ghost use Rattle.node_store.specs.Stands.{Stands};
 ghost use Rattle.node_store.specs.Store.{IsKept, Unopened};
 
 use crate::error::StoreError;
+use crate::limits::{BANK, MAX_BODY};
 use crate::store::NodeStore;
 use crate::taking::Taking;
 use dsc_outside::Disk;
@@ -13,8 +14,8 @@ use std::alloc::Global;
 
 /// The sizes of a node's store.
 const NODE_SHAPE: Shape = Shape {
-    bank: 67_108_864,
-    largest: 16_842_752,
+    bank: BANK,
+    largest: MAX_BODY as u32,
 };
 
 /// Opens the store of a disk; a file of at most nine bytes becomes a new store, of a node that nothing has happened to.
@@ -29,7 +30,8 @@ pub fn open_store<D: Disk>(alloc: Global, disk: &mut D) -> Result<NodeStore, Sto
     ensures kept { IfOk result (λ store. IsKept D.Disk disk.new store) }
     ensures found { IfOk result (λ store. ReadsAs D.Disk disk.old Stands store.node) }
     ensures reserved { IfOk result (λ store. store.reserved ≡ false) }
-    ensures any_moment { AllStand D.Disk disk.old Stands Any → StandsAtAnyMoment D.Disk disk.old disk.new Stands (StoodFor D.Disk disk.old Stands) }
+    ensures any_moment { AllStand D.Disk disk.old Stands Any
+        → StandsAtAnyMoment D.Disk disk.old disk.new Stands (StoodFor D.Disk disk.old Stands) }
     ensures cause { IfErr result (Unopened D.Disk disk.old disk.new) }
     ensures count { D.faults disk.old ≤ D.faults disk.new }
 {

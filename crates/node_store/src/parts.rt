@@ -9,7 +9,7 @@ use crate::reports::NodeForm;
 use mof_values::Memory;
 use partial_merge::{Part, part_of};
 use std::alloc::Global;
-use store_fields::{FieldError, Fields, Form, put_blob, put_digest, put_text, put_u32};
+use store_fields::{FieldError, Fields, Form, MAX_TEXT, put_blob, put_digest, put_text, put_u32};
 
 impl Form<Part> for NodeForm {
     ghost use Rattle.node_store.specs.Parts.{bytes_of_part, FitsPart, IsPart};
@@ -22,7 +22,7 @@ impl Form<Part> for NodeForm {
 
     /// A stored digest that is not the digest of the bytes is refused.
     fn read(alloc: Global, fields: &mut Fields<'_>) -> Result<Part, FieldError> {
-        let name = fields.text(alloc, u16::MAX)?;
+        let name = fields.text(alloc, MAX_TEXT)?;
         let digest = fields.digest()?;
         let bytes = fields.blob(alloc)?;
         let part = part_of(name, bytes.into_vec());

@@ -28,7 +28,8 @@ use store_fields::{FieldError, Fields, Form, put_u64, put_u128, read_list};
 /// `Wrong` where they are the body of none.
 pub fn read_body(alloc: Global, body: &[u8]) -> Result<Body, FieldError>
     ensures found { IfOk result (λ read. IsBody body.now read) }
-    ensures wrong { IfErr result (λ e. e ≡ FieldError.Wrong → (read : Body) → IsBody body.now read → ⊥) }
+    ensures wrong { IfErr result (λ e. e ≡ FieldError.Wrong → (read : Body)
+        → IsBody body.now read → ⊥) }
 {
     match body {
         [kind, rest @ ..] => read_kind(alloc, *kind, rest),

@@ -13,8 +13,8 @@ use mof_values::{Items, Memory, Text};
 use report_log::{FailureKind, Missed, Outcome, PartMark, Reason, Report, is_in_size};
 use std::alloc::Global;
 use store_fields::{
-    FieldError, Fields, Form, put_byte, put_digest, put_flag, put_list, put_text, put_u32, put_u64,
-    read_list,
+    FieldError, Fields, Form, MAX_TEXT, put_byte, put_digest, put_flag, put_list, put_text,
+    put_u32, put_u64, read_list,
 };
 
 /// How the values of a node stand in its bodies.
@@ -44,9 +44,9 @@ fn put_job(into: &mut Vec<u8>, job: u64, initial: bool, pull: bool) -> Result<()
 
 #[tactic(auto, unfolding(crate::specs::Reports::bytes_of_run))]
 fn put_run(into: &mut Vec<u8>, start: u64, end: u64, version: &Text) -> Result<(), Memory>
-    requires { length (encode_utf8_all version.now) ≤ 65535 }
+    requires { length (encode_utf8_all version.now) ≤ MAX_TEXT }
     ensures writes { Writes (bytes_of_run (start, end, version.now)) into.old into.new result }
-    ensures in_range { OnOk result (IsText 65535 version.now) }
+    ensures in_range { OnOk result (IsText MAX_TEXT version.now) }
 {
     put_u64(into, start)?;
     put_u64(into, end)?;
@@ -64,8 +64,8 @@ fn put_result(into: &mut Vec<u8>, outcome: Outcome, total: u32, missed: u32) -> 
 
 #[tactic(auto, unfolding(crate::specs::Reports::bytes_of_lists))]
 fn put_lists(into: &mut Vec<u8>, listed: &[Missed], parts: &[PartMark]) -> Result<(), Memory>
-    requires listed { (length listed.now ≤ 64) × AllByRecursion (λ missed. Fits 65535 missed.id) listed.now }
-    requires parts { (length parts.now ≤ 8) × AllByRecursion (λ mark. Fits 65535 mark.name) parts.now }
+    requires listed { (length listed.now ≤ 64) × AllByRecursion (λ missed. Fits MAX_TEXT missed.id) listed.now }
+    requires parts { (length parts.now ≤ 8) × AllByRecursion (λ mark. Fits MAX_TEXT mark.name) parts.now }
     ensures writes { Writes (bytes_of_lists (listed.now, parts.now)) into.old into.new result }
     ensures in_range { OnOk result (AreLists (listed.now, parts.now)) }
 {
@@ -127,7 +127,7 @@ fn read_run(alloc: Global, fields: &mut Fields<'_>) -> Result<(u64, u64, Text), 
 {
     let start = fields.u64()?;
     let end = fields.u64()?;
-    let version = fields.text(alloc, u16::MAX)?;
+    let version = fields.text(alloc, MAX_TEXT)?;
     Ok((start, end, version))
 }
 
@@ -203,16 +203,17 @@ fn reason_byte(reason: Reason) -> u8
 
 impl Form<Missed> for NodeForm {
     ghost use Rattle.std.specs.Prelude.{◌≤◌, length, encode_utf8_all};
+    ghost use Rattle.store_fields.specs.declared.limits.TheConstants.{MAX_TEXT};
     ghost use Rattle.node_store.specs.Reports.{bytes_of_missed, IsMissed};
 
     ghost bytes_of = { bytes_of_missed };
 
     ghost is_in_range = { IsMissed };
 
-    ghost fits = { λ missed. length (encode_utf8_all missed.id) ≤ 65535 };
+    ghost fits = { λ missed. length (encode_utf8_all missed.id) ≤ MAX_TEXT };
 
     fn read(alloc: Global, fields: &mut Fields<'_>) -> Result<Missed, FieldError> {
-        let id = fields.text(alloc, u16::MAX)?;
+        let id = fields.text(alloc, MAX_TEXT)?;
         let reason = read_reason(fields)?;
         Ok(Missed { id, reason })
     }
@@ -225,16 +226,17 @@ impl Form<Missed> for NodeForm {
 
 impl Form<PartMark> for NodeForm {
     ghost use Rattle.std.specs.Prelude.{◌≤◌, length, encode_utf8_all};
+    ghost use Rattle.store_fields.specs.declared.limits.TheConstants.{MAX_TEXT};
     ghost use Rattle.node_store.specs.Reports.{bytes_of_mark, IsMark};
 
     ghost bytes_of = { bytes_of_mark };
 
     ghost is_in_range = { IsMark };
 
-    ghost fits = { λ mark. length (encode_utf8_all mark.name) ≤ 65535 };
+    ghost fits = { λ mark. length (encode_utf8_all mark.name) ≤ MAX_TEXT };
 
     fn read(alloc: Global, fields: &mut Fields<'_>) -> Result<PartMark, FieldError> {
-        let name = fields.text(alloc, u16::MAX)?;
+        let name = fields.text(alloc, MAX_TEXT)?;
         let digest = fields.digest()?;
         Ok(PartMark { name, digest })
     }

@@ -13,6 +13,7 @@ ghost use Rattle.node_store.specs.Rewriting.{CanPut, Finishes, Puts, Putting, bo
 ghost use Rattle.node_store.specs.Stands.{BeforeOrAfter, Stands};
 ghost use Rattle.node_store.specs.Store.{IsKeptBy, Wrote};
 ghost use Rattle.meta_config.specs.Writing.{text_of_meta};
+ghost use Rattle.node_store.specs.declared.limits.TheConstants.{MAX_BODY};
 
 use crate::error::StoreError;
 use crate::next::{
@@ -43,11 +44,11 @@ pub fn rewrite<D: Disk>(
     requires range { IsEventInRange event.now }
     requires kept { IsKeptBy D.Disk disk.old log.old node.now }
     requires text { text.now ≡ text_of_meta (after node.now event.now).meta }
-    requires room { 16842752 ≤ vec_capacity room.old }
+    requires room { MAX_BODY ≤ vec_capacity room.old }
     ensures answer { Wrote D.Disk disk.old disk.new (after node.now event.now) log.new result }
     ensures any_moment { StandsAtAnyMoment D.Disk disk.old disk.new Stands (BeforeOrAfter node.now event.now) }
     ensures count { D.faults disk.old ≤ D.faults disk.new }
-    ensures room { 16842752 ≤ vec_capacity room.new }
+    ensures room { MAX_BODY ≤ vec_capacity room.new }
 {
     let Some(agent) = agent_after(node, event) else {
         unreachable!()
@@ -73,9 +74,9 @@ fn put_front<D: Disk>(
     requires sound { Sound (after node.now event.now) }
     requires text { text.now ≡ text_of_meta (after node.now event.now).meta }
     requires can { CanPut D.Disk disk.old log.old (front_bodies agent node.now event.now) }
-    requires room { 16842752 ≤ vec_capacity room.old }
+    requires room { MAX_BODY ≤ vec_capacity room.old }
     ensures puts { Puts D.Disk disk.old disk.new log.old log.new (front_bodies agent node.now event.now) result }
-    ensures room { 16842752 ≤ vec_capacity room.new }
+    ensures room { MAX_BODY ≤ vec_capacity room.new }
 {
     room.clear();
     put_base(
@@ -102,9 +103,9 @@ fn put_from_pending<D: Disk>(
 ) -> Result<(), StoreError>
     requires sound { Sound (after node.now event.now) }
     requires can { CanPut D.Disk disk.old log.old (bodies_from_pending node.now event.now) }
-    requires room { 16842752 ≤ vec_capacity room.old }
+    requires room { MAX_BODY ≤ vec_capacity room.old }
     ensures puts { Puts D.Disk disk.old disk.new log.old log.new (bodies_from_pending node.now event.now) result }
-    ensures room { 16842752 ≤ vec_capacity room.new }
+    ensures room { MAX_BODY ≤ vec_capacity room.new }
 {
     match put_stage(log, disk, room, Stage::Pending, pending_after(node, event)) {
         Ok(()) => put_from_current(log, disk, room, node, event),
@@ -122,9 +123,9 @@ fn put_from_current<D: Disk>(
 ) -> Result<(), StoreError>
     requires sound { Sound (after node.now event.now) }
     requires can { CanPut D.Disk disk.old log.old (bodies_from_current node.now event.now) }
-    requires room { 16842752 ≤ vec_capacity room.old }
+    requires room { MAX_BODY ≤ vec_capacity room.old }
     ensures puts { Puts D.Disk disk.old disk.new log.old log.new (bodies_from_current node.now event.now) result }
-    ensures room { 16842752 ≤ vec_capacity room.new }
+    ensures room { MAX_BODY ≤ vec_capacity room.new }
 {
     match put_stage(log, disk, room, Stage::Current, current_after(node, event)) {
         Ok(()) => put_from_previous(log, disk, room, node, event),
@@ -142,9 +143,9 @@ fn put_from_previous<D: Disk>(
 ) -> Result<(), StoreError>
     requires sound { Sound (after node.now event.now) }
     requires can { CanPut D.Disk disk.old log.old (bodies_from_previous node.now event.now) }
-    requires room { 16842752 ≤ vec_capacity room.old }
+    requires room { MAX_BODY ≤ vec_capacity room.old }
     ensures puts { Puts D.Disk disk.old disk.new log.old log.new (bodies_from_previous node.now event.now) result }
-    ensures room { 16842752 ≤ vec_capacity room.new }
+    ensures room { MAX_BODY ≤ vec_capacity room.new }
 {
     match put_stage(
         log,
@@ -168,9 +169,9 @@ fn put_all_reports<D: Disk>(
 ) -> Result<(), StoreError>
     requires sound { Sound (after node.now event.now) }
     requires can { CanPut D.Disk disk.old log.old (bodies_of_reports node.now event.now) }
-    requires room { 16842752 ≤ vec_capacity room.old }
+    requires room { MAX_BODY ≤ vec_capacity room.old }
     ensures puts { Puts D.Disk disk.old disk.new log.old log.new (bodies_of_reports node.now event.now) result }
-    ensures room { 16842752 ≤ vec_capacity room.new }
+    ensures room { MAX_BODY ≤ vec_capacity room.new }
 {
     match put_reports(log, disk, room, kept_after(node, event), sent_in(event)) {
         Ok(()) => put_report(log, disk, room, added_in(event)),
@@ -200,9 +201,9 @@ fn put_stage<D: Disk>(
 ) -> Result<(), StoreError>
     requires staged { IfSome (option_map (λ parts. parts.now) parts) IsStaged }
     requires can { CanPut D.Disk disk.old log.old (map body_of_piece (slot_of stage (option_map (λ parts. parts.now) parts))) }
-    requires room { 16842752 ≤ vec_capacity room.old }
+    requires room { MAX_BODY ≤ vec_capacity room.old }
     ensures puts { Puts D.Disk disk.old disk.new log.old log.new (map body_of_piece (slot_of stage (option_map (λ parts. parts.now) parts.entry))) result }
-    ensures room { 16842752 ≤ vec_capacity room.new }
+    ensures room { MAX_BODY ≤ vec_capacity room.new }
 {
     let Some(parts) = parts else {
         return Ok(());
@@ -222,9 +223,9 @@ fn put_reports<D: Disk>(
 ) -> Result<(), StoreError>
     requires sizes { All (λ kept. ReportInSize kept.report) reports.now }
     requires can { CanPut D.Disk disk.old log.old (map (marked_body sent) reports.now) }
-    requires room { 16842752 ≤ vec_capacity room.old }
+    requires room { MAX_BODY ≤ vec_capacity room.old }
     ensures puts { Puts D.Disk disk.old disk.new log.old log.new (map (marked_body sent) reports.now) result }
-    ensures room { 16842752 ≤ vec_capacity room.new }
+    ensures room { MAX_BODY ≤ vec_capacity room.new }
 {
     let mut left = reports;
     while let [kept, rest @ ..] = left {
@@ -246,9 +247,9 @@ fn put_marked<D: Disk>(
 ) -> Result<(), StoreError>
     requires size { ReportInSize kept.now.report }
     requires can { CanPut D.Disk disk.old log.old (marked_body sent kept.now ∷ []) }
-    requires room { 16842752 ≤ vec_capacity room.old }
+    requires room { MAX_BODY ≤ vec_capacity room.old }
     ensures puts { Puts D.Disk disk.old disk.new log.old log.new (marked_body sent kept.now ∷ []) result }
-    ensures room { 16842752 ≤ vec_capacity room.new }
+    ensures room { MAX_BODY ≤ vec_capacity room.new }
 {
     room.clear();
     put_kept(room, &kept.report, is_sent(kept, sent))?;
@@ -274,9 +275,9 @@ fn put_report<D: Disk>(
 ) -> Result<(), StoreError>
     requires size { IfSome (option_map (λ report. report.now) report) ReportInSize }
     requires can { CanPut D.Disk disk.old log.old (map (λ kept. body_of_piece (report_of kept)) (at_end (option_map (λ report. report.now) report))) }
-    requires room { 16842752 ≤ vec_capacity room.old }
+    requires room { MAX_BODY ≤ vec_capacity room.old }
     ensures puts { Puts D.Disk disk.old disk.new log.old log.new (map (λ kept. body_of_piece (report_of kept)) (at_end (option_map (λ report. report.now) report.entry))) result }
-    ensures room { 16842752 ≤ vec_capacity room.new }
+    ensures room { MAX_BODY ≤ vec_capacity room.new }
 {
     let Some(report) = report else {
         return Ok(());

@@ -11,6 +11,7 @@ ghost use Rattle.node_store.specs.Stands.{BeforeOrAfter, Stands};
 ghost use Rattle.node_store.specs.Store.{Committed, IsKept, IsReady, IsTextOf, StoreTerm, Supplied, TakesMemory, Wrote};
 
 use crate::error::StoreError;
+use crate::limits::MAX_BODY;
 use crate::writing::write;
 use dsc_outside::Disk;
 use gate_log::Log;
@@ -20,9 +21,6 @@ use node_state::{Event, Node, Room, Supply};
 use std::alloc::Global;
 use std::marker::Model;
 use std::mem;
-
-/// The bytes of the longest body of a node's store.
-pub const LONGEST_BODY: usize = 16_842_752;
 
 /// The state of a node, kept on a disk.
 #[derive(Drop)]
@@ -41,13 +39,15 @@ pub struct NodeStore {
 impl Model for NodeStore {
     ghost use Rattle.std.specs.Prelude.{◌≡◌, ◌≤◌, is_some, vec_capacity};
     ghost use Rattle.meta_config.specs.Writing.{text_of_meta};
+    ghost use Rattle.node_store.specs.declared.limits.TheConstants.{MAX_BODY};
     ghost use Rattle.node_store.specs.Store.{StoreTerm};
 
     ghost Value = { StoreTerm };
 
     ghost view = { λ s. record { log = s.log; node = s.node; reserved = is_some s.room } };
 
-    ghost invariant = { λ s. (s.text.items ≡ text_of_meta s.node.meta) × (16842752 ≤ vec_capacity s.body) };
+    ghost invariant = { λ s. (s.text.items ≡ text_of_meta s.node.meta)
+        × (MAX_BODY ≤ vec_capacity s.body) };
 }
 
 impl NodeStore {
@@ -56,7 +56,7 @@ impl NodeStore {
         ensures { IfOk result (λ store. store ≡ record { log = log; node = node; reserved = false }) }
     {
         let text = write_meta(alloc, &node.meta)?;
-        let body = Vec::with_capacity(alloc, LONGEST_BODY)?;
+        let body = Vec::with_capacity(alloc, MAX_BODY)?;
         Ok(NodeStore {
             alloc,
             log,
@@ -107,8 +107,12 @@ impl NodeStore {
         requires within { IsWithin event }
         ensures answer { Committed D.Disk self.old event disk.old disk.new result self.new }
         ensures ready { IsReady D.Disk disk.new self.new }
-        ensures any_moment { IsKept D.Disk disk.old self.old → StandsAtAnyMoment D.Disk disk.old disk.new Stands (BeforeOrAfter self.old.node event) }
-        ensures same_bank { IsKept D.Disk disk.old self.old → need_of (body_of_event event) ≤ room_in self.old.log → AtAnyMoment D.Disk disk.old disk.new (IsLive self.old.log.second) }
+        ensures any_moment { IsKept D.Disk disk.old self.old
+            → StandsAtAnyMoment D.Disk disk.old disk.new Stands
+            (BeforeOrAfter self.old.node event) }
+        ensures same_bank { IsKept D.Disk disk.old self.old
+            → need_of (body_of_event event) ≤ room_in self.old.log
+            → AtAnyMoment D.Disk disk.old disk.new (IsLive self.old.log.second) }
         ensures count { D.faults disk.old ≤ D.faults disk.new }
     {
         if self.log.is_spent() {
@@ -119,11 +123,11 @@ impl NodeStore {
         }
         let text = match text_of(self.alloc, &event) {
             Ok(text) => text,
-            Err(_) => return Err(StoreError::Memory),
+            Err(Memory) => return Err(StoreError::Memory),
         };
         let supply = match self.supply(&event) {
             Ok(supply) => supply,
-            Err(_) => return Err(StoreError::Memory),
+            Err(Memory) => return Err(StoreError::Memory),
         };
         if let Err(error) = self.write(disk, &event, &text) {
             return Err(error);

@@ -7,6 +7,7 @@ ghost use Rattle.node_store.specs.Taking.{Reached, Took, TookBody};
 use crate::body::Body;
 use crate::reading::read_body;
 use gate_log::{Replay, TakeError};
+use mof_values::Memory;
 use node_state::{Event, Node, Piece};
 use std::alloc::Global;
 use std::mem;
@@ -55,7 +56,7 @@ impl Taking {
         }
         let supply = match self.node.supply(self.alloc, &event) {
             Ok(supply) => supply,
-            Err(_) => return Err(TakeError::Memory),
+            Err(Memory) => return Err(TakeError::Memory),
         };
         let node = mem::replace(&mut self.node, Node::new(self.alloc));
         self.node = node.apply(event, supply);
@@ -75,7 +76,7 @@ impl Taking {
                 self.node = node;
                 Ok(())
             }
-            Err(_) => Err(TakeError::Memory),
+            Err(Memory) => Err(TakeError::Memory),
         }
     }
 }

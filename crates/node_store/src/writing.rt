@@ -9,6 +9,7 @@ ghost use Rattle.node_store.specs.Bodies.{BringsText, IsEventInRange, body_of_ev
 ghost use Rattle.node_store.specs.Split.{after_room, head_of, tail_of};
 ghost use Rattle.node_store.specs.Stands.{BeforeOrAfter, Stands};
 ghost use Rattle.node_store.specs.Store.{IsKeptBy, Wrote};
+ghost use Rattle.node_store.specs.declared.limits.TheConstants.{MAX_BODY};
 
 use crate::appending::append;
 use crate::digests::look_at_digests;
@@ -33,12 +34,12 @@ pub fn write<D: Disk>(
     requires within { IsWithin event.now }
     requires kept { IsKeptBy D.Disk disk.old log.old node.now }
     requires text { text.now ≡ text_of_meta (after node.now event.now).meta }
-    requires room { 16842752 ≤ vec_capacity room.old }
+    requires room { MAX_BODY ≤ vec_capacity room.old }
     ensures answer { Wrote D.Disk disk.old disk.new (after node.now event.now) log.new result }
     ensures any_moment { StandsAtAnyMoment D.Disk disk.old disk.new Stands (BeforeOrAfter node.now event.now) }
     ensures same_bank { need_of (body_of_event event.now) ≤ room_in log.old → AtAnyMoment D.Disk disk.old disk.new (IsLive log.old.second) }
     ensures count { D.faults disk.old ≤ D.faults disk.new }
-    ensures room { 16842752 ≤ vec_capacity room.new }
+    ensures room { MAX_BODY ≤ vec_capacity room.new }
 {
     spell(room, event, text);
     let tail = tail_of(event);
@@ -53,12 +54,12 @@ pub fn write<D: Disk>(
 fn spell(room: &mut Vec<u8>, event: &Event, text: &[u8])
     requires within { IsWithin event.now }
     requires text { BringsText event.now text.now }
-    requires room { 16842752 ≤ vec_capacity room.old }
+    requires room { MAX_BODY ≤ vec_capacity room.old }
     ensures head { room.new.items ≡ after_room (head_of event.now) }
     ensures size { length room.new.items + length (tail_of event.now) ≡ 4 + length (body_of_event event.now) }
     ensures range { IsEventInRange event.now }
-    ensures small { length (body_of_event event.now) ≤ 16842747 }
-    ensures room { 16842752 ≤ vec_capacity room.new }
+    ensures small { need_of (body_of_event event.now) ≤ MAX_BODY }
+    ensures room { MAX_BODY ≤ vec_capacity room.new }
 {
     look_at_digests(event);
     room.clear();

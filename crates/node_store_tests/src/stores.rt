@@ -4,7 +4,8 @@ ghost use Rattle.node_state.specs.Table.{IsWithin};
 ghost use Rattle.node_store.specs.Store.{IsReady};
 
 use crate::words::body_of;
-use dsc_outside::{Disk, MemoryDisk};
+use dsc_outside::Disk;
+use memory_outside::MemoryDisk;
 use mof_values::{Items, Memory};
 use node_state::{Event, Node};
 use node_store::{Body, NodeStore, StoreError, open_store, read_body};

@@ -1,5 +1,5 @@
 -- From the parts and the document that they are joined to, to what is answered.
-use Rattle.std.proofs.Common.{◌≡◌, ◌≤◌, List, Result, Ok, Err, IfErr, IfOk, length, sym, subst}
+use Rattle.std.proofs.Common.{◌≡◌, ◌≤◌, List, Result, Ok, Err, IfErr, IfOk, IsErrAnd, length, sym, subst}
 use Rattle.std.proofs.lemmas.Result.{IfErr-weaker}
 use Rattle.dsc_document.specs.Sizes.{DocumentInSize}
 use Rattle.dsc_document.specs.declared.document.Document.{Document}
@@ -13,6 +13,11 @@ use Rattle.partial_merge.specs.Merged.{Merged}
 use Rattle.partial_merge.specs.Parts.{AreJoined}
 use Rattle.partial_merge.proofs.Sizes.{joined_in_size}
 use Rattle.partial_merge.specs.Refused.{IsDocumentFault, IsFirstFault, IsNameFault, IsPartFault, Refused}
+
+-- an error that is passed on as it is
+pub passed_on : {T : Type 0} (result : Result T MergeError) (error : MergeError) (P : MergeError → Type 0) → IsErrAnd result (λ same. same ≡ error) → P error → IfErr result P
+passed_on (Ok value) error P is holds = tt
+passed_on (Err same) error P is holds = subst P (sym is) holds
 
 module _ (parts : List Part) where
   pub name_refused : (error : MergeError) → IsNameFault parts error → Refused parts error

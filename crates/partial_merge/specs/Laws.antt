@@ -1,4 +1,4 @@
--- What parts come to is one thing: a document or a refusal, lack of memory aside.
+-- What parts come to is one thing: a document or a refusal, out of memory aside.
 use Rattle.std.specs.Prelude.{◌≡◌, ◌≢◌, ◌⊎◌, List, [], ◌∷◌, All, ⊤}
 use Rattle.dsc_document.specs.declared.document.Document.{Document}
 use Rattle.partial_merge.specs.declared.part.Part.{Part}

@@ -1,7 +1,7 @@
 -- Why parts are not merged. A reason stands only where none that wins over it does.
 use Rattle.std.specs.Prelude.{◌≡◌, ◌≢◌, ℕ, ◌<◌, ◌≤◌, List, IsSomeAnd, length, slice_get, ⊤}
 use Rattle.mof_values.specs.declared.instance.Instance.{Instance}
-use Rattle.mof_syntax.specs.Refusals.{Reads, Refuses}
+use Rattle.mof_syntax.specs.Refusals.{Reads, ReadsNothing, Refuses}
 use Rattle.mof_syntax.specs.declared.mof_error.MofError.{MofError}
 use Rattle.mof_syntax.specs.declared.mof_error.MofError.TheVariants as mof
 use Rattle.dsc_document.specs.declared.document.Document.{Document}
@@ -19,10 +19,10 @@ use Rattle.partial_merge.specs.declared.error.MergeError.TheVariants as refusals
 use Rattle.partial_merge.specs.Parts.{AreJoined, AreParts, IsWhole, NamesDiffer, part_name_at}
 use Rattle.depend_order.specs.Repeats.{IsFirstRepeat, IsFirstRepeatedId}
 
--- the bytes spell no instances and are refused so; never for lack of memory
+-- the bytes spell no instances and are refused so; never for memory
 pub record IsUnspelled (bytes : List ℕ) (refusal : MofError) : Type 0 where
   pub caused : refusal ≢ mof.Memory
-  pub unspelled : (instances : List Instance) → Reads bytes instances → ⊥
+  pub unspelled : ReadsNothing bytes
   pub refused : Refuses bytes refusal
 
 -- the bytes spell no instances, or the instances that they spell break this rule of parts
@@ -34,11 +34,15 @@ IsFault bytes (Doc refusal) =
 abbrev pub HasFault : Part → PartFault → Type 0
 HasFault part fault = IsFault part.bytes fault
 
--- the refusal is a fault of a part, of which the fact holds, or lack of memory
+-- the refusal is a fault of a part, of which the fact holds, or out of memory
 abbrev pub IsPartFault : (ℕ → PartFault → Type 0) → MergeError → Type 0
 IsPartFault P (refusals.Part index fault) = P index fault
 IsPartFault P refusals.Memory = ⊤
 IsPartFault P _ = ⊥
+
+-- the refusal is a fault of the text of the part at this place, or out of memory
+abbrev pub IsFaultAt : ℕ → List ℕ → MergeError → Type 0
+IsFaultAt place bytes refusal = IsPartFault (λ index fault. (index ≡ place) × IsFault bytes fault) refusal
 
 -- names differ, the part at the index has the fault, and every part before it is whole
 pub record IsFirstFault (parts : List Part) (index : ℕ) (fault : PartFault) : Type 0 where
@@ -99,7 +103,7 @@ IsDocumentFault document (refusals.Cycle cycle) =
 IsDocumentFault document refusals.Memory = ⊤
 IsDocumentFault document _ = ⊥
 
--- the parts are refused so. Lack of memory has no cause here
+-- the parts are refused so. Out of memory has no cause here
 abbrev pub Refused : List Part → MergeError → Type 0
 Refused parts (refusals.TwoNames first second) = IsFirstRepeat (part_name_at parts) first second
 Refused parts (refusals.Part index fault) = IsFirstFault parts index fault

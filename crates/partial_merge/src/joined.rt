@@ -3,7 +3,7 @@ ghost use Rattle.std.specs.Prelude.{◌≡◌, ◌<◌, ◌≤◌, ◌^◌, [], 
 ghost use Rattle.mof_syntax.specs.Limits.{instances_limit};
 ghost use Rattle.mof_syntax.specs.Refusals.{Reads};
 ghost use Rattle.partial_merge.specs.Parts.{AreJoined, Declares, NamesDiffer, in_part, joined, named, text_part, with_part};
-ghost use Rattle.partial_merge.specs.Refused.{IsFault, IsFirstFault, IsPartFault};
+ghost use Rattle.partial_merge.specs.Refused.{IsFaultAt, IsFirstFault, IsPartFault};
 
 use crate::{MergeError, Part, PartFault};
 use dsc_document::{DocError, Document, Resource, check_part};
@@ -20,16 +20,10 @@ pub fn joined(alloc: Global, parts: &[Part]) -> Result<Document, MergeError>
     ensures refused { IfErr result (IsPartFault (IsFirstFault parts.now)) }
 {
     let first = &parts[0];
-    let mut whole = match document_of(alloc, &first.name, first.bytes.as_slice()) {
-        Ok(document) => document,
-        Err(error) => return Err(error),
-    };
+    let mut whole = document_of(alloc, &first.name, first.bytes.as_slice())?;
     for place in 1..parts.len() {
         let part = &parts[place];
-        let document = match declared(alloc, place as u32, part.bytes.as_slice()) {
-            Ok(document) => document,
-            Err(error) => return Err(error),
-        };
+        let document = declared(alloc, place as u32, part.bytes.as_slice())?;
         whole = with_part(whole, place as u32, &part.name, document)?;
     }
     Ok(whole)
@@ -38,7 +32,7 @@ pub fn joined(alloc: Global, parts: &[Part]) -> Result<Document, MergeError>
 /// The document that the text of the one part of this name declares.
 pub fn document_of(alloc: Global, name: &Text, bytes: &[u8]) -> Result<Document, MergeError>
     ensures joined { IfOk result (AreJoined (text_part name.now bytes.now ∷ [])) }
-    ensures refused { IfErr result (IsPartFault (λ index fault. (index ≡ 0) × IsFault bytes.now fault)) }
+    ensures refused { IfErr result (IsFaultAt 0 bytes.now) }
 {
     let document = declared(alloc, 0, bytes)?;
     Ok(named(alloc, document, name)?)
@@ -94,7 +88,7 @@ fn push_resources(
 // The document that the text of the part at this place declares.
 fn declared(alloc: Global, place: u32, bytes: &[u8]) -> Result<Document, MergeError>
     ensures whole { IfOk result (Declares bytes.now) }
-    ensures refused { IfErr result (IsPartFault (λ index fault. (index ≡ place) × IsFault bytes.now fault)) }
+    ensures refused { IfErr result (IsFaultAt place bytes.now) }
 {
     let instances = instances_of(alloc, place, bytes)?;
     match check_part(alloc, instances) {
@@ -111,7 +105,7 @@ fn declared(alloc: Global, place: u32, bytes: &[u8]) -> Result<Document, MergeEr
 fn instances_of(alloc: Global, place: u32, bytes: &[u8]) -> Result<Vec<Instance>, MergeError>
     ensures spelled { IfOk result (λ instances. Reads bytes.now instances.items) }
     ensures few { IfOk result (λ instances. vec_len instances ≤ instances_limit) }
-    ensures refused { IfErr result (IsPartFault (λ index fault. (index ≡ place) × IsFault bytes.now fault)) }
+    ensures refused { IfErr result (IsFaultAt place bytes.now) }
 {
     match read(alloc, bytes) {
         Ok(instances) => Ok(instances),

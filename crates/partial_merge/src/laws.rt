@@ -4,7 +4,7 @@ ghost use Rattle.partial_merge.specs.Laws.{AnswersExist, AtMostOneDocument, AtMo
 use crate::Part;
 
 /// Parts are merged to at most one document, are never both merged and refused, and are refused in at most one way,
-/// lack of memory aside. Where each part by itself declares a document or has a fault, they are merged or refused.
+/// out of memory aside. Where each part by itself declares a document or has a fault, they are merged or refused.
 pub fn merge_laws(parts: &[Part])
     ensures one_document { AtMostOneDocument parts.now }
     ensures never_both { NeverBoth parts.now }

@@ -3,7 +3,7 @@
 //! A `Part` is a named text with its SHA-256 digest, which its type keeps true. `merge` gives the document that parts
 //! declare together: a layer above may rely on it that their names differ, that it has not too many resources, that the
 //! ids of these differ, that each dependency is a resource, and that they have an order. A refusal is the first of these
-//! that fails, with its place. By `merge_laws` there is one answer at most, lack of memory aside.
+//! that fails, with its place. By `merge_laws` there is one answer at most, out of memory aside.
 #![tactic(auto)]
 
 mod checked;

@@ -30,10 +30,8 @@ pub fn merge(alloc: Global, parts: &[Part]) -> Result<Document, MergeError>
     ensures in_size { IfOk result DocumentInSize }
     ensures refused { IfErr result (Refused parts.now) }
 {
-    match merge_ordered(alloc, parts) {
-        Ok(ordered) => Ok(ordered.document),
-        Err(error) => Err(error),
-    }
+    let ordered = merge_ordered(alloc, parts)?;
+    Ok(ordered.document)
 }
 
 /// The document that [`merge`] gives, with its order.
@@ -45,24 +43,19 @@ pub fn merge_ordered(alloc: Global, parts: &[Part]) -> Result<OrderedDocument, M
     ensures in_size { IfOk result (λ ordered. DocumentInSize ordered.document) }
     ensures refused { IfErr result (Refused parts.now) }
 {
-    if let Err(error) = check_names(alloc, parts) {
-        return Err(error);
-    }
-    match joined(alloc, parts) {
-        Ok(document) => checked(alloc, document),
-        Err(error) => Err(error),
-    }
+    check_names(alloc, parts)?;
+    let document = joined(alloc, parts)?;
+    checked(alloc, document)
 }
 
 /// The document that [`merge`] gives of the part that a text is under a name, with its order. No digest is computed.
 pub fn merge_text(alloc: Global, name: &Text, bytes: &[u8]) -> Result<OrderedDocument, MergeError>
-    ensures merged { IfOk result (λ ordered. Merged (text_part name.now bytes.now ∷ []) ordered.document) }
+    ensures merged { IfOk result (λ ordered.
+        Merged (text_part name.now bytes.now ∷ []) ordered.document) }
     ensures ordered { IfOk result IsOrdered }
     ensures in_size { IfOk result (λ ordered. DocumentInSize ordered.document) }
     ensures refused { IfErr result (Refused (text_part name.now bytes.now ∷ [])) }
 {
-    match document_of(alloc, name, bytes) {
-        Ok(document) => checked(alloc, document),
-        Err(error) => Err(error),
-    }
+    let document = document_of(alloc, name, bytes)?;
+    checked(alloc, document)
 }

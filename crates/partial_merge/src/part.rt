@@ -1,4 +1,4 @@
-//! Parts.
+//! Parts of a configuration, each with the digest of its text.
 ghost use Rattle.std.specs.Prelude.{◌≡◌, IfOk};
 ghost use Rattle.sha2.specs.Sha256.{sha256};
 

@@ -1,3 +1,5 @@
+-- what the layer above cites
 pub mod Doors
-pub mod Keys
 pub mod Shelves
+-- for private clauses alone
+pub mod Keys

@@ -20,7 +20,7 @@ use std::rt::Files;
 ///
 /// A file or a folder that is missing means that what it would hold is not there, and so does a name that is too long for
 /// the file system. A name that begins with `.`, or that has `/`, `\` or a NUL, is on no shelf. A link, a folder or anything
-/// else but a plain file in an item's place is a failure, and so is a file of more than 62,914,560 bytes, that of the keys
+/// else but a plain file in an item's place is a failure, and so is a file of more than `LONGEST_ITEM` bytes, that of the keys
 /// too, and one that is changed each time while it is read. FOLDER and its two folders may be links.
 ///
 /// Nothing is touched before the first call, and each look reads its file anew: what an administrator puts in place counts from

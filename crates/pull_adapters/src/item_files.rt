@@ -19,7 +19,7 @@ const BUFFER_SIZE: usize = 16_384;
 const MOST_TRIES: usize = 8;
 
 /// Appends the bytes of the plain file at the place, and answers whether it is there. A link, a folder, or anything else in
-/// its place is a failure, and so is a file of more than 62,914,560 bytes.
+/// its place is a failure, and so is a file of more than `LONGEST_ITEM` bytes.
 ///
 /// The file is taken as it is at one moment, as far as its length and the time of its last change show: where it was changed
 /// or another one took its place meanwhile, it is read again, and after eight such tries the call fails.

@@ -5,10 +5,11 @@ ghost use Rattle.sha2.specs.Sha256.{sha256};
 use sha2::{Digest, Sha256};
 use std::alloc::Global;
 
-/// The most bytes of an item that is kept with its digest, as many as a document may have.
+/// The most bytes of an item that is kept with its digest. It is a measure of this crate's own: what a reader takes as a document
+/// is no matter here, and a longer item costs its digest at each request.
 pub const MOST_KEPT_BYTES: usize = 2_097_152;
 
-/// The digest that was computed last of an item of at most 2,097,152 bytes, kept with a copy of the item.
+/// The digest that was computed last of an item of at most `MOST_KEPT_BYTES`, kept with a copy of the item.
 #[derive(Drop)]
 pub struct LastDigest {
     kept: Option<Digested>,
@@ -29,7 +30,7 @@ impl LastDigest {
     }
 
     /// The SHA-256 digest of the item. That of the bytes that are kept is not computed again; another one is kept in its place.
-    /// One that is longer leaves what is kept, and where there is no memory for the copy, nothing is kept.
+    /// One that is longer leaves what is kept, and where memory runs out for the copy, nothing is kept.
     pub fn digest(&mut self, alloc: Global, item: &[u8]) -> [u8; 32]
         ensures { result ≡ sha256 item.now }
     {
@@ -38,7 +39,7 @@ impl LastDigest {
         }
         let digest = Sha256::digest(item);
         if item.len() <= MOST_KEPT_BYTES {
-            // What was kept is freed before room is asked for.
+            // What was kept is freed before the copy is allocated.
             self.kept = None;
             self.kept = match item.to_vec(alloc) {
                 Ok(bytes) => Some(Digested { bytes, digest }),

@@ -28,7 +28,8 @@ pub fn is_shelf_name(name: &str) -> bool
 
 /// The file of the configuration of that name.
 pub fn configuration_place(alloc: Global, folder: &str, name: &str) -> Result<PathBuf, AllocError>
-    ensures { IfOk result (λ place. path_buf_bytes place ≡ configuration_place folder.now name.now) }
+    ensures { IfOk result (λ place.
+        path_buf_bytes place ≡ configuration_place folder.now name.now) }
 {
     let mut place = PathBuf::from_str(alloc, folder)?;
     place.push(CONFIGURATIONS)?;
@@ -43,7 +44,8 @@ pub fn package_place(
     name: &str,
     version: &str,
 ) -> Result<PathBuf, AllocError>
-    ensures { IfOk result (λ place. path_buf_bytes place ≡ package_place folder.now name.now version.now) }
+    ensures { IfOk result (λ place.
+        path_buf_bytes place ≡ package_place folder.now name.now version.now) }
 {
     let mut place = PathBuf::from_str(alloc, folder)?;
     place.push(MODULES)?;

@@ -1,4 +1,4 @@
-//! A connection.
+//! A connection that was taken at a port.
 ghost use Rattle.std.specs.Prelude.{◌≡◌, ◌<◌, IfOk, None, length};
 ghost use Rattle.std.specs.Io.{ReadsAtMost, WritesAtMost};
 ghost use Rattle.std.specs.Io.KnownBytes.{ReadConsumes, WriteAppends};

@@ -1,7 +1,7 @@
-//! A port.
+//! A port at which connections are taken.
 ghost use Rattle.std.specs.Prelude.{◌≡◌, ◌<◌, ◌≤◌, ◌+◌, IfOk, None, OnErr, OnOk};
 ghost use Rattle.dsc_outside.specs.Causes.{HasCause};
-ghost use Rattle.pull_adapters.specs.Doors.{untold, untold_back};
+ghost use Rattle.pull_adapters.specs.Doors.{none_shown, none_shown_back};
 ghost use Rattle.pull_outside.specs.Door.{TakesFirst};
 
 use crate::tcp_conn::TcpConn;
@@ -94,17 +94,18 @@ impl<'r, R: Net + Clock> TcpDoor<'r, R> {
 impl<'r, R: Net + Clock> Door for TcpDoor<'r, R> {
     type Conn = TcpConn<'r, R>;
 
-    ghost coming = { λ d. untold };
+    ghost coming = { λ d. none_shown };
 
-    ghost back = { λ d. untold_back };
+    ghost back = { λ d. none_shown_back };
 
     ghost out = { λ d. d.out };
 
     ghost faults = { λ d. d.faults };
 
     fn next(&mut self) -> Result<TcpConn<'r, R>, Failed>
-        ensures taken { IfOk result (λ conn. TakesFirst untold untold (record { left = None; held = None; faults = conn })) }
-        ensures kept { OnErr result (untold ≡ untold) }
+        ensures taken { IfOk result (λ conn. TakesFirst none_shown none_shown
+            (record { left = None; held = None; faults = conn })) }
+        ensures kept { OnErr result (none_shown ≡ none_shown) }
         ensures given { OnOk result (self.new.out ≡ self.old.out + 1) }
         ensures not_given { OnErr result (self.new.out ≡ self.old.out) }
         ensures cause { HasCause self.old.faults self.new.faults result }

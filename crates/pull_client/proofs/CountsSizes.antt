@@ -14,6 +14,7 @@ use Rattle.hex.specs.Hex.{IsBytes, encode_with, upper_digits}
 use Rattle.hex.proofs.HexLemmas.{IsAscii-encode_with, length-encode_with}
 use Rattle.json.specs.Print.{escape, escape_byte}
 use Rattle.json.proofs.Printed.Utf8.{IsUtf8-are_ascii}
+use Rattle.mof_values.specs.declared.limits.TheConstants.{MAX_NAME_BYTES}
 use Rattle.serde_json.specs.Data.{Data, string, array, object, number, unsigned, Members, no_members, member}
 use Rattle.serde_json.specs.View.{items_of}
 use Rattle.serde_json.specs.Written.{compact_text, items_text}
@@ -93,7 +94,7 @@ name_key : length (escape (codes "ConfigurationName")) ≡ 17
 unfolding escape_byte
 name_key = refl
 
-part_size : (part : PartMark) → IsMark part → Fits 255 part.name → length (compact_text (part_data part)) ≤ 1697
+part_size : (part : PartMark) → IsMark part → Fits MAX_NAME_BYTES part.name → length (compact_text (part_data part)) ≤ 1697
 part_size part is fits =
     let name : Members = member (codes "ConfigurationName") (text_data part.name) no_members in
     omega (
@@ -101,12 +102,12 @@ part_size part is fits =
       checksum_key,
       name_key,
       checksum_size part.digest is.bytes is.size,
-      bytes_size part.name 255 fits,
+      bytes_size part.name MAX_NAME_BYTES fits,
       member_size false (codes "Checksum") (text_data (checksum_of part.digest)) name,
       member_size true (codes "ConfigurationName") (text_data part.name) no_members,
     )
 
-parts_size : (later : Bool) (parts : List PartMark) → AllByRecursion IsMark parts → AllByRecursion (λ part. Fits 255 part.name) parts
+parts_size : (later : Bool) (parts : List PartMark) → AllByRecursion IsMark parts → AllByRecursion (λ part. Fits MAX_NAME_BYTES part.name) parts
     → length (items_text later (items_of (map part_data parts))) ≤ 1 + 1698 * length parts
 parts_size later [] is fits = omega arith
 parts_size later (part ∷ parts) is fits = omega (
@@ -169,7 +170,7 @@ counts_size report is sized =
       arith,
       sized.parts.count,
       parts_size false report.parts (recursion_from_All IsMark report.parts is)
-          (recursion_from_All (λ part. Fits 255 part.name) report.parts sized.parts.names),
+          (recursion_from_All (λ part. Fits MAX_NAME_BYTES part.name) report.parts sized.parts.names),
     ))
 
 -- the text of the counts is escaped once more, and has no control character

@@ -4,7 +4,7 @@ use Rattle.std.specs.Bool.{⊤}
 use Rattle.std.proofs.lemmas.Bool.{false≢true}
 use Rattle.dsc_terms.specs.Counts.{Rose}
 use Rattle.dsc_outside.specs.Causes.{HasCauseOf}
-use Rattle.dsc_outside.specs.Link.{AddsExchange, ComesTo, IsFault}
+use Rattle.dsc_outside.specs.Link.{AddsExchange, ComesTo, IsFault, LinkView}
 use Rattle.dsc_outside.specs.declared.link.Peer.{Peer}
 use Rattle.dsc_outside.specs.declared.link.LinkError.{LinkError}
 use Rattle.dsc_outside.specs.declared.link.LinkError.TheVariants as errors
@@ -19,7 +19,7 @@ use Rattle.http_frames.specs.Frames.{NoAnswer}
 use Rattle.pull_client.specs.declared.error.PeerError.{PeerError}
 use Rattle.pull_client.specs.declared.error.PeerError.TheVariants.{NotServed, Link, TooLong, Frame, Memory}
 use Rattle.pull_client.specs.Asks.{Asks, Exchanged}
-use Rattle.pull_client.specs.Heard.{Heard, IsAnswered, IsReply, SaysOr, fault_of, link_failed, too_long, no_answer, not_accepted, accepted, no_memory}
+use Rattle.pull_client.specs.Heard.{Heard, IsAnswered, IsReply, SaysOr, frame_fault, link_failed, too_long, no_answer, not_accepted, accepted, no_memory}
 
 -- ---- the errors of a link
 
@@ -55,10 +55,10 @@ answered_at request bytes peer before after result (inl (outcome, comes, now)) h
     inl (outcome, subst (λ (o : Outcome). Heard IsReply o result) (sym (answered_in bytes outcome comes)) heard, now)
 answered_at request bytes peer before after result (inr none) heard = absurd (subst Untroubled none.0 tt)
 
-exchange_answered : (request bytes : List ℕ) (peer : Peer) (told after : Option (List Exchange)) (result : Result Reply PeerError) (before : List Exchange)
-    → told ≡ Some before → AddsExchange told after peer request (Ok tt) [] bytes → Heard IsReply (outcomes.Answered bytes) result
+exchange_answered : (request bytes : List ℕ) (peer : Peer) (shown after : Option (List Exchange)) (result : Result Reply PeerError) (before : List Exchange)
+    → shown ≡ Some before → AddsExchange shown after peer request (Ok tt) [] bytes → Heard IsReply (outcomes.Answered bytes) result
     → Exchanged peer request IsReply before after result
-exchange_answered request bytes peer told after result before is adds heard =
+exchange_answered request bytes peer shown after result before is adds heard =
     answered_at request bytes peer before after result (subst (λ (t : Option (List Exchange)). AddsExchange t after peer request (Ok tt) [] bytes) is adds) heard
 
 failed_at : (request a b : List ℕ) (peer : Peer) (before : List Exchange) (after : Option (List Exchange)) (error : LinkError)
@@ -68,14 +68,14 @@ failed_at request a b peer before after errors.Memory (inr none) = inr (refl, no
 failed_at request a b peer before after errors.Failed (inr none) = absurd (subst Untroubled none.0 tt)
 failed_at request a b peer before after errors.TooLong (inr none) = absurd (subst Untroubled none.0 tt)
 
-exchange_failed : (request a b : List ℕ) (peer : Peer) (told after : Option (List Exchange)) (error : LinkError) (before : List Exchange)
-    → told ≡ Some before → AddsExchange told after peer request (Err error) a b → Exchanged peer request IsReply before after (Err (told_as error))
-exchange_failed request a b peer told after error before is adds =
+exchange_failed : (request a b : List ℕ) (peer : Peer) (shown after : Option (List Exchange)) (error : LinkError) (before : List Exchange)
+    → shown ≡ Some before → AddsExchange shown after peer request (Err error) a b → Exchanged peer request IsReply before after (Err (told_as error))
+exchange_failed request a b peer shown after error before is adds =
     failed_at request a b peer before after error (subst (λ (t : Option (List Exchange)). AddsExchange t after peer request (Err error) a b) is adds)
 
-untold_after : (request a b : List ℕ) (peer : Peer) (told after : Option (List Exchange)) (r : Result (Unit {0}) LinkError)
-    → AddsExchange told after peer request r a b → told ≡ None → after ≡ None
-untold_after request a b peer told after r adds is = subst (λ (t : Option (List Exchange)). AddsExchange t after peer request r a b) is adds
+unshown_after : (request a b : List ℕ) (peer : Peer) (shown after : Option (List Exchange)) (r : Result (Unit {0}) LinkError)
+    → AddsExchange shown after peer request r a b → shown ≡ None → after ≡ None
+unshown_after request a b peer shown after r adds is = subst (λ (t : Option (List Exchange)). AddsExchange t after peer request r a b) is adds
 
 -- ---- from the reply to the answer
 
@@ -124,48 +124,48 @@ not_link of is = subst IsAnswered is of
 -- ---- the whole call
 
 -- a server of https
-pub asks_unserved : {T : Type 0} {Says : Reply → Result T PeerError → Type 0} {request : List ℕ} {told : Option (List Exchange)} {faults : ℕ} (server : Server)
-    → server.https ≡ true → Asks server request Says told told faults faults (Err NotServed)
+pub asks_unserved : {T : Type 0} {Says : Reply → Result T PeerError → Type 0} {request : List ℕ} {view : LinkView} (server : Server)
+    → server.https ≡ true → Asks server request Says view view (Err NotServed)
 asks_unserved server is = record {
   unserved = λ _. (refl, refl);
   served = λ other. absurd (false≢true (sym other ∙ is));
-  untold = λ none. none;
+  unshown = λ none. none;
   exchanged = λ other. absurd (false≢true (sym other ∙ is));
   later = omega arith;
   link = λ same. absurd (subst Serves same tt);
 }
 
 -- no memory for the request
-pub asks_unsent : {T : Type 0} {Says : Reply → Result T PeerError → Type 0} {request : List ℕ} {told : Option (List Exchange)} {faults : ℕ} (server : Server)
-    → server.https ≡ false → Asks server request Says told told faults faults (Err Memory)
+pub asks_unsent : {T : Type 0} {Says : Reply → Result T PeerError → Type 0} {request : List ℕ} {view : LinkView} (server : Server)
+    → server.https ≡ false → Asks server request Says view view (Err Memory)
 asks_unsent {T} server is = record {
   unserved = λ other. absurd (false≢true (sym is ∙ other));
   served = λ _. not_served {T = T} {result = Err Memory} tt;
-  untold = λ none. none;
+  unshown = λ none. none;
   exchanged = λ _ before now. inr (refl, now);
   later = omega arith;
   link = λ same. absurd (not_link {T = T} {result = Err Memory} tt same);
 }
 
 -- an exchange that was made
-pub asks_of : {T : Type 0} {Says : Reply → Result T PeerError → Type 0} {request : List ℕ} {told after : Option (List Exchange)} {faults rose : ℕ} {result : Result T PeerError} (server : Server)
-    → server.https ≡ false → result ≢ Err NotServed → (told ≡ None → after ≡ None)
-    → ((before : List Exchange) → told ≡ Some before → Exchanged server.peer request Says before after result)
-    → faults ≤ rose → (IsErrOf result Link → Rose faults rose) → Asks server request Says told after faults rose result
-asks_of server is served untold exchanged later link = record {
+pub asks_of : {T : Type 0} {Says : Reply → Result T PeerError → Type 0} {request : List ℕ} {before after : LinkView} {result : Result T PeerError} (server : Server)
+    → server.https ≡ false → result ≢ Err NotServed → (before.shown ≡ None → after.shown ≡ None)
+    → ((exchanges : List Exchange) → before.shown ≡ Some exchanges → Exchanged server.peer request Says exchanges after.shown result)
+    → before.faults ≤ after.faults → (IsErrOf result Link → Rose before.faults after.faults) → Asks server request Says before after result
+asks_of server is served unshown exchanged later link = record {
   unserved = λ other. absurd (false≢true (sym is ∙ other));
   served = λ _. served;
-  untold = untold;
+  unshown = unshown;
   exchanged = λ _. exchanged;
   later = later;
   link = link;
 }
 
 -- an exchange that gave no reply
-raised_of : {T : Type 0} {Says : Reply → Result T PeerError → Type 0} {request : List ℕ} {told after : Option (List Exchange)} {faults rose : ℕ} {e : PeerError} (server : Server)
-    → server.https ≡ false → Asks server request IsReply told after faults rose (Err e) → Asks server request Says told after faults rose (Err e)
-raised_of {T} {Says} {request} {told} {after} {faults} {rose} {e} server is asks =
-    asks_of server is (λ same. asks.served is (again same)) asks.untold all asks.later (λ same. asks.link (again same))
+raised_of : {T : Type 0} {Says : Reply → Result T PeerError → Type 0} {request : List ℕ} {before after : LinkView} {e : PeerError} (server : Server)
+    → server.https ≡ false → Asks server request IsReply before after (Err e) → Asks server request Says before after (Err e)
+raised_of {T} {Says} {request} {before} {after} {e} server is asks =
+    asks_of server is (λ same. asks.served is (again same)) asks.unshown all asks.later (λ same. asks.link (again same))
   where
     error_in : Result T PeerError → PeerError
     error_in (Ok value) = e
@@ -178,41 +178,41 @@ raised_of {T} {Says} {request} {told} {after} {faults} {rose} {e} server is asks
     reply_error (Ok value) = e
     reply_error (Err x) = x
 
-    go : (before : List Exchange) → Exchanged server.peer request IsReply before after (Err e) → Exchanged server.peer request Says before after (Err e)
-    go before (inl (outcome, heard, last)) = inl (outcome, raise outcome heard, last)
-    go before (inr (short, last)) = inr (ap (λ (x : Result Reply PeerError). Err (reply_error x)) short, last)
+    go : (exchanges : List Exchange) → Exchanged server.peer request IsReply exchanges after.shown (Err e) → Exchanged server.peer request Says exchanges after.shown (Err e)
+    go exchanges (inl (outcome, heard, last)) = inl (outcome, raise outcome heard, last)
+    go exchanges (inr (short, last)) = inr (ap (λ (x : Result Reply PeerError). Err (reply_error x)) short, last)
 
-    all : (before : List Exchange) → told ≡ Some before → Exchanged server.peer request Says before after (Err e)
-    all before now = go before (asks.exchanged is before now)
+    all : (exchanges : List Exchange) → before.shown ≡ Some exchanges → Exchanged server.peer request Says exchanges after.shown (Err e)
+    all exchanges now = go exchanges (asks.exchanged is exchanges now)
 
 -- an exchange that gave a reply
-carried_of : {T : Type 0} {Says : Reply → Result T PeerError → Type 0} {request : List ℕ} {told after : Option (List Exchange)} {faults rose : ℕ} {reply : Reply} {result : Result T PeerError} (server : Server)
-    → server.https ≡ false → Asks server request IsReply told after faults rose (Ok reply) → SaysOr Says reply result → Asks server request Says told after faults rose result
-carried_of {T} {Says} {request} {told} {after} {faults} {rose} {reply} {result} server is asks says =
-    asks_of server is (not_served says.1) asks.untold all asks.later (λ same. absurd (not_link says.1 same))
+carried_of : {T : Type 0} {Says : Reply → Result T PeerError → Type 0} {request : List ℕ} {before after : LinkView} {reply : Reply} {result : Result T PeerError} (server : Server)
+    → server.https ≡ false → Asks server request IsReply before after (Ok reply) → SaysOr Says reply result → Asks server request Says before after result
+carried_of {T} {Says} {request} {before} {after} {reply} {result} server is asks says =
+    asks_of server is (not_served says.1) asks.unshown all asks.later (λ same. absurd (not_link says.1 same))
   where
     said : (outcome : Outcome) → Heard IsReply outcome (Ok reply) → Says reply result ⊎ (result ≡ Err Memory) → Heard Says outcome result
     said outcome heard (inl so) = carry outcome heard so
     said outcome heard (inr short) = rw short (no_memory outcome)
 
-    go : (before : List Exchange) → Exchanged server.peer request IsReply before after (Ok reply) → Exchanged server.peer request Says before after result
-    go before (inl (outcome, heard, last)) = inl (outcome, said outcome heard says.0, last)
-    go before (inr (short, last)) = absurd (never_memory reply short)
+    go : (exchanges : List Exchange) → Exchanged server.peer request IsReply exchanges after.shown (Ok reply) → Exchanged server.peer request Says exchanges after.shown result
+    go exchanges (inl (outcome, heard, last)) = inl (outcome, said outcome heard says.0, last)
+    go exchanges (inr (short, last)) = absurd (never_memory reply short)
 
-    all : (before : List Exchange) → told ≡ Some before → Exchanged server.peer request Says before after result
-    all before now = go before (asks.exchanged is before now)
+    all : (exchanges : List Exchange) → before.shown ≡ Some exchanges → Exchanged server.peer request Says exchanges after.shown result
+    all exchanges now = go exchanges (asks.exchanged is exchanges now)
 
 -- the same of the request that was sent
-pub asks_raised : {T : Type 0} {Says : Reply → Result T PeerError → Type 0} {request sent : List ℕ} {told after : Option (List Exchange)} {faults rose : ℕ} {e : PeerError} (server : Server)
-    → server.https ≡ false → sent ≡ request → Asks server sent IsReply told after faults rose (Err e) → Asks server request Says told after faults rose (Err e)
-asks_raised {T} {Says} {request} {sent} {told} {after} {faults} {rose} {e} server is same asks =
-    raised_of server is (subst (λ (bytes : List ℕ). Asks server bytes IsReply told after faults rose (Err e)) same asks)
+pub asks_raised : {T : Type 0} {Says : Reply → Result T PeerError → Type 0} {request sent : List ℕ} {before after : LinkView} {e : PeerError} (server : Server)
+    → server.https ≡ false → sent ≡ request → Asks server sent IsReply before after (Err e) → Asks server request Says before after (Err e)
+asks_raised {T} {Says} {request} {sent} {before} {after} {e} server is same asks =
+    raised_of server is (subst (λ (bytes : List ℕ). Asks server bytes IsReply before after (Err e)) same asks)
 
-pub asks_carried : {T : Type 0} {Says : Reply → Result T PeerError → Type 0} {request sent : List ℕ} {told after : Option (List Exchange)} {faults rose : ℕ} {reply : Reply} {result : Result T PeerError} (server : Server)
-    → server.https ≡ false → sent ≡ request → Asks server sent IsReply told after faults rose (Ok reply) → SaysOr Says reply result
-    → Asks server request Says told after faults rose result
-asks_carried {T} {Says} {request} {sent} {told} {after} {faults} {rose} {reply} {result} server is same asks says =
-    carried_of server is (subst (λ (bytes : List ℕ). Asks server bytes IsReply told after faults rose (Ok reply)) same asks) says
+pub asks_carried : {T : Type 0} {Says : Reply → Result T PeerError → Type 0} {request sent : List ℕ} {before after : LinkView} {reply : Reply} {result : Result T PeerError} (server : Server)
+    → server.https ≡ false → sent ≡ request → Asks server sent IsReply before after (Ok reply) → SaysOr Says reply result
+    → Asks server request Says before after result
+asks_carried {T} {Says} {request} {sent} {before} {after} {reply} {result} server is same asks says =
+    carried_of server is (subst (λ (bytes : List ℕ). Asks server bytes IsReply before after (Ok reply)) same asks) says
 
 -- ---- of what the link answered
 
@@ -237,20 +237,21 @@ told_unserved errors.TooLong same = not_served {T = Reply} {result = Err TooLong
 told_unserved errors.Memory same = not_served {T = Reply} {result = Err Memory} tt same
 
 -- an error of the link
-pub asks_failed : (request a b : List ℕ) (told after : Option (List Exchange)) (faults rose : ℕ) (e : LinkError) (server : Server)
-    → server.https ≡ false → AddsExchange told after server.peer request (Err e) a b → HasCauseOf {T = Unit {0}} errors.Failed faults rose (Err e)
-    → Asks server request IsReply told after faults rose (Err (told_as e))
-asks_failed request a b told after faults rose e server is adds cause =
-    asks_of server is (told_unserved e) (untold_after request a b server.peer told after (Err e) adds)
-    (λ before now. exchange_failed request a b server.peer told after e before now adds) cause.later (told_link faults rose e cause)
+pub asks_failed : (request a b : List ℕ) (before after : LinkView) (e : LinkError) (server : Server)
+    → server.https ≡ false → AddsExchange before.shown after.shown server.peer request (Err e) a b
+    → HasCauseOf {T = Unit {0}} errors.Failed before.faults after.faults (Err e)
+    → Asks server request IsReply before after (Err (told_as e))
+asks_failed request a b before after e server is adds cause =
+    asks_of server is (told_unserved e) (unshown_after request a b server.peer before.shown after.shown (Err e) adds)
+    (λ exchanges now. exchange_failed request a b server.peer before.shown after.shown e exchanges now adds) cause.later (told_link before.faults after.faults e cause)
 
 -- an answer
-pub asks_answered : (request bytes : List ℕ) (told after : Option (List Exchange)) (faults rose : ℕ) (result : Result Reply PeerError) (server : Server)
-    → server.https ≡ false → AddsExchange told after server.peer request (Ok tt) [] bytes → faults ≤ rose
-    → Heard IsReply (outcomes.Answered bytes) result → IsAnswered result → Asks server request IsReply told after faults rose result
-asks_answered request bytes told after faults rose result server is adds later heard of =
-    asks_of server is (not_served of) (untold_after request [] bytes server.peer told after (Ok tt) adds)
-    (λ before now. exchange_answered request bytes server.peer told after result before now adds heard) later (λ same. absurd (not_link of same))
+pub asks_answered : (request bytes : List ℕ) (before after : LinkView) (result : Result Reply PeerError) (server : Server)
+    → server.https ≡ false → AddsExchange before.shown after.shown server.peer request (Ok tt) [] bytes → before.faults ≤ after.faults
+    → Heard IsReply (outcomes.Answered bytes) result → IsAnswered result → Asks server request IsReply before after result
+asks_answered request bytes before after result server is adds later heard of =
+    asks_of server is (not_served of) (unshown_after request [] bytes server.peer before.shown after.shown (Ok tt) adds)
+    (λ exchanges now. exchange_answered request bytes server.peer before.shown after.shown result exchanges now adds heard) later (λ same. absurd (not_link of same))
 
 -- an error of the answer's reader
 abbrev pub Judges : FrameError → Type 0
@@ -261,7 +262,7 @@ judged : (bytes : List ℕ) (e : FrameError) → Judges e → NoAnswer bytes e �
 judged bytes e judges (inl is) = absurd (subst Judges is judges)
 judged bytes e judges (inr refused) = no_answer bytes e ((λ is. subst Judges is judges), refused)
 
-pub refused_answer : (bytes : List ℕ) (e : FrameError) → NoAnswer bytes e → Heard IsReply (outcomes.Answered bytes) (Err (fault_of e)) × IsAnswered {T = Reply} (Err (fault_of e))
+pub refused_answer : (bytes : List ℕ) (e : FrameError) → NoAnswer bytes e → Heard IsReply (outcomes.Answered bytes) (Err (frame_fault e)) × IsAnswered {T = Reply} (Err (frame_fault e))
 refused_answer bytes frames.Memory refused = (no_memory _, tt)
 refused_answer bytes frames.Head refused = (judged bytes frames.Head tt refused, tt)
 refused_answer bytes frames.HeadTooLong refused = (judged bytes frames.HeadTooLong tt refused, tt)

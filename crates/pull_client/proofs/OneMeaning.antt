@@ -1,4 +1,5 @@
 -- What comes of a request means one answer.
+use Rattle.std.specs.Prelude.{nat_le, length}
 use Rattle.std.proofs.Common.{◌≡◌, ◌≢◌, ◌⊎◌, inl, inr, ℕ, Bool, true, false, List, Some, Option, None, Result, Ok, Err, refl, sym, ap, subst, ◌∙◌}
 use Rattle.serde_json.specs.Data.{Data}
 use Rattle.dsc_outside.specs.declared.exchange.Outcome.{Outcome}
@@ -18,7 +19,8 @@ use Rattle.pull_client.specs.declared.error.PeerError.TheVariants.{Link, TooLong
 use Rattle.pull_client.specs.Content.{GivesBody, GivesPart, IsPartOf, content_of}
 use Rattle.pull_client.specs.Heard.{Heard, IsDone, is_accepted, link_failed, too_long, no_answer, not_accepted, accepted, no_memory}
 use Rattle.pull_client.specs.Meaning.{MeansOne, OneMeaning, SamePart}
-use Rattle.pull_client.specs.Queries.{Tells, told_by}
+use Rattle.pull_client.specs.declared.limits.TheConstants.{MAX_ACTION_ANSWER}
+use Rattle.pull_client.specs.Queries.{BodyTells, Tells, told_by}
 
 -- ---- of an outcome
 
@@ -124,11 +126,17 @@ not_memory : (held : List PartMark) (names : List (List ℕ)) (message : Result 
     → result ≢ Err Memory → result ≡ told_by held names message → message ≢ Err messages.Memory
 not_memory held names message result not is same = not (is ∙ ap (told_by held names) same)
 
+one_body : (within : Bool) (held : List PartMark) (names : List (List ℕ)) (body : List ℕ) (a b : Result (List Bool) PeerError)
+    → a ≢ Err Memory → b ≢ Err Memory → BodyTells within held names body a → BodyTells within held names body b → a ≡ b
+one_body true held names body a b m n x y =
+    x.2 ∙ ap (told_by held names) (one_message body x.0 y.0
+    (read_of body x.0 (not_memory held names x.0 a m x.2) x.1)
+    (read_of body y.0 (not_memory held names y.0 b n y.2) y.1)) ∙ sym y.2
+one_body false held names body a b m n x y = x ∙ sym y
+
 one_told : (held : List PartMark) (names : List (List ℕ)) → SaysOne (Tells held names) (λ a b. a ≡ b)
 one_told held names = λ reply a b m n x y.
-    x.2 ∙ ap (told_by held names) (one_message reply.body x.0 y.0
-    (read_of reply.body x.0 (not_memory held names x.0 a m x.2) x.1)
-    (read_of reply.body y.0 (not_memory held names y.0 b n y.2) y.1)) ∙ sym y.2
+    one_body (nat_le (length reply.body) MAX_ACTION_ANSWER) held names reply.body a b m n x y
 
 -- ---- all calls
 
@@ -137,5 +145,5 @@ one_meaning frames = record {
   done = means_one IsDone (λ a b. a ≡ b) frames (λ _. refl) (λ reply a b m n x y. x ∙ sym y);
   part = λ name. means_one (GivesPart name) SamePart frames (λ _. refl) (λ reply a b m n x y. one_part name (content_of reply) a b x y);
   body = means_one GivesBody (λ a b. a ≡ b) frames (λ _. refl) (λ reply a b m n x y. x ∙ sym y);
-  told = λ held names. means_one (Tells held names) (λ a b. a ≡ b) frames (λ _. refl) (one_told held names);
+  queried = λ held names. means_one (Tells held names) (λ a b. a ≡ b) frames (λ _. refl) (one_told held names);
 }

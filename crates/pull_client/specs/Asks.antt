@@ -4,6 +4,7 @@ use Rattle.dsc_terms.specs.Counts.{Rose}
 use Rattle.dsc_outside.specs.declared.link.Peer.{Peer}
 use Rattle.dsc_outside.specs.declared.exchange.Exchange.{Exchange}
 use Rattle.dsc_outside.specs.declared.exchange.Outcome.{Outcome}
+use Rattle.dsc_outside.specs.Link.{LinkView}
 use Rattle.meta_config.specs.declared.server.Server.{Server}
 use Rattle.http_frames.specs.declared.message.Reply.{Reply}
 use Rattle.pull_client.specs.declared.error.PeerError.{PeerError}
@@ -17,13 +18,14 @@ Exchanged peer request Says before after result =
     × (after ≡ Some (before ++ record { peer = peer; request = request; outcome = outcome } ∷ [])))
     ⊎ ((result ≡ Err Memory) × (after ≡ Some before))
 
--- a server that wants https is not asked. Any other is sent the one request, where the link exposes its exchanges
+-- what the link shows before and after a call with that answer: a server that wants https is not asked. Any other is
+-- sent the one request, where the link exposes its exchanges
 pub record Asks {T : Type 0} (server : Server) (request : List ℕ) (Says : Reply → Result T PeerError → Type 0)
-    (told told_after : Option (List Exchange)) (faults faults_after : ℕ) (result : Result T PeerError) : Type 0 where
-  pub unserved : server.https ≡ true → (result ≡ Err NotServed) × (told_after ≡ told)
+    (before after : LinkView) (result : Result T PeerError) : Type 0 where
+  pub unserved : server.https ≡ true → (result ≡ Err NotServed) × (after.shown ≡ before.shown)
   pub served : server.https ≡ false → result ≢ Err NotServed
-  pub untold : told ≡ None → told_after ≡ None
-  pub exchanged : server.https ≡ false → (before : List Exchange) → told ≡ Some before
-      → Exchanged server.peer request Says before told_after result
-  pub later : faults ≤ faults_after
-  pub link : IsErrOf result Link → Rose faults faults_after
+  pub unshown : before.shown ≡ None → after.shown ≡ None
+  pub exchanged : server.https ≡ false → (exchanges : List Exchange) → before.shown ≡ Some exchanges
+      → Exchanged server.peer request Says exchanges after.shown result
+  pub later : before.faults ≤ after.faults
+  pub link : IsErrOf result Link → Rose before.faults after.faults

@@ -37,9 +37,9 @@ IsDone reply result = result ≡ Ok tt
 -- ---- for private clauses
 
 -- the error of a reader of answers
-abbrev pub fault_of : FrameError → PeerError
-fault_of frames.Memory = Memory
-fault_of e = Frame e
+abbrev pub frame_fault : FrameError → PeerError
+frame_fault frames.Memory = Memory
+frame_fault e = Frame e
 
 -- an answer that comes of a reply
 abbrev pub IsAnswered : {T : Type 0} → Result T PeerError → Type 0

@@ -10,7 +10,7 @@ use Rattle.pull_client.specs.Content.{GivesBody, GivesPart}
 use Rattle.pull_client.specs.Heard.{Heard, IsDone}
 use Rattle.pull_client.specs.Queries.{Tells}
 
--- of the same outcome two answers are the same, where memory was refused in neither
+-- of the same outcome two answers are the same, where memory ran out in neither
 abbrev pub MeansOne : {T : Type 0} → (Reply → Result T PeerError → Type 0) → (Result T PeerError → Result T PeerError → Type 0) → Type 0
 MeansOne {T} Says Same =
     (outcome : Outcome) (a b : Result T PeerError) → a ≢ Err Memory → b ≢ Err Memory
@@ -27,4 +27,4 @@ pub record OneMeaning : Type 0 where
   pub done : MeansOne IsDone (λ a b. a ≡ b)
   pub part : (name : List ℕ) → MeansOne (GivesPart name) SamePart
   pub body : MeansOne GivesBody (λ a b. a ≡ b)
-  pub told : (held : List PartMark) (names : List (List ℕ)) → MeansOne (Tells held names) (λ a b. a ≡ b)
+  pub queried : (held : List PartMark) (names : List (List ℕ)) → MeansOne (Tells held names) (λ a b. a ≡ b)

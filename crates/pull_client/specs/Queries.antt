@@ -1,5 +1,5 @@
 -- Queries of a node, and what the answers say.
-use Rattle.std.specs.Prelude.{◌≡◌, ℕ, Bool, true, false, ◌&&◌, ◌||◌, ◌==◌, List, [], ◌∷◌, ◌++◌, map, length, bytes_eq, codes, if◌then◌else◌, Option, Some, None, is_some, Result, Ok, Err}
+use Rattle.std.specs.Prelude.{◌≡◌, ℕ, Bool, true, false, ◌&&◌, ◌||◌, ◌==◌, List, [], ◌∷◌, ◌++◌, map, length, nat_le, bytes_eq, codes, if◌then◌else◌, Option, Some, None, is_some, Result, Ok, Err}
 use Rattle.mof_values.specs.Fold.{same_name}
 use Rattle.shared_key.specs.Checksum.{checksum_of}
 use Rattle.report_log.specs.declared.report.PartMark.{PartMark}
@@ -13,16 +13,17 @@ use Rattle.pull_messages.specs.declared.action.Detail.{Detail}
 use Rattle.pull_messages.specs.Bodies.{ReadsBy}
 use Rattle.pull_messages.specs.Tables.{action_of}
 use Rattle.pull_client.specs.declared.error.PeerError.{PeerError}
-use Rattle.pull_client.specs.declared.error.PeerError.TheVariants.{Message, Retry, Uncovered, Memory}
+use Rattle.pull_client.specs.declared.error.PeerError.TheVariants.{TooLong, Message, Retry, Uncovered, Memory}
+use Rattle.pull_client.specs.declared.limits.TheConstants.{MAX_ACTION_ANSWER}
 use Rattle.pull_client.specs.declared.statuses.Status.{Status}
 use Rattle.pull_client.specs.declared.statuses.Status.TheVariants.{UpToDate, ToFetch, NotReady, Unknown}
 
 -- ---- what is asked
 
--- the digest of the first part that is held under the name
+-- the digest of the first part that is held under the name; names of parts compare by fold
 abbrev pub held_under : List PartMark → List ℕ → Option (List ℕ)
 held_under [] name = None
-held_under (part ∷ parts) name = if bytes_eq part.name name then Some part.digest else held_under parts name
+held_under (part ∷ parts) name = if same_name part.name name then Some part.digest else held_under parts name
 
 -- its checksum, and nothing where no part is held
 abbrev pub checksum_or_empty : Option (List ℕ) → List ℕ
@@ -84,10 +85,15 @@ told_by held names (Ok answer) = fetches (length names == 1) answer held names
 told_by held names (Err messages.Memory) = Err Memory
 told_by held names (Err e) = Err (Message e)
 
--- what a reply says, whose body is that message or none
+-- what a body says, which is that message or none, where it is within the limit
+abbrev pub BodyTells : Bool → List PartMark → List (List ℕ) → List ℕ → Result (List Bool) PeerError → Type 0
+BodyTells true held names body result =
+    (message : Result ActionAnswer MessageError) × ReadsBy action_of body message × (result ≡ told_by held names message)
+BodyTells false held names body result = result ≡ Err TooLong
+
+-- what a reply says
 abbrev pub Tells : List PartMark → List (List ℕ) → Reply → Result (List Bool) PeerError → Type 0
-Tells held names reply result =
-    (message : Result ActionAnswer MessageError) × ReadsBy action_of reply.body message × (result ≡ told_by held names message)
+Tells held names reply result = BodyTells (nat_le (length reply.body) MAX_ACTION_ANSWER) held names reply.body result
 
 -- ---- for private clauses
 
@@ -97,6 +103,6 @@ after_earlier earlier (Ok others) = Ok (earlier ++ others)
 after_earlier earlier (Err e) = Err e
 
 -- the error of a reader of messages
-abbrev pub fault_of : MessageError → PeerError
-fault_of messages.Memory = Memory
-fault_of e = Message e
+abbrev pub message_fault : MessageError → PeerError
+message_fault messages.Memory = Memory
+message_fault e = Message e

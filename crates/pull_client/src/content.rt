@@ -1,4 +1,4 @@
-//! Contents, which are accepted only under their announced digest.
+//! The contents in replies, each accepted only under its announced digest.
 ghost use Rattle.std.specs.Prelude.{◌≡◌, IfOk, Some};
 ghost use Rattle.http_frames.specs.Headers.{is_named};
 ghost use Rattle.pull_client.specs.Content.{GivesPart, announced, checked_body, checksum_in, content_of, is_sha256, is_sha256_if_named, under_digest};
@@ -10,7 +10,6 @@ use mof_syntax::MAX_DOCUMENT;
 use mof_values::{Bytes, Text};
 use partial_merge::{Part, part_of};
 use shared_key::{digest, read_checksum};
-use std::alloc::AllocError;
 
 /// The part of that name that a reply is.
 pub fn part_in(name: &Text, reply: Reply) -> Result<Part, PeerError>
@@ -18,15 +17,9 @@ pub fn part_in(name: &Text, reply: Reply) -> Result<Part, PeerError>
     ensures named { IfOk result (λ part. part.name ≡ name.now) }
 {
     match content_of(reply) {
-        Ok(content) => Ok(part_of(copy(name)?, content.into_vec())),
+        Ok(content) => Ok(part_of(name.copy()?, content.into_vec())),
         Err(error) => Err(error),
     }
-}
-
-fn copy(name: &Text) -> Result<Text, AllocError>
-    ensures { IfOk result (λ copy. copy ≡ name.now) }
-{
-    name.clone()
 }
 
 fn content_of(reply: Reply) -> Result<Bytes, PeerError>

@@ -2,8 +2,9 @@
 ghost use Rattle.std.specs.Prelude.{◌≡◌, ◌||◌, ◌==◌, true, false, IfErr};
 ghost use Rattle.dsc_outside.specs.declared.exchange.Outcome.TheVariants.{Answered};
 ghost use Rattle.http_frames.specs.OneAnswer.{ReplyAnswer};
+ghost use Rattle.dsc_outside.specs.LinkView.{view_of};
 ghost use Rattle.pull_client.specs.Asks.{Asks};
-ghost use Rattle.pull_client.specs.Heard.{Heard, IsAnswered, IsReply, fault_of, is_accepted};
+ghost use Rattle.pull_client.specs.Heard.{Heard, IsAnswered, IsReply, frame_fault, is_accepted};
 
 use crate::PeerError;
 use dsc_outside::{Link, LinkError};
@@ -19,7 +20,9 @@ pub fn exchange<L: Link>(
     request: &[u8],
 ) -> Result<Reply, PeerError>
     requires { server.now.https ≡ false }
-    ensures { Asks server.now request.now IsReply (L.told link.old) (L.told link.new) (L.faults link.old) (L.faults link.new) result }
+    ensures asks { Asks server.now request.now IsReply (view_of L.Link link.old)
+        (view_of L.Link link.new) result }
+    ensures becomes { L.may_become link.old link.new }
 {
     let mut answer = Vec::new(alloc);
     match link.exchange(&server.peer, request, &mut answer) {
@@ -41,7 +44,7 @@ fn accepted(alloc: Global, bytes: &[u8]) -> Result<Reply, PeerError>
         } else {
             Err(PeerError::Status { code: reply.code })
         },
-        Err(error) => Err(fault_of(error)),
+        Err(error) => Err(frame_fault(error)),
     }
 }
 
@@ -52,18 +55,11 @@ fn is_accepted(code: u16) -> bool
 }
 
 // Out of memory, the reader has not judged the bytes.
-fn fault_of(error: FrameError) -> PeerError
-    ensures { result ≡ fault_of error }
+fn frame_fault(error: FrameError) -> PeerError
+    ensures { result ≡ frame_fault error }
 {
     match error {
         FrameError::Memory => PeerError::Memory,
-        FrameError::Head => PeerError::Frame(error),
-        FrameError::HeadTooLong => PeerError::Frame(error),
-        FrameError::Coding => PeerError::Frame(error),
-        FrameError::Length => PeerError::Frame(error),
-        FrameError::NoLength => PeerError::Frame(error),
-        FrameError::BodyTooLong => PeerError::Frame(error),
-        FrameError::Chunk { at } => PeerError::Frame(FrameError::Chunk { at }),
-        FrameError::Torn { at } => PeerError::Frame(FrameError::Torn { at }),
+        other => PeerError::Frame(other),
     }
 }

@@ -1,5 +1,6 @@
-//! Contents of configurations and packages of modules.
+//! Fetches the contents of configurations and the packages of modules.
 ghost use Rattle.std.specs.Prelude.{◌≡◌, true, IfOk};
+ghost use Rattle.dsc_outside.specs.LinkView.{view_of};
 ghost use Rattle.pull_client.specs.Asks.{Asks};
 ghost use Rattle.pull_client.specs.Content.{GivesBody, GivesPart, items_in};
 ghost use Rattle.pull_client.specs.Heard.{SaysOr};
@@ -17,6 +18,13 @@ use partial_merge::Part;
 use std::alloc::Global;
 
 /// Asks the server for the content of the configuration of that name, and gives it as a part under that name.
+///
+/// # Errors
+///
+/// The first of these that holds: `NotServed` for a server of https, which is not asked; `Link` where the link failed;
+/// `TooLong` where the answer is; `Frame` where it is no message of HTTP; `Status` where its code is not accepted;
+/// `NoChecksum` where no digest is announced as it must be; `Mismatch` where it is not that of the body; `TooLong` where
+/// the body is longer than a document may be. `Memory` may come in the place of each but the first.
 pub fn fetch<L: Link>(
     alloc: Global,
     link: &mut L,
@@ -24,7 +32,9 @@ pub fn fetch<L: Link>(
     agent: u128,
     name: &Text,
 ) -> Result<Part, PeerError>
-    ensures asks { Asks server.now (content_request server.now agent name.now) (GivesPart name.now) (L.told link.old) (L.told link.new) (L.faults link.old) (L.faults link.new) result }
+    ensures asks { Asks server.now (content_request server.now agent name.now) (GivesPart name.now)
+        (view_of L.Link link.old) (view_of L.Link link.new) result }
+    ensures becomes { L.may_become link.old link.new }
     ensures named { IfOk result (λ part. part.name ≡ name.now) }
     ensures unsent { server.now.https ≡ true → link.new ≡ link.old }
 {
@@ -39,6 +49,13 @@ pub fn fetch<L: Link>(
 }
 
 /// Asks the server for the package of the module of that name and version, and gives its bytes.
+///
+/// The agent is not sent, since the address of a package names no agent. It is a parameter so that each call of this
+/// crate says for whom it asks.
+///
+/// # Errors
+///
+/// Those of [`fetch`] in the same order, but that a package may be longer than a document.
 pub fn fetch_module<L: Link>(
     alloc: Global,
     link: &mut L,
@@ -47,7 +64,9 @@ pub fn fetch_module<L: Link>(
     name: &Text,
     version: &Text,
 ) -> Result<Vec<u8>, PeerError>
-    ensures asks { Asks server.now (module_request server.now name.now version.now) GivesBody (L.told link.old) (L.told link.new) (L.faults link.old) (L.faults link.new) (items_in result (λ v. v.items)) }
+    ensures asks { Asks server.now (module_request server.now name.now version.now) GivesBody
+        (view_of L.Link link.old) (view_of L.Link link.new) (items_in result (λ v. v.items)) }
+    ensures becomes { L.may_become link.old link.new }
     ensures unsent { server.now.https ≡ true → link.new ≡ link.old }
 {
     if server.https {

@@ -12,6 +12,7 @@ mod error;
 mod exchange;
 mod fetching;
 mod laws;
+mod limits;
 mod marks;
 mod messages;
 mod moments;

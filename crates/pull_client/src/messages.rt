@@ -1,6 +1,5 @@
 //! The message of a report.
 ghost use Rattle.std.specs.Prelude.{◌≡◌, ◌≤◌, ◌∷◌, [], IfOk, Some, map, length, encode_utf8_all, string_bytes};
-ghost use Rattle.std.specs.Str.{chars};
 ghost use Rattle.serde_json.specs.View.{view};
 ghost use Rattle.serde_json.specs.Written.{compact_text};
 ghost use Rattle.http_frames.specs.Limits.{request_limits};
@@ -151,13 +150,7 @@ fn counts_text(alloc: Global, report: &Report) -> Result<Text, AllocError>
     ensures { IfOk result (λ text. text ≡ counts_text report.now) }
 {
     let text = counts_json(alloc, report)?;
-    Ok(Text::of(characters(alloc, text.as_str())?))
-}
-
-fn characters(alloc: Global, text: &str) -> Result<Vec<char>, AllocError>
-    ensures { IfOk result (λ v. v.items ≡ chars text.now) }
-{
-    text.chars().collect(alloc)
+    Text::from_utf8(alloc, text.as_str())
 }
 
 fn counts_json(alloc: Global, report: &Report) -> Result<String, AllocError>

@@ -7,7 +7,7 @@ use arrayvec::ArrayString;
 use jiff::Timestamp;
 use jiff::fmt::temporal::DateTimePrinter;
 
-/// A moment in seconds since 1970-01-01T00:00:00Z, as `YYYY-MM-DDThh:mm:ssZ` with so many places of a fraction.
+/// A moment in seconds since 1970-01-01T00:00:00Z, as `YYYY-MM-DDThh:mm:ssZ` with this number of places of a fraction.
 pub fn moment_text(moment: u64, places: u8) -> ArrayString<33>
     requires moment { moment ≤ last_moment }
     requires places { places ≤ 9 }

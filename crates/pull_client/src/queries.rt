@@ -1,8 +1,9 @@
 //! Queries: what a node holds under the names of its configurations.
 ghost use Rattle.std.specs.Prelude.{◌≡◌, IfOk, map};
+ghost use Rattle.mof_values.specs.Fold.{same_name};
 ghost use Rattle.pull_client.specs.Queries.{checksum_or_empty, client_of, held_under, query_of};
 
-use mof_values::{Items, Text};
+use mof_values::{Items, Text, folds_equal};
 use pull_messages::{ActionQuery, Client};
 use report_log::PartMark;
 use shared_key::checksum_text;
@@ -46,16 +47,23 @@ fn checksum_or_empty(alloc: Global, digest: Option<[u8; 32]>) -> Result<Text, Al
     }
 }
 
-/// The digest of the first part that is held under the name.
+/// The digest of the first part that is held under the name, by fold.
 pub fn held_under(held: &[PartMark], name: &Text) -> Option<[u8; 32]>
     ensures { result ≡ held_under held.now name.now }
 {
     let mut left = held;
     while let [part, rest @ ..] = left {
-        if part.name == *name {
+        if is_under(part, name) {
             return Some(part.digest);
         }
         left = rest;
     }
     None
+}
+
+// Names of parts compare by fold.
+fn is_under(part: &PartMark, name: &Text) -> bool
+    ensures { result ≡ same_name part.now.name name.now }
+{
+    folds_equal(part.name.as_slice(), name.as_slice())
 }

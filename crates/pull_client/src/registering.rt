@@ -1,5 +1,6 @@
-//! Registrations.
+//! Registers an agent.
 ghost use Rattle.std.specs.Prelude.{◌≡◌, ◌≤◌, true, Some, List, ℕ};
+ghost use Rattle.dsc_outside.specs.LinkView.{view_of};
 ghost use Rattle.pull_client.specs.Asks.{Asks};
 ghost use Rattle.pull_client.specs.Heard.{IsDone};
 ghost use Rattle.dsc_outside.specs.Clock.{last_moment};
@@ -17,6 +18,12 @@ use std::alloc::Global;
 
 /// Registers the agent with these names of configurations, signed under the server's key at that moment, in seconds
 /// since 1970-01-01T00:00:00Z.
+///
+/// # Errors
+///
+/// The first of these that holds: `NotServed` for a server of https, which is sent nothing; `Link` where the link failed;
+/// `TooLong` where the answer is; `Frame` where it is no message of HTTP; `Status` where its code is not accepted.
+/// `Memory` may come in the place of each but the first.
 pub fn register<L: Link>(
     alloc: Global,
     link: &mut L,
@@ -28,7 +35,10 @@ pub fn register<L: Link>(
 ) -> Result<(), PeerError>
     requires { moment ≤ last_moment }
     ensures asks { (date : List ℕ) × IsMomentText (Some 7) moment date
-        × Asks server.now (registration_request server.now agent (registration_of node_name.now names.now) date) IsDone (L.told link.old) (L.told link.new) (L.faults link.old) (L.faults link.new) result }
+        × Asks server.now
+        (registration_request server.now agent (registration_of node_name.now names.now) date)
+        IsDone (view_of L.Link link.old) (view_of L.Link link.new) result }
+    ensures becomes { L.may_become link.old link.new }
     ensures unsent { server.now.https ≡ true → link.new ≡ link.old }
 {
     register_at(
@@ -51,7 +61,10 @@ fn register_at<L: Link>(
     names: &[Text],
     date: &[u8],
 ) -> Result<(), PeerError>
-    ensures asks { Asks server.now (registration_request server.now agent (registration_of node_name.now names.now) date.now) IsDone (L.told link.old) (L.told link.new) (L.faults link.old) (L.faults link.new) result }
+    ensures asks { Asks server.now
+        (registration_request server.now agent (registration_of node_name.now names.now) date.now)
+        IsDone (view_of L.Link link.old) (view_of L.Link link.new) result }
+    ensures becomes { L.may_become link.old link.new }
     ensures unsent { server.now.https ≡ true → link.new ≡ link.old }
 {
     if server.https {

@@ -1,5 +1,6 @@
-//! Reports.
+//! Sends the report of a run.
 ghost use Rattle.std.specs.Prelude.{◌≡◌, true};
+ghost use Rattle.dsc_outside.specs.LinkView.{view_of};
 ghost use Rattle.pull_client.specs.Asks.{Asks};
 ghost use Rattle.pull_client.specs.Heard.{IsDone};
 ghost use Rattle.pull_client.specs.Requests.{report_request};
@@ -13,6 +14,10 @@ use pull_messages::ReportMessage;
 use std::alloc::Global;
 
 /// Sends the server a report of the agent.
+///
+/// # Errors
+///
+/// Those of [`register`](crate::register), in the same order.
 pub fn report<L: Link>(
     alloc: Global,
     link: &mut L,
@@ -20,7 +25,9 @@ pub fn report<L: Link>(
     agent: u128,
     message: &ReportMessage,
 ) -> Result<(), PeerError>
-    ensures asks { Asks server.now (report_request server.now agent message.now) IsDone (L.told link.old) (L.told link.new) (L.faults link.old) (L.faults link.new) result }
+    ensures asks { Asks server.now (report_request server.now agent message.now) IsDone
+        (view_of L.Link link.old) (view_of L.Link link.new) result }
+    ensures becomes { L.may_become link.old link.new }
     ensures unsent { server.now.https ≡ true → link.new ≡ link.old }
 {
     if server.https {

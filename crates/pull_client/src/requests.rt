@@ -83,7 +83,8 @@ pub fn query_request(
     held: &[PartMark],
     names: &[Text],
 ) -> Result<Vec<u8>, Memory>
-    ensures { IfOk result (λ bytes. bytes.items ≡ query_request server.now agent (query_of held.now names.now)) }
+    ensures { IfOk result (λ bytes. bytes.items
+        ≡ query_request server.now agent (query_of held.now names.now)) }
 {
     let body = write_query(alloc, &query_of(alloc, held, names)?)?;
     post(alloc, server, &Target::Action(agent), body)
@@ -109,7 +110,8 @@ pub fn registration_request(
     names: &[Text],
     date: &[u8],
 ) -> Result<Vec<u8>, Memory>
-    ensures { IfOk result (λ bytes. bytes.items ≡ registration_request server.now agent (registration_of node_name.now names.now) date.now) }
+    ensures { IfOk result (λ bytes. bytes.items ≡ registration_request server.now agent
+        (registration_of node_name.now names.now) date.now) }
 {
     let body = write_registration(alloc, &registration_of(alloc, node_name, names)?)?;
     put(alloc, server, &Target::Node(agent), body, date)
@@ -190,7 +192,8 @@ fn written(
     headers: Vec<Header>,
     body: Vec<u8>,
 ) -> Result<Vec<u8>, Memory>
-    ensures { IfOk result (λ bytes. bytes.items ≡ written server.now method.now target.now headers.items body.items) }
+    ensures { IfOk result (λ bytes. bytes.items
+        ≡ written server.now method.now target.now headers.items body.items) }
 {
     let request = Request {
         method: Bytes::of(method.as_bytes().to_vec(alloc)?),

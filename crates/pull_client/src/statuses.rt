@@ -1,17 +1,18 @@
-//! Statuses: what an answer to a query says of the names that were asked.
-ghost use Rattle.std.specs.Prelude.{◌≡◌, ◌⊎◌, ◌==◌, IfOk, Err, length};
+//! What an answer to a query says of the names that were asked.
+ghost use Rattle.std.specs.Prelude.{◌≡◌, ◌⊎◌, ◌==◌, true, Err, length};
 ghost use Rattle.pull_client.specs.Content.{items_in};
 ghost use Rattle.pull_client.specs.Heard.{IsAnswered, SaysOr};
-ghost use Rattle.pull_client.specs.Queries.{Tells, fault_of, fetch_of, fetches, is_about, spelled_status, status_in};
+ghost use Rattle.pull_client.specs.Queries.{BodyTells, Tells, message_fault, fetch_of, fetches, is_about, spelled_status, status_in};
 ghost use Rattle.pull_client.specs.declared.error.PeerError.TheVariants.{Memory as OutOfMemory};
 
 use crate::PeerError;
+use crate::limits::MAX_ACTION_ANSWER;
 use crate::queries::held_under;
 use http_frames::Reply;
 use mof_values::{Text, is_named};
 use pull_messages::{ActionAnswer, Detail, MessageError, read_action};
 use report_log::PartMark;
-use std::alloc::{AllocError, Global};
+use std::alloc::Global;
 
 /// What a server says of a configuration.
 #[derive(Clone, Copy, Debug, PartialEq, Eq)]
@@ -29,8 +30,8 @@ pub enum Status {
     Unknown,
 }
 
-/// Tells for each name whether its content is to be fetched, as a reply says.
-pub fn told_in(
+/// Whether the content of each name is to be fetched, as a reply says.
+pub fn fetches_in(
     alloc: Global,
     reply: &Reply,
     held: &[PartMark],
@@ -38,22 +39,38 @@ pub fn told_in(
 ) -> Result<Vec<bool>, PeerError>
     ensures { SaysOr (Tells held.now names.now) reply.now (items_in result (λ v. v.items)) }
 {
-    match read_action(alloc, reply.body.as_slice()) {
+    let body = reply.body.as_slice();
+    if body.len() > MAX_ACTION_ANSWER {
+        return Err(PeerError::TooLong);
+    }
+    fetches_of(alloc, body, held, names)
+}
+
+// The same of a body within the limit.
+fn fetches_of(
+    alloc: Global,
+    body: &[u8],
+    held: &[PartMark],
+    names: &[Text],
+) -> Result<Vec<bool>, PeerError>
+    ensures value { BodyTells true held.now names.now body.now (items_in result (λ v. v.items))
+        ⊎ (items_in result (λ v. v.items) ≡ Err OutOfMemory) }
+    ensures answered { IsAnswered (items_in result (λ v. v.items)) }
+{
+    match read_action(alloc, body) {
         Ok(answer) => fetches(alloc, &answer, held, names),
-        Err(error) => Err(fault_of(error)),
+        Err(error) => Err(message_fault(error)),
     }
 }
 
 // Out of memory, the reader has not judged the body.
-fn fault_of(error: MessageError) -> PeerError
-    ensures value { result ≡ fault_of error }
+fn message_fault(error: MessageError) -> PeerError
+    ensures value { result ≡ message_fault error }
     ensures answered { IsAnswered {T = Unit {0}} (Err result) }
 {
     match error {
         MessageError::Memory => PeerError::Memory,
-        MessageError::Json => PeerError::Message(error),
-        MessageError::Missing(field) => PeerError::Message(MessageError::Missing(field)),
-        MessageError::Wrong(field) => PeerError::Message(MessageError::Wrong(field)),
+        other => PeerError::Message(other),
     }
 }
 
@@ -63,7 +80,8 @@ fn fetches(
     held: &[PartMark],
     names: &[Text],
 ) -> Result<Vec<bool>, PeerError>
-    ensures value { (items_in result (λ v. v.items) ≡ fetches (length names.now == 1) answer.now held.now names.now) ⊎ (result ≡ Err OutOfMemory) }
+    ensures value { (items_in result (λ v. v.items) ≡ fetches (length names.now == 1) answer.now
+        held.now names.now) ⊎ (result ≡ Err OutOfMemory) }
     ensures answered { IsAnswered result }
 {
     let only = names.len() == 1;
@@ -90,15 +108,9 @@ fn fetch_of(name: &Text, holds: bool, status: Status) -> Result<bool, PeerError>
     match status {
         Status::ToFetch => Ok(true),
         Status::UpToDate if holds => Ok(false),
-        Status::NotReady => Err(PeerError::Retry { name: copy(name)? }),
-        Status::UpToDate | Status::Unknown => Err(PeerError::Uncovered { name: copy(name)? }),
+        Status::NotReady => Err(PeerError::Retry { name: name.copy()? }),
+        Status::UpToDate | Status::Unknown => Err(PeerError::Uncovered { name: name.copy()? }),
     }
-}
-
-fn copy(name: &Text) -> Result<Text, AllocError>
-    ensures { IfOk result (λ copy. copy ≡ name.now) }
-{
-    name.clone()
 }
 
 fn status_of(answer: &ActionAnswer, only: bool, name: &Text) -> Status

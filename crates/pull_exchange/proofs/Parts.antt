@@ -2,7 +2,7 @@
 use Rattle.std.proofs.Common.{◌≡◌, ◌∙◌, ℕ, List, ◌++◌, Option, Result, Ok, Err, OnErr, sym, ap, append_assoc}
 use Rattle.std.specs.Io.KnownBytes.{Appends}
 use Rattle.std.proofs.KnownBytes.{Appends-trans}
-use Rattle.pull_exchange.specs.Exchange.{AppendsPart}
+use Rattle.dsc_outside.specs.Streams.{AppendsPart}
 
 -- a part of the first piece is a part of both
 pub of_first : {T E : Type 0} (result : Result T E) (old new : Option (List ℕ)) (first second : List ℕ) → AppendsPart old new first → OnErr result (AppendsPart old new (first ++ second))

@@ -6,7 +6,7 @@ use Rattle.http_frames.specs.declared.frame_error.FrameError.TheVariants as fram
 use Rattle.http_frames.specs.declared.message.Request.{Request}
 use Rattle.http_frames.specs.Frames.{BeginsWithRequest, RefusesRequest}
 use Rattle.pull_exchange.specs.declared.exchange.Received.TheVariants as received
-use Rattle.pull_exchange.specs.Exchange.{IsReadCause, IsReceived, IsRefused, IsSized, told_by}
+use Rattle.pull_exchange.specs.Exchange.{IsReadCause, IsReceived, IsRefused, IsSized, received_of}
 
 -- ---- the bytes so far
 
@@ -48,7 +48,7 @@ request_received (Some all) (Some more) front request read begins =
 refused_in : (all front more : List ℕ) (e : FrameError) → all ≡ front ++ more → RefusesRequest front e → IsRefused all e
 refused_in all front more e split refuses = (front, more, split, refuses)
 
-received_in : (all front more : List ℕ) (e : FrameError) → (e ≢ frames.Memory → all ≡ front ++ more) → (e ≢ frames.Memory → RefusesRequest front e) → IsReceived all (told_by e)
+received_in : (all front more : List ℕ) (e : FrameError) → (e ≢ frames.Memory → all ≡ front ++ more) → (e ≢ frames.Memory → RefusesRequest front e) → IsReceived all (received_of e)
 received_in all front more frames.Memory split refuses = tt
 received_in all front more frames.Head split refuses = let other : frames.Head ≢ frames.Memory = λ is. cc is in refused_in all front more frames.Head (split other) (refuses other)
 received_in all front more frames.HeadTooLong split refuses = let other : frames.HeadTooLong ≢ frames.Memory = λ is. cc is in refused_in all front more frames.HeadTooLong (split other) (refuses other)
@@ -59,7 +59,7 @@ received_in all front more frames.BodyTooLong split refuses = let other : frames
 received_in all front more (frames.Chunk at) split refuses = let other : frames.Chunk at ≢ frames.Memory = λ is. cc is in refused_in all front more (frames.Chunk at) (split other) (refuses other)
 received_in all front more (frames.Torn at) split refuses = let other : frames.Torn at ≢ frames.Memory = λ is. cc is in refused_in all front more (frames.Torn at) (split other) (refuses other)
 
-no_rest : (all front : List ℕ) (e : FrameError) → (e ≢ frames.Memory → ⊥) → IsReceived all (told_by e)
+no_rest : (all front : List ℕ) (e : FrameError) → (e ≢ frames.Memory → ⊥) → IsReceived all (received_of e)
 no_rest all front frames.Memory never = tt
 no_rest all front frames.Head never = absurd (never (λ is. cc is))
 no_rest all front frames.HeadTooLong never = absurd (never (λ is. cc is))
@@ -71,12 +71,12 @@ no_rest all front (frames.Chunk at) never = absurd (never (λ is. cc is))
 no_rest all front (frames.Torn at) never = absurd (never (λ is. cc is))
 
 pub error_received : (old new : Option (List ℕ)) (front : List ℕ) (e : FrameError) → (e ≢ frames.Memory → Consumes old new front) → (e ≢ frames.Memory → RefusesRequest front e)
-    → IfSome old (λ all. IsReceived all (told_by e))
+    → IfSome old (λ all. IsReceived all (received_of e))
 error_received None new front e read refuses = tt
 error_received (Some all) None front e read refuses = no_rest all front e read
 error_received (Some all) (Some more) front e read refuses = received_in all front more e read refuses
 
-pub error_sized : (e : FrameError) → ((at : ℕ) → e ≢ frames.Torn at) → IsSized (told_by e)
+pub error_sized : (e : FrameError) → ((at : ℕ) → e ≢ frames.Torn at) → IsSized (received_of e)
 error_sized frames.Memory whole = tt
 error_sized frames.Head whole = tt
 error_sized frames.HeadTooLong whole = tt
@@ -87,7 +87,7 @@ error_sized frames.BodyTooLong whole = tt
 error_sized (frames.Chunk at) whole = tt
 error_sized (frames.Torn at) whole = absurd (whole at refl)
 
-pub error_cause : (before now : ℕ) (e : FrameError) → IsReadCause before now (told_by e)
+pub error_cause : (before now : ℕ) (e : FrameError) → IsReadCause before now (received_of e)
 error_cause before now frames.Memory = tt
 error_cause before now frames.Head = tt
 error_cause before now frames.HeadTooLong = tt

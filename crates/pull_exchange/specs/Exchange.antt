@@ -3,6 +3,7 @@ use Rattle.std.specs.Prelude.{◌≡◌, ◌≢◌, ◌⊎◌, ◌≤◌, ℕ, L
 use Rattle.std.specs.Fmt.{decimal}
 use Rattle.std.specs.Io.KnownBytes.{Appends}
 use Rattle.dsc_terms.specs.Counts.{Rose}
+use Rattle.dsc_outside.specs.Streams.{AppendsPart}
 use Rattle.http_frames.specs.declared.frame_error.FrameError.{FrameError}
 use Rattle.http_frames.specs.declared.frame_error.FrameError.TheVariants as frames
 use Rattle.http_frames.specs.declared.message.Reply.{Reply}
@@ -55,9 +56,9 @@ IsReceived bytes received.ReadFault = ⊤
 IsReceived bytes received.Memory = ⊤
 
 -- what is received where the reader answers an error
-abbrev pub told_by : FrameError → Received
-told_by frames.Memory = received.Memory
-told_by e = received.Refused e
+abbrev pub received_of : FrameError → Received
+received_of frames.Memory = received.Memory
+received_of e = received.Refused e
 
 -- what is received whatever the connection exposes
 abbrev pub IsSized : Received → Type 0
@@ -75,10 +76,6 @@ IsReadCause before now received.ReadFault = Rose before now
 IsReadCause before now received.Memory = ⊤
 
 -- ---- one reply
-
--- it grew by a part from the front of the bytes
-abbrev pub AppendsPart : Option (List ℕ) → Option (List ℕ) → List ℕ → Type 0
-AppendsPart old new bytes = (part : List ℕ) × (rest : List ℕ) × (bytes ≡ part ++ rest) × Appends old new part
 
 -- the whole text was written, or the sink failed and a part from its front was
 abbrev pub Writes : Option (List ℕ) → Option (List ℕ) → List ℕ → ℕ → ℕ → Type 0

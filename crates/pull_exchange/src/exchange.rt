@@ -1,12 +1,12 @@
-//! One request of a connection, and one reply.
+//! Reading of one request from a connection, and writing of one reply.
 ghost use Rattle.std.specs.Prelude.{◌≡◌, ◌≤◌, ◌++◌, IfOk, IfSome, codes};
 ghost use Rattle.std.specs.Fmt.{decimal};
 ghost use Rattle.http_frames.specs.Replies.{saying};
 ghost use Rattle.http_frames.specs.Writing.{answer_text};
-ghost use Rattle.pull_exchange.specs.Exchange.{IsReadCause, IsReceived, IsRefusal, IsSent, IsSized, refusal_of, told_by};
+ghost use Rattle.pull_exchange.specs.Exchange.{IsReadCause, IsReceived, IsRefusal, IsSent, IsSized, refusal_of, received_of};
 
-use crate::streams::{write_all, write_both};
-use dsc_outside::{Failed, Sink, Source};
+use crate::streams::write_both;
+use dsc_outside::{Failed, Sink, Source, write_all};
 use http_frames::{FrameError, Reply, Request, RequestReader, write_answer, write_answer_head};
 use mof_values::Memory;
 use std::alloc::Global;
@@ -19,7 +19,7 @@ pub enum Received {
     /// The bytes are no request.
     Refused(FrameError),
 
-    /// The connection ended after so many bytes, inside a request.
+    /// The connection ended after `at` bytes, inside a request.
     Torn { at: u64 },
 
     ReadFault,
@@ -58,25 +58,18 @@ pub fn receive<X: Source>(alloc: Global, conn: &mut X) -> Received
         match reader.feed(&buffer[..count]) {
             Ok(Some(request)) => return Received::Request(request),
             Ok(None) => length += count as u64,
-            Err(error) => return told_by(error),
+            Err(error) => return received_of(error),
         }
     }
 }
 
 // Out of memory, the reader has not judged the bytes.
-fn told_by(error: FrameError) -> Received
-    ensures { result ≡ told_by error }
+fn received_of(error: FrameError) -> Received
+    ensures { result ≡ received_of error }
 {
     match error {
         FrameError::Memory => Received::Memory,
-        FrameError::Head => Received::Refused(error),
-        FrameError::HeadTooLong => Received::Refused(error),
-        FrameError::Coding => Received::Refused(error),
-        FrameError::Length => Received::Refused(error),
-        FrameError::NoLength => Received::Refused(error),
-        FrameError::BodyTooLong => Received::Refused(error),
-        FrameError::Chunk { at } => Received::Refused(FrameError::Chunk { at }),
-        FrameError::Torn { at } => Received::Refused(FrameError::Torn { at }),
+        other => Received::Refused(other),
     }
 }
 
@@ -106,15 +99,17 @@ fn bad_chunk(alloc: Global, at: u64) -> Result<Reply, Memory>
 
 /// Writes a reply. A body of more than 64 KiB is written from where it lies, after the head.
 pub fn send_reply<X: Sink>(alloc: Global, conn: &mut X, reply: &Reply) -> SendEnd
-    ensures sent { IsSent (X.held conn.old) (X.held conn.new) (answer_text reply.now) (X.faults conn.old) (X.faults conn.new) result }
+    ensures sent { IsSent (X.held conn.old) (X.held conn.new) (answer_text reply.now)
+        (X.faults conn.old) (X.faults conn.new) result }
     ensures left { X.left conn.new ≡ X.left conn.old }
     ensures count { X.faults conn.old ≤ X.faults conn.new }
 {
     if reply.body.as_slice().len() <= LONGEST_COPY {
         return send_copy(alloc, conn, reply);
     }
-    let Ok(head) = write_answer_head(alloc, reply) else {
-        return SendEnd::Memory;
+    let head = match write_answer_head(alloc, reply) {
+        Ok(head) => head,
+        Err(Memory) => return SendEnd::Memory,
     };
     match write_both(conn, &head, reply.body.as_slice()) {
         Ok(()) => SendEnd::Sent,
@@ -126,12 +121,14 @@ pub fn send_reply<X: Sink>(alloc: Global, conn: &mut X, reply: &Reply) -> SendEn
 const LONGEST_COPY: usize = 65_536;
 
 fn send_copy<X: Sink>(alloc: Global, conn: &mut X, reply: &Reply) -> SendEnd
-    ensures sent { IsSent (X.held conn.old) (X.held conn.new) (answer_text reply.now) (X.faults conn.old) (X.faults conn.new) result }
+    ensures sent { IsSent (X.held conn.old) (X.held conn.new) (answer_text reply.now)
+        (X.faults conn.old) (X.faults conn.new) result }
     ensures left { X.left conn.new ≡ X.left conn.old }
     ensures count { X.faults conn.old ≤ X.faults conn.new }
 {
-    let Ok(text) = write_answer(alloc, reply) else {
-        return SendEnd::Memory;
+    let text = match write_answer(alloc, reply) {
+        Ok(text) => text,
+        Err(Memory) => return SendEnd::Memory,
     };
     match write_all(conn, &text) {
         Ok(()) => SendEnd::Sent,

@@ -9,4 +9,3 @@ mod exchange;
 mod streams;
 
 pub use exchange::{Received, SendEnd, receive, refusal, send_reply};
-pub use streams::write_all;

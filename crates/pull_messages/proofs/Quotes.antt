@@ -4,6 +4,7 @@ use Rattle.std.proofs.lemmas.Bool.{eqb-true}
 use Rattle.std.specs.Prelude.{encode_utf8, encode_utf8_all}
 use Rattle.std.specs.Str.{all_scalars}
 use Rattle.std.proofs.lemmas.Str.{encodes-append, length-le-encodes, encode_ascii}
+use Rattle.mof_values.specs.declared.limits.TheConstants.{MAX_NAME_BYTES}
 use Rattle.pull_messages.specs.Stops.{Begins, StopsAt, IsAnyQuoted, IsEnd, IsValueChar}
 use Rattle.pull_messages.specs.Targets.{doubled, IsValue, IsQuoted}
 use Rattle.pull_messages.proofs.Languages.{fronts, PrefixFree}
@@ -142,7 +143,7 @@ same_value end is (c ∷ t) (d ∷ value) r s e =
       ]
     ]
 
-no_room : (t s : List ℕ) (d room : ℕ) → IsValue (t ++ d ∷ s) → length (encode_utf8_all t) + room ≡ 255 → length (encode_utf8 d) ≤ room
+no_room : (t s : List ℕ) (d room : ℕ) → IsValue (t ++ d ∷ s) → length (encode_utf8_all t) + room ≡ MAX_NAME_BYTES → length (encode_utf8 d) ≤ room
 no_room t s d room fits used =
     omega (
       arith,
@@ -153,7 +154,7 @@ no_room t s d room fits used =
       length-append (encode_utf8 d) (encode_utf8_all s),
     )
 
-value_of : (t : List ℕ) → 1 ≤ length t → length (encode_utf8_all t) ≤ 255 → IsValue t
+value_of : (t : List ℕ) → 1 ≤ length t → length (encode_utf8_all t) ≤ MAX_NAME_BYTES → IsValue t
 value_of t some few = (omega (arith, length-le-encodes t, some), few)
 
 letter_value : IsValue (97 ∷ [])
@@ -223,13 +224,13 @@ no_open end is chars none =
         let head : c ≡ 39 = cc whole in
         absurd (none (more ++ behind) (split ∙ ap (λ (x : ℕ). x ∷ (more ++ behind)) head))
 
-begins_open : (end : ℕ) → IsEnd end → (t : List ℕ) → length (encode_utf8_all t) ≤ 255 → Begins (IsAnyQuoted end) (39 ∷ (doubled t ++ []))
+begins_open : (end : ℕ) → IsEnd end → (t : List ℕ) → length (encode_utf8_all t) ≤ MAX_NAME_BYTES → Begins (IsAnyQuoted end) (39 ∷ (doubled t ++ []))
 begins_open end is [] few = (97 ∷ closing end, rw (closing_scalars end is) refl, (97 ∷ [], (letter_value, refl)))
 begins_open end is (c ∷ t) few =
     (closing end, closing_scalars end is, (c ∷ t, (value_of (c ∷ t) (omega arith) few, ap (λ (l : List ℕ). (39 ∷ l) ++ closing end) (append-nil (doubled (c ∷ t))))))
 
 -- the value does not go on, and no quote closes it
-pub no_close : (end : ℕ) → IsEnd end → (chars t left : List ℕ) (room : ℕ) → chars ≡ (39 ∷ doubled t) ++ left → length (encode_utf8_all t) + room ≡ 255
+pub no_close : (end : ℕ) → IsEnd end → (chars t left : List ℕ) (room : ℕ) → chars ≡ (39 ∷ doubled t) ++ left → length (encode_utf8_all t) + room ≡ MAX_NAME_BYTES
     → ((c : ℕ) (rest : List ℕ) → IsValueChar left room c rest → ⊥) → ((rest : List ℕ) → left ≡ 39 ∷ rest → ⊥) → StopsAt (IsAnyQuoted end) chars (length left)
 no_close end is chars t left room split used no_char no_quote =
     quoted_stops end is chars t [] left (split ∙ ap (λ (l : List ℕ). (39 ∷ l) ++ left) (sym (append-nil (doubled t)))) (omega arith)
@@ -250,7 +251,7 @@ no_close end is chars t left room split used no_char no_quote =
               no_char d (u ++ behind) (front ∙ ap (λ (x : ℕ). x ∷ (u ++ behind)) head ∙ ap (λ (l : List ℕ). l ++ (u ++ behind)) (sym plain), no_room t s d room fits used)
         ]
 
-begins_closed : (end : ℕ) → IsEnd end → (t : List ℕ) → length (encode_utf8_all t) ≤ 255 → Begins (IsAnyQuoted end) (39 ∷ (doubled t ++ 39 ∷ []))
+begins_closed : (end : ℕ) → IsEnd end → (t : List ℕ) → length (encode_utf8_all t) ≤ MAX_NAME_BYTES → Begins (IsAnyQuoted end) (39 ∷ (doubled t ++ 39 ∷ []))
 begins_closed end is [] few = (39 ∷ closing end, rw (closing_scalars end is) refl, (39 ∷ [], (quote_value, refl)))
 begins_closed end is (c ∷ t) few = (
   end ∷ [],
@@ -265,7 +266,7 @@ begins_closed end is (c ∷ t) few = (
 )
 
 -- a quote closes the value, and what stands after it is wrong, or the value is empty
-pub no_end : (end : ℕ) → IsEnd end → (chars t left rest : List ℕ) (room : ℕ) → chars ≡ (39 ∷ doubled t) ++ left → length (encode_utf8_all t) + room ≡ 255
+pub no_end : (end : ℕ) → IsEnd end → (chars t left rest : List ℕ) (room : ℕ) → chars ≡ (39 ∷ doubled t) ++ left → length (encode_utf8_all t) + room ≡ MAX_NAME_BYTES
     → ((c : ℕ) (rest : List ℕ) → IsValueChar left room c rest → ⊥) → left ≡ 39 ∷ rest
     → ((behind : List ℕ) → IsValue t → rest ≡ end ∷ behind → ⊥) → StopsAt (IsAnyQuoted end) chars (length rest)
 no_end end is chars t left rest room split used no_char closes wrong =
@@ -304,13 +305,13 @@ value_more chars t left rest c split is =
     split ∙ ap (λ (l : List ℕ). (39 ∷ doubled t) ++ l) is ∙ ap (λ (l : List ℕ). 39 ∷ l) (sym (append_assoc (doubled t) (doubled (c ∷ [])) rest))
     ∙ ap (λ (l : List ℕ). 39 ∷ (l ++ rest)) (sym (doubled-append t (c ∷ [])))
 
-pub room_more : (t : List ℕ) (c room size : ℕ) → length (encode_utf8_all t) + room ≡ 255 → length (encode_utf8 c) ≤ room → size ≡ length (encode_utf8 c)
-    → length (encode_utf8_all (t ++ c ∷ [])) + (room - size) ≡ 255
+pub room_more : (t : List ℕ) (c room size : ℕ) → length (encode_utf8_all t) + room ≡ MAX_NAME_BYTES → length (encode_utf8 c) ≤ room → size ≡ length (encode_utf8 c)
+    → length (encode_utf8_all (t ++ c ∷ [])) + (room - size) ≡ MAX_NAME_BYTES
 room_more t c room size used fits is =
     omega (arith, used, fits, is, ap length (encodes-append t (c ∷ [])), length-append (encode_utf8_all t) (encode_utf8_all (c ∷ [])), length-append (encode_utf8 c) [])
 
 pub quoted_taken : (chars t left rest after : List ℕ) (end room : ℕ) → chars ≡ (39 ∷ doubled t) ++ left → left ≡ 39 ∷ rest → rest ≡ end ∷ after
-    → length (encode_utf8_all t) + room ≡ 255 → 1 ≤ length t → (front : List ℕ) × (chars ≡ front ++ after) × IsQuoted t end front
+    → length (encode_utf8_all t) + room ≡ MAX_NAME_BYTES → 1 ≤ length t → (front : List ℕ) × (chars ≡ front ++ after) × IsQuoted t end front
 quoted_taken chars t left rest after end room split closes ends used some = (
   39 ∷ (doubled t ++ closing end),
   split ∙ ap (λ (l : List ℕ). (39 ∷ doubled t) ++ l) (closes ∙ ap (λ (l : List ℕ). 39 ∷ l) ends)

@@ -3,6 +3,7 @@ use Rattle.std.proofs.Common.{◌≡◌, ◌≤◌, ℕ, suc, List, [], ◌∷�
 use Rattle.std.specs.Str.{encode_utf8_all}
 use Rattle.std.specs.List.{zip, AllByRecursion}
 use Rattle.std.proofs.lemmas.Bool.{le-leb}
+use Rattle.mof_values.specs.declared.limits.TheConstants.{MAX_NAME_BYTES}
 use Rattle.serde_json.specs.Data.{Data}
 use Rattle.serde_json.specs.Events.{items_len}
 use Rattle.serde_json.specs.View.{items_of}
@@ -95,7 +96,7 @@ within_short name text same short = rw (same, le-leb (length (encode_utf8_all te
 within_name : (name : Field) (text : List ℕ) → recoded text ≡ text → IsName text → within limit.Name name (recoded text) ≡ Ok text
 unfolding within
 within_name name text same fits =
-    rw (same, le-leb 1 (length (encode_utf8_all text)) fits.0, le-leb (length (encode_utf8_all text)) 255 fits.1) refl
+    rw (same, le-leb 1 (length (encode_utf8_all text)) fits.0, le-leb (length (encode_utf8_all text)) MAX_NAME_BYTES fits.1) refl
 
 names_back : (name : Field) (texts : List (List ℕ)) → map recoded texts ≡ texts → AllByRecursion IsName texts
     → each (a_text limit.Name name) (items_of (map text_data texts)) ≡ Ok texts

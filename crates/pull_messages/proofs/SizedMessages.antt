@@ -5,6 +5,7 @@ use Rattle.std.specs.Option.{option_map_or}
 use Rattle.std.specs.Str.{encode_utf8_all}
 use Rattle.std.specs.List.{zip, AllByRecursion}
 use Rattle.std.proofs.lemmas.Bool.{leb-true}
+use Rattle.mof_values.specs.declared.limits.TheConstants.{MAX_NAME_BYTES}
 use Rattle.serde_json.specs.Data.{Data, Items, no_items, item}
 use Rattle.serde_json.specs.Events.{items_len}
 use Rattle.pull_messages.specs.declared.error.MessageError.{MessageError}
@@ -63,7 +64,7 @@ both_true false b is = cc is
 name_ok : (name : Field) (value : Data) (y : List ℕ) → a_text limit.Name name value ≡ Ok y → IsName y
 name_ok name value y is =
     let both = both_true _ _ (text_ok limit.Name name value y is) in
-    (leb-true 1 (length (encode_utf8_all y)) both.0, leb-true (length (encode_utf8_all y)) 255 both.1)
+    (leb-true 1 (length (encode_utf8_all y)) both.0, leb-true (length (encode_utf8_all y)) MAX_NAME_BYTES both.1)
 
 each_ok : {A : Type 0} (P : A → Type 0) (read : Data → Result A MessageError) → ((value : Data) (x : A) → read value ≡ Ok x → P x)
     → (values : Items) (xs : List A) → each read values ≡ Ok xs → AllByRecursion P xs × (length xs ≡ items_len values)

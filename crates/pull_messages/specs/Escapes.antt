@@ -1,14 +1,12 @@
 -- Percent-encoding (RFC 3986, section 2.1).
-use Rattle.std.specs.Prelude.{◌≡◌, ◌≢◌, ◌⊎◌, ◌<◌, ◌≤◌, ℕ, ◌+◌, ◌*◌, List, [], ◌∷◌, ◌++◌, length, true, Option, Some, None, nat_le, ◌&&◌, ◌-◌, if◌then◌else◌}
+use Rattle.std.specs.Prelude.{◌≡◌, ◌≢◌, ◌⊎◌, ◌<◌, ◌≤◌, ℕ, ◌+◌, ◌*◌, List, [], ◌∷◌, ◌++◌, length, true, Option, Some, None, nat_lt, if◌then◌else◌}
+use Rattle.std.specs.Char.{digit_value}
 use Rattle.std.specs.Str.{all_scalars, encode_utf8_all}
 use Rattle.pull_messages.specs.Spelling.{Spells}
 
 -- the value of a hexadecimal digit, in either case
 abbrev pub digit_of : ℕ → Option ℕ
-digit_of c = if nat_le 48 c && nat_le c 57 then Some (c - 48)
-    else if nat_le 65 c && nat_le c 70 then Some (c - 55)
-    else if nat_le 97 c && nat_le c 102 then Some (c - 87)
-    else None
+digit_of c = if nat_lt (digit_value c) 16 then Some (digit_value c) else None
 
 -- `%` and the two hexadecimal digits of the byte
 abbrev pub IsEscape : ℕ → List ℕ → Type 0

@@ -2,14 +2,15 @@
 use Rattle.std.specs.Prelude.{ℕ, ◌+◌, ◌≤◌, List, length, sum_by, encode_utf8_all}
 use Rattle.std.specs.List.{AllByRecursion}
 use Rattle.pull_messages.specs.declared.registration.Registration.{Registration}
-use Rattle.pull_messages.specs.Limits.{list_items, name_bytes, text_bytes}
+use Rattle.mof_values.specs.declared.limits.TheConstants.{MAX_NAME_BYTES}
+use Rattle.pull_messages.specs.Limits.{list_items, text_bytes}
 
 -- the text has so many bytes of UTF-8 at most
 abbrev pub IsShort : List ℕ → Type 0
 IsShort text = length (encode_utf8_all text) ≤ text_bytes
 
 abbrev pub IsName : List ℕ → Type 0
-IsName text = (1 ≤ length (encode_utf8_all text)) × (length (encode_utf8_all text) ≤ name_bytes)
+IsName text = (1 ≤ length (encode_utf8_all text)) × (length (encode_utf8_all text) ≤ MAX_NAME_BYTES)
 
 -- the sizes that a registration which was read has
 pub record IsSized (x : Registration) : Type 0 where

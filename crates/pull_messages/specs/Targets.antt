@@ -6,7 +6,7 @@ use Rattle.uuid.specs.Text.{parsed_hyphenated}
 use Rattle.mof_values.specs.Fold.{SameName}
 use Rattle.pull_messages.specs.declared.target_kinds.Target.{Target}
 use Rattle.pull_messages.specs.declared.target_kinds.Target.TheVariants.{Node, Action, Content, Module, SendReport}
-use Rattle.pull_messages.specs.Limits.{name_bytes}
+use Rattle.mof_values.specs.declared.limits.TheConstants.{MAX_NAME_BYTES}
 use Rattle.pull_messages.specs.Escapes.{AreChars}
 use Rattle.pull_messages.specs.Spelling.{Spells}
 
@@ -25,9 +25,9 @@ abbrev pub doubled : List ℕ → List ℕ
 doubled [] = []
 doubled (c ∷ cs) = if c == 39 then 39 ∷ 39 ∷ doubled cs else c ∷ doubled cs
 
--- a text value has 1 to 255 bytes of UTF-8
+-- a text value has 1 to `MAX_NAME_BYTES` bytes of UTF-8
 abbrev pub IsValue : List ℕ → Type 0
-IsValue text = (1 ≤ length (encode_utf8_all text)) × (length (encode_utf8_all text) ≤ name_bytes)
+IsValue text = (1 ≤ length (encode_utf8_all text)) × (length (encode_utf8_all text) ≤ MAX_NAME_BYTES)
 
 abbrev pub IsQuoted : List ℕ → ℕ → List ℕ → Type 0
 IsQuoted text end chars = IsValue text × (chars ≡ 39 ∷ (doubled text ++ 39 ∷ end ∷ []))

@@ -18,7 +18,7 @@ pub fn unescape(alloc: Global, text: &[u8]) -> Result<Vec<u8>, AllocError>
     Ok(bytes)
 }
 
-/// The size of the front that writes so many bytes, or all where there are fewer.
+/// The size of the front that writes `count` bytes, or all where there are fewer.
 pub fn front_size(text: &[u8], count: usize) -> usize
     ensures { IsFrontOf text.now count result }
 {
@@ -55,7 +55,7 @@ fn escaped(text: &[u8]) -> Option<(u8, &[u8])>
     match text {
         [high, low, rest @ ..] => {
             match (digit(*high), digit(*low)) {
-                (Some(high), Some(low)) => Some((high * 16 + low, rest)),
+                (Some(high), Some(low)) => Some(((high * 16 + low) as u8, rest)),
                 _ => None,
             }
         }
@@ -63,14 +63,9 @@ fn escaped(text: &[u8]) -> Option<(u8, &[u8])>
     }
 }
 
-fn digit(code: u8) -> Option<u8>
+fn digit(code: u8) -> Option<u32>
     ensures value { result ≡ digit_of code }
     ensures small { IfSome result (λ d. d < 16) }
 {
-    match code {
-        b'0'..=b'9' => Some(code - b'0'),
-        b'A'..=b'F' => Some(code - b'A' + 10),
-        b'a'..=b'f' => Some(code - b'a' + 10),
-        _ => None,
-    }
+    char::from(code).to_digit(16)
 }

@@ -32,7 +32,7 @@ fn better(one: Result<Target, Stop>, other: Result<Target, Stop>) -> Result<Targ
         (Ok(target), _) => Ok(target),
         (Err(_), Ok(target)) => Ok(target),
         (Err(Stop::Left(left)), Err(Stop::Left(behind))) => Err(Stop::Left(left.min(behind))),
-        (Err(_), Err(_)) => Err(Stop::Memory),
+        (Err(Stop::Memory), Err(_)) | (Err(_), Err(Stop::Memory)) => Err(Stop::Memory),
     }
 }
 

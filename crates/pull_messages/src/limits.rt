@@ -2,13 +2,12 @@
 ghost use Rattle.std.specs.Prelude.{◌≡◌};
 ghost use Rattle.pull_messages.specs.Limits.{is_within};
 
-/// The bytes of a text that an agent says of itself.
-const TEXT_BYTES: usize = 65_535;
+use mof_values::MAX_NAME_BYTES;
 
-/// The bytes of a name, and of a text of a target.
-pub(crate) const NAME_BYTES: usize = 255;
+/// The most bytes of a text that an agent says of itself.
+pub(crate) const TEXT_BYTES: usize = 65_535;
 
-/// The names of a registration, and the clients of a query.
+/// The most names of a registration, and the most clients of a query.
 pub(crate) const LIST_ITEMS: usize = 16;
 
 /// Which texts a member may hold, by their bytes of UTF-8.
@@ -17,22 +16,22 @@ pub enum Limit {
     /// Any text.
     Free,
 
-    /// At most 65,535 bytes.
+    /// At most `TEXT_BYTES` bytes.
     Short,
 
-    /// From 1 to 255 bytes.
+    /// From 1 to `MAX_NAME_BYTES` bytes.
     Name,
 }
 
 impl Limit {
-    /// Whether a text of so many bytes is allowed.
+    /// Whether a text of `size` bytes is allowed.
     pub fn allows(self, size: usize) -> bool
         ensures { result ≡ is_within self size }
     {
         match self {
             Limit::Free => true,
             Limit::Short => size <= TEXT_BYTES,
-            Limit::Name => 1 <= size && size <= NAME_BYTES,
+            Limit::Name => 1 <= size && size <= MAX_NAME_BYTES,
         }
     }
 }

@@ -1,4 +1,4 @@
-//! Lists of values. Each reads its elements in order, up to the first that is refused.
+//! Reading of lists of values. Each reads its elements in order, up to the first that is refused.
 ghost use Rattle.std.specs.Prelude.{◌≡◌, []};
 ghost use Rattle.serde_json.specs.Data.{no_items};
 ghost use Rattle.serde_json.specs.View.{view, items_view};
@@ -28,7 +28,7 @@ pub fn optional_texts(
     }
 }
 
-/// The names of a list that may be absent: at most 16, each of 1 to 255 bytes.
+/// The names of a list that may be absent: at most `LIST_ITEMS`, each within `Limit::Name`.
 pub fn optional_names(
     alloc: Global,
     object: &Value,
@@ -45,7 +45,7 @@ pub fn optional_names(
     }
 }
 
-/// The objects of a list that must be there: at most 16.
+/// The objects of a list that must be there: at most `LIST_ITEMS`.
 pub fn required_objects<'v>(object: &'v Value, field: Field) -> Result<&'v [Value], MessageError>
     ensures { Gives (λ v. items_view v.now) result (required few_objects field (view object.now)) }
 {
@@ -54,7 +54,8 @@ pub fn required_objects<'v>(object: &'v Value, field: Field) -> Result<&'v [Valu
 
 /// The objects of a list that may be absent.
 pub fn optional_objects<'v>(object: &'v Value, field: Field) -> Result<&'v [Value], MessageError>
-    ensures { Gives (λ v. items_view v.now) result (optional objects no_items field (view object.now)) }
+    ensures { Gives (λ v. items_view v.now) result
+        (optional objects no_items field (view object.now)) }
 {
     match member(object, field) {
         Some(value) => objects_of(value, field),
@@ -126,7 +127,8 @@ pub fn each_required(
     objects: &[Value],
     field: Field,
 ) -> Result<Vec<Text>, MessageError>
-    ensures { Gives (λ v. v.items) result (each (required (a_text Limit.Free) field) (items_view objects.now)) }
+    ensures { Gives (λ v. v.items) result
+        (each (required (a_text Limit.Free) field) (items_view objects.now)) }
 {
     let mut texts = Vec::new(alloc);
     let mut left = objects;
@@ -143,7 +145,8 @@ pub fn each_optional(
     objects: &[Value],
     field: Field,
 ) -> Result<Vec<Text>, MessageError>
-    ensures { Gives (λ v. v.items) result (each (optional (a_text Limit.Free) [] field) (items_view objects.now)) }
+    ensures { Gives (λ v. v.items) result
+        (each (optional (a_text Limit.Free) [] field) (items_view objects.now)) }
 {
     let mut texts = Vec::new(alloc);
     let mut left = objects;

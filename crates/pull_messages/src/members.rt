@@ -1,5 +1,5 @@
 //! The members of an object, and what a value is.
-ghost use Rattle.std.specs.Prelude.{◌≡◌, [], if◌then◌else◌, IfOk, option_map};
+ghost use Rattle.std.specs.Prelude.{◌≡◌, [], if◌then◌else◌, option_map};
 ghost use Rattle.std.specs.Str.{chars};
 ghost use Rattle.serde_json.specs.View.{view, items_view};
 ghost use Rattle.pull_messages.specs.Members.{member_of, present, required, optional, an_object, a_string, within, a_text, an_id, id_of, is_sha256, sha256, a_list};
@@ -9,7 +9,7 @@ use crate::limits::Limit;
 use crate::{Field, MessageError};
 use mof_values::Text;
 use serde_json::Value;
-use std::alloc::{AllocError, Global};
+use std::alloc::Global;
 use uuid::Uuid;
 
 /// The member of that name, unless it is null.
@@ -68,17 +68,10 @@ fn text_within(alloc: Global, text: &str, field: Field, limit: Limit) -> Result<
     ensures { Gives (λ t. t) result (within limit field (chars text.now)) }
 {
     if limit.allows(text.len()) {
-        Ok(Text::of(characters(alloc, text)?))
+        Ok(Text::from_utf8(alloc, text)?)
     } else {
         Err(MessageError::Wrong(field))
     }
-}
-
-/// The characters of a text.
-pub fn characters(alloc: Global, text: &str) -> Result<Vec<char>, AllocError>
-    ensures { IfOk result (λ v. v.items ≡ chars text.now) }
-{
-    text.chars().collect(alloc)
 }
 
 /// A text that must be there.

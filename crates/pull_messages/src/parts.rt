@@ -8,8 +8,7 @@ ghost use Rattle.pull_messages.specs.Stops.{StopsAt, IfLeft, IsWord, IsAgent, Is
 ghost use Rattle.pull_messages.specs.declared.parts.Stop.TheVariants.{Memory as OutOfMemory};
 ghost use Rattle.pull_messages.specs.Cells.{is_cell, AreAllCells};
 
-use crate::limits::NAME_BYTES;
-use mof_values::Text;
+use mof_values::{MAX_NAME_BYTES, Text};
 use std::alloc::{AllocError, AllocFailed, Global};
 use uuid::fmt::Hyphenated;
 
@@ -155,7 +154,7 @@ pub fn quoted(alloc: Global, chars: &[char], end: char) -> Result<(Text, &[char]
         return Err(Stop::Left(chars.len()))
     };
     let mut text = Vec::new(alloc);
-    let mut room = NAME_BYTES;
+    let mut room = MAX_NAME_BYTES;
     while let Some((c, rest)) = value_char(left, room) {
         text.push(c)?;
         room -= c.len_utf8();
@@ -173,7 +172,7 @@ pub fn quoted(alloc: Global, chars: &[char], end: char) -> Result<(Text, &[char]
     }
 }
 
-// The first character of a value, of so many bytes at most: a quote stands there twice.
+// The first character of a value, of at most `room` bytes: a quote stands there twice.
 fn value_char(chars: &[char], room: usize) -> Option<(char, &[char])>
     ensures some { IfSome result (λ x. IsValueChar chars.now room x.0 x.1.now) }
     ensures none { IfNone result ((c : ℕ) (rest : List ℕ) → IsValueChar chars.now room c rest → ⊥) }

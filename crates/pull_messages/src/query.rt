@@ -66,7 +66,8 @@ fn clients(alloc: Global, checksums: Vec<Text>, names: Vec<Text>) -> Result<Vec<
 /// Writes a query as compact JSON, its members in byte order.
 pub fn write_query(alloc: Global, x: &ActionQuery) -> Result<Vec<u8>, Memory>
     ensures text { IfOk result (λ body. body.items ≡ query_text x.now) }
-    ensures reads_back { IfOk result (λ body. length x.now.clients ≤ list_items → Says query_of body.items (Ok x.now)) }
+    ensures reads_back { IfOk result (λ body. length x.now.clients ≤ list_items
+        → Says query_of body.items (Ok x.now)) }
 {
     Ok(query_value(alloc, x)?.to_vec(alloc)?)
 }

@@ -60,7 +60,8 @@ fn registration_in(alloc: Global, body: &Value) -> Result<Registration, MessageE
 /// Writes a registration as compact JSON, its members in byte order.
 pub fn write_registration(alloc: Global, x: &Registration) -> Result<Vec<u8>, Memory>
     ensures text { IfOk result (λ body. body.items ≡ registration_text x.now) }
-    ensures reads_back { IfOk result (λ body. IsSized x.now → Says registration_of body.items (Ok x.now)) }
+    ensures reads_back { IfOk result (λ body. IsSized x.now
+        → Says registration_of body.items (Ok x.now)) }
 {
     Ok(registration_value(alloc, x)?.to_vec(alloc)?)
 }

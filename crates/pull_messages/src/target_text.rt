@@ -1,4 +1,4 @@
-//! Targets as they are written.
+//! Writing of targets.
 ghost use Rattle.std.specs.Prelude.{◌≡◌, ◌<◌, ◌++◌, ◌∷◌, [], All, IfOk, OnOk, encode_utf8_all, string_bytes, codes};
 ghost use Rattle.std.specs.Char.{IsScalar};
 ghost use Rattle.pull_messages.specs.Targets.{doubled, HasValues, IsTarget};
@@ -11,11 +11,11 @@ use std::alloc::{AllocError, Global};
 use uuid::Uuid;
 
 /// Writes a target after the prefix of a server's URL, such as `/PSDSCPullServer.svc`; after that prefix it reads
-/// back, where its texts have 1 to 255 bytes of UTF-8.
+/// back, where its texts have 1 to `MAX_NAME_BYTES` bytes of UTF-8.
 pub fn write_target(alloc: Global, prefix: &Text, target: &Target) -> Result<Vec<u8>, Memory>
     ensures text { IfOk result (λ text. text.items ≡ target_text prefix.now target.now) }
-    ensures reads_back { IfOk result (λ text. prefix.now ≡ codes "/PSDSCPullServer.svc" → HasValues target.now
-        → IsTarget text.items target.now) }
+    ensures reads_back { IfOk result (λ text. prefix.now ≡ codes "/PSDSCPullServer.svc"
+        → HasValues target.now → IsTarget text.items target.now) }
 {
     Ok(text_of(alloc, prefix, target)?)
 }

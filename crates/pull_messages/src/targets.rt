@@ -1,4 +1,4 @@
-//! Targets of requests.
+//! Reading of the target of a request.
 ghost use Rattle.std.specs.Prelude.{◌≡◌, ◌<◌, ◌^◌, IfOk, length, encode_utf8_all};
 ghost use Rattle.pull_messages.specs.Targets.{IsTarget, IsLongestFront};
 ghost use Rattle.pull_messages.specs.BadTargets.{IfBad};
@@ -7,15 +7,15 @@ ghost use Rattle.pull_messages.specs.declared.target_kinds.Target.{Target as Tar
 
 use crate::escapes::{front_size, unescape};
 use crate::forms::spelled_target;
-use crate::members::characters;
 use crate::parts::Stop;
 use crate::target_error::TargetError;
 use crate::target_kinds::Target;
+use mof_values::Text;
 use std::alloc::{AllocError, Global};
 use std::str;
 
 /// Reads a target: escapes are decoded, names compare by fold, and text values stand in quotes, each quote in them
-/// doubled, with 1 to 255 bytes of UTF-8.
+/// doubled, with 1 to `MAX_NAME_BYTES` bytes of UTF-8.
 pub fn target(alloc: Global, text: &[u8]) -> Result<Target, TargetError>
     ensures ok { IfOk result (IsTarget text.now) }
     ensures only { IfOk result (λ found. (t : TargetValue) → IsTarget text.now t → t ≡ found) }
@@ -43,14 +43,14 @@ pub fn target(alloc: Global, text: &[u8]) -> Result<Target, TargetError>
 }
 
 // The characters of the longest front that is UTF-8.
-fn decoded(alloc: Global, bytes: &[u8]) -> Result<Vec<char>, AllocError>
-    ensures { IfOk result (λ v. IsDecoded bytes.now v.items) }
+fn decoded(alloc: Global, bytes: &[u8]) -> Result<Text, AllocError>
+    ensures { IfOk result (λ text. IsDecoded bytes.now text) }
 {
     match str::from_utf8(bytes) {
-        Ok(text) => characters(alloc, text),
+        Ok(text) => Text::from_utf8(alloc, text),
         Err(error) => {
             match str::from_utf8(&bytes[..error.valid_up_to()]) {
-                Ok(text) => characters(alloc, text),
+                Ok(text) => Text::from_utf8(alloc, text),
                 Err(_) => unreachable!(),
             }
         }

@@ -1,23 +1,27 @@
 -- A shelf and a door in memory.
-use Rattle.std.specs.Prelude.{◌≡◌, ◌⊎◌, ℕ, Bool, true, false, nat_lt, List, [], ◌∷◌, length, Option, Some, None, is_some, Result, Ok, Err, if◌then◌else◌}
+use Rattle.std.specs.Prelude.{◌≡◌, ◌⊎◌, ℕ, Bool, true, false, not, nat_lt, List, [], ◌∷◌, length, map, Option, Some, None, is_some, Result, Ok, Err, if◌then◌else◌}
 use Rattle.pull_outside.specs.declared.shelf.ShelfError.{ShelfError}
 use Rattle.pull_outside.specs.declared.shelf.ShelfError.TheVariants as errors
 use Rattle.pull_outside.specs.declared.shelf.TheConstants.{LONGEST_ITEM}
 use Rattle.pull_outside.specs.declared.memory.conn.ClosedConn.{ClosedConn}
 use Rattle.pull_outside.specs.declared.memory.contents.ShelfContents.{ShelfContents}
-use Rattle.pull_outside.specs.Calls.{CallCount, counted, is_to_fail, with_fault}
+use Rattle.pull_outside.specs.Calls.{CallCount, counted, is_to_fail, uncalled, with_fault}
 use Rattle.pull_outside.specs.Conn.{ConnInMemory}
 use Rattle.pull_outside.specs.Door.{HandedBack, Known}
 use Rattle.pull_outside.specs.Shelf.{Contents}
 
 -- ---- shelves
 
-abbrev pub told_by : ShelfContents → Contents
-told_by contents = record { configurations = contents.configurations; packages = contents.packages; keys = contents.keys }
+abbrev pub contents_of : ShelfContents → Contents
+contents_of contents = record { configurations = contents.configurations; packages = contents.packages; keys = contents.keys }
 
 pub record ShelfInMemory : Type 0 where
   pub contents : Contents
   pub calls : CallCount
+
+-- a shelf before its first call
+abbrev pub new_shelf : ShelfContents → List ℕ → ShelfInMemory
+new_shelf contents failing = record { contents = contents_of contents; calls = uncalled failing }
 
 -- an item that is too long is a failure
 abbrev pub is_too_long : Option (List ℕ) → Bool
@@ -42,11 +46,23 @@ pub record DoorInMemory : Type 0 where
   pub out : ℕ
   pub calls : CallCount
 
+-- a door before its first call
+abbrev pub new_door : List ConnInMemory → List ℕ → DoorInMemory
+new_door coming failing = record { coming = coming; back = []; out = 0; calls = uncalled failing }
+
 abbrev pub known : ConnInMemory → Known
 known conn = record { left = Some conn.left; held = Some conn.held; faults = conn.calls.faults }
 
 abbrev pub handed_back : ClosedConn → HandedBack
 handed_back closed = record { known = known closed.conn; parting = closed.parting }
+
+-- what a door in memory shows of the connections that are to come
+abbrev pub coming_of : DoorInMemory → Option (List Known)
+coming_of door = Some (map known door.coming)
+
+-- what it shows of those that were handed back
+abbrev pub back_of : DoorInMemory → Option (List HandedBack)
+back_of door = Some (map handed_back door.back)
 
 abbrev pub is_empty : List ConnInMemory → Bool
 is_empty [] = true
@@ -55,3 +71,7 @@ is_empty (conn ∷ conns) = false
 -- after the next call, which failed where it was to fail, or where no connection was left
 abbrev pub counted_with : Bool → CallCount → CallCount
 counted_with has calls = if is_to_fail calls then counted calls else if has then counted calls else with_fault (counted calls)
+
+-- the same of a door
+abbrev pub counted_next : DoorInMemory → CallCount
+counted_next door = counted_with (not (is_empty door.coming)) door.calls

@@ -1,5 +1,5 @@
 -- What a shelf holds, and what a look for an item answers.
-use Rattle.std.specs.Prelude.{◌≡◌, ℕ, ◌+◌, ◌≤◌, Bool, true, false, ◌&&◌, if◌then◌else◌, List, [], ◌∷◌, ◌++◌, length, bytes_eq, slice_get, Option, Some, None, Result, Ok, Err, ⊤}
+use Rattle.std.specs.Prelude.{◌≡◌, ℕ, ◌+◌, ◌≤◌, Bool, true, false, ◌&&◌, if◌then◌else◌, List, [], ◌∷◌, ◌++◌, length, bytes_eq, slice_get, Option, Some, None, option_map, Result, Ok, Err, ⊤}
 use Rattle.std.specs.Io.{StartsWith}
 use Rattle.dsc_outside.specs.declared.entries.Package.{Package}
 use Rattle.pull_outside.specs.declared.shelf.ShelfError.{ShelfError}
@@ -42,6 +42,18 @@ abbrev pub Finds : Option (Option (List ℕ)) → Result Bool ShelfError → Lis
 Finds None result old new = ⊤
 Finds (Some item) (Ok there) old new = Gives item there old new
 Finds (Some item) (Err error) old new = ⊤
+
+-- a look for the configuration of that name
+abbrev pub FindsConfiguration : List ℕ → Option Contents → Result Bool ShelfError → List ℕ → List ℕ → Type 0
+FindsConfiguration name shelf = Finds (option_map (configuration_of name) shelf)
+
+-- a look for the package of that name and version
+abbrev pub FindsPackage : List ℕ → List ℕ → Option Contents → Result Bool ShelfError → List ℕ → List ℕ → Type 0
+FindsPackage name version shelf = Finds (option_map (package_of name version) shelf)
+
+-- a look for the key of that index
+abbrev pub FindsKey : ℕ → Option Contents → Result Bool ShelfError → List ℕ → List ℕ → Type 0
+FindsKey index shelf = Finds (option_map (key_of index) shelf)
 
 -- the buffer after a look: as it was, with the item after it where there is one
 abbrev pub Leaves : Result Bool ShelfError → List ℕ → List ℕ → Type 0

@@ -6,7 +6,7 @@
 //! A layer above is generic over the traits, and so cannot know which of the two it was given.
 //!
 //! `MemoryShelf`, `MemoryConn` and `MemoryDoor` fail in the calls that they were set to fail in, and in no other but where an
-//! item is too long, no connection is left, or there is no memory for what they keep.
+//! item is too long, no connection is left, or they run out of memory for what they keep.
 #![tactic(auto)]
 
 mod door;

@@ -1,14 +1,14 @@
-//! Shelves of what a server hands out.
-ghost use Rattle.std.specs.Prelude.{◌≡◌, ℕ, Option, option_map};
+//! A shelf of what a server hands out.
+ghost use Rattle.std.specs.Prelude.{◌≡◌, ℕ, Option};
 ghost use Rattle.sha2.specs.Sha256.{sha256};
 ghost use Rattle.dsc_outside.specs.Causes.{HasCauseOf};
-ghost use Rattle.pull_outside.specs.Shelf.{Contents, Finds, Leaves, configuration_of, key_of, package_of};
+ghost use Rattle.pull_outside.specs.Shelf.{Contents, FindsConfiguration, FindsKey, FindsPackage, Leaves};
 ghost use Rattle.pull_outside.specs.declared.shelf.ShelfError.TheVariants.{Memory};
 
 use std::alloc::{AllocError, AllocFailed};
 use std::fmt;
 
-/// The bytes of an item of a shelf; a longer one counts as a failure.
+/// The most bytes of an item of a shelf; a longer one counts as a failure.
 pub const LONGEST_ITEM: usize = 62_914_560;
 
 /// Why a shelf did not say whether an item is there.
@@ -46,7 +46,7 @@ impl fmt::Display for ShelfError {
 /// What an administrator puts out for agents: configurations by name, packages of modules by name and version, and keys in order.
 ///
 /// A look for an item answers whether it is there, and then appends it. Where it is not there, or the call failed, the buffer
-/// stays as it was. An item has at most 62,914,560 bytes; one that is longer counts as a failure.
+/// stays as it was. An item has at most `LONGEST_ITEM` bytes; one that is longer counts as a failure.
 pub trait Shelf {
     /// What stands on the shelf, where it is exposed.
     ghost holds: { Self → Option Contents };
@@ -56,21 +56,23 @@ pub trait Shelf {
 
     /// Looks for the configuration of that name.
     fn configuration(&mut self, name: &str, into: &mut Vec<u8>) -> Result<bool, ShelfError>
-        ensures finds { Finds (option_map (configuration_of name.now) (holds self.old)) result into.old.items into.new.items }
+        ensures finds { FindsConfiguration name.now (holds self.old) result
+            into.old.items into.new.items }
         ensures leaves { Leaves result into.old.items into.new.items }
         ensures same { holds self.new ≡ holds self.old }
         ensures cause { HasCauseOf ShelfError.Failed (faults self.old) (faults self.new) result };
 
     /// Looks for the package of the module of that name and version.
     fn package(&mut self, name: &str, version: &str, into: &mut Vec<u8>) -> Result<bool, ShelfError>
-        ensures finds { Finds (option_map (package_of name.now version.now) (holds self.old)) result into.old.items into.new.items }
+        ensures finds { FindsPackage name.now version.now (holds self.old) result
+            into.old.items into.new.items }
         ensures leaves { Leaves result into.old.items into.new.items }
         ensures same { holds self.new ≡ holds self.old }
         ensures cause { HasCauseOf ShelfError.Failed (faults self.old) (faults self.new) result };
 
     /// Looks for the key of that index, counted from 0.
     fn key(&mut self, index: u32, into: &mut Vec<u8>) -> Result<bool, ShelfError>
-        ensures finds { Finds (option_map (key_of index) (holds self.old)) result into.old.items into.new.items }
+        ensures finds { FindsKey index (holds self.old) result into.old.items into.new.items }
         ensures leaves { Leaves result into.old.items into.new.items }
         ensures same { holds self.new ≡ holds self.old }
         ensures cause { HasCauseOf ShelfError.Failed (faults self.old) (faults self.new) result };

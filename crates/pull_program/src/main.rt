@@ -4,10 +4,10 @@
 //! that the arguments name, hands them to `serve` with the same arguments, and ends with the number of its status.
 #![tactic(auto)]
 
-use dsc_outside::real::{FileDisk, OutSink};
 use mof_values::Memory;
 use pull_adapters::{FolderShelf, TcpDoor};
 use pull_serving::{ServeStatus, serve};
+use real_outside::{FileDisk, OutSink, hold_standard_descriptors};
 use serve_words::{ServeWords, WordsError, serve_words};
 use std::alloc::{AllocError, Global};
 use std::env::{self, Env};
@@ -15,6 +15,9 @@ use std::io::ErrorKind;
 use std::process::ExitCode;
 
 fn main(rt: HostRuntime) -> ExitCode {
+    let Ok(_held) = hold_standard_descriptors(&rt) else {
+        return ExitCode::from(ServeStatus::WriteFault.number());
+    };
     let status = match arguments(&rt) {
         Ok(arguments) => match arguments.as_slice() {
             [_program, words @ ..] => run_server(&rt, words),
@@ -36,8 +39,9 @@ fn arguments<R: AllocGlobal + Env>(rt: &R) -> Result<Vec<String>, AllocError> {
 
 // Makes the real objects, which touch nothing before their first call, and calls `serve`.
 fn run_server(rt: &HostRuntime, words: &[String]) -> ServeStatus {
-    let Ok(places) = places_of(rt.alloc(), words) else {
-        return ServeStatus::Memory;
+    let places = match places_of(rt.alloc(), words) {
+        Ok(places) => places,
+        Err(Memory) => return ServeStatus::Memory,
     };
     let mut disk = FileDisk::new(rt, places.store);
     let mut shelf = FolderShelf::new(rt, places.shelf);

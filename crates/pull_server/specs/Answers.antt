@@ -2,6 +2,7 @@
 use Rattle.std.specs.Prelude.{◌≡◌, ◌⊎◌, ◌≤◌, ◌==◌, ◌||◌, ℕ, Bool, true, false, List, Option, Some, None, Result, Ok, IfOk, OnErr}
 use Rattle.dsc_terms.specs.Counts.{Rose}
 use Rattle.dsc_outside.specs.declared.disk.Disk.{Ghosts}
+use Rattle.pull_outside.specs.declared.shelf.Shelf as shelves
 use Rattle.gate_log.specs.Standing.{AllStand, StandsAtAnyMoment}
 use Rattle.mof_values.specs.declared.memory.Memory.{Memory}
 use Rattle.http_frames.specs.declared.message.Request.{Request}
@@ -16,6 +17,10 @@ use Rattle.pull_outside.specs.Shelf.{Contents}
 use Rattle.pull_server.specs.Asked.{Asked, Asks, IsAim, Over, asked, change_to, on, target_in}
 use Rattle.pull_server.specs.Replies.{plain}
 use Rattle.pull_server.specs.Table.{Outcome, leaves, makes, outcome_of}
+
+-- the count of faults of the disk rose, or that of the shelf
+abbrev pub AnyFaultRose : {D S : Type 0} → Ghosts D → shelves.Ghosts S → D → D → S → S → Type 0
+AnyFaultRose d s disk disk_after shelf shelf_after = Rose (d.faults disk) (d.faults disk_after) ⊎ Rose (s.faults shelf) (s.faults shelf_after)
 
 -- ---- the reply, and the rows after it
 

@@ -4,10 +4,11 @@ use Rattle.http_frames.specs.declared.message.Header.{Header}
 use Rattle.http_frames.specs.declared.message.Request.{Request}
 use Rattle.http_frames.specs.Headers.{count_named, is_named}
 use Rattle.shared_key.specs.Signature.{first_signer}
+use Rattle.pull_server.specs.declared.signatures.TheConstants.{MOST_KEYS}
 
 -- how many keys of a shelf count
 abbrev pub most_keys : ℕ
-most_keys = 64
+most_keys = MOST_KEYS
 
 -- the value of the one header of that name
 abbrev pub single : List ℕ → List Header → Option (List ℕ)

@@ -41,7 +41,9 @@ pub fn action<S: Shelf>(
     names: &[Text],
     query: &ActionQuery,
 ) -> Result<ActionAnswer, ShelfError>
-    ensures action { IfOk result (λ answer. (contents : Contents) → S.holds shelf.old ≡ Some contents → answer ≡ action_for contents names.now query.now) }
+    ensures action { IfOk result (λ answer. (contents : Contents)
+        → S.holds shelf.old ≡ Some contents
+        → answer ≡ action_for contents names.now query.now) }
     ensures same { S.holds shelf.new ≡ S.holds shelf.old }
     ensures cause { HasCauseOf ShelfError.Failed (S.faults shelf.old) (S.faults shelf.new) result }
 {
@@ -121,7 +123,9 @@ fn details<S: Shelf>(
     names: &[Text],
     clients: &[Client],
 ) -> Result<Vec<Detail>, ShelfError>
-    ensures details { IfOk result (λ details. (contents : Contents) → S.holds shelf.old ≡ Some contents → details.items ≡ map (detail_for contents names.now) clients.now) }
+    ensures details { IfOk result (λ details. (contents : Contents)
+        → S.holds shelf.old ≡ Some contents
+        → details.items ≡ map (detail_for contents names.now) clients.now) }
     ensures same { S.holds shelf.new ≡ S.holds shelf.old }
     ensures cause { HasCauseOf ShelfError.Failed (S.faults shelf.old) (S.faults shelf.new) result }
 {
@@ -138,7 +142,9 @@ fn detail_for<S: Shelf>(
     names: &[Text],
     client: &Client,
 ) -> Result<Detail, ShelfError>
-    ensures detail { IfOk result (λ detail. (contents : Contents) → S.holds shelf.old ≡ Some contents → detail ≡ detail_for contents names.now client.now) }
+    ensures detail { IfOk result (λ detail. (contents : Contents)
+        → S.holds shelf.old ≡ Some contents
+        → detail ≡ detail_for contents names.now client.now) }
     ensures same { S.holds shelf.new ≡ S.holds shelf.old }
     ensures cause { HasCauseOf ShelfError.Failed (S.faults shelf.old) (S.faults shelf.new) result }
 {
@@ -156,7 +162,8 @@ fn status_with<S: Shelf>(
     checksum: &Text,
     content: &Option<Vec<u8>>,
 ) -> Result<&'static str, AllocError>
-    ensures status { IfOk result (λ status. status.now ≡ status_with checksum.now (option_map (λ v. v.items) content.now)) }
+    ensures status { IfOk result (λ status. status.now
+        ≡ status_with checksum.now (option_map (λ v. v.items) content.now)) }
     ensures same { S.holds shelf.new ≡ S.holds shelf.old }
     ensures faults { S.faults shelf.new ≡ S.faults shelf.old }
 {

@@ -1,4 +1,4 @@
-//! Contents of configurations and packages of modules.
+//! Fetching of the content of a configuration, and of the package of a module.
 ghost use Rattle.std.specs.Prelude.{◌≡◌, IfOk, Some, option_map, encode_utf8_all};
 ghost use Rattle.dsc_outside.specs.Causes.{HasCauseOf};
 ghost use Rattle.pull_outside.specs.Shelf.{Contents, package_of};
@@ -15,7 +15,9 @@ pub fn content<S: Shelf>(
     names: &[Text],
     name: &Text,
 ) -> Result<Option<Vec<u8>>, ShelfError>
-    ensures content { IfOk result (λ found. (contents : Contents) → S.holds shelf.old ≡ Some contents → option_map (λ v. v.items) found ≡ content_for contents names.now name.now) }
+    ensures content { IfOk result (λ found. (contents : Contents)
+        → S.holds shelf.old ≡ Some contents
+        → option_map (λ v. v.items) found ≡ content_for contents names.now name.now) }
     ensures same { S.holds shelf.new ≡ S.holds shelf.old }
     ensures cause { HasCauseOf ShelfError.Failed (S.faults shelf.old) (S.faults shelf.new) result }
 {
@@ -24,10 +26,10 @@ pub fn content<S: Shelf>(
     }
     let name = name.to_utf8()?;
     let mut content = Vec::new(alloc);
-    match shelf.configuration(name.as_str(), &mut content) {
-        Ok(true) => Ok(Some(content)),
-        Ok(false) => Ok(None),
-        Err(error) => Err(error),
+    if shelf.configuration(name.as_str(), &mut content)? {
+        Ok(Some(content))
+    } else {
+        Ok(None)
     }
 }
 
@@ -44,17 +46,19 @@ pub fn package<S: Shelf>(
     name: &Text,
     version: &Text,
 ) -> Result<Option<Vec<u8>>, ShelfError>
-    ensures package { IfOk result (λ found. (contents : Contents) → S.holds shelf.old ≡ Some contents
-        → option_map (λ v. v.items) found ≡ package_of (encode_utf8_all name.now) (encode_utf8_all version.now) contents) }
+    ensures package { IfOk result (λ found. (contents : Contents)
+        → S.holds shelf.old ≡ Some contents
+        → option_map (λ v. v.items) found
+        ≡ package_of (encode_utf8_all name.now) (encode_utf8_all version.now) contents) }
     ensures same { S.holds shelf.new ≡ S.holds shelf.old }
     ensures cause { HasCauseOf ShelfError.Failed (S.faults shelf.old) (S.faults shelf.new) result }
 {
     let name = name.to_utf8()?;
     let version = version.to_utf8()?;
     let mut package = Vec::new(alloc);
-    match shelf.package(name.as_str(), version.as_str(), &mut package) {
-        Ok(true) => Ok(Some(package)),
-        Ok(false) => Ok(None),
-        Err(error) => Err(error),
+    if shelf.package(name.as_str(), version.as_str(), &mut package)? {
+        Ok(Some(package))
+    } else {
+        Ok(None)
     }
 }

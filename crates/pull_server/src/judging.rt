@@ -32,7 +32,8 @@ pub fn judge<S: Shelf>(
     request: &Request,
 ) -> Result<Verdict, Memory>
     requires { length request.now.body ≤ most_bytes }
-    ensures judges { IfOk result (Judges store.now request.now (S.holds shelf.old) (Rose (S.faults shelf.old) (S.faults shelf.new))) }
+    ensures judges { IfOk result (Judges store.now request.now
+        (S.holds shelf.old) (Rose (S.faults shelf.old) (S.faults shelf.new))) }
     ensures same { S.holds shelf.new ≡ S.holds shelf.old }
     ensures count { S.faults shelf.old ≤ S.faults shelf.new }
 {
@@ -50,7 +51,8 @@ fn judge_no_target<S: Shelf>(
     request: &Request,
     at: usize,
 ) -> Result<Verdict, Memory>
-    ensures judged { IfOk result (Judged store.now request.now (Err at) (S.holds shelf.old) (Rose (S.faults shelf.old) (S.faults shelf.new))) }
+    ensures judged { IfOk result (Judged store.now request.now (Err at)
+        (S.holds shelf.old) (Rose (S.faults shelf.old) (S.faults shelf.new))) }
     ensures shelf { shelf.new ≡ shelf.old }
 {
     if !is_known(request.method.as_slice()) {
@@ -67,7 +69,8 @@ fn judge_target<S: Shelf>(
     target: &Target,
 ) -> Result<Verdict, Memory>
     requires { length request.now.body ≤ most_bytes }
-    ensures judged { IfOk result (Judged store.now request.now (Ok target.now) (S.holds shelf.old) (Rose (S.faults shelf.old) (S.faults shelf.new))) }
+    ensures judged { IfOk result (Judged store.now request.now (Ok target.now)
+        (S.holds shelf.old) (Rose (S.faults shelf.old) (S.faults shelf.new))) }
     ensures same { S.holds shelf.new ≡ S.holds shelf.old }
     ensures count { S.faults shelf.old ≤ S.faults shelf.new }
 {
@@ -93,7 +96,8 @@ fn judge_past_head<S: Shelf>(
 ) -> Result<Verdict, Memory>
     requires size { length request.now.body ≤ most_bytes }
     requires past { IsPastHead store.now request.now target.now }
-    ensures judged { IfOk result (Judged store.now request.now (Ok target.now) (S.holds shelf.old) (Rose (S.faults shelf.old) (S.faults shelf.new))) }
+    ensures judged { IfOk result (Judged store.now request.now (Ok target.now)
+        (S.holds shelf.old) (Rose (S.faults shelf.old) (S.faults shelf.new))) }
     ensures same { S.holds shelf.new ≡ S.holds shelf.old }
     ensures count { S.faults shelf.old ≤ S.faults shelf.new }
 {
@@ -145,7 +149,8 @@ fn judge_registration<S: Shelf>(
 ) -> Result<Verdict, Memory>
     requires size { length request.now.body ≤ most_bytes }
     requires past { IsPastHead store.now request.now (Node agent) }
-    ensures judged { IfOk result (Judged store.now request.now (Ok (Node agent)) (S.holds shelf.old) (Rose (S.faults shelf.old) (S.faults shelf.new))) }
+    ensures judged { IfOk result (Judged store.now request.now (Ok (Node agent))
+        (S.holds shelf.old) (Rose (S.faults shelf.old) (S.faults shelf.new))) }
     ensures same { S.holds shelf.new ≡ S.holds shelf.old }
     ensures count { S.faults shelf.old ≤ S.faults shelf.new }
 {
@@ -170,7 +175,8 @@ fn judge_report<S: Shelf>(
 ) -> Result<Verdict, Memory>
     requires size { length request.now.body ≤ most_bytes }
     requires past { IsPastHead store.now request.now (SendReport agent) }
-    ensures judged { IfOk result (Judged store.now request.now (Ok (SendReport agent)) (S.holds shelf.old) (Rose (S.faults shelf.old) (S.faults shelf.new))) }
+    ensures judged { IfOk result (Judged store.now request.now (Ok (SendReport agent))
+        (S.holds shelf.old) (Rose (S.faults shelf.old) (S.faults shelf.new))) }
     ensures shelf { shelf.new ≡ shelf.old }
 {
     let Some(_row) = store.agent(agent) else {
@@ -194,7 +200,8 @@ fn judge_action<S: Shelf>(
     agent: u128,
 ) -> Result<Verdict, Memory>
     requires { IsPastHead store.now request.now (Action agent) }
-    ensures judged { IfOk result (Judged store.now request.now (Ok (Action agent)) (S.holds shelf.old) (Rose (S.faults shelf.old) (S.faults shelf.new))) }
+    ensures judged { IfOk result (Judged store.now request.now (Ok (Action agent))
+        (S.holds shelf.old) (Rose (S.faults shelf.old) (S.faults shelf.new))) }
     ensures same { S.holds shelf.new ≡ S.holds shelf.old }
     ensures count { S.faults shelf.old ≤ S.faults shelf.new }
 {
@@ -216,7 +223,8 @@ fn judge_content<S: Shelf>(
     name: &Text,
 ) -> Result<Verdict, Memory>
     requires past { IsPastHead store.now request.now (Content agent name.now) }
-    ensures judged { IfOk result (Judged store.now request.now (Ok (Content agent name.now)) (S.holds shelf.old) (Rose (S.faults shelf.old) (S.faults shelf.new))) }
+    ensures judged { IfOk result (Judged store.now request.now (Ok (Content agent name.now))
+        (S.holds shelf.old) (Rose (S.faults shelf.old) (S.faults shelf.new))) }
     ensures same { S.holds shelf.new ≡ S.holds shelf.old }
     ensures count { S.faults shelf.old ≤ S.faults shelf.new }
 {
@@ -236,7 +244,8 @@ fn judge_package<S: Shelf>(
     version: &Text,
 ) -> Result<Verdict, Memory>
     requires past { IsPastHead store.now request.now (Module name.now version.now) }
-    ensures judged { IfOk result (Judged store.now request.now (Ok (Module name.now version.now)) (S.holds shelf.old) (Rose (S.faults shelf.old) (S.faults shelf.new))) }
+    ensures judged { IfOk result (Judged store.now request.now (Ok (Module name.now version.now))
+        (S.holds shelf.old) (Rose (S.faults shelf.old) (S.faults shelf.new))) }
     ensures same { S.holds shelf.new ≡ S.holds shelf.old }
     ensures count { S.faults shelf.old ≤ S.faults shelf.new }
 {
@@ -245,7 +254,8 @@ fn judge_package<S: Shelf>(
 }
 
 fn is_of_version_if_named(header: &Header) -> bool
-    ensures { result ≡ (not (is_named (codes "ProtocolVersion") header.now) || is_version header.now.value) }
+    ensures { result ≡ (not (is_named (codes "ProtocolVersion") header.now)
+        || is_version header.now.value) }
 {
     !header
         .name
@@ -262,7 +272,9 @@ fn judge_query<S: Shelf>(
     row: &Row,
     query: &ActionQuery,
 ) -> Result<Reply, Memory>
-    ensures reply { IfOk result (QueryReply (is_spent store.now) row.now.registration.names query.now (S.holds shelf.old) (Rose (S.faults shelf.old) (S.faults shelf.new))) }
+    ensures reply { IfOk result (QueryReply (is_spent store.now)
+        row.now.registration.names query.now
+        (S.holds shelf.old) (Rose (S.faults shelf.old) (S.faults shelf.new))) }
     ensures same { S.holds shelf.new ≡ S.holds shelf.old }
     ensures count { S.faults shelf.old ≤ S.faults shelf.new }
 {

@@ -27,10 +27,11 @@ pub fn keep_registration<D: Disk>(
 ) -> Result<Reply, Memory>
     requires ready { IsReady D.Disk disk.old store.old }
     requires size { IsKeepable registration }
-    ensures { Keeps D.Disk store.old (changes.Register agent registration) 204 disk.old result store.new disk.new }
+    ensures { Keeps D.Disk store.old (changes.Register agent registration) 204
+        disk.old result store.new disk.new }
 {
     let done = store.register(disk, agent, registration);
-    told(alloc, done, 204)
+    reply_to(alloc, done, 204)
 }
 
 /// Keeps a report of an agent that has a row, and says what came of it.
@@ -45,14 +46,15 @@ pub fn keep_report<D: Disk>(
     requires ready { IsReady D.Disk disk.old store.old }
     requires size { length body.items ≤ most_bytes }
     requires row { refusal (changes.Report agent job body.items) store.old.rows ≢ Some Unknown }
-    ensures { Keeps D.Disk store.old (changes.Report agent job body.items) 200 disk.old result store.new disk.new }
+    ensures { Keeps D.Disk store.old (changes.Report agent job body.items) 200
+        disk.old result store.new disk.new }
 {
     let done = store.put_report(disk, agent, job, body);
-    told(alloc, done, 200)
+    reply_to(alloc, done, 200)
 }
 
 // What came of a change, which was done under this code.
-fn told(alloc: Global, done: Result<(), PullError>, code: u16) -> Result<Reply, Memory>
+fn reply_to(alloc: Global, done: Result<(), PullError>, code: u16) -> Result<Reply, Memory>
     ensures { Tells done code result }
 {
     match done {

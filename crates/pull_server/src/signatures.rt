@@ -11,6 +11,7 @@ use pull_outside::{Shelf, ShelfError};
 use shared_key::verify;
 use std::alloc::Global;
 
+// The most keys of a shelf that count.
 const MOST_KEYS: u32 = 64;
 
 /// Whether the request is signed under a key of the shelf. Where a header of the signature is missing, no key is asked for.
@@ -19,7 +20,8 @@ pub fn is_signed<S: Shelf>(
     shelf: &mut S,
     request: &Request,
 ) -> Result<bool, ShelfError>
-    ensures signed { IfOk result (λ yes. Over (S.holds shelf.old) (λ contents. yes ≡ is_signed contents.keys request.now)) }
+    ensures signed { IfOk result (λ yes. Over (S.holds shelf.old) (λ contents.
+        yes ≡ is_signed contents.keys request.now)) }
     ensures same { S.holds shelf.new ≡ S.holds shelf.old }
     ensures cause { HasCauseOf ShelfError.Failed (S.faults shelf.old) (S.faults shelf.new) result }
 {
@@ -55,9 +57,10 @@ fn after_shared(value: &[u8]) -> Option<&[u8]>
     value.strip_prefix(b"Shared ")
 }
 
-// The keys of the shelf that count: up to the first that is not there, and 64 at most.
+// The keys of the shelf that count: up to the first that is not there, and at most `MOST_KEYS`.
 fn read_keys<S: Shelf>(alloc: Global, shelf: &mut S) -> Result<Vec<Bytes>, ShelfError>
-    ensures keys { IfOk result (λ keys. Over (S.holds shelf.old) (λ contents. keys.items ≡ take most_keys contents.keys)) }
+    ensures keys { IfOk result (λ keys. Over (S.holds shelf.old) (λ contents.
+        keys.items ≡ take most_keys contents.keys)) }
     ensures few { IfOk result (λ keys. length keys.items ≤ most_keys) }
     ensures same { S.holds shelf.new ≡ S.holds shelf.old }
     ensures cause { HasCauseOf ShelfError.Failed (S.faults shelf.old) (S.faults shelf.new) result }

@@ -1,5 +1,6 @@
 //! What a server in memory stands on.
-use dsc_outside::{MemoryDisk, Package};
+use dsc_outside::Package;
+use memory_outside::MemoryDisk;
 use mof_values::{Bytes, Items, Memory};
 use pull_outside::{Configuration, MemoryShelf, ShelfContents};
 use std::alloc::{AllocError, Global};

@@ -8,7 +8,7 @@ use Rattle.pull_store.proofs.Committed.{is_kept, kept_stands}
 use Rattle.pull_serving.specs.declared.connection.ConnectionEnd.{ConnectionEnd}
 use Rattle.pull_serving.specs.Parting.{parting_of}
 use Rattle.pull_serving.specs.Turn.{IsServed, state}
-use Rattle.pull_serving.specs.Turns.{IsStep, doorway}
+use Rattle.pull_serving.specs.Turns.{IsStep}
 
 pub stepped : {D : Type 0} (d : Ghosts D) (old new : D) (shelf : Option Contents) (store store_after : StoreTerm) (shelf_faults shelf_faults_after : ℕ) (came went : Known) (end : ConnectionEnd)
     → IsKept d old store → IsReady d new store_after
@@ -16,7 +16,8 @@ pub stepped : {D : Type 0} (d : Ghosts D) (old new : D) (shelf : Option Contents
     → ((c : List ℕ) → d.left_since new (d.moment new) c → d.images new c)
     → (coming coming_after : Option (List Known)) (back back_after : Option (List HandedBack)) (out out_after : ℕ)
     → TakesFirst coming coming_after came → GetsBack back back_after (record { known = went; parting = parting_of end }) → out_after ≡ out
-    → IsStep d old new shelf (state d old store shelf_faults) (state d new store_after shelf_faults_after) (doorway coming back out) (doorway coming_after back_after out_after) end
+    → IsStep d old new shelf (state d old store shelf_faults) (state d new store_after shelf_faults_after) (record { coming = coming; back = back; out = out })
+    (record { coming = coming_after; back = back_after; out = out_after }) end
 stepped d old new shelf store store_after shelf_faults shelf_faults_after came went end kept ready served now coming coming_after back back_after out out_after took gave none_out = record {
   turn = record {
     came = came;

@@ -1,7 +1,9 @@
+-- what the layer above cites
 pub mod Parting
 pub mod Printing
-pub mod Sent
 pub mod Serving
 pub mod Status
 pub mod Turn
 pub mod Turns
+-- for private clauses alone
+pub mod Sent

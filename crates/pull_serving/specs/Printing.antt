@@ -3,7 +3,9 @@ use Rattle.std.specs.Prelude.{◌≡◌, ℕ, ◌≤◌, ◌<◌, suc, true, fal
 use Rattle.std.specs.Io.KnownBytes.{Appends}
 use Rattle.std.specs.Fmt.{decimal}
 use Rattle.dsc_terms.specs.Counts.{Rose}
-use Rattle.pull_exchange.specs.Exchange.{AppendsPart, Writes}
+use Rattle.dsc_outside.specs.declared.ends.Ends.{Ghosts}
+use Rattle.dsc_outside.specs.Streams.{AppendsPart}
+use Rattle.pull_exchange.specs.Exchange.{Writes}
 use Rattle.pull_serving.specs.declared.connection.ConnectionEnd.{ConnectionEnd}
 use Rattle.pull_serving.specs.declared.connection.ConnectionEnd.TheVariants as ends
 use Rattle.pull_serving.specs.declared.status.ServeStatus.{ServeStatus}
@@ -29,7 +31,7 @@ abbrev pub lines : ℕ → List Turn → List ℕ
 lines number [] = []
 lines number (t ∷ ts) = line number t.end ++ lines (suc number) ts
 
--- the line of a refusal; where memory was refused, or writing failed, there is none
+-- the line of a refusal; where it ran out of memory, or writing failed, there is none
 abbrev pub refusal_line : ServeStatus → List ℕ
 refusal_line statuses.Done = []
 refusal_line statuses.Usage = codes "refused Usage\n"
@@ -46,8 +48,8 @@ pub record Output : Type 0 where
   pub held : Option (List ℕ)
   pub faults : ℕ
 
-abbrev pub output_of : Option (List ℕ) → ℕ → Output
-output_of held faults = record { held = held; faults = faults }
+abbrev pub output_of : {K : Type 0} → Ghosts K → K → Output
+output_of ghosts output = record { held = ghosts.held output; faults = ghosts.faults output }
 
 -- the lines of the turns were written whole, and then the line of the refusal
 pub record Refuses (old new : Output) (turns : List Turn) (status : ServeStatus) : Type 0 where

@@ -4,7 +4,8 @@ use Rattle.std.specs.Io.KnownBytes.{Appends}
 use Rattle.dsc_terms.specs.Counts.{Rose}
 use Rattle.http_frames.specs.declared.message.Reply.{Reply}
 use Rattle.http_frames.specs.Writing.{answer_text}
-use Rattle.pull_exchange.specs.Exchange.{AppendsPart, Writes}
+use Rattle.dsc_outside.specs.Streams.{AppendsPart}
+use Rattle.pull_exchange.specs.Exchange.{Writes}
 use Rattle.pull_serving.specs.declared.connection.ConnectionEnd.{ConnectionEnd}
 use Rattle.pull_serving.specs.declared.connection.ConnectionEnd.TheVariants as ends
 

@@ -11,7 +11,8 @@ use Rattle.pull_outside.specs.Door.{Known}
 use Rattle.pull_outside.specs.Shelf.{Contents}
 use Rattle.pull_exchange.specs.declared.exchange.Received.{Received}
 use Rattle.pull_exchange.specs.declared.exchange.Received.TheVariants as received
-use Rattle.pull_exchange.specs.Exchange.{AppendsPart, IsReceived, IsRefusal, Writes, refusal_of}
+use Rattle.dsc_outside.specs.Streams.{AppendsPart}
+use Rattle.pull_exchange.specs.Exchange.{IsReceived, IsRefusal, Writes, refusal_of}
 use Rattle.pull_store.specs.declared.row.Row.{Row}
 use Rattle.pull_store.specs.Stands.{Stands}
 use Rattle.pull_store.specs.Store.{StoreTerm, IsKept, Untouched, is_spent}
@@ -26,10 +27,6 @@ pub record State : Type 0 where
   pub disk_faults : ℕ
   pub shelf_faults : ℕ
   pub moment : ℕ
-
--- what is known of a connection
-abbrev pub known_by : Option (List ℕ) → Option (List ℕ) → ℕ → Known
-known_by left held faults = record { left = left; held = held; faults = faults }
 
 -- what connections are served over, by what is known of the disk
 abbrev pub state : {D : Type 0} → Ghosts D → D → StoreTerm → ℕ → State

@@ -5,6 +5,7 @@ use Rattle.gate_log.specs.Log.{AtAnyMoment}
 use Rattle.gate_log.specs.Standing.{StandsAtAnyMoment, StandsFor}
 use Rattle.pull_outside.specs.Door.{GetsBack, HandedBack, Known, TakesFirst}
 use Rattle.pull_outside.specs.Shelf.{Contents}
+use Rattle.pull_outside.specs.declared.door.Door as doors
 use Rattle.pull_store.specs.Stands.{Stands}
 use Rattle.pull_store.specs.Store.{IsReady, is_spent}
 use Rattle.pull_serving.specs.declared.connection.ConnectionEnd.{ConnectionEnd}
@@ -57,8 +58,8 @@ pub record Doorway : Type 0 where
   pub back : Option (List HandedBack)
   pub out : ℕ
 
-abbrev pub doorway : Option (List Known) → Option (List HandedBack) → ℕ → Doorway
-doorway coming back out = record { coming = coming; back = back; out = out }
+abbrev pub doorway_of : {G C : Type 0} → doors.Ghosts G C → G → Doorway
+doorway_of ghosts door = record { coming = ghosts.coming door; back = ghosts.back door; out = ghosts.out door }
 
 -- one turn: the next connection was taken, served, and handed back with the parting of the turn's end
 pub record IsStep {D : Type 0} (d : Ghosts D) (old new : D) (shelf : Option Contents) (first last : State) (door door_after : Doorway) (end : ConnectionEnd) : Type 0 where

@@ -1,9 +1,10 @@
-//! One connection.
+//! Serving of one connection: a request is read, answered, and its answer written.
 ghost use Rattle.std.specs.Prelude.{◌≡◌, ◌≤◌, ◌&&◌, not, if◌then◌else◌};
+ghost use Rattle.pull_outside.specs.Door.{known_of};
 ghost use Rattle.pull_store.specs.Store.{IsReady, is_spent};
 ghost use Rattle.pull_serving.specs.Parting.{parting_of};
 ghost use Rattle.pull_serving.specs.Sent.{IsSentEnd};
-ghost use Rattle.pull_serving.specs.Turn.{IsServed, known_by, state};
+ghost use Rattle.pull_serving.specs.Turn.{IsServed, state};
 
 use dsc_outside::{Disk, Sink, Source};
 use http_frames::Reply;
@@ -64,8 +65,9 @@ pub fn serve_connection<X: Source + Sink, D: Disk, S: Shelf>(
     requires { IsReady D.Disk disk.old store.old }
     ensures ready { IsReady D.Disk disk.new store.new }
     ensures served { IsServed D.Disk disk.old disk.new (S.holds shelf.old)
-        (known_by (X.left conn.old) (X.held conn.old) (X.faults conn.old)) (known_by (X.left conn.new) (X.held conn.new) (X.faults conn.new))
-        (state D.Disk disk.old store.old (S.faults shelf.old)) (state D.Disk disk.new store.new (S.faults shelf.new)) result }
+        (known_of X.Ends conn.old) (known_of X.Ends conn.new)
+        (state D.Disk disk.old store.old (S.faults shelf.old))
+        (state D.Disk disk.new store.new (S.faults shelf.new)) result }
     ensures shelf { S.holds shelf.new ≡ S.holds shelf.old }
     ensures shelf_count { S.faults shelf.old ≤ S.faults shelf.new }
     ensures count { D.faults disk.old ≤ D.faults disk.new }
@@ -97,17 +99,18 @@ fn is_newly_spent(was_spent: bool, store: &PullStore) -> bool
 
 // Writes the reply, in whose making the disk failed or did not.
 fn send<X: Sink>(alloc: Global, conn: &mut X, reply: &Reply, broken: bool) -> ConnectionEnd
-    ensures sent { IsSentEnd (X.held conn.old) (X.held conn.new) reply.now (X.faults conn.old) (X.faults conn.new) broken result }
+    ensures sent { IsSentEnd (X.held conn.old) (X.held conn.new) reply.now
+        (X.faults conn.old) (X.faults conn.new) broken result }
     ensures count { X.faults conn.old ≤ X.faults conn.new }
 {
     match send_reply(alloc, conn, reply) {
         SendEnd::Memory => ConnectionEnd::Memory,
-        SendEnd::Sent => sent(reply.code, broken),
-        SendEnd::WriteFault => cut(broken),
+        SendEnd::Sent => sent_end(reply.code, broken),
+        SendEnd::WriteFault => cut_end(broken),
     }
 }
 
-fn sent(code: u16, broken: bool) -> ConnectionEnd
+fn sent_end(code: u16, broken: bool) -> ConnectionEnd
     ensures { result ≡ (if broken then ConnectionEnd.DiskFault else ConnectionEnd.Answered code) }
 {
     if broken {
@@ -117,7 +120,7 @@ fn sent(code: u16, broken: bool) -> ConnectionEnd
     }
 }
 
-fn cut(broken: bool) -> ConnectionEnd
+fn cut_end(broken: bool) -> ConnectionEnd
     ensures { result ≡ (if broken then ConnectionEnd.DiskFault else ConnectionEnd.WriteFault) }
 {
     if broken {

@@ -8,9 +8,8 @@ ghost use Rattle.pull_serving.specs.Printing.{end_text, line, refusal_line};
 use crate::connection::ConnectionEnd;
 use crate::status::ServeStatus;
 use arrayvec::ArrayString;
-use dsc_outside::Sink;
+use dsc_outside::{Sink, write_all};
 use itoa::Buffer;
-use pull_exchange::write_all;
 
 /// A line, which has at most 64 bytes.
 pub type Line = ArrayString<64>;
@@ -60,7 +59,8 @@ fn push_number(text: &mut Line, number: u64)
 /// Prints the line of a refusal, which stays the status where the output fails.
 pub fn refuse<K: Sink>(output: &mut K, status: ServeStatus) -> ServeStatus
     ensures status { result ≡ status }
-    ensures writes { Writes (K.held output.old) (K.held output.new) (refusal_line status) (K.faults output.old) (K.faults output.new) }
+    ensures writes { Writes (K.held output.old) (K.held output.new) (refusal_line status)
+        (K.faults output.old) (K.faults output.new) }
     ensures count { K.faults output.old ≤ K.faults output.new }
 {
     let _ = write_all(output, refusal_line(status).as_str().as_bytes());

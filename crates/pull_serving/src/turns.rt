@@ -4,18 +4,17 @@ ghost use Rattle.dsc_terms.specs.Counts.{Rose};
 ghost use Rattle.pull_store.specs.Store.{IsKept, IsReady};
 ghost use Rattle.pull_serving.specs.Printing.{Printed, output_of};
 ghost use Rattle.pull_serving.specs.Turn.{state};
-ghost use Rattle.pull_serving.specs.Turns.{IsRun, IsStep, doorway};
+ghost use Rattle.pull_serving.specs.Turns.{IsRun, IsStep, doorway_of};
 
 use crate::connection::{ConnectionEnd, serve_connection};
 use crate::printing::{line, refuse};
 use crate::status::ServeStatus;
-use dsc_outside::{Disk, Failed, Sink};
-use pull_exchange::write_all;
+use dsc_outside::{Disk, Failed, Sink, write_all};
 use pull_outside::{Door, Shelf};
 use pull_store::PullStore;
 use std::alloc::Global;
 
-/// Serves so many connections, and prints a line for each.
+/// Serves `count` connections, and prints a line for each.
 pub fn serve_turns<G: Door, S: Shelf, D: Disk, K: Sink>(
     alloc: Global,
     count: u32,
@@ -27,10 +26,12 @@ pub fn serve_turns<G: Door, S: Shelf, D: Disk, K: Sink>(
 ) -> ServeStatus
     requires { IsKept D.Disk disk.old store.old }
     ensures run { IsRun D.Disk disk.old disk.new (S.holds shelf.old)
-        (state D.Disk disk.old store.old (S.faults shelf.old)) (state D.Disk disk.new store.new (S.faults shelf.new))
-        (doorway (G.coming door.old) (G.back door.old) (G.out door.old)) (doorway (G.coming door.new) (G.back door.new) (G.out door.new))
+        (state D.Disk disk.old store.old (S.faults shelf.old))
+        (state D.Disk disk.new store.new (S.faults shelf.new))
+        (doorway_of G.Door door.old) (doorway_of G.Door door.new)
         (Printed count (state D.Disk disk.new store.new (S.faults shelf.new))
-        (G.faults door.old) (G.faults door.new) (output_of (K.held output.old) (K.faults output.old)) (output_of (K.held output.new) (K.faults output.new)) result) }
+        (G.faults door.old) (G.faults door.new)
+        (output_of K.Ends output.old) (output_of K.Ends output.new) result) }
     ensures shelf { S.holds shelf.new ≡ S.holds shelf.old }
 {
     for number in 0..count {
@@ -59,10 +60,11 @@ fn serve_next<G: Door, S: Shelf, D: Disk>(
     requires { IsKept D.Disk disk.old store.old }
     ensures ready { IsReady D.Disk disk.new store.new }
     ensures step { IfOk result (IsStep D.Disk disk.old disk.new (S.holds shelf.old)
-        (state D.Disk disk.old store.old (S.faults shelf.old)) (state D.Disk disk.new store.new (S.faults shelf.new))
-        (doorway (G.coming door.old) (G.back door.old) (G.out door.old)) (doorway (G.coming door.new) (G.back door.new) (G.out door.new))) }
-    ensures untouched { OnErr result ((store.new ≡ store.old) × (disk.new ≡ disk.old) × (shelf.new ≡ shelf.old)
-        × (doorway (G.coming door.new) (G.back door.new) (G.out door.new) ≡ doorway (G.coming door.old) (G.back door.old) (G.out door.old))) }
+        (state D.Disk disk.old store.old (S.faults shelf.old))
+        (state D.Disk disk.new store.new (S.faults shelf.new))
+        (doorway_of G.Door door.old) (doorway_of G.Door door.new)) }
+    ensures untouched { OnErr result ((store.new ≡ store.old) × (disk.new ≡ disk.old)
+        × (shelf.new ≡ shelf.old) × (doorway_of G.Door door.new ≡ doorway_of G.Door door.old)) }
     ensures failed { OnErr result (Rose (G.faults door.old) (G.faults door.new)) }
     ensures shelf { S.holds shelf.new ≡ S.holds shelf.old }
     ensures door_count { G.faults door.old ≤ G.faults door.new }

@@ -1,5 +1,5 @@
-//! Runs of a server, and what is seen of them.
-use dsc_outside::{MemoryDisk, MemorySink};
+//! Runs of a server, and what is shown of them.
+use memory_outside::{MemoryDisk, MemorySink};
 use mof_values::{Bytes, Items, Memory};
 use pull_outside::{ClosedConn, Configuration, MemoryConn, MemoryDoor, MemoryShelf, ShelfContents};
 use pull_serving::serve;
@@ -89,10 +89,10 @@ pub fn played(alloc: Global, run: &Run) -> Result<Vec<u8>, Memory> {
     )?;
     let mut output = MemorySink::new(alloc, run.output.to_vec(alloc)?);
     let status = serve(alloc, &words, &mut door, &mut shelf, &mut disk, &mut output);
-    Ok(seen(alloc, status.number(), output.bytes(), door.back())?)
+    Ok(shown(alloc, status.number(), output.bytes(), door.back())?)
 }
 
-fn seen(
+fn shown(
     alloc: Global,
     number: u8,
     printed: &[u8],

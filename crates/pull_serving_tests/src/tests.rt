@@ -11,7 +11,7 @@ const REPORT: &str =
 const FETCH: &str =
     "GET /PSDSCPullServer.svc/Nodes(AgentId='00000000-0000-0000-0000-000000000001')/Configurations(ConfigurationName='Web')/ConfigurationContent HTTP/1.1\r\nHost: s\r\n\r\n";
 
-// Runs, and what must be seen of them.
+// Runs, and what must be shown of them.
 const RUNS: &[(Run<'static>, &str)] = &[
     (
         Run {
@@ -463,7 +463,7 @@ const RUNS: &[(Run<'static>, &str)] = &[
 fn runs_end_as_their_objects_let_them(rt: HostRuntime) {
     for (place, (run, wanted)) in RUNS.iter().enumerate() {
         match played(rt.alloc(), run) {
-            Ok(seen) => assert_eq!(rt; seen.as_slice(), wanted.as_bytes(), "run {place}"),
+            Ok(shown) => assert_eq!(rt; shown.as_slice(), wanted.as_bytes(), "run {place}"),
             Err(_) => assert!(rt; false, "run {place}"),
         }
     }
@@ -506,7 +506,7 @@ fn broken(call: &[u64]) -> Run<'_> {
     }
 }
 
-// What is seen of it, by how far it came.
+// What is shown of it, by how far it came.
 const BROKEN: &[&str] = &[
     "0|1 answer 204\n2 answer 200\n3 answer 200\n|HTTP/1.1 204 No Content|HTTP/1.1 200 OK|HTTP/1.1 200 OK",
     "4|1 answer 204\n2 answer 200\n3 disk fault\nrefused DiskFault\n|HTTP/1.1 204 No Content|HTTP/1.1 200 OK|HTTP/1.1 500 Internal Server Error",
@@ -519,13 +519,13 @@ const BROKEN: &[&str] = &[
 fn a_disk_that_fails_ends_the_run(rt: HostRuntime) {
     let mut reached = [false; 5];
     for call in 0..40 {
-        let seen = match played(rt.alloc(), &broken(&[call])) {
-            Ok(seen) => seen,
+        let shown = match played(rt.alloc(), &broken(&[call])) {
+            Ok(shown) => shown,
             Err(_) => return assert!(rt; false, "call {call}"),
         };
         match BROKEN
             .iter()
-            .position(|wanted| seen.as_slice() == wanted.as_bytes())
+            .position(|wanted| shown.as_slice() == wanted.as_bytes())
         {
             Some(place) => reached[place] = true,
             None => assert!(rt; false, "call {call}"),

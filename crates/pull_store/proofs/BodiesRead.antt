@@ -17,6 +17,8 @@ use Rattle.pull_store.specs.Bodies.{bytes_of_ids, bytes_of_registration}
 use Rattle.pull_store.specs.Laws.{BodiesAreOfOne}
 use Rattle.pull_store.specs.Sound.{IsId, AreIds, AreFields, IsNameText, IsRegistration}
 use Rattle.pull_store.specs.Stands.{IsBody}
+use Rattle.pull_messages.specs.Limits.{list_items, text_bytes}
+use Rattle.pull_store.specs.declared.limits.TheConstants.{LENGTHS, MAX_BYTES}
 use Rattle.pull_store.proofs.Sizes.{length-registration}
 
 -- ---- kinds
@@ -60,7 +62,7 @@ pub record Reports (rest : List ℕ) (change : Change) : Type 0 where
   pub body : List ℕ
   pub is : change ≡ Report agent job body
   pub ids : AreIds (agent, job)
-  pub short : length body ≤ 131072
+  pub short : length body ≤ MAX_BYTES
   pub spells : rest ≡ bytes_of_ids (agent, job) ++ body
 
 pub report_at : (rest : List ℕ) (change : Change) → IsBody (2 ∷ rest) change → Reports rest change
@@ -119,15 +121,15 @@ same_fields x y e f g h = same_made x.lcm_version y.lcm_version x.node_name y.no
 
 pub fields_unique : IsUnique bytes_of_registration AreFields
 fields_unique x y r s one other e =
-    let version = text_unique 65535 (omega arith) x.lcm_version y.lcm_version _ _ one.version other.version (sym (opened x r) ∙ e ∙ opened y s) in
-    let node = text_unique 65535 (omega arith) x.node_name y.node_name _ _ one.node other.node version.1 in
-    let address = text_unique 65535 (omega arith) x.ip_address y.ip_address _ _ one.address other.address node.1 in
+    let version = text_unique text_bytes (omega arith) x.lcm_version y.lcm_version _ _ one.version other.version (sym (opened x r) ∙ e ∙ opened y s) in
+    let node = text_unique text_bytes (omega arith) x.node_name y.node_name _ _ one.node other.node version.1 in
+    let address = text_unique text_bytes (omega arith) x.ip_address y.ip_address _ _ one.address other.address node.1 in
     let names = list_unique bytes_of_text IsNameText name_unique x.names y.names r s one.names other.names address.1 in
     (same_fields x y version.0 node.0 address.0 names.0, names.1)
 
 -- each field was read after the other
-module _ (before m1 m2 m3 after : List ℕ) (x : Registration) (one : Reads bytes_of_text (IsText 65535) before m1 (Ok x.lcm_version)) (two : Reads bytes_of_text (IsText 65535) m1 m2 (Ok x.node_name))
-    (three : Reads bytes_of_text (IsText 65535) m2 m3 (Ok x.ip_address)) (four : Reads (bytes_of_list bytes_of_text) (IsList IsNameText) m3 after (Ok x.names)) where
+module _ (before m1 m2 m3 after : List ℕ) (x : Registration) (one : Reads bytes_of_text (IsText text_bytes) before m1 (Ok x.lcm_version)) (two : Reads bytes_of_text (IsText text_bytes) m1 m2 (Ok x.node_name))
+    (three : Reads bytes_of_text (IsText text_bytes) m2 m3 (Ok x.ip_address)) (four : Reads (bytes_of_list bytes_of_text) (IsList IsNameText) m3 after (Ok x.names)) where
   pub fields_read : Reads bytes_of_registration AreFields before after (Ok x)
   fields_read =
       taken bytes_of_registration AreFields before after x fields_unique
@@ -141,7 +143,7 @@ pub fields_of : (x : Registration) → IsRegistration x → AreFields x
 fields_of x is = record { version = is.version; node = is.node; address = is.address; names = (omega (arith, is.few), is.names) }
 
 -- a registration that may be kept: few names, and all its bytes are no longer than they may be
-pub kept_of : (bytes after : List ℕ) (x : Registration) → AreFields x → bytes ≡ bytes_of_registration x ++ after → after ≡ [] → length x.names ≤ 16 → length bytes ≤ 131079 + 2 * length x.names
+pub kept_of : (bytes after : List ℕ) (x : Registration) → AreFields x → bytes ≡ bytes_of_registration x ++ after → after ≡ [] → length x.names ≤ list_items → length bytes ≤ MAX_BYTES + LENGTHS + 2 * length x.names
     → IsRegistration x × (bytes ≡ bytes_of_registration x)
 kept_of bytes after x are is none few short =
     let whole : bytes ≡ bytes_of_registration x = is ∙ ap (λ (l : List ℕ). bytes_of_registration x ++ l) none ∙ append-nil (bytes_of_registration x) in (
@@ -162,7 +164,7 @@ module _ {X : Type 0} (f : X → List ℕ) (R : X → Type 0) where
   none_read bytes after e x more same reads range is = (subst (λ (d : FieldError). Reads f R bytes after (Err d)) same reads).only x more range is
 
 -- no registration that may be kept has other names, or is longer
-pub none_kept : (bytes after : List ℕ) (x y : Registration) → Reads bytes_of_registration AreFields bytes after (Ok x) → ((after ≡ []) → length x.names ≤ 16 → length bytes ≤ 131079 + 2 * length x.names → ⊥)
+pub none_kept : (bytes after : List ℕ) (x y : Registration) → Reads bytes_of_registration AreFields bytes after (Ok x) → ((after ≡ []) → length x.names ≤ list_items → length bytes ≤ MAX_BYTES + LENGTHS + 2 * length x.names → ⊥)
     → IsRegistration y → bytes ≡ bytes_of_registration y → ⊥
 none_kept bytes after x y reads other is spells =
     let found = reads.only y [] (fields_of y is) (spells ∙ sym (append-nil (bytes_of_registration y))) in

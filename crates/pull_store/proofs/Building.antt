@@ -12,6 +12,7 @@ use Rattle.pull_store.specs.Rows.{row_of, after_registration, after_report, has_
 use Rattle.pull_store.specs.Bodies.{bodies_of_reports, bodies_of_row, bodies_of_rows}
 use Rattle.pull_store.specs.Sound.{IsId, IsReport, IsRow, AreRows, times, rows_of}
 use Rattle.pull_store.specs.Stands.{Takes, Replays}
+use Rattle.pull_store.specs.declared.limits.TheConstants.{MAX_REPORTS, MAX_ROWS}
 use Rattle.pull_store.proofs.Placing.{newest_push}
 
 pub tells : (b : Bool) → (b ≡ true) ⊎ (b ≡ false)
@@ -84,11 +85,11 @@ none_job job (r ∷ reports) none =
     let no = no_more (r.job == job) (times job reports) none in
     rw (no.0) (none_job job reports no.1)
 
-pub push_report : (job : ℕ) (body : List ℕ) (reports : List StoredReport) → times job reports ≡ 0 → length reports < 4
+pub push_report : (job : ℕ) (body : List ℕ) (reports : List StoredReport) → times job reports ≡ 0 → length reports < MAX_REPORTS
     → with_report job body reports ≡ reports ++ record { job = job; body = body } ∷ []
 push_report job body reports none few =
     let r : StoredReport = record { job = job; body = body } in
-    let zero_drop : length reports - 3 ≡ 0 = omega (arith, few) in
+    let zero_drop : length reports - (MAX_REPORTS - 1) ≡ 0 = omega (arith, few) in
     rw (none_job job reports none) (newest_push reports r ∙ ap (λ (n : ℕ). drop n reports ++ r ∷ []) zero_drop)
 
 -- ---- bodies
@@ -100,13 +101,13 @@ replays_both one two three (body ∷ xs) ys first second = (first.0, first.1, re
 pub replays_push : (one two three : List Row) (xs : List (List ℕ)) (body : List ℕ) → Replays one xs two → Takes two body three → Replays one (xs ++ body ∷ []) three
 replays_push one two three xs body first takes = replays_both one two three xs (body ∷ []) first (three, takes, refl)
 
-accepted_new : (agent : ℕ) (registration : Registration) (front : List Row) → rows_of agent front ≡ 0 → length front < 512 → refusal (Register agent registration) front ≡ None
+accepted_new : (agent : ℕ) (registration : Registration) (front : List Row) → rows_of agent front ≡ 0 → length front < MAX_ROWS → refusal (Register agent registration) front ≡ None
 accepted_new agent registration front none few =
-    let no : nat_le 512 (length front) ≡ false = grind (arith, few) in
+    let no : nat_le MAX_ROWS (length front) ≡ false = grind (arith, few) in
     rw (none_row agent front none, no) refl
 
 put_reports : (agent : ℕ) (registration : Registration) (front : List Row) (done more : List StoredReport) → IsId agent → rows_of agent front ≡ 0 → AllByRecursion IsReport more
-    → length done + length more ≤ 4 → ((job : ℕ) → times job (done ++ more) ≤ 1)
+    → length done + length more ≤ MAX_REPORTS → ((job : ℕ) → times job (done ++ more) ≤ 1)
     → Replays (front ++ record { agent = agent; registration = registration; reports = done } ∷ []) (bodies_of_reports agent more) (front ++ record { agent = agent; registration = registration; reports = done ++ more } ∷ [])
 put_reports agent registration front done [] id none each few once =
     ap (λ (l : List StoredReport). front ++ record { agent = agent; registration = registration; reports = l } ∷ []) (append-nil done)
@@ -125,7 +126,7 @@ put_reports agent registration front done (r ∷ more) id none each few once =
       subst (λ (l : List StoredReport). Replays (front ++ record { agent = agent; registration = registration; reports = next } ∷ []) (bodies_of_reports agent more) (front ++ record { agent = agent; registration = registration; reports = l } ∷ [])) joined rest,
     )
 
-pub put_row : (front : List Row) (row : Row) → IsRow row → rows_of row.agent front ≡ 0 → length front < 512 → Replays front (bodies_of_row row) (front ++ row ∷ [])
+pub put_row : (front : List Row) (row : Row) → IsRow row → rows_of row.agent front ≡ 0 → length front < MAX_ROWS → Replays front (bodies_of_row row) (front ++ row ∷ [])
 put_row front row is none few =
     let new : List Row = front ++ record { agent = row.agent; registration = row.registration; reports = [] } ∷ [] in (
       new,
@@ -137,7 +138,7 @@ put_row front row is none few =
       put_reports row.agent row.registration front [] row.reports is.agent none is.short (omega (arith, is.reports.few)) is.reports.once,
     )
 
-put_rows : (front rows : List Row) → AllByRecursion IsRow rows → ((agent : ℕ) → rows_of agent (front ++ rows) ≤ 1) → length front + length rows ≤ 512 → Replays front (bodies_of_rows rows) (front ++ rows)
+put_rows : (front rows : List Row) → AllByRecursion IsRow rows → ((agent : ℕ) → rows_of agent (front ++ rows) ≤ 1) → length front + length rows ≤ MAX_ROWS → Replays front (bodies_of_rows rows) (front ++ rows)
 put_rows front [] each apart few = append-nil front
 put_rows front (row ∷ rows) each apart few =
     let none : rows_of row.agent front ≡ 0 = omega (arith, apart row.agent, rows_append row.agent front (row ∷ rows), rows_head row rows) in

@@ -9,6 +9,7 @@ use Rattle.pull_store.specs.Sound.{times, AreRows}
 use Rattle.pull_store.specs.Stands.{Changes, Stands}
 use Rattle.pull_store.specs.Steps.{agent_of, with_row}
 use Rattle.pull_store.specs.Laws.{body_under}
+use Rattle.pull_store.specs.declared.limits.TheConstants.{MAX_REPORTS}
 use Rattle.pull_store.proofs.Placing.{newest_push}
 use Rattle.pull_store.proofs.Building.{tells, no_more}
 use Rattle.pull_store.proofs.SoundSteps.{placed_after, made_agent, makes_some, none_there, times_drop, sound_replayed, no_rows}
@@ -57,5 +58,5 @@ pub body_with : (job : ℕ) (body : List ℕ) (reports : List StoredReport) → 
 body_with job body reports = elim (tells (has_job job reports)) [
   | inl is ↦ rw is (body_put job body reports is)
   | inr isnt ↦ rw (isnt, newest_push reports (record { job = job; body = body }))
-      (body_last job body (drop (length reports - 3) reports) (omega (arith, times_drop job (length reports - 3) reports, none_there job reports isnt)))
+      (body_last job body (drop (length reports - (MAX_REPORTS - 1)) reports) (omega (arith, times_drop job (length reports - (MAX_REPORTS - 1)) reports, none_there job reports isnt)))
 ]

@@ -8,6 +8,7 @@ use Rattle.pull_store.specs.Sound.{IsRow}
 use Rattle.pull_store.specs.Rows.{newest, has_job, replaced, with_report}
 use Rattle.std.proofs.lemmas.List.{take_all}
 use Rattle.pull_store.specs.Steps.{place_of, place_of_job, with_row, tail_of}
+use Rattle.pull_store.specs.declared.limits.TheConstants.{MAX_REPORTS}
 
 set_on : (b : Bool) (n : ℕ) (new row : Row) (rows : List Row) → (if b then 0 else suc n) < suc (length rows) → (n < length rows → with_row new rows ≡ slice_set rows n new)
     → (if b then new ∷ rows else row ∷ with_row new rows) ≡ slice_set (row ∷ rows) (if b then 0 else suc n) new
@@ -27,10 +28,10 @@ pub at_end : (new : Row) (rows : List Row) → length rows ≤ place_of new.agen
 at_end new [] le = refl
 at_end new (row ∷ rows) le = end_on (row.agent == new.agent) (place_of new.agent rows) new row rows le (at_end new rows)
 
-pub newest_push : (reports : List StoredReport) (r : StoredReport) → newest (reports ++ r ∷ []) ≡ drop (length reports - 3) reports ++ r ∷ []
+pub newest_push : (reports : List StoredReport) (r : StoredReport) → newest (reports ++ r ∷ []) ≡ drop (length reports - (MAX_REPORTS - 1)) reports ++ r ∷ []
 newest_push reports r =
-    let count : length (reports ++ r ∷ []) - 4 ≡ length reports - 3 = omega (arith, length-append reports (r ∷ [])) in
-    ap (λ (n : ℕ). drop n (reports ++ r ∷ [])) count ∙ drop-append-le (length reports - 3) reports (r ∷ []) (omega arith)
+    let count : length (reports ++ r ∷ []) - MAX_REPORTS ≡ length reports - (MAX_REPORTS - 1) = omega (arith, length-append reports (r ∷ [])) in
+    ap (λ (n : ℕ). drop n (reports ++ r ∷ [])) count ∙ drop-append-le (length reports - (MAX_REPORTS - 1)) reports (r ∷ []) (omega arith)
 
 -- ---- a report that is there
 
@@ -64,7 +65,7 @@ pub reports_set : (job : ℕ) (body : List ℕ) (rs : List StoredReport) (at : �
 reports_set job body rs at is le = rw (is, job_there job rs (omega (arith, is, le))) (sym (job_placed job body rs (omega (arith, is, le))))
 
 pub reports_push : (job : ℕ) (body : List ℕ) (rs : List StoredReport) (at : ℕ) → at ≡ place_of_job job rs → length rs ≤ at
-    → drop (length rs - 3) rs ++ record { job = job; body = body } ∷ [] ≡ with_report job body rs
+    → drop (length rs - (MAX_REPORTS - 1)) rs ++ record { job = job; body = body } ∷ [] ≡ with_report job body rs
 reports_push job body rs at is le = rw (job_gone job rs (omega (arith, is, le))) (sym (newest_push rs (record { job = job; body = body })))
 
 -- ---- the rows around an agent's row

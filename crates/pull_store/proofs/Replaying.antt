@@ -76,7 +76,7 @@ led rows image at is = record { long = is.long; fails = by at is.fails }
     by place (no_text place' fails took) = no_text place' fails (rows, took)
     by place (no_meaning second front body live cells refused) = no_meaning second front body live cells refused
 
-if_told : (seen : Option (List ℕ)) (P Q : List ℕ → Type 0) → ((held : List ℕ) → P held → Q held) → IfSome seen P → IfSome seen Q
+if_told : (shown : Option (List ℕ)) (P Q : List ℕ → Type 0) → ((held : List ℕ) → P held → Q held) → IfSome shown P → IfSome shown Q
 if_told None P Q to is = tt
 if_told (Some held) P Q to is = to held is
 
@@ -84,12 +84,12 @@ module _ {D : Type 0} (d : Ghosts D) (old new : D) (rows : List Row) where
   pub is_opened : (log : LogTerm) → Opened d old new pull_shape (λ bodies. Replays [] bodies rows) log → IsOpened d old new (record { log = log; rows = rows })
   is_opened log opened = record {
     kept = record { bodies = opened.found; of = opened.of; replays = opened.took; shape = opened.same_shape; unspent = opened.spent };
-    found = if_told (d.seen old) (λ held. Gives pull_shape held opened.found) (λ held. Stands held rows) (λ held gives. record { bodies = opened.found; gives = gives; replays = opened.took }) opened.gave;
+    found = if_told (d.shown old) (λ held. Gives pull_shape held opened.found) (λ held. Stands held rows) (λ held gives. record { bodies = opened.found; gives = gives; replays = opened.took }) opened.gave;
   }
 
   pub not_opened : (at : ℕ) → Unopened d old new pull_shape (λ bodies. Replays [] bodies rows) (λ bodies body. EndsAt bodies body) (errors.NotAStore at) → NotOpened d old new at
   not_opened at unopened = record {
-    fails = if_told (d.seen old) (λ held. IsRefused pull_shape (λ bodies. Replays [] bodies rows) EndsAt held at) (λ held. IsRefused pull_shape LeadSomewhere EndsAt held at) (λ held is. led rows held at is) unopened.refused;
+    fails = if_told (d.shown old) (λ held. IsRefused pull_shape (λ bodies. Replays [] bodies rows) EndsAt held at) (λ held. IsRefused pull_shape LeadSomewhere EndsAt held at) (λ held is. led rows held at is) unopened.refused;
     still = unopened.still;
   }
 

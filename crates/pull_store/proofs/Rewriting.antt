@@ -10,8 +10,9 @@ use Rattle.pull_store.specs.declared.error.PullError.{PullError}
 use Rattle.pull_store.specs.declared.error.PullError.TheVariants.{Spent, Agents, NoAgent, Full, Disk, NotAStore, Memory}
 use Rattle.pull_store.specs.Puts.{CanPut, Puts, PutEnds, Ends}
 use Rattle.pull_store.specs.Stands.{pull_shape}
+use Rattle.pull_store.specs.declared.limits.TheConstants.{BANK, MAX_BODY}
 
-begun_room : (log : LogTerm) (n : ℕ) → log.shape ≡ pull_shape → n + 1 ≤ 335544320 → n ≤ room_to_put (begun log)
+begun_room : (log : LogTerm) (n : ℕ) → log.shape ≡ pull_shape → n + 1 ≤ BANK → n ≤ room_to_put (begun log)
 begun_room log n shape le = omega (arith, le, ap (λ (s : Shape). s.bank) shape)
 
 pub ends_of : (old other new : LogTerm) (bodies : List (List ℕ)) (before now : ℕ) (e : PullError) → PutEnds {T = Unit {0}} old bodies before now (Err e) new → Ends {T = Unit {0}} other before now (Err e) new
@@ -25,15 +26,15 @@ ends_of old other new bodies before now Memory ends = absurd ends
 
 module _ {D : Type 0} (d : Ghosts D) (disk0 : D) (log log1 : LogTerm) (bodies : List (List ℕ)) (shape : log.shape ≡ pull_shape) (is : log1 ≡ begun log) where
   pub of_begun : (all : List (List ℕ)) → IsLogOf d disk0 log all → IsLogOf d disk0 log1 all
-  of_begun all of = subst (λ (l : LogTerm). IsLogOf d disk0 l all) (sym is) (begun_of (d.seen disk0) (d.images disk0) log all of)
+  of_begun all of = subst (λ (l : LogTerm). IsLogOf d disk0 l all) (sym is) (begun_of (d.shown disk0) (d.images disk0) log all of)
 
   some : 1 ≤ log.shape.bank
   some = omega (arith, ap (λ (s : Shape). s.bank) shape)
 
   pub put_begun : HasPutOn d disk0 log1 []
-  put_begun = subst (λ (l : LogTerm). HasPutOn d disk0 l []) (sym is) (begun_put (d.seen disk0) log some)
+  put_begun = subst (λ (l : LogTerm). HasPutOn d disk0 l []) (sym is) (begun_put (d.shown disk0) log some)
 
-  pub can_begin : log.spent ≡ false → length (cells bodies) + 1 ≤ 335544320 → AllFit 196608 bodies → (all : List (List ℕ)) → IsLogOf d disk0 log all → CanPut d disk0 log1 bodies
+  pub can_begin : log.spent ≡ false → length (cells bodies) + 1 ≤ BANK → AllFit MAX_BODY bodies → (all : List (List ℕ)) → IsLogOf d disk0 log all → CanPut d disk0 log1 bodies
   can_begin unspent fits fit all of = record {
     shape = ap (λ (l : LogTerm). l.shape) is ∙ shape;
     unspent = ap (λ (l : LogTerm). l.spent) is ∙ unspent;

@@ -17,6 +17,7 @@ use Rattle.pull_store.specs.declared.change.Change.TheVariants.{Register, Report
 use Rattle.pull_store.specs.Bodies.{body_of, bytes_of_texts, bytes_of_registration, bodies_of_reports, bodies_of_row, bodies_of_rows}
 use Rattle.pull_store.proofs.Putting.{cells_both}
 use Rattle.pull_store.specs.Sound.{IsKeepable, IsNameText, IsRegistration, IsReport, IsRow}
+use Rattle.pull_store.specs.declared.limits.TheConstants.{MAX_BODY, MAX_BYTES}
 
 length-128 : (n : ℕ) → length (bytes_of_number w128 n) ≡ 16
 unfolding bytes_of_number
@@ -55,10 +56,10 @@ pub length-register : (agent : ℕ) (x : Registration) → length (body_of (Regi
 length-register agent x =
     omega (arith, length-append (bytes_of_number w128 agent) (bytes_of_registration x), length-128 agent, length-registration x)
 
-pub report_short : (agent job : ℕ) (body : List ℕ) → length body ≤ 131072 → length (body_of (Report agent job body)) ≤ 131105
+pub report_short : (agent job : ℕ) (body : List ℕ) → length body ≤ MAX_BYTES → length (body_of (Report agent job body)) ≤ 33 + MAX_BYTES
 report_short agent job body le = omega (arith, le, length-report agent job body)
 
-pub register_short : (agent : ℕ) (x : Registration) → IsKeepable x → length (body_of (Register agent x)) ≤ 131128
+pub register_short : (agent : ℕ) (x : Registration) → IsKeepable x → length (body_of (Register agent x)) ≤ 56 + MAX_BYTES
 register_short agent x is = omega (arith, is.whole, is.sized.few, length-register agent x)
 
 -- one cell more
@@ -117,22 +118,22 @@ keepable_of x is = record {
   whole = is.whole;
 }
 
-reports_fit : (agent : ℕ) (reports : List StoredReport) → AllByRecursion IsReport reports → AllFit 196608 (bodies_of_reports agent reports)
+reports_fit : (agent : ℕ) (reports : List StoredReport) → AllByRecursion IsReport reports → AllFit MAX_BODY (bodies_of_reports agent reports)
 reports_fit agent [] all = tt
 reports_fit agent (r ∷ reports) all = (omega (arith, report_short agent r.job r.body all.0.short), reports_fit agent reports all.1)
 
-pub row_fits : (row : Row) → IsRow row → AllFit 196608 (bodies_of_row row)
+pub row_fits : (row : Row) → IsRow row → AllFit MAX_BODY (bodies_of_row row)
 row_fits row is = (omega (arith, register_short row.agent row.registration (keepable_of row.registration is.registration)), reports_fit row.agent row.reports is.short)
 
 fit_both : (largest : ℕ) (one other : List (List ℕ)) → AllFit largest one → AllFit largest other → AllFit largest (one ++ other)
 fit_both largest [] other first second = second
 fit_both largest (body ∷ one) other first second = (first.0, fit_both largest one other first.1 second)
 
-pub rows_fit : (rows : List Row) → AllByRecursion IsRow rows → AllFit 196608 (bodies_of_rows rows)
+pub rows_fit : (rows : List Row) → AllByRecursion IsRow rows → AllFit MAX_BODY (bodies_of_rows rows)
 rows_fit [] all = tt
-rows_fit (row ∷ rows) all = fit_both 196608 (bodies_of_row row) (bodies_of_rows rows) (row_fits row all.0) (rows_fit rows all.1)
+rows_fit (row ∷ rows) all = fit_both MAX_BODY (bodies_of_row row) (bodies_of_rows rows) (row_fits row all.0) (rows_fit rows all.1)
 
 pub parts_fit : (front : List Row) (row : Row) (behind : List Row) → AllByRecursion IsRow front → IsRow row → AllByRecursion IsRow behind
-    → AllFit 196608 (bodies_of_rows front ++ (bodies_of_row row ++ bodies_of_rows behind))
+    → AllFit MAX_BODY (bodies_of_rows front ++ (bodies_of_row row ++ bodies_of_rows behind))
 parts_fit front row behind one two three =
-    fit_both 196608 (bodies_of_rows front) (bodies_of_row row ++ bodies_of_rows behind) (rows_fit front one) (fit_both 196608 (bodies_of_row row) (bodies_of_rows behind) (row_fits row two) (rows_fit behind three))
+    fit_both MAX_BODY (bodies_of_rows front) (bodies_of_row row ++ bodies_of_rows behind) (rows_fit front one) (fit_both MAX_BODY (bodies_of_row row) (bodies_of_rows behind) (row_fits row two) (rows_fit behind three))

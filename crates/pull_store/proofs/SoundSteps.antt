@@ -14,6 +14,7 @@ use Rattle.pull_store.specs.Rows.{row_of, after_registration, after_report, has_
 use Rattle.pull_store.specs.Sound.{IsReport, IsRow, AreOnce, AreRows, IsInSize, times, rows_of}
 use Rattle.pull_store.specs.Stands.{Changes, Replays}
 use Rattle.pull_store.specs.Steps.{agent_of, with_row, reports_in, Makes}
+use Rattle.pull_store.specs.declared.limits.TheConstants.{MAX_REPORTS, MAX_ROWS}
 use Rattle.pull_store.proofs.Placing.{newest_push}
 use Rattle.pull_store.proofs.Building.{tells, times_append}
 
@@ -61,18 +62,18 @@ times_others j r isnt = rw isnt refl
 once_push : (job : ℕ) (body : List ℕ) (reports : List StoredReport) → AreOnce reports → has_job job reports ≡ false → AreOnce (newest (reports ++ record { job = job; body = body } ∷ []))
 once_push job body reports are isnt =
     let r : StoredReport = record { job = job; body = body } in
-    let kept = drop (length reports - 3) reports in
+    let kept = drop (length reports - (MAX_REPORTS - 1)) reports in
     subst (λ (l : List StoredReport). AreOnce l) (sym (newest_push reports r)) (record {
-      few = omega (arith, length-append kept (r ∷ []), length-drop (length reports - 3) reports, are.few);
+      few = omega (arith, length-append kept (r ∷ []), length-drop (length reports - (MAX_REPORTS - 1)) reports, are.few);
       once = λ j. elim (tells (job == j)) [
         | inl same ↦ omega (
           arith,
           times_append j kept (r ∷ []),
           times_one j r,
-          times_drop j (length reports - 3) reports,
+          times_drop j (length reports - (MAX_REPORTS - 1)) reports,
           subst (λ (n : ℕ). times n reports ≡ 0) (eqb-true job j same) (none_there job reports isnt),
         )
-        | inr other ↦ omega (arith, times_append j kept (r ∷ []), times_others j r other, times_drop j (length reports - 3) reports, are.once j)
+        | inr other ↦ omega (arith, times_append j kept (r ∷ []), times_others j r other, times_drop j (length reports - (MAX_REPORTS - 1)) reports, are.once j)
       ];
     })
 
@@ -200,14 +201,14 @@ each_with new (row ∷ rows) one each = elim (tells (row.agent == new.agent)) [
   | inr other ↦ rw other (each.0, each_with new rows one each.1)
 ]
 
-few_new : (none : Bool) (n : ℕ) → n ≤ 512 → (if none && nat_le 512 n then Some TooMany else None) ≡ None → (if none then suc n else n) ≤ 512
+few_new : (none : Bool) (n : ℕ) → n ≤ MAX_ROWS → (if none && nat_le MAX_ROWS n then Some TooMany else None) ≡ None → (if none then suc n else n) ≤ MAX_ROWS
 few_new false n few accepted = few
-few_new true n few accepted = elim (tells (nat_le 512 n)) [
+few_new true n few accepted = elim (tells (nat_le MAX_ROWS n)) [
   | inl full ↦ absurd (let is : Some TooMany ≡ None = subst (λ (b : Bool). (if b then Some TooMany else None) ≡ None) full accepted in cc is)
   | inr room ↦ grind (arith, few, room)
 ]
 
-few_known : (none : Bool) (n : ℕ) → n ≤ 512 → (if none then Some Unknown else None) ≡ None → (if none then suc n else n) ≤ 512
+few_known : (none : Bool) (n : ℕ) → n ≤ MAX_ROWS → (if none then Some Unknown else None) ≡ None → (if none then suc n else n) ≤ MAX_ROWS
 few_known false n few accepted = few
 few_known true n few accepted = absurd (cc accepted)
 
@@ -216,7 +217,7 @@ made_agent (Register agent registration) o row makes = ap (λ (r : Row). r.agent
 made_agent (Report agent job body) None row makes = absurd makes
 made_agent (Report agent job body) (Some before) row makes = ap (λ (r : Row). r.agent) makes
 
-few_after : (change : Change) (rows : List Row) → length rows ≤ 512 → refusal change rows ≡ None → (if is_none (row_of (agent_of change) rows) then suc (length rows) else length rows) ≤ 512
+few_after : (change : Change) (rows : List Row) → length rows ≤ MAX_ROWS → refusal change rows ≡ None → (if is_none (row_of (agent_of change) rows) then suc (length rows) else length rows) ≤ MAX_ROWS
 few_after (Register agent registration) rows few accepted = few_new (is_none (row_of agent rows)) (length rows) few accepted
 few_after (Report agent job body) rows few accepted = few_known (is_none (row_of agent rows)) (length rows) few accepted
 
@@ -244,8 +245,8 @@ is_row change rows row are size makes = made_row change rows (row_of (agent_of c
 
 pub sound_with : (change : Change) (rows : List Row) (row : Row) → AreRows rows → IsInSize change → refusal change rows ≡ None → Makes change (row_of (agent_of change) rows) row → AreRows (with_row row rows)
 sound_with change rows row are size accepted makes = record {
-  few = subst (λ (n : ℕ). n ≤ 512) (sym (length_with row rows))
-      (subst (λ (a : ℕ). (if is_none (row_of a rows) then suc (length rows) else length rows) ≤ 512) (sym (made_agent change (row_of (agent_of change) rows) row makes)) (few_after change rows are.few accepted));
+  few = subst (λ (n : ℕ). n ≤ MAX_ROWS) (sym (length_with row rows))
+      (subst (λ (a : ℕ). (if is_none (row_of a rows) then suc (length rows) else length rows) ≤ MAX_ROWS) (sym (made_agent change (row_of (agent_of change) rows) row makes)) (few_after change rows are.few accepted));
   apart = λ agent. apart_with agent row rows (are.apart agent);
   each = each_with row rows (is_row change rows row are size makes) are.each;
 }

@@ -1,6 +1,7 @@
 -- The rows of a pull server, and what a registration and a report make of them.
 use Rattle.std.specs.Prelude.{◌==◌, ℕ, ◌-◌, Bool, ◌&&◌, if◌then◌else◌, nat_le, true, false, List, [], ◌∷◌, ◌++◌, length, drop, Option, Some, None, is_none}
 use Rattle.pull_messages.specs.declared.registration.Registration.{Registration}
+use Rattle.pull_store.specs.declared.limits.TheConstants.{MAX_REPORTS, MAX_ROWS}
 use Rattle.pull_store.specs.declared.row.Row.{Row}
 use Rattle.pull_store.specs.declared.row.StoredReport.{StoredReport}
 use Rattle.pull_store.specs.declared.change.Change.{Change}
@@ -30,7 +31,7 @@ replaced job body (report ∷ reports) = if report.job == job then record { job 
 
 -- how many reports of an agent are kept
 abbrev pub most_reports : ℕ
-most_reports = 4
+most_reports = MAX_REPORTS
 
 -- the newest four
 abbrev pub newest : List StoredReport → List StoredReport
@@ -54,7 +55,7 @@ after (Report agent job body) rows = after_report agent job body rows
 
 -- how many agents may have a row
 abbrev pub most_rows : ℕ
-most_rows = 512
+most_rows = MAX_ROWS
 
 -- a registration of a new agent is accepted while there are fewer than 512 rows, a report where its agent has a row
 abbrev pub refusal : Change → List Row → Option Refusal

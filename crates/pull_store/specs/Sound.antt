@@ -2,6 +2,7 @@
 use Rattle.std.specs.Prelude.{◌==◌, ℕ, ◌≤◌, suc, if◌then◌else◌, List, [], ◌∷◌, length, encode_utf8_all}
 use Rattle.std.specs.List.{AllByRecursion}
 use Rattle.std.specs.Int.{w128}
+use Rattle.mof_values.specs.declared.limits.TheConstants.{MAX_NAME_BYTES}
 use Rattle.store_fields.specs.Fields.{IsList, IsNumber, IsText}
 use Rattle.pull_messages.specs.Limits.{list_items, text_bytes}
 use Rattle.pull_messages.specs.declared.registration.Registration.{Registration}
@@ -10,6 +11,7 @@ use Rattle.pull_store.specs.declared.row.Row.{Row}
 use Rattle.pull_store.specs.declared.row.StoredReport.{StoredReport}
 use Rattle.pull_store.specs.declared.change.Change.{Change}
 use Rattle.pull_store.specs.declared.change.Change.TheVariants.{Register, Report}
+use Rattle.pull_store.specs.declared.limits.TheConstants.{MAX_BYTES}
 use Rattle.pull_store.specs.Rows.{most_rows, most_reports}
 
 -- agents and jobs have 16 bytes
@@ -18,7 +20,7 @@ IsId id = IsNumber w128 id
 
 -- the bytes of a report, and of all texts of a registration in UTF-8
 abbrev pub most_bytes : ℕ
-most_bytes = 131_072
+most_bytes = MAX_BYTES
 
 -- the sizes of a registration that may be kept: each text at most 65,535 bytes, at most 16 names of 1 to 255 bytes, all
 -- together at most 131,072 bytes
@@ -28,7 +30,7 @@ pub record IsKeepable (registration : Registration) : Type 0 where
 
 -- a name of a registration, in characters
 pub record IsNameText (name : List ℕ) : Type 0 where
-  pub text : IsText 255 name
+  pub text : IsText MAX_NAME_BYTES name
   pub some : 1 ≤ length (encode_utf8_all name)
 
 -- a registration that may be kept, its texts in characters

@@ -3,6 +3,7 @@ use Rattle.std.specs.Prelude.{◌≡◌, ◌⊎◌, ℕ, List, [], ◌∷◌, �
 use Rattle.gate_log.specs.declared.shape.Shape.{Shape}
 use Rattle.gate_log.specs.Text.{Gives}
 use Rattle.gate_log.specs.Replay.{IsRefused}
+use Rattle.pull_store.specs.declared.limits.TheConstants.{BANK, MAX_BODY}
 use Rattle.pull_store.specs.declared.row.Row.{Row}
 use Rattle.pull_store.specs.declared.change.Change.{Change}
 use Rattle.pull_store.specs.declared.change.Change.TheVariants.{Register, Report}
@@ -13,7 +14,7 @@ use Rattle.pull_store.specs.Sound.{IsInSize}
 
 -- two banks, and the longest body
 abbrev pub pull_shape : Shape
-pull_shape = record { bank = 335_544_320; largest = 196_608 }
+pull_shape = record { bank = BANK; largest = MAX_BODY }
 
 -- the bytes are the body of this change, which is in size
 pub record IsBody (bytes : List ℕ) (change : Change) : Type 0 where

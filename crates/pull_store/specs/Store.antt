@@ -101,8 +101,8 @@ pub record IsOpened {D : Type 0} (d : Ghosts D) (old new : D) (store : StoreTerm
 
 -- the disk read as an image that stands for no rows, failing first at this place, and was left as it was
 pub record NotOpened {D : Type 0} (d : Ghosts D) (old new : D) (at : ℕ) : Type 0 where
-  pub fails : IfSome (d.seen old) (λ held. FailsAt held at)
-  pub still : Still d.seen d.images d.moment d.left_since old new
+  pub fails : IfSome (d.shown old) (λ held. FailsAt held at)
+  pub still : Still d.shown d.images d.moment d.left_since old new
 
 -- the cause of an opening's error
 abbrev pub Unopened : {D : Type 0} → Ghosts D → D → D → PullError → Type 0

@@ -7,9 +7,11 @@ ghost use Rattle.pull_store.specs.Sound.{AreRows, IsInSize};
 ghost use Rattle.pull_store.specs.Stands.{Stands, BeforeOrAfter};
 ghost use Rattle.pull_store.specs.Steps.{agent_of, Makes};
 ghost use Rattle.pull_store.specs.Store.{IsKept, Written};
+ghost use Rattle.pull_store.specs.declared.limits.TheConstants.{BODY_CAPACITY};
 
 use crate::change::Change;
 use crate::error::PullError;
+use crate::limits::BANK;
 use crate::need::{need_of_row, need_of_rows};
 use crate::row::Row;
 use crate::rows::{around, row_after};
@@ -17,9 +19,6 @@ use crate::writing::{append_body, rewrite};
 use dsc_outside::Disk;
 use gate_log::Log;
 use std::alloc::{AllocError, Global};
-
-/// The bytes of a bank.
-pub const BANK: u64 = 335_544_320;
 
 /// What an accepted change makes of its agent's row, and room for one more row.
 pub fn prepare(alloc: Global, rows: &mut Vec<Row>, change: &Change) -> Result<Row, AllocError>
@@ -44,9 +43,9 @@ pub fn write<D: Disk>(
 ) -> Result<(), PullError>
     requires kept { IsKept D.Disk disk.old (record { log = log.old; rows = rows.now }) }
     requires sound { AreRows rows.now }
-    requires capacity { 131_200 ≤ vec_capacity buffer.old }
+    requires capacity { BODY_CAPACITY ≤ vec_capacity buffer.old }
     requires spelled { buffer.old.items ≡ body_of change.now }
-    requires short { length buffer.old.items ≤ 131_200 }
+    requires short { length buffer.old.items ≤ BODY_CAPACITY }
     requires in_size { IsInSize change.now }
     requires accepted { refusal change.now rows.now ≡ None }
     requires row { Makes change.now (row_of (agent_of change.now) rows.now) row.now }

@@ -14,6 +14,7 @@ mod change;
 mod committing;
 mod error;
 mod laws;
+mod limits;
 mod names;
 mod need;
 mod opening;
@@ -26,6 +27,7 @@ mod writing;
 
 pub use error::PullError;
 pub use laws::{images_have_one_meaning, jobs_stand_once, rows_are_apart};
+pub use limits::{BANK, MAX_BYTES, MAX_REPORTS, MAX_ROWS};
 pub use opening::open_pull;
 pub use row::{Row, StoredReport};
 pub use store::PullStore;

@@ -1,5 +1,5 @@
 //! The names of a registration, in a body.
-use mof_values::{Memory, Text};
+use mof_values::{MAX_NAME_BYTES, Memory, Text};
 use std::alloc::Global;
 use store_fields::{FieldError, Fields, Form, put_text};
 
@@ -18,7 +18,7 @@ impl Form<Text> for NameForm {
     ghost fits = { IsName };
 
     fn read(alloc: Global, fields: &mut Fields<'_>) -> Result<Text, FieldError> {
-        let name = fields.text(alloc, 255)?;
+        let name = fields.text(alloc, MAX_NAME_BYTES as u16)?;
         if name.fits_utf8(0) {
             return Err(FieldError::Wrong);
         }

@@ -4,24 +4,30 @@ ghost use Rattle.std.specs.List.{AllByRecursion};
 ghost use Rattle.gate_log.specs.Text.{cells};
 ghost use Rattle.pull_store.specs.Bodies.{bodies_of_reports, bodies_of_row, bodies_of_rows};
 ghost use Rattle.pull_store.specs.Sound.{IsReport, IsRow};
+ghost use Rattle.pull_store.specs.declared.limits.TheConstants.{MAX_ROWS};
 
+use crate::limits::{BODY_CAPACITY, MAX_BYTES, MAX_REPORTS};
 use crate::row::{Row, StoredReport};
 use crate::spelling::spell_registration;
-
-// The gate and the length of a cell.
-const CELL: u64 = 5;
+use gate_log::CELL_HEAD;
 
 // The kind, the agent and the job of a report.
-const REPORT: u64 = 33;
+const REPORT_HEAD: u64 = 33;
+
+// The most bytes of a report's cell.
+const REPORT_CELL: u64 = CELL_HEAD + REPORT_HEAD + MAX_BYTES as u64;
+
+// The cells of a row have at most so many bytes: that of its registration and those of its reports.
+const ROW_CELLS: u64 = (1 + MAX_REPORTS as u64) * (CELL_HEAD + BODY_CAPACITY as u64);
 
 /// The bytes of the cells of rows; the buffer has room for a body.
 #[tactic(auto, using(crate::proofs::Putting::cells_both))]
 pub fn need_of_rows(buffer: &mut Vec<u8>, rows: &[Row]) -> u64
-    requires capacity { 131_200 ≤ vec_capacity buffer.old }
-    requires few { length rows.now ≤ 512 }
+    requires capacity { BODY_CAPACITY ≤ vec_capacity buffer.old }
+    requires few { length rows.now ≤ MAX_ROWS }
     requires rows { AllByRecursion IsRow rows.now }
     ensures need { result ≡ length (cells (bodies_of_rows rows.now)) }
-    ensures bound { result ≤ 656_025 * length rows.now }
+    ensures bound { result ≤ ROW_CELLS * length rows.now }
     ensures capacity { vec_capacity buffer.old ≤ vec_capacity buffer.new }
 {
     match rows {
@@ -33,27 +39,30 @@ pub fn need_of_rows(buffer: &mut Vec<u8>, rows: &[Row]) -> u64
 /// The bytes of the cells of a row.
 #[tactic(auto, using(crate::proofs::Sizes::register_cell))]
 pub fn need_of_row(buffer: &mut Vec<u8>, row: &Row) -> u64
-    requires capacity { 131_200 ≤ vec_capacity buffer.old }
+    requires capacity { BODY_CAPACITY ≤ vec_capacity buffer.old }
     requires row { IsRow row.now }
     ensures need { result ≡ length (cells (bodies_of_row row.now)) }
-    ensures bound { result ≤ 656_025 }
+    ensures bound { result ≤ ROW_CELLS }
     ensures capacity { vec_capacity buffer.old ≤ vec_capacity buffer.new }
 {
     spell_registration(buffer, row.agent, &row.registration);
-    CELL + buffer.len() as u64 + need_of_reports(row.agent, row.reports.as_slice())
+    CELL_HEAD + buffer.len() as u64 + need_of_reports(row.agent, row.reports.as_slice())
 }
 
 #[tactic(auto, using(crate::proofs::Sizes::report_cell))]
 fn need_of_reports(agent: u128, reports: &[StoredReport]) -> u64
-    requires few { length reports.now ≤ 4 }
+    requires few { length reports.now ≤ MAX_REPORTS }
     requires reports { AllByRecursion IsReport reports.now }
     ensures need { result ≡ length (cells (bodies_of_reports agent reports.now)) }
-    ensures bound { result ≤ 131_110 * length reports.now }
+    ensures bound { result ≤ REPORT_CELL * length reports.now }
 {
     match reports {
         [] => 0,
         [first, rest @ ..] => {
-            CELL + REPORT + first.body.as_slice().len() as u64 + need_of_reports(agent, rest)
+            CELL_HEAD
+                + REPORT_HEAD
+                + first.body.as_slice().len() as u64
+                + need_of_reports(agent, rest)
         }
     }
 }

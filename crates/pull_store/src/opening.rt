@@ -6,12 +6,12 @@ ghost use Rattle.pull_store.specs.Stands.{KeepsRows};
 ghost use Rattle.pull_store.specs.Store.{IsOpened, Unopened};
 
 use crate::change::Change;
-use crate::committing::{BANK, prepare};
+use crate::committing::prepare;
 use crate::error::PullError;
+use crate::limits::{BANK, BODY_CAPACITY, MAX_BODY};
 use crate::reading::read_change;
 use crate::row::Row;
 use crate::rows::{place, refusal};
-use crate::spelling::LONGEST;
 use crate::store::PullStore;
 use dsc_outside::Disk;
 use gate_log::{LogError, Replay, Shape, TakeError, replay_log};
@@ -20,7 +20,7 @@ use store_fields::FieldError;
 
 const SHAPE: Shape = Shape {
     bank: BANK,
-    largest: 196_608,
+    largest: MAX_BODY,
 };
 
 /// The rows after the bodies that were read.
@@ -68,7 +68,7 @@ pub fn open_pull<D: Disk>(alloc: Global, disk: &mut D) -> Result<PullStore, Pull
     ensures any_moment { AtAnyMoment D.Disk disk.old disk.new (From KeepsRows (D.images disk.old)) }
     ensures count { D.faults disk.old ≤ D.faults disk.new }
 {
-    let buffer = Vec::with_capacity(alloc, LONGEST)?;
+    let buffer = Vec::with_capacity(alloc, BODY_CAPACITY)?;
     let mut reader = Reader {
         alloc,
         rows: Vec::new(alloc),

@@ -10,10 +10,11 @@ ghost use Rattle.pull_store.specs.Sound.{AreIds, AreFields, IsRegistration};
 ghost use Rattle.pull_store.specs.Stands.{IsBody};
 
 use crate::change::Change;
+use crate::limits::{LENGTHS, MAX_BYTES};
 use crate::names::NameForm;
 use mof_values::{Bytes, Text};
 use pull_messages::Registration;
-use std::alloc::Global;
+use std::alloc::{AllocError, Global};
 use store_fields::{FieldError, Fields, read_list};
 
 /// The change of which the bytes are the body.
@@ -70,7 +71,7 @@ fn read_report(alloc: Global, rest: &[u8]) -> Result<Change, FieldError>
         Err(error) => return Err(error),
     };
     let body = fields.rest();
-    if body.len() > 131_072 {
+    if body.len() > MAX_BYTES {
         return Err(FieldError::Wrong);
     }
     match body.to_vec(alloc) {
@@ -79,7 +80,7 @@ fn read_report(alloc: Global, rest: &[u8]) -> Result<Change, FieldError>
             job,
             body: Bytes::of(body),
         }),
-        Err(_) => Err(FieldError::Memory),
+        Err(AllocError) => Err(FieldError::Memory),
     }
 }
 
@@ -103,7 +104,7 @@ fn read_registration(alloc: Global, bytes: &[u8]) -> Result<Registration, FieldE
         Err(error) => return Err(error),
     };
     let names = registration.names.as_slice().len();
-    if fields.is_empty() && names <= 16 && bytes.len() <= 131_079 + 2 * names {
+    if fields.is_empty() && names <= 16 && bytes.len() <= MAX_BYTES + LENGTHS + 2 * names {
         Ok(registration)
     } else {
         Err(FieldError::Wrong)

@@ -6,12 +6,11 @@ ghost use Rattle.pull_store.specs.Sound.{IsRow};
 ghost use Rattle.pull_store.specs.Steps.{agent_of, place_of, place_of_job, with_row, tail_of, reports_in, Makes};
 
 use crate::change::{Change, Refusal};
+use crate::limits::{MAX_REPORTS, MAX_ROWS};
 use crate::row::{Row, StoredReport};
 use mof_values::{Bytes, Items};
 use pull_messages::Registration;
 use std::alloc::{AllocError, Global};
-
-const MOST_ROWS: usize = 512;
 
 /// The row of an agent.
 pub fn find(rows: &[Row], agent: u128) -> Option<&Row>
@@ -55,7 +54,7 @@ pub fn refusal(rows: &[Row], change: &Change) -> Option<Refusal>
             agent,
             registration: _,
         } => {
-            if find(rows, *agent).is_none() && MOST_ROWS <= rows.len() {
+            if find(rows, *agent).is_none() && MAX_ROWS <= rows.len() {
                 return Some(Refusal::TooMany);
             }
         }
@@ -195,7 +194,7 @@ fn with_report(
         kept[at] = StoredReport { job, body };
         return Ok(kept);
     }
-    let mut kept = copied(alloc, newest_three(reports))?;
+    let mut kept = copied(alloc, older_reports(reports))?;
     kept.push(StoredReport { job, body })?;
     Ok(kept)
 }
@@ -217,10 +216,11 @@ fn place_of_job(reports: &[StoredReport], job: u128) -> usize
     }
 }
 
-fn newest_three(reports: &[StoredReport]) -> &[StoredReport]
-    ensures { result.now ≡ drop (length reports.now - 3) reports.now }
+// The reports that stay where one is added: the newest of them.
+fn older_reports(reports: &[StoredReport]) -> &[StoredReport]
+    ensures { result.now ≡ drop (length reports.now - (MAX_REPORTS - 1)) reports.now }
 {
-    let (_, rest) = reports.split_at(reports.len().saturating_sub(3));
+    let (_, rest) = reports.split_at(reports.len().saturating_sub(MAX_REPORTS - 1));
     rest
 }
 

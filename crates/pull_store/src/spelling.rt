@@ -3,9 +3,11 @@ ghost use Rattle.std.specs.Prelude.{◌≡◌, ◌≤◌, ◌++◌, length, OnOk
 ghost use Rattle.std.specs.Int.{w128};
 ghost use Rattle.store_fields.specs.Fields.{IsText, bytes_of_number, bytes_of_text};
 ghost use Rattle.store_fields.specs.Writing.{Writes};
+ghost use Rattle.pull_messages.specs.Limits.{text_bytes};
 ghost use Rattle.pull_messages.specs.Sizes.{IsSized};
 ghost use Rattle.pull_store.specs.Bodies.{body_of, bytes_of_head, bytes_of_texts, bytes_of_registration};
 ghost use Rattle.pull_store.specs.Sound.{IsId, IsInSize, IsKeepable, IsKeepableChange, IsRegistration, most_bytes};
+ghost use Rattle.pull_store.specs.declared.limits.TheConstants.{BODY_CAPACITY};
 
 use crate::change::Change;
 use crate::names::NameForm;
@@ -13,16 +15,13 @@ use mof_values::{Memory, Text};
 use pull_messages::Registration;
 use store_fields::{put_byte, put_list, put_text, put_u128};
 
-/// At least the bytes of the longest body.
-pub const LONGEST: usize = 131_200;
-
 /// Writes the body of a change in place of all that was in a buffer, which has room for it.
 pub fn spell(buffer: &mut Vec<u8>, change: &Change)
-    requires capacity { 131_200 ≤ vec_capacity buffer.old }
+    requires capacity { BODY_CAPACITY ≤ vec_capacity buffer.old }
     requires size { IsKeepableChange change.now }
     ensures body { buffer.new.items ≡ body_of change.now }
     ensures in_size { IsInSize change.now }
-    ensures short { length buffer.new.items ≤ 131_200 }
+    ensures short { length buffer.new.items ≤ BODY_CAPACITY }
     ensures capacity { vec_capacity buffer.old ≤ vec_capacity buffer.new }
 {
     match change {
@@ -38,11 +37,11 @@ pub fn spell(buffer: &mut Vec<u8>, change: &Change)
 
 /// Writes the body of a registration in place of all that was in the buffer.
 pub fn spell_registration(buffer: &mut Vec<u8>, agent: u128, registration: &Registration)
-    requires capacity { 131_200 ≤ vec_capacity buffer.old }
+    requires capacity { BODY_CAPACITY ≤ vec_capacity buffer.old }
     requires size { IsKeepable registration.now }
     ensures body { buffer.new.items ≡ body_of (Change.Register agent registration.now) }
     ensures in_size { IsId agent × IsRegistration registration.now }
-    ensures short { length buffer.new.items ≤ 131_200 }
+    ensures short { length buffer.new.items ≤ BODY_CAPACITY }
     ensures capacity { vec_capacity buffer.old ≤ vec_capacity buffer.new }
 {
     buffer.clear();
@@ -54,11 +53,11 @@ pub fn spell_registration(buffer: &mut Vec<u8>, agent: u128, registration: &Regi
 
 /// Writes the body of a report in place of all that was in the buffer.
 pub fn spell_report(buffer: &mut Vec<u8>, agent: u128, job: u128, body: &[u8])
-    requires capacity { 131_200 ≤ vec_capacity buffer.old }
+    requires capacity { BODY_CAPACITY ≤ vec_capacity buffer.old }
     requires size { length body.now ≤ most_bytes }
     ensures body { buffer.new.items ≡ body_of (Change.Report agent job body.now) }
     ensures in_size { IsId agent × IsId job }
-    ensures short { length buffer.new.items ≤ 131_200 }
+    ensures short { length buffer.new.items ≤ BODY_CAPACITY }
     ensures capacity { vec_capacity buffer.old ≤ vec_capacity buffer.new }
 {
     buffer.clear();
@@ -116,20 +115,20 @@ fn put_registration(into: &mut Vec<u8>, x: &Registration) -> Result<(), Memory>
 fn put_texts(into: &mut Vec<u8>, x: &Registration) -> Result<(), Memory>
     requires { IsSized x.now }
     ensures writes { Writes (bytes_of_texts x.now) into.old into.new result }
-    ensures version { OnOk result (IsText 65_535 x.now.lcm_version) }
-    ensures node { OnOk result (IsText 65_535 x.now.node_name) }
-    ensures address { OnOk result (IsText 65_535 x.now.ip_address) }
+    ensures version { OnOk result (IsText text_bytes x.now.lcm_version) }
+    ensures node { OnOk result (IsText text_bytes x.now.node_name) }
+    ensures address { OnOk result (IsText text_bytes x.now.ip_address) }
 {
     put_text(into, &x.lcm_version)?;
     put_two(into, &x.node_name, &x.ip_address)
 }
 
 fn put_two(into: &mut Vec<u8>, first: &Text, second: &Text) -> Result<(), Memory>
-    requires first { length (encode_utf8_all first.now) ≤ 65_535 }
-    requires second { length (encode_utf8_all second.now) ≤ 65_535 }
+    requires first { length (encode_utf8_all first.now) ≤ text_bytes }
+    requires second { length (encode_utf8_all second.now) ≤ text_bytes }
     ensures writes { Writes (bytes_of_text first.now ++ bytes_of_text second.now) into.old into.new result }
-    ensures first { OnOk result (IsText 65_535 first.now) }
-    ensures second { OnOk result (IsText 65_535 second.now) }
+    ensures first { OnOk result (IsText text_bytes first.now) }
+    ensures second { OnOk result (IsText text_bytes second.now) }
 {
     put_text(into, first)?;
     put_text(into, second)

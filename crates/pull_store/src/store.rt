@@ -6,6 +6,7 @@ ghost use Rattle.pull_store.specs.Rows.{row_of};
 ghost use Rattle.pull_store.specs.Sound.{IsKeepable, IsKeepableChange, most_bytes};
 ghost use Rattle.pull_store.specs.Stands.{BeforeOrAfter, Stands};
 ghost use Rattle.pull_store.specs.Store.{Changed, IsKept, IsReady, is_spent};
+ghost use Rattle.pull_store.specs.declared.limits.TheConstants.{BODY_CAPACITY};
 
 use crate::change::{Change, Refusal};
 use crate::committing::{prepare, write};
@@ -17,7 +18,7 @@ use dsc_outside::Disk;
 use gate_log::Log;
 use mof_values::Bytes;
 use pull_messages::Registration;
-use std::alloc::Global;
+use std::alloc::{AllocError, Global};
 use std::marker::Model;
 
 /// The rows of a pull server, kept on a disk.
@@ -32,19 +33,20 @@ pub struct PullStore {
 
 impl Model for PullStore {
     ghost use Rattle.std.specs.Prelude.{◌≤◌, vec_capacity};
+    ghost use Rattle.pull_store.specs.declared.limits.TheConstants.{BODY_CAPACITY};
     ghost use Rattle.pull_store.specs.Store.{StoreTerm};
 
     ghost Value = { StoreTerm };
 
     ghost view = { λ s. record { log = s.log; rows = s.rows.items } };
 
-    ghost invariant = { λ s. 131200 ≤ vec_capacity s.buffer };
+    ghost invariant = { λ s. BODY_CAPACITY ≤ vec_capacity s.buffer };
 }
 
 impl PullStore {
     /// A store of these rows; the buffer has room for the longest body.
     pub(crate) fn of(alloc: Global, log: Log, rows: Vec<Row>, buffer: Vec<u8>) -> PullStore
-        requires { 131_200 ≤ vec_capacity buffer }
+        requires { BODY_CAPACITY ≤ vec_capacity buffer }
         ensures { result ≡ record { log = log; rows = rows.items } }
     {
         PullStore {
@@ -64,7 +66,8 @@ impl PullStore {
 
     /// The reports of an agent, the newest last; none exactly where it has no row. Takes no memory.
     pub fn reports(&self, agent: u128) -> Option<&[StoredReport]>
-        ensures { option_map (λ reports. reports.now) result ≡ option_map (λ row. row.reports) (row_of agent self.now.rows) }
+        ensures { option_map (λ reports. reports.now) result
+            ≡ option_map (λ row. row.reports) (row_of agent self.now.rows) }
     {
         match find(&self.rows, agent) {
             Some(row) => Some(row.reports.as_slice()),
@@ -98,10 +101,12 @@ impl PullStore {
     ) -> Result<(), PullError>
         requires ready { IsReady D.Disk disk.old self.old }
         requires size { IsKeepable registration }
-        ensures answer { Changed D.Disk self.old (changes.Register agent registration) disk.old disk.new result self.new }
+        ensures answer { Changed D.Disk self.old (changes.Register agent registration)
+            disk.old disk.new result self.new }
         ensures ready { IsReady D.Disk disk.new self.new }
         ensures any_moment { IsKept D.Disk disk.old self.old
-            → StandsAtAnyMoment D.Disk disk.old disk.new Stands (BeforeOrAfter self.old.rows (changes.Register agent registration)) }
+            → StandsAtAnyMoment D.Disk disk.old disk.new Stands
+            (BeforeOrAfter self.old.rows (changes.Register agent registration)) }
         ensures count { D.faults disk.old ≤ D.faults disk.new }
     {
         let change = Change::Register {
@@ -128,10 +133,12 @@ impl PullStore {
     ) -> Result<(), PullError>
         requires ready { IsReady D.Disk disk.old self.old }
         requires size { length body.items ≤ most_bytes }
-        ensures answer { Changed D.Disk self.old (changes.Report agent job body.items) disk.old disk.new result self.new }
+        ensures answer { Changed D.Disk self.old (changes.Report agent job body.items)
+            disk.old disk.new result self.new }
         ensures ready { IsReady D.Disk disk.new self.new }
         ensures any_moment { IsKept D.Disk disk.old self.old
-            → StandsAtAnyMoment D.Disk disk.old disk.new Stands (BeforeOrAfter self.old.rows (changes.Report agent job body.items)) }
+            → StandsAtAnyMoment D.Disk disk.old disk.new Stands
+            (BeforeOrAfter self.old.rows (changes.Report agent job body.items)) }
         ensures count { D.faults disk.old ≤ D.faults disk.new }
     {
         let change = Change::Report {
@@ -160,7 +167,7 @@ impl PullStore {
         }
         let row = match prepare(self.alloc, &mut self.rows, change) {
             Ok(row) => row,
-            Err(_) => return Err(PullError::Memory),
+            Err(AllocError) => return Err(PullError::Memory),
         };
         spell(&mut self.buffer, change);
         if let Err(error) = write(

@@ -7,6 +7,7 @@ ghost use Rattle.pull_store.specs.Bodies.{bodies_of_reports, bodies_of_row, bodi
 ghost use Rattle.pull_store.specs.Puts.{CanPut, Puts, Ends};
 ghost use Rattle.pull_store.specs.Sound.{IsId, IsReport, IsRow};
 ghost use Rattle.pull_store.specs.Stands.{pull_shape};
+ghost use Rattle.pull_store.specs.declared.limits.TheConstants.{BODY_CAPACITY};
 
 use crate::error::PullError;
 use crate::row::{Row, StoredReport};
@@ -42,7 +43,7 @@ pub fn rewrite<D: Disk>(
     row: &Row,
     behind: &[Row],
 ) -> Result<(), PullError>
-    requires capacity { 131_200 ≤ vec_capacity buffer.old }
+    requires capacity { BODY_CAPACITY ≤ vec_capacity buffer.old }
     requires front { AllByRecursion IsRow front.now }
     requires row { IsRow row.now }
     requires behind { AllByRecursion IsRow behind.now }
@@ -77,7 +78,7 @@ fn put_parts<D: Disk>(
     row: &Row,
     behind: &[Row],
 ) -> Result<(), PullError>
-    requires capacity { 131_200 ≤ vec_capacity buffer.old }
+    requires capacity { BODY_CAPACITY ≤ vec_capacity buffer.old }
     requires front { AllByRecursion IsRow front.now }
     requires row { IsRow row.now }
     requires behind { AllByRecursion IsRow behind.now }
@@ -100,7 +101,7 @@ fn put_rows<D: Disk>(
     buffer: &mut Vec<u8>,
     rows: &[Row],
 ) -> Result<(), PullError>
-    requires capacity { 131_200 ≤ vec_capacity buffer.old }
+    requires capacity { BODY_CAPACITY ≤ vec_capacity buffer.old }
     requires rows { AllByRecursion IsRow rows.now }
     requires can { CanPut D.Disk disk.old log.old (bodies_of_rows rows.now) }
     ensures puts { Puts D.Disk disk.old disk.new log.old log.new (bodies_of_rows rows.now) result }
@@ -122,7 +123,7 @@ fn put_row<D: Disk>(
     buffer: &mut Vec<u8>,
     row: &Row,
 ) -> Result<(), PullError>
-    requires capacity { 131_200 ≤ vec_capacity buffer.old }
+    requires capacity { BODY_CAPACITY ≤ vec_capacity buffer.old }
     requires row { IsRow row.now }
     requires can { CanPut D.Disk disk.old log.old (bodies_of_row row.now) }
     ensures puts { Puts D.Disk disk.old disk.new log.old log.new (bodies_of_row row.now) result }
@@ -142,7 +143,7 @@ fn put_reports<D: Disk>(
     agent: u128,
     reports: &[StoredReport],
 ) -> Result<(), PullError>
-    requires capacity { 131_200 ≤ vec_capacity buffer.old }
+    requires capacity { BODY_CAPACITY ≤ vec_capacity buffer.old }
     requires reports { AllByRecursion IsReport reports.now }
     requires can { CanPut D.Disk disk.old log.old (bodies_of_reports agent reports.now) }
     ensures puts { Puts D.Disk disk.old disk.new log.old log.new (bodies_of_reports agent reports.now) result }

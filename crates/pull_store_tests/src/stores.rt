@@ -1,6 +1,6 @@
 //! Stores, and what they keep.
 use crate::calling::call_all;
-use dsc_outside::MemoryDisk;
+use memory_outside::MemoryDisk;
 use mof_values::Memory;
 use pull_store::{PullError, PullStore, Row, StoredReport, open_pull};
 use std::alloc::{AllocError, Global};

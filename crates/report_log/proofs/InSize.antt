@@ -11,21 +11,23 @@ use Rattle.resource_kinds.specs.declared.entry.Entry.{Entry}
 use Rattle.report_log.specs.declared.report.Frame.{Frame}
 use Rattle.report_log.specs.declared.report.Missed.{Missed}
 use Rattle.report_log.specs.declared.report.Report.{Report}
-use Rattle.report_log.specs.Report.{IsMissed, IsReport, listed_limit, missed_places}
+use Rattle.report_log.specs.Report.{IsMissed, IsReport, missed_places}
+use Rattle.report_log.specs.declared.limits.TheConstants.{LISTED_LIMIT}
 use Rattle.dsc_document.specs.Sizes.{DocumentInSize, Fits}
 use Rattle.report_log.specs.Sizes.{FrameInSize, PartsInSize, ReportInSize}
 use Rattle.report_log.proofs.Grown.{length-first}
+use Rattle.dsc_document.specs.declared.limits.TheConstants.{MAX_ID, MAX_VERSION}
 
 module _ (document : Document) (trace : List Entry) (in_size : DocumentInSize document) where
-  id_fits : (r : ℕ) (missed : Missed) → IsMissed document trace r missed → Fits 256 missed.id
+  id_fits : (r : ℕ) (missed : Missed) → IsMissed document trace r missed → Fits MAX_ID missed.id
   id_fits r missed is = elim (slice_get_cases document.resources r).1 [
     | inl here ↦
         let id : missed.id ≡ here.0.id = subst (λ o. IsSomeAnd o (λ (resource : Resource). missed.id ≡ resource.id)) here.2 is.id in
-        subst (Fits 256) (sym (id ∙ ap (λ (resource : Resource). resource.id) (sym here.3))) (in_size.ids r here.0 here.1)
+        subst (Fits MAX_ID) (sym (id ∙ ap (λ (resource : Resource). resource.id) (sym here.3))) (in_size.ids r here.0 here.1)
     | inr past ↦ absurd (subst (λ o. IsSomeAnd o (λ (resource : Resource). missed.id ≡ resource.id)) past.1 is.id)
   ]
 
-  ids_fit : (places : List ℕ) (listed : List Missed) → AllZip (IsMissed document trace) places listed → AllByRecursion (λ missed. Fits 256 missed.id) listed
+  ids_fit : (places : List ℕ) (listed : List Missed) → AllZip (IsMissed document trace) places listed → AllByRecursion (λ missed. Fits MAX_ID missed.id) listed
   ids_fit [] [] all = tt
   ids_fit [] (missed ∷ rest) all = absurd all
   ids_fit (r ∷ places) [] all = absurd all
@@ -33,11 +35,11 @@ module _ (document : Document) (trace : List Entry) (in_size : DocumentInSize do
 
   pub report_in_size : (frame : Frame) (report : Report) → FrameInSize frame → IsReport document trace frame report → ReportInSize report
   report_in_size frame report framed is =
-      let first = take listed_limit (missed_places document trace) in
+      let first = take LISTED_LIMIT (missed_places document trace) in
       record {
-        version = subst (λ (l : List ℕ). length l ≤ 64) (sym is.version) in_size.version;
-        listed = omega (arith, AllZip-long (IsMissed document trace) first report.listed is.listed, length-first listed_limit (missed_places document trace));
-        ids = All-from_recursion (λ missed. Fits 256 missed.id) report.listed (ids_fit first report.listed is.listed);
+        version = subst (λ (l : List ℕ). length l ≤ MAX_VERSION) (sym is.version) in_size.version;
+        listed = omega (arith, AllZip-long (IsMissed document trace) first report.listed is.listed, length-first LISTED_LIMIT (missed_places document trace));
+        ids = All-from_recursion (λ missed. Fits MAX_ID missed.id) report.listed (ids_fit first report.listed is.listed);
         parts = subst PartsInSize (sym is.parts) framed.parts;
         times = record {
           start = subst (λ (n : ℕ). n ≤ last_moment) (sym is.start) framed.times.start;

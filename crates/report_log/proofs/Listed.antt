@@ -18,7 +18,8 @@ use Rattle.report_log.specs.declared.marks.Mark.TheVariants as marks
 use Rattle.report_log.specs.declared.report.Missed.{Missed}
 use Rattle.report_log.specs.declared.report.Reason.{Reason}
 use Rattle.report_log.specs.Marks.{listed_at, listed_of, mark_of, marks_of, reason_of}
-use Rattle.report_log.specs.Report.{IsMissed, IsReason, listed_limit, missed_places}
+use Rattle.report_log.specs.Report.{IsMissed, IsReason, missed_places}
+use Rattle.report_log.specs.declared.limits.TheConstants.{LISTED_LIMIT}
 
 -- ---- lists
 
@@ -116,6 +117,6 @@ module _ (document : Document) (t : List Entry) (rebooting : Bool) (says : IsTru
   listed_below zero le = tt
   listed_below (suc k) le = one_more k (omega (arith, le)) (listed_below k (omega (arith, le)))
 
-  pub listed_first : AllZip (IsMissed document t) (take listed_limit (missed_places document t)) (listed_of rebooting (ids_of document) (marks_of t count))
+  pub listed_first : AllZip (IsMissed document t) (take LISTED_LIMIT (missed_places document t)) (listed_of rebooting (ids_of document) (marks_of t count))
   listed_first =
-      rw (length-marks mark_of t count) (all_zipped_take (IsMissed document t) listed_limit (filter is_missed (places_below count)) (filter_map lists (places_below count)) (listed_below count (omega arith)))
+      rw (length-marks mark_of t count) (all_zipped_take (IsMissed document t) LISTED_LIMIT (filter is_missed (places_below count)) (filter_map lists (places_below count)) (listed_below count (omega arith)))

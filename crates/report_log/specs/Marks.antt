@@ -15,7 +15,8 @@ use Rattle.report_log.specs.declared.report.Outcome.{Outcome}
 use Rattle.report_log.specs.declared.report.Outcome.TheVariants.{Success, Failure, Reboot}
 use Rattle.report_log.specs.declared.report.Reason.{Reason}
 use Rattle.report_log.specs.declared.report.Reason.TheVariants.{NotInDesiredState, Failed, Skipped, RebootAsked, NotReached}
-use Rattle.report_log.specs.Report.{kind_of, listed_limit}
+use Rattle.report_log.specs.Report.{kind_of}
+use Rattle.report_log.specs.declared.limits.TheConstants.{LISTED_LIMIT}
 
 abbrev pub test_mark : TestAnswer → Mark
 test_mark tests.Yes = marks.Succeeded
@@ -66,7 +67,7 @@ listed_at rebooting ids marked r =
 
 -- what is listed of all
 abbrev pub listed_of : Bool → List (List ℕ) → List Mark → List Missed
-listed_of rebooting ids marked = take listed_limit (filter_map (listed_at rebooting ids marked) (places_below (length marked)))
+listed_of rebooting ids marked = take LISTED_LIMIT (filter_map (listed_at rebooting ids marked) (places_below (length marked)))
 
 -- what a run came to that ended with a reboot or not, and in which so many resources did not succeed
 abbrev pub outcome_of : Bool → ℕ → Outcome

@@ -21,6 +21,7 @@ use Rattle.report_log.specs.declared.report.Outcome.TheVariants as outcomes
 use Rattle.report_log.specs.declared.report.Missed.{Missed}
 use Rattle.report_log.specs.declared.report.Frame.{Frame}
 use Rattle.report_log.specs.declared.report.Report.{Report}
+use Rattle.report_log.specs.declared.limits.TheConstants.{LISTED_LIMIT}
 
 -- ---- reasons
 
@@ -61,10 +62,6 @@ pub record IsMissed (document : Document) (trace : List Entry) (r : ℕ) (missed
   pub id : IsSomeAnd (slice_get document.resources r) (λ resource. missed.id ≡ resource.id)
   pub reason : IsReason trace (last_entry trace r) missed.reason
 
--- how many resources a report lists
-abbrev pub listed_limit : ℕ
-listed_limit = 64
-
 -- what a run came to in which so many did not succeed
 abbrev pub IsOutcome : List Entry → ℕ → Outcome → Type 0
 IsOutcome trace missed outcomes.Reboot = EndsInReboot trace
@@ -81,7 +78,7 @@ pub record IsReport (document : Document) (trace : List Entry) (frame : Frame) (
   pub outcome : IsOutcome trace report.missed report.outcome
   pub total : report.total ≡ length document.resources
   pub missed : report.missed ≡ missed_count document trace
-  pub listed : AllZip (IsMissed document trace) (take listed_limit (missed_places document trace)) report.listed
+  pub listed : AllZip (IsMissed document trace) (take LISTED_LIMIT (missed_places document trace)) report.listed
   pub parts : report.parts ≡ frame.parts
 
 -- ---- traces of runs that are reported

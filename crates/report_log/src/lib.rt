@@ -6,12 +6,14 @@
 //! resource's last entry, and that the report is in size.
 #![tactic(auto)]
 
+mod limits;
 mod making;
 mod marks;
 mod report;
 mod room;
 mod sizes;
 
+pub use limits::MAX_PARTS;
 pub use making::report_of;
 pub use report::{FailureKind, Frame, Missed, Outcome, PartMark, Reason, Report};
 pub use room::{ReportRoom, room_for};

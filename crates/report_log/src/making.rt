@@ -1,16 +1,18 @@
-//! Making a report.
+//! Makes the report of a run from its trace.
 ghost use Rattle.std.specs.Prelude.{◌≡◌, ◌<◌, ◌≤◌, ◌↔◌, ◌++◌, ◌∷◌, [], All, IsTrue, length, take, vec_capacity};
 ghost use Rattle.resource_kinds.specs.Trace.{EndsInReboot, WantsMemory, place_of};
 ghost use Rattle.report_log.specs.declared.marks.Mark.TheVariants.{Unsettled};
 ghost use Rattle.report_log.specs.Marks.{listed_of, outcome_of, reason_of};
-ghost use Rattle.report_log.specs.Report.{HasNoUntestedSet, IsReport, listed_limit};
+ghost use Rattle.report_log.specs.Report.{HasNoUntestedSet, IsReport};
+ghost use Rattle.report_log.specs.declared.limits.TheConstants.{LISTED_LIMIT};
 ghost use Rattle.report_log.specs.Room.{IsRoomFor};
 ghost use Rattle.dsc_document.specs.Sizes.{DocumentInSize};
 ghost use Rattle.report_log.specs.Sizes.{FrameInSize, ReportInSize};
 
+use crate::limits::LISTED_LIMIT;
 use crate::marks::{Mark, count_missed, marked};
 use crate::report::{Frame, Missed, Outcome, Reason, Report};
-use crate::room::{LISTED_LIMIT, ReportRoom};
+use crate::room::ReportRoom;
 use dsc_document::Document;
 use mof_values::{Items, Text};
 use resource_kinds::{Entry, SetAnswer};
@@ -55,7 +57,7 @@ fn ends_in_reboot(calls: &[Entry]) -> bool
     }
 }
 
-// What a run came to in which so many resources did not succeed.
+// What a run came to in which this many resources did not succeed.
 fn outcome_of(rebooting: bool, missed: usize) -> Outcome
     ensures { result ≡ outcome_of rebooting missed }
 {
@@ -68,12 +70,12 @@ fn outcome_of(rebooting: bool, missed: usize) -> Outcome
     Outcome::Failure
 }
 
-// The first of the marked resources that did not succeed, in the room that is given.
+// The first of the marked resources that did not succeed, in the capacity that is given.
 fn listed_of(rebooting: bool, ids: Vec<Text>, marks: &[Mark], room: Vec<Missed>) -> Vec<Missed>
     requires ids { length ids.items ≡ length marks.now }
     requires settled { All (λ mark. mark ≡ Unsettled → ⊥) marks.now }
     requires empty { room.items ≡ [] }
-    requires spare { listed_limit ≤ vec_capacity room }
+    requires spare { LISTED_LIMIT ≤ vec_capacity room }
     ensures { result.items ≡ listed_of rebooting ids.items marks.now }
 {
     let mut listed = room;
@@ -99,12 +101,12 @@ fn reason_of(rebooting: bool, mark: Mark) -> Option<Reason>
     }
 }
 
-// Lists one more, where fewer than 64 are listed.
+// Lists one more, where fewer than `LISTED_LIMIT` are listed.
 fn list(listed: &mut Vec<Missed>, missed: Missed)
-    requires bound { length listed.old.items ≤ listed_limit }
-    requires spare { listed_limit ≤ vec_capacity listed.old }
-    ensures listed { listed.new.items ≡ take listed_limit (listed.old.items ++ missed ∷ []) }
-    ensures spare { listed_limit ≤ vec_capacity listed.new }
+    requires bound { length listed.old.items ≤ LISTED_LIMIT }
+    requires spare { LISTED_LIMIT ≤ vec_capacity listed.old }
+    ensures listed { listed.new.items ≡ take LISTED_LIMIT (listed.old.items ++ missed ∷ []) }
+    ensures spare { LISTED_LIMIT ≤ vec_capacity listed.new }
 {
     if listed.len() < LISTED_LIMIT {
         match listed.push(missed) {

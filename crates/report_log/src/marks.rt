@@ -17,7 +17,7 @@ pub enum Mark {
     /// It is a Test that answered yes.
     Succeeded,
 
-    /// It is a Set that was done, after which a Test comes, or memory was refused.
+    /// It is a Set that was done, after which a Test comes, or it ran out of memory.
     Unsettled,
 
     /// The resource did not succeed.

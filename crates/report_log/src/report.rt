@@ -1,4 +1,4 @@
-//! Reports.
+//! The report of a run, and what it is made from.
 use mof_values::{Items, Text};
 
 /// What a run came to.

@@ -1,15 +1,13 @@
-//! The room of a report, which is made before the run.
+//! The memory of a report, which is reserved before the run.
 ghost use Rattle.std.specs.Prelude.{◌≡◌, IfOk, map};
 ghost use Rattle.report_log.specs.Room.{IsRoomFor};
 
+use crate::limits::LISTED_LIMIT;
 use crate::marks::Mark;
 use crate::report::Missed;
 use dsc_document::{Document, Resource};
 use mof_values::Text;
 use std::alloc::{AllocError, Global};
-
-/// How many resources a report lists.
-pub const LISTED_LIMIT: usize = 64;
 
 /// All the memory that the report of a run takes.
 #[derive(Drop)]
@@ -20,7 +18,7 @@ pub struct ReportRoom {
     pub(crate) listed: Vec<Missed>,
 }
 
-/// Makes the room of a report on this document.
+/// Reserves the memory of a report on this document.
 pub fn room_for(alloc: Global, document: &Document) -> Result<ReportRoom, AllocError>
     ensures { IfOk result (IsRoomFor document.now) }
 {

@@ -11,11 +11,11 @@ use Rattle.resource_kinds.specs.Holds.{BarsFolder, IsBarred}
 pub front_above : (path : List ℕ) (at : ℕ) → at < length path → slice_index path at ≡ 47 → IsBelow (take at path) path
 front_above path at within slash = (drop (at + 1) path, split_at path at 0 within ∙ ap (λ c. take at path ++ c ∷ drop (at + 1) path) slash)
 
-pub barred : (told now : Option HostState) (heard : Bool) (path front : List ℕ) (at : ℕ) → now ≡ told → heard ≡ true → front ≡ take at path → at < length path → slice_index path at ≡ 47
-    → Tells {E = HostError} now (Ok heard) (λ state b. IsTrue b ↔ BarsFolder (state.path front)) → Tells {E = HostError} told (Ok true) (λ state b. IsTrue b ↔ IsBarred state.path path)
-barred told now heard path front at same is cut within slash answer =
-    barred_here told (subst (λ f. Tells {E = HostError} told (Ok true) (λ state b. IsTrue b ↔ BarsFolder (state.path f))) cut
-    (subst (λ b. Tells {E = HostError} told (Ok b) (λ state b. IsTrue b ↔ BarsFolder (state.path front))) is
+pub barred : (shown now : Option HostState) (heard : Bool) (path front : List ℕ) (at : ℕ) → now ≡ shown → heard ≡ true → front ≡ take at path → at < length path → slice_index path at ≡ 47
+    → Tells {E = HostError} now (Ok heard) (λ state b. IsTrue b ↔ BarsFolder (state.path front)) → Tells {E = HostError} shown (Ok true) (λ state b. IsTrue b ↔ IsBarred state.path path)
+barred shown now heard path front at same is cut within slash answer =
+    barred_here shown (subst (λ f. Tells {E = HostError} shown (Ok true) (λ state b. IsTrue b ↔ BarsFolder (state.path f))) cut
+    (subst (λ b. Tells {E = HostError} shown (Ok b) (λ state b. IsTrue b ↔ BarsFolder (state.path front))) is
     (subst (λ t. Tells {E = HostError} t (Ok heard) (λ state b. IsTrue b ↔ BarsFolder (state.path front))) same answer)))
   where
     barred_here : (t : Option HostState) → Tells {E = HostError} t (Ok true) (λ state b. IsTrue b ↔ BarsFolder (state.path (take at path))) → Tells {E = HostError} t (Ok true) (λ state b. IsTrue b ↔ IsBarred state.path path)
@@ -23,11 +23,11 @@ barred told now heard path front at same is cut within slash answer =
     barred_here (Some state) known = (λ _. (take at path, front_above path at within slash, known.0 refl), λ _. refl)
 
 -- a path that was looked at to its end is not barred
-pub not_barred : (told : Option HostState) (path : List ℕ) (far : ℕ) → length path ≤ far
-    → IfSome told (λ state. (k : ℕ) → k < far → slice_index path k ≡ 47 → BarsFolder (state.path (take k path)) → ⊥)
-    → Tells {E = HostError} told (Ok false) (λ state b. IsTrue b ↔ IsBarred state.path path)
+pub not_barred : (shown : Option HostState) (path : List ℕ) (far : ℕ) → length path ≤ far
+    → IfSome shown (λ state. (k : ℕ) → k < far → slice_index path k ≡ 47 → BarsFolder (state.path (take k path)) → ⊥)
+    → Tells {E = HostError} shown (Ok false) (λ state b. IsTrue b ↔ IsBarred state.path path)
 not_barred None path far all clear = tt
-not_barred (Some state) path far all clear = (λ seen. absurd (cc (seen)), λ is. absurd (none is))
+not_barred (Some state) path far all clear = (λ barred. absurd (cc (barred)), λ is. absurd (none is))
   where
     none : IsBarred state.path path → ⊥
     none is =

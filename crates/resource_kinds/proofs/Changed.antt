@@ -21,9 +21,9 @@ not_itself path other above =
     false_from_ne_true _ (λ same. omega (arith, below_longer other path above, ap length ((bytes_eq-Decides path other).0 same)))
 
 -- what is neither at the path nor below it is not at the path
-apart_at : (a b : Bool) → (a || b) ≡ false → a ≡ false
-apart_at true b e = e
-apart_at false b e = refl
+first_is_false : (a b : Bool) → (a || b) ≡ false → a ≡ false
+first_is_false true b e = e
+first_is_false false b e = refl
 
 apart_below : (a b : Bool) → (a || b) ≡ false → b ≡ false
 apart_below true b e = absurd (cc (e))
@@ -39,14 +39,14 @@ maybe_filled Other = inl refl
 module _ (path : List ℕ) (host : HostState) where
   put_changes : (bytes : List ℕ) → ChangedPath path host (with_file path bytes host)
   put_changes bytes = record {
-    elsewhere = λ other outside apart. rw (apart_at (bytes_eq path other) (is_below path other) outside, apart_below (bytes_eq path other) (is_below path other) outside, apart) refl;
+    elsewhere = λ other outside apart. rw (first_is_false (bytes_eq path other) (is_below path other) outside, apart_below (bytes_eq path other) (is_below path other) outside, apart) refl;
     above = λ other is. rw (not_itself path other is, not_below_both other path is, is) (maybe_filled (host.path other));
     nothing_else = refl;
   }
 
   made_changes : ChangedPath path host (with_folder path host)
   made_changes = record {
-    elsewhere = λ other outside apart. rw (apart_at (bytes_eq path other) (is_below path other) outside, apart) refl;
+    elsewhere = λ other outside apart. rw (first_is_false (bytes_eq path other) (is_below path other) outside, apart) refl;
     above = λ other is. rw (not_itself path other is, is) (maybe_filled (host.path other));
     nothing_else = refl;
   }

@@ -217,32 +217,32 @@ keeps_clear host document place set apart asks clear r wanted asks_r way = elim 
 -- a Set that did not break off did all or nothing
 whole_step : (before after : HostState) (id : List ℕ) (asks : Result Wanted Failure) (answer : SetAnswer) → (MayBreakOff answer → ⊥) → SetsTrue before id asks answer after
     → (after ≡ before) ⊎ ((set : Wanted) × (asks ≡ Ok set) × (after ≡ applied set before))
-whole_step before after id (Ok set) sets.Done whole told = inr (set, refl, told.0.applied)
-whole_step before after id (Ok set) sets.Reboot whole told = inr (set, refl, told.0.applied)
-whole_step before after id (Ok set) (sets.Fault faults.NoSuchResource) whole told = absurd told
-whole_step before after id (Ok set) (sets.Fault (faults.OutOfProfile name)) whole told = absurd told
-whole_step before after id (Ok set) (sets.Fault faults.BadPath) whole told = absurd told
-whole_step before after id (Ok set) (sets.Fault faults.InTheWay) whole told = inl told.1
-whole_step before after id (Ok set) (sets.Fault faults.HostFailed) whole told = absurd (whole refl)
-whole_step before after id (Ok set) sets.Memory whole told = absurd (whole tt)
-whole_step before after id (Err failure) answer whole told = inl told.1
+whole_step before after id (Ok set) sets.Done whole shown = inr (set, refl, shown.0.applied)
+whole_step before after id (Ok set) sets.Reboot whole shown = inr (set, refl, shown.0.applied)
+whole_step before after id (Ok set) (sets.Fault faults.NoSuchResource) whole shown = absurd shown
+whole_step before after id (Ok set) (sets.Fault (faults.OutOfProfile name)) whole shown = absurd shown
+whole_step before after id (Ok set) (sets.Fault faults.BadPath) whole shown = absurd shown
+whole_step before after id (Ok set) (sets.Fault faults.InTheWay) whole shown = inl shown.1
+whole_step before after id (Ok set) (sets.Fault faults.HostFailed) whole shown = absurd (whole refl)
+whole_step before after id (Ok set) sets.Memory whole shown = absurd (whole tt)
+whole_step before after id (Err failure) answer whole shown = inl shown.1
 
 set_clear : (document : Document) (before after : HostState) (place : ℕ) (answer : SetAnswer) (resource : Option Resource) → slice_get document.resources place ≡ resource → Apart document
     → (MayBreakOff answer → ⊥) → IsSomeAnd resource (λ x. SetsTrue before x.id (wanted_of x) answer after) → Clear before document → Clear after document
-set_clear document before after place answer None at apart whole told clear = absurd told
-set_clear document before after place answer (Some resource) at apart whole told clear = elim (whole_step before after resource.id (wanted_of resource) answer whole told) [
+set_clear document before after place answer None at apart whole shown clear = absurd shown
+set_clear document before after place answer (Some resource) at apart whole shown clear = elim (whole_step before after resource.id (wanted_of resource) answer whole shown) [
   | inl same ↦ subst (λ (h : HostState). Clear h document) (sym same) clear
   | inr (set, is, made) ↦
       subst (λ (h : HostState). Clear h document) (sym made) (keeps_clear before document place set apart (asked_at document place resource set at is) clear)
 ]
 
 entry_clear : (document : Document) (before after : HostState) (e : Entry) → Apart document → IsUnbroken e → IsTrueEntry before document e after → Clear before document → Clear after document
-entry_clear document before after (Tested place answer) apart whole told clear = subst (λ (h : HostState). Clear h document) (sym told.0) clear
-entry_clear document before after (Set place answer) apart whole told clear =
-    set_clear document before after place answer (slice_get document.resources place) refl apart whole told clear
+entry_clear document before after (Tested place answer) apart whole shown clear = subst (λ (h : HostState). Clear h document) (sym shown.0) clear
+entry_clear document before after (Set place answer) apart whole shown clear =
+    set_clear document before after place answer (slice_get document.resources place) refl apart whole shown clear
 
 pub clear_stays : ClearStays
-clear_stays document before after [] apart told whole clear = subst (λ (h : HostState). Clear h document) told clear
-clear_stays document before after (e ∷ es) apart told whole clear =
-    clear_stays document told.0 after es apart told.2 (All-tail IsUnbroken e es whole)
-    (entry_clear document before told.0 e apart (All-head IsUnbroken e es whole) told.1 clear)
+clear_stays document before after [] apart shown whole clear = subst (λ (h : HostState). Clear h document) shown clear
+clear_stays document before after (e ∷ es) apart shown whole clear =
+    clear_stays document shown.0 after es apart shown.2 (All-tail IsUnbroken e es whole)
+    (entry_clear document before shown.0 e apart (All-head IsUnbroken e es whole) shown.1 clear)

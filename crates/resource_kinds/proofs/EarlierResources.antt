@@ -19,8 +19,8 @@ meeting None matter meets = absurd meets
 meeting (Some a) matter meets = (a, refl, meets)
 
 matter_asked : (asked : Option Wanted) (known : Option Matter) (matter : Matter) → known ≡ Some matter → known ≡ option_map matter_of asked → (b : Wanted) × (asked ≡ Some b) × (matter ≡ matter_of b)
-matter_asked None known matter is told = absurd (none-some matter (sym told ∙ is))
-matter_asked (Some b) known matter is told = (b, refl, same_Some matter (matter_of b) (sym is ∙ told))
+matter_asked None known matter is shown = absurd (none-some matter (sym shown ∙ is))
+matter_asked (Some b) known matter is shown = (b, refl, same_Some matter (matter_of b) (sym is ∙ shown))
 
 module _ (document : Document) (resources : List Resource) (are : resources ≡ document.resources) where
   asked_here : (k : ℕ) (x : Resource) → k < length document.resources → x ≡ get_or resources k x → wanted_at document k ≡ asks x
@@ -43,9 +43,9 @@ module _ (document : Document) (resources : List Resource) (are : resources ≡ 
   ]
 
   module _ (second : ℕ) (y : Resource) (within : second < length document.resources) (at : y ≡ get_or resources second y)
-      (known : Option Matter) (matter : Matter) (is : known ≡ Some matter) (told : known ≡ option_map matter_of (asks y)) where
+      (known : Option Matter) (matter : Matter) (is : known ≡ Some matter) (shown : known ≡ option_map matter_of (asks y)) where
     own : (b : Wanted) × (asks y ≡ Some b) × (matter ≡ matter_of b)
-    own = matter_asked (asks y) known matter is told
+    own = matter_asked (asks y) known matter is shown
 
     pub meets_here : (first : ℕ) (x : Resource) → first < second → x ≡ get_or resources first x → AsksMeeting (asks x) matter → MeetsEarlier document second
     meets_here first x before here meets =

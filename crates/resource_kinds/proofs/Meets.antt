@@ -13,8 +13,8 @@ use Rattle.resource_kinds.specs.declared.keys.Keys.{Keys}
 use Rattle.resource_kinds.specs.declared.wanted.Wanted.{Wanted}
 use Rattle.resource_kinds.specs.declared.wanted.Wanted.TheVariants as wants
 use Rattle.resource_kinds.specs.Apart.{Apart, IsAround, Meet, Overlap, Target, Path, Variable, LogEntry, closed_path, matter_of, target_of, wanted_at}
-use Rattle.resource_kinds.specs.OverlapSteps.{HasBelow, HasBelowIfAny, HasInside, entry_key, key_if_any, key_of}
-use Rattle.resource_kinds.specs.Keys.{Puts, PutsIfAny, place_of}
+use Rattle.resource_kinds.specs.OverlapSteps.{HasBelow, HasBelowIfAny, HasInside, entry_key, key_if_any, target_key}
+use Rattle.resource_kinds.specs.Keys.{Puts, PutsIfAny, kept_place}
 use Rattle.resource_kinds.specs.Wanted.{wanted_of}
 
 -- the path of the second is below that of the first
@@ -33,7 +33,7 @@ entry_key_same (a ∷ front) (b ∷ bs) message text e =
     let same = entry_key_same front bs message text rest in
     (λ i. h i ∷ same.0 i, same.1)
 
-key_same : (a b : Target) → key_of a ≡ key_of b → a ≡ b
+key_same : (a b : Target) → target_key a ≡ target_key b → a ≡ b
 key_same (Path a) (Path b) e = let same : a ≡ b = cc in ap Path same
 key_same (Path a) (Variable b) e = absurd (omega (arith, ap (λ k. get_or k 0 9) e))
 key_same (Path a) (LogEntry i m) e = absurd (omega (arith, ap (λ k. get_or k 0 9) e))
@@ -74,7 +74,7 @@ inside_of keys outer None e is = absurd is
 inside_of keys outer (Some path) e is = (path, e, is)
 
 -- the key of a path below another
-key_below : (path rest : List ℕ) → ((0 ∷ path) ++ 47 ∷ []) ++ rest ≡ key_of (Path (path ++ 47 ∷ rest))
+key_below : (path rest : List ℕ) → ((0 ∷ path) ++ 47 ∷ []) ++ rest ≡ target_key (Path (path ++ 47 ∷ rest))
 key_below path rest = append_assoc (0 ∷ path) (47 ∷ []) rest
 
 not_in_itself : (wanted : Wanted) → Encloses wanted wanted → ⊥
@@ -89,10 +89,10 @@ not_in_itself wanted is = absurd (inside (closed_target wanted (ap is_some is.2)
 
 -- the keys are those of what is asked for before n, no two of which are the same
 pub record Indexed (all : List (Option Wanted)) (n : ℕ) (keys : Keys) : Type 0 where
-  pub known : (k : ℕ) (wanted : Wanted) → k < n → get_or all k None ≡ Some wanted → place_of keys (key_of (target_of wanted)) ≡ Some k
-  pub only : (key : List ℕ) (k : ℕ) → place_of keys key ≡ Some k → (k < n) × ((wanted : Wanted) × (get_or all k None ≡ Some wanted) × (key_of (target_of wanted) ≡ key))
+  pub known : (k : ℕ) (wanted : Wanted) → k < n → get_or all k None ≡ Some wanted → kept_place keys (target_key (target_of wanted)) ≡ Some k
+  pub only : (key : List ℕ) (k : ℕ) → kept_place keys key ≡ Some k → (k < n) × ((wanted : Wanted) × (get_or all k None ≡ Some wanted) × (target_key (target_of wanted) ≡ key))
 
-pub indexed_none : (all : List (Option Wanted)) (keys : Keys) → ((key : List ℕ) → place_of keys key ≡ None) → Indexed all 0 keys
+pub indexed_none : (all : List (Option Wanted)) (keys : Keys) → ((key : List ℕ) → kept_place keys key ≡ None) → Indexed all 0 keys
 indexed_none all keys empty = record {
   known = λ k wanted below is. absurd (omega (arith, below));
   only = λ key k found. absurd (cc (empty key, found));
@@ -106,24 +106,24 @@ module _ (all : List (Option Wanted)) (n : ℕ) (old : Keys) (so_far : Indexed a
     only = λ key k found. let earlier : k < n = (so_far.only key k found).0 in (omega (arith, earlier), (so_far.only key k found).1);
   }
 
-  put : (new : Keys) (wanted : Wanted) → get_or all n None ≡ Some wanted → place_of old (key_of (target_of wanted)) ≡ None → Puts old new (key_of (target_of wanted)) n → Indexed all (n + 1) new
+  put : (new : Keys) (wanted : Wanted) → get_or all n None ≡ Some wanted → kept_place old (target_key (target_of wanted)) ≡ None → Puts old new (target_key (target_of wanted)) n → Indexed all (n + 1) new
   put new wanted is free puts = record {
     known = λ k other below at_k.
         ⊎_elim
         (λ e. let same : wanted ≡ other = cc (ap (λ x. get_or all x None) e, is, at_k) in
-        ap (λ w. place_of new (key_of (target_of w))) (sym same) ∙ puts.here ∙ ap (λ m. Some m) (sym e))
+        ap (λ w. kept_place new (target_key (target_of w))) (sym same) ∙ puts.here ∙ ap (λ m. Some m) (sym e))
         (λ ne. let before = so_far.known k other (omega (arith, below, ne)) at_k in
-        puts.kept (key_of (target_of other)) (λ same. absurd (cc (ap (place_of old) same, free, before))) ∙ before)
+        puts.kept (target_key (target_of other)) (λ same. absurd (cc (ap (kept_place old) same, free, before))) ∙ before)
         (cases_eq k n);
     only = λ key k found.
         ⊎_elim
-        (λ same. let e : k ≡ n = cc (ap (place_of new) same, puts.here, found) in (omega (arith, e), (wanted, ap (λ x. get_or all x None) e ∙ is, same)))
+        (λ same. let e : k ≡ n = cc (ap (kept_place new) same, puts.here, found) in (omega (arith, e), (wanted, ap (λ x. get_or all x None) e ∙ is, same)))
         (λ differs. let before = so_far.only key k (sym (puts.kept key differs) ∙ found) in
         let earlier : k < n = before.0 in (omega (arith, earlier), before.1))
-        (cases_same (key_of (target_of wanted)) key);
+        (cases_same (target_key (target_of wanted)) key);
   }
 
-  pub indexed_put : (new : Keys) (given : Option Wanted) → get_or all n None ≡ given → option_and_then (place_of old) (key_if_any given) ≡ None → PutsIfAny old new (key_if_any given) n → Indexed all (n + 1) new
+  pub indexed_put : (new : Keys) (given : Option Wanted) → get_or all n None ≡ given → option_and_then (kept_place old) (key_if_any given) ≡ None → PutsIfAny old new (key_if_any given) n → Indexed all (n + 1) new
   indexed_put new None is free puts = subst (Indexed all (n + 1)) (sym puts) (skip is)
   indexed_put new (Some wanted) is free puts = put new wanted is free puts
 
@@ -154,11 +154,11 @@ module _ (document : Document) (all : List (Option Wanted)) (is_all : all ≡ ma
   )
 
   -- what has a place already is met
-  pub met : (n : ℕ) (keys : Keys) → Indexed all n keys → (given : Option Wanted) → get_or all n None ≡ given → (had : Option ℕ) → option_and_then (place_of keys) (key_if_any given) ≡ had → is_some had ≡ true → Overlap document
+  pub met : (n : ℕ) (keys : Keys) → Indexed all n keys → (given : Option Wanted) → get_or all n None ≡ given → (had : Option ℕ) → option_and_then (kept_place keys) (key_if_any given) ≡ had → is_some had ≡ true → Overlap document
   met n keys so_far None is had e some = absurd (cc (e, some))
   met n keys so_far (Some b) is None e some = absurd (cc (some))
   met n keys so_far (Some b) is (Some p) e some =
-      let before = so_far.only (key_of (target_of b)) p e in
+      let before = so_far.only (target_key (target_of b)) p e in
       two_meet p n before.1.0 b before.0 before.1.1 is (inl (key_same (target_of before.1.0) (target_of b) before.1.2))
 
   -- what has another inside it meets that one
@@ -187,13 +187,13 @@ module _ (document : Document) (all : List (Option Wanted)) (is_all : all ≡ ma
       (none : (k : ℕ) → k < far → HasInside keys (get_or all k None) → ⊥) where
     differ : (first second : ℕ) (a b : Wanted) → first < second → get_or all first None ≡ Some a → get_or all second None ≡ Some b → target_of a ≡ target_of b → ⊥
     differ first second a b before at_first at_second same =
-        let at_once : first ≡ second = cc (whole.known first a (omega (arith, within first a at_first, reached)) at_first, whole.known second b (omega (arith, within second b at_second, reached)) at_second, ap (λ t. place_of keys (key_of t)) same) in
+        let at_once : first ≡ second = cc (whole.known first a (omega (arith, within first a at_first, reached)) at_first, whole.known second b (omega (arith, within second b at_second, reached)) at_second, ap (λ t. kept_place keys (target_key t)) same) in
         omega (arith, at_once, before)
 
     outside : (outer inner : ℕ) (a b : Wanted) → get_or all outer None ≡ Some a → get_or all inner None ≡ Some b → Encloses a b → ⊥
     outside outer inner a b at_outer at_inner (path, below, shut, target, (rest, spelled)) =
-        let key : ((0 ∷ path) ++ 47 ∷ []) ++ rest ≡ key_of (target_of b) = key_below path rest ∙ ap (λ p. key_of (Path p)) (sym spelled) ∙ ap key_of (sym target) in
-        let found = ap (place_of keys) key ∙ whole.known inner b (omega (arith, within inner b at_inner, reached)) at_inner in
+        let key : ((0 ∷ path) ++ 47 ∷ []) ++ rest ≡ target_key (target_of b) = key_below path rest ∙ ap (λ p. target_key (Path p)) (sym spelled) ∙ ap target_key (sym target) in
+        let found = ap (kept_place keys) key ∙ whole.known inner b (omega (arith, within inner b at_inner, reached)) at_inner in
         let has : HasInside keys (Some a) = subst (HasBelowIfAny keys) (sym shut) (rest, inner, found) in
         none outer (omega (arith, within outer a at_outer, reached)) (subst (HasInside keys) (sym at_outer) has)
 

@@ -30,11 +30,11 @@ use Rattle.resource_kinds.proofs.PathOrders.{IsOrder, below_bytes, below_chars, 
 -- ---- paths
 
 -- what is answered of two paths by their order
-abbrev pub told : PathOrder → Bool → Bool → Bool
-told orders.Same closed other_closed = true
-told orders.Above closed other_closed = closed
-told orders.Below closed other_closed = other_closed
-told orders.Apart closed other_closed = false
+abbrev pub shown : PathOrder → Bool → Bool → Bool
+shown orders.Same closed other_closed = true
+shown orders.Above closed other_closed = closed
+shown orders.Below closed other_closed = other_closed
+shown orders.Apart closed other_closed = false
 
 path_same : (x y : List ℕ) → Path x ≡ Path y → x ≡ y
 path_same x y same = cc (same)
@@ -53,7 +53,7 @@ around_is a b closed other_closed is =
     let parts = closed_is closed (encode_utf8_all a) is.0 is.2 in
     (parts.0, below_chars a b (subst (λ x. IsBelow x (encode_utf8_all b)) (sym parts.1) (subst (IsBelow is.0) (sym (path_same (encode_utf8_all b) is.1 is.3)) is.4)))
 
-order_meets : (a b : List ℕ) (closed other_closed : Bool) (order : PathOrder) → IsOrder order a b → IsTrue (told order closed other_closed)
+order_meets : (a b : List ℕ) (closed other_closed : Bool) (order : PathOrder) → IsOrder order a b → IsTrue (shown order closed other_closed)
     → MattersMeet (matter_at (encode_utf8_all a) closed) (matter_at (encode_utf8_all b) other_closed)
 order_meets a b closed other_closed orders.Same is holds = inl (ap (λ chars. Path (encode_utf8_all chars)) is)
 order_meets a b closed other_closed orders.Above is holds = inr (inl (around a b closed other_closed holds is))
@@ -70,21 +70,21 @@ is_same : (a b : List ℕ) → a ≡ b → order_of a b ≡ orders.Same
 is_same a b same = subst (λ x. order_of a x ≡ orders.Same) same (order_same a)
 
 meets_order : (a b : List ℕ) (closed other_closed : Bool) → MattersMeet (matter_at (encode_utf8_all a) closed) (matter_at (encode_utf8_all b) other_closed)
-    → IsTrue (told (order_of a b) closed other_closed)
+    → IsTrue (shown (order_of a b) closed other_closed)
 meets_order a b closed other_closed (inl same) =
-    ap (λ order. told order closed other_closed) (is_same a b (encodes_same a b (path_same (encode_utf8_all a) (encode_utf8_all b) same)))
+    ap (λ order. shown order closed other_closed) (is_same a b (encodes_same a b (path_same (encode_utf8_all a) (encode_utf8_all b) same)))
 meets_order a b closed other_closed (inr (inl outside)) =
     let parts = around_is a b closed other_closed outside in
-    ap (λ order. told order closed other_closed) (is_above a b parts.1) ∙ parts.0
+    ap (λ order. shown order closed other_closed) (is_above a b parts.1) ∙ parts.0
 meets_order a b closed other_closed (inr (inr inside)) =
     let parts = around_is b a other_closed closed inside in
-    ap (λ order. told order closed other_closed) (is_beneath a b parts.1) ∙ parts.0
+    ap (λ order. shown order closed other_closed) (is_beneath a b parts.1) ∙ parts.0
 
 pub paths_met : (a b : List ℕ) (closed other_closed : Bool) (order : PathOrder) → order ≡ order_of a b
-    → IsTrue (told order closed other_closed) ↔ MattersMeet (matter_at (encode_utf8_all a) closed) (matter_at (encode_utf8_all b) other_closed)
+    → IsTrue (shown order closed other_closed) ↔ MattersMeet (matter_at (encode_utf8_all a) closed) (matter_at (encode_utf8_all b) other_closed)
 paths_met a b closed other_closed order is = (
   order_meets a b closed other_closed order (subst (λ o. IsOrder o a b) (sym is) (is_order a b)),
-  λ meet. ap (λ o. told o closed other_closed) is ∙ meets_order a b closed other_closed meet,
+  λ meet. ap (λ o. shown o closed other_closed) is ∙ meets_order a b closed other_closed meet,
 )
 
 -- ---- variables and entries

@@ -64,11 +64,11 @@ abbrev pub kept_entries : List ℕ → List ℕ → List (List ℕ)
 kept_entries old value = filter (λ entry. not (is_among (wanted_entries value) entry)) (entries old)
 
 -- a variable of these entries; without any it is not there
-abbrev pub variable_of : List (List ℕ) → Option (List ℕ)
-variable_of [] = None
-variable_of (entry ∷ more) = Some (joined (entry ∷ more))
+abbrev pub variable_with : List (List ℕ) → Option (List ℕ)
+variable_with [] = None
+variable_with (entry ∷ more) = Some (joined (entry ∷ more))
 
 -- the variable once the wanted entries were taken out
 abbrev pub without_entries : Option (List ℕ) → List ℕ → Option (List ℕ)
 without_entries None value = None
-without_entries (Some old) value = variable_of (kept_entries old value)
+without_entries (Some old) value = variable_with (kept_entries old value)

@@ -1,7 +1,7 @@
 -- When what a resource asks for holds on a machine, what a Set makes of the machine, and what is in its way.
-use Rattle.std.specs.Prelude.{◌≡◌, ◌⊎◌, ℕ, ⊤, Bool, false, IsTrue, List, [], Option, Some, None, unwrap_or}
-use Rattle.dsc_outside.specs.Host.{HostState, has_entry}
-use Rattle.dsc_outside.specs.Changes.{AllOrNothing, ChangedPath, ChangedVariable, with_entry, with_file, with_folder, with_variable, without_path, without_variable}
+use Rattle.std.specs.Prelude.{◌≡◌, ◌⊎◌, ◌↔◌, ℕ, ⊤, Bool, false, IsTrue, List, [], Option, Some, None, Result, unwrap_or}
+use Rattle.dsc_outside.specs.Host.{HostState, Tells, has_entry}
+use Rattle.dsc_outside.specs.Changes.{AllOrNothing, ChangedPath, ChangedVariable, Does, with_entry, with_file, with_folder, with_variable, without_path, without_variable}
 use Rattle.dsc_outside.specs.Paths.{PathKind, Nothing, File, Folder, Other, IsBelow, IsInhabited}
 use Rattle.resource_kinds.specs.declared.wanted.Wanted.{Wanted}
 use Rattle.resource_kinds.specs.declared.wanted.Wanted.TheVariants as wants
@@ -23,6 +23,10 @@ Holds host (wants.Entries name value) = HasEntries (host.variable name) value
 Holds host (wants.NoVariable name) = host.variable name ≡ None
 Holds host (wants.NoEntries name value) = LacksEntries (host.variable name) value
 Holds host (wants.Logged id message) = IsTrue (has_entry host.log id message)
+
+-- the answer is yes exactly where what is asked for holds, where the host exposes what it holds
+abbrev pub TestsHolding : {E : Type 0} → Wanted → Option HostState → Result Bool E → Type 0
+TestsHolding wanted shown result = Tells shown result (λ host yes. IsTrue yes ↔ Holds host wanted)
 
 -- ---- setting
 
@@ -54,6 +58,10 @@ ChangedTarget (wants.Entries name value) old new = ChangedVariable name old new
 ChangedTarget (wants.NoVariable name) old new = ChangedVariable name old new
 ChangedTarget (wants.NoEntries name value) old new = ChangedVariable name old new
 ChangedTarget (wants.Logged id message) old new = AllOrNothing (with_entry id message) old new
+
+-- where the host exposes what it holds, the call set what is asked for; where it answered an error, it did at most a part of it
+abbrev pub Applies : {A E : Type 0} → Wanted → Option HostState → Option HostState → Result A E → Type 0
+Applies wanted old new result = Does old new result (applied wanted) (ChangedTarget wanted)
 
 -- ---- what is in the way
 
@@ -101,3 +109,7 @@ InTheWay host (wants.Entries name value) = ⊥
 InTheWay host (wants.NoVariable name) = ⊥
 InTheWay host (wants.NoEntries name value) = ⊥
 InTheWay host (wants.Logged id message) = ⊥
+
+-- the answer is yes exactly where something is in the way, where the host exposes what it holds
+abbrev pub TestsInTheWay : {E : Type 0} → Wanted → Option HostState → Result Bool E → Type 0
+TestsInTheWay wanted shown result = Tells shown result (λ host yes. IsTrue yes ↔ InTheWay host wanted)

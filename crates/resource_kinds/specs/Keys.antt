@@ -6,13 +6,13 @@ use Rattle.std.specs.Ordering.{nat_cmp}
 use Rattle.resource_kinds.specs.declared.keys.Keys.{Keys}
 
 -- the place that is kept for a key
-unfoldable pub place_of : Keys → List ℕ → Option ℕ
-place_of keys key = get_by (λ kept. slice_cmp nat_cmp key kept.items) keys.by_key
+unfoldable pub kept_place : Keys → List ℕ → Option ℕ
+kept_place keys key = get_by (λ kept. slice_cmp nat_cmp key kept.items) keys.by_key
 
 -- only this key's place has changed
 pub record Puts (old new : Keys) (key : List ℕ) (place : ℕ) : Type 0 where
-  pub here : place_of new key ≡ Some place
-  pub kept : (other : List ℕ) → (key ≡ other → ⊥) → place_of new other ≡ place_of old other
+  pub here : kept_place new key ≡ Some place
+  pub kept : (other : List ℕ) → (key ≡ other → ⊥) → kept_place new other ≡ kept_place old other
 
 -- the same, where there may be no key
 abbrev pub PutsIfAny : Keys → Keys → Option (List ℕ) → ℕ → Type 0
@@ -21,4 +21,4 @@ PutsIfAny old new (Some key) place = Puts old new key place
 
 -- some key that begins with this has a place
 abbrev pub AnyBeginsWith : Keys → List ℕ → Type 0
-AnyBeginsWith keys front = (rest : List ℕ) × (place : ℕ) × (place_of keys (front ++ rest) ≡ Some place)
+AnyBeginsWith keys front = (rest : List ℕ) × (place : ℕ) × (kept_place keys (front ++ rest) ≡ Some place)

@@ -1,19 +1,21 @@
+-- what the layer above cites
 pub mod Apart
 pub mod Documents
 pub mod Entries
-pub mod EntrySets
 pub mod Holds
-pub mod Keys
 pub mod Kinds
 pub mod Laws
 pub mod Names
-pub mod OverlapSteps
 pub mod PackageSteps
 pub mod Packages
-pub mod PathOrder
 pub mod Paths
-pub mod Subjects
 pub mod Tables
 pub mod Trace
 pub mod True
 pub mod Wanted
+-- for private clauses alone
+pub mod EntrySets
+pub mod Keys
+pub mod OverlapSteps
+pub mod PathOrder
+pub mod Subjects

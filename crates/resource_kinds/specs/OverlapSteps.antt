@@ -10,13 +10,13 @@ abbrev pub entry_key : List ℕ → List ℕ → List ℕ
 entry_key [] message = 1 ∷ message
 entry_key (b ∷ bs) message = 0 ∷ b ∷ entry_key bs message
 
-abbrev pub key_of : Target → List ℕ
-key_of (Path path) = 0 ∷ path
-key_of (Variable name) = 1 ∷ name
-key_of (LogEntry id message) = 2 ∷ entry_key id message
+abbrev pub target_key : Target → List ℕ
+target_key (Path path) = 0 ∷ path
+target_key (Variable name) = 1 ∷ name
+target_key (LogEntry id message) = 2 ∷ entry_key id message
 
 abbrev pub key_if_any : Option Wanted → Option (List ℕ)
-key_if_any wanted = option_map (λ w. key_of (target_of w)) wanted
+key_if_any wanted = option_map (λ w. target_key (target_of w)) wanted
 
 -- the key of a path below this one has a place
 abbrev pub HasBelow : Keys → List ℕ → Type 0

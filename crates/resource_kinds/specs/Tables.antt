@@ -24,13 +24,13 @@ is_null _ = false
 abbrev pub is_text : Value → Bool
 is_text value = is_some (text_of value)
 
-abbrev pub is_filled : Option (List ℕ) → Bool
-is_filled (Some (c ∷ cs)) = true
-is_filled _ = false
+abbrev pub is_given : Option (List ℕ) → Bool
+is_given (Some (c ∷ cs)) = true
+is_given _ = false
 
 -- a single text that is not empty
 abbrev pub is_filled_text : Value → Bool
-is_filled_text value = is_filled (text_of value)
+is_filled_text value = is_given (text_of value)
 
 -- there is a text, and it is this word
 abbrev pub is_word : List ℕ → Option (List ℕ) → Bool
@@ -51,9 +51,9 @@ abbrev pub is_truth_value : Value → Bool
 is_truth_value (One (scalars.Bool b)) = true
 is_truth_value _ = false
 
-abbrev pub is_yes : Value → Bool
-is_yes (One (scalars.Bool b)) = b
-is_yes _ = false
+abbrev pub is_true : Value → Bool
+is_true (One (scalars.Bool b)) = b
+is_true _ = false
 
 -- ---- what an instance says
 
@@ -63,7 +63,7 @@ says name word instance = is_word word (text_named name instance)
 
 -- its property of that name is true
 abbrev pub says_yes : List ℕ → Instance → Bool
-says_yes name instance = option_map_or is_yes (value_named name instance) false
+says_yes name instance = option_map_or is_true (value_named name instance) false
 
 -- a file unless it says otherwise
 abbrev pub is_directory : Instance → Bool

@@ -10,11 +10,17 @@ use std::alloc::{AllocError, Global};
 
 /// What a Set makes of a variable is what its Test asks for. The call does nothing; its clauses are the laws.
 pub fn entry_laws()
-    ensures present { (old : Option (List ℕ)) (value : List ℕ) → HasEntries (with_entries old value) value }
-    ensures absent { (old : Option (List ℕ)) (value : List ℕ) → LacksEntries (without_entries old value) value }
-    ensures added { (old value : List ℕ) → 0 < length old → entries_of (with_entries (Some old) value) ≡ entries old ++ missing_entries (Some old) value }
-    ensures stays { (old value : List ℕ) → HasEntries (Some old) value → with_entries (Some old) value ≡ Some old }
-    ensures kept { (old value : List ℕ) → entries_of (without_entries (Some old) value) ≡ kept_entries old value }
+    ensures present { (old : Option (List ℕ)) (value : List ℕ)
+        → HasEntries (with_entries old value) value }
+    ensures absent { (old : Option (List ℕ)) (value : List ℕ)
+        → LacksEntries (without_entries old value) value }
+    ensures added { (old value : List ℕ) → 0 < length old
+        → entries_of (with_entries (Some old) value) ≡
+        entries old ++ missing_entries (Some old) value }
+    ensures stays { (old value : List ℕ) → HasEntries (Some old) value
+        → with_entries (Some old) value ≡ Some old }
+    ensures kept { (old value : List ℕ) → entries_of (without_entries (Some old) value) ≡
+        kept_entries old value }
 {}
 
 /// Returns whether the variable is there and has each entry of the value that is not empty.
@@ -32,7 +38,8 @@ pub fn has_entries(alloc: Global, old: Option<&[u8]>, value: &[u8]) -> Result<bo
 
 /// Returns whether the variable has no entry of the value but empty ones.
 pub fn lacks_entries(alloc: Global, old: Option<&[u8]>, value: &[u8]) -> Result<bool, AllocError>
-    ensures { IfOk result (λ lacks. IsTrue lacks ↔ LacksEntries (option_copied old.entry) value.now) }
+    ensures { IfOk result (λ lacks. IsTrue lacks ↔
+        LacksEntries (option_copied old.entry) value.now) }
 {
     match old {
         Some(old) => {
@@ -45,7 +52,8 @@ pub fn lacks_entries(alloc: Global, old: Option<&[u8]>, value: &[u8]) -> Result<
 
 /// The variable's value with the missing entries after its own.
 pub fn with_entries(alloc: Global, old: Option<&[u8]>, value: &[u8]) -> Result<Vec<u8>, AllocError>
-    ensures { IfOk result (λ v. Some v.items ≡ with_entries (option_copied old.entry) value.now) }
+    ensures { IfOk result (λ v.
+        Some v.items ≡ with_entries (option_copied old.entry) value.now) }
 {
     let missing = missing_entries(alloc, old, value)?;
     appended(alloc, old.unwrap_or(&[]), missing.as_slice())
@@ -57,7 +65,8 @@ pub fn without_entries(
     old: &[u8],
     value: &[u8],
 ) -> Result<Option<Vec<u8>>, AllocError>
-    ensures { IfOk result (λ left. option_map (λ v. v.items) left ≡ without_entries (Some old.now) value.now) }
+    ensures { IfOk result (λ left. option_map (λ v. v.items) left ≡
+        without_entries (Some old.now) value.now) }
 {
     let kept = kept_entries(alloc, old, value)?;
     if kept.is_empty() {
@@ -77,7 +86,8 @@ fn all_in(own: &EntrySet, value: &[u8]) -> bool
 
 // Returns whether no entry of the value that is not empty is in the set.
 fn none_in(own: &EntrySet, value: &[u8]) -> bool
-    ensures { result ≡ list_all (λ e. (length e == 0) || not (is_in own.now e)) (entries value.now) }
+    ensures { result ≡ list_all (λ e. (length e == 0) || not (is_in own.now e))
+        (entries value.now) }
 {
     value
         .split(|b| *b == b';')
@@ -91,7 +101,8 @@ fn missing_entries<'a>(
     old: Option<&[u8]>,
     value: &'a [u8],
 ) -> Result<Vec<&'a [u8]>, AllocError>
-    ensures { IfOk result (λ v. map (λ e. e.now) v.items ≡ missing_entries (option_copied old.entry) value.now) }
+    ensures { IfOk result (λ v. map (λ e. e.now) v.items ≡
+        missing_entries (option_copied old.entry) value.now) }
 {
     let own = EntrySet::of(alloc, old.unwrap_or(&[]))?;
     let missing: Vec<&[u8]> = value
@@ -112,7 +123,8 @@ fn kept_entries<'a>(alloc: Global, old: &'a [u8], value: &[u8]) -> Result<Vec<&'
 }
 
 fn each_once<'a>(alloc: Global, entries: &[&'a [u8]]) -> Result<Vec<&'a [u8]>, AllocError>
-    ensures { IfOk result (λ v. map (λ e. e.now) v.items ≡ each_once (map (λ e. e.now) entries.now)) }
+    ensures { IfOk result (λ v. map (λ e. e.now) v.items ≡
+        each_once (map (λ e. e.now) entries.now)) }
 {
     let mut seen = EntrySet::new(alloc);
     let mut once = Vec::new(alloc);
@@ -150,7 +162,8 @@ fn joined(alloc: Global, entries: &[&[u8]]) -> Result<Vec<u8>, AllocError>
 
 // Each of the entries after a `;`.
 fn push_entries(made: &mut Vec<u8>, entries: &[&[u8]]) -> Result<(), AllocError>
-    ensures { OnOk result (made.new.items ≡ made.old.items ++ flat_map (λ e. 59 ∷ e.now) entries.now) }
+    ensures { OnOk result (made.new.items ≡ made.old.items ++
+        flat_map (λ e. 59 ∷ e.now) entries.now) }
 {
     for entry in entries {
         made.push(b';')?;

@@ -36,7 +36,8 @@ impl<'a> EntrySet<'a> {
     /// Puts the entry into the set, and returns whether it is new there.
     pub fn insert(&mut self, entry: &'a [u8]) -> Result<bool, AllocError>
         ensures new { IfOk result (λ new. new ≡ not (is_in self.old entry.now)) }
-        ensures put { OnOk result ((other : List ℕ) → is_in self.new other ≡ (bytes_eq other entry.now || is_in self.old other)) }
+        ensures put { OnOk result ((other : List ℕ) → is_in self.new other ≡
+            (bytes_eq other entry.now || is_in self.old other)) }
     {
         Ok(self.entries.insert(entry)?)
     }

@@ -1,4 +1,4 @@
-//! The entries of calls.
+//! Adds the entry of each call to the trace.
 ghost use Rattle.std.specs.Prelude.{◌≡◌, ◌<◌, ◌≤◌, ◌+◌, ◌-◌, ◌++◌, ◌∷◌, [], IfOk, OnErr, vec_capacity, vec_len};
 ghost use Rattle.resource_kinds.specs.declared.entry.Entry.TheVariants as entries;
 ghost use Rattle.resource_kinds.specs.True.{IsKeptSet, IsKeptTest};
@@ -7,20 +7,21 @@ ghost use Rattle.resource_kinds.specs.Wanted.{NamesProperty};
 use crate::entry::{Entry, Failure, SetAnswer, TestAnswer};
 use std::alloc::AllocError;
 
-/// Keeps the entry of a Test, for which there is room, and answers what it says: the answer, or `Memory` where none is
+/// Keeps the entry of a Test, for which capacity is reserved, and answers what it says: the answer, or `Memory` where none is
 /// left for a second copy of a name.
 pub fn keep_test(calls: &mut Vec<Entry>, place: u32, answer: TestAnswer) -> TestAnswer
     requires { vec_len calls.old < vec_capacity calls.old }
     ensures kept { calls.new.items ≡ calls.old.items ++ entries.Tested place result ∷ [] }
-    ensures room { vec_capacity calls.old - vec_len calls.old ≤ (vec_capacity calls.new - vec_len calls.new) + 1 }
-    ensures told { IsKeptTest answer result }
+    ensures room { vec_capacity calls.old - vec_len calls.old ≤
+        (vec_capacity calls.new - vec_len calls.new) + 1 }
+    ensures shown { IsKeptTest answer result }
 {
-    let (kept, told) = two_tests(answer);
+    let (kept, shown) = two_tests(answer);
     match calls.push(Entry::Tested {
         place,
         answer: kept,
     }) {
-        Ok(()) => told,
+        Ok(()) => shown,
         Err(_) => unreachable!(),
     }
 }
@@ -29,15 +30,16 @@ pub fn keep_test(calls: &mut Vec<Entry>, place: u32, answer: TestAnswer) -> Test
 pub fn keep_set(calls: &mut Vec<Entry>, place: u32, answer: SetAnswer) -> SetAnswer
     requires { vec_len calls.old < vec_capacity calls.old }
     ensures kept { calls.new.items ≡ calls.old.items ++ entries.Set place result ∷ [] }
-    ensures room { vec_capacity calls.old - vec_len calls.old ≤ (vec_capacity calls.new - vec_len calls.new) + 1 }
-    ensures told { IsKeptSet answer result }
+    ensures room { vec_capacity calls.old - vec_len calls.old ≤
+        (vec_capacity calls.new - vec_len calls.new) + 1 }
+    ensures shown { IsKeptSet answer result }
 {
-    let (kept, told) = two_sets(answer);
+    let (kept, shown) = two_sets(answer);
     match calls.push(Entry::Set {
         place,
         answer: kept,
     }) {
-        Ok(()) => told,
+        Ok(()) => shown,
         Err(_) => unreachable!(),
     }
 }
@@ -45,7 +47,7 @@ pub fn keep_set(calls: &mut Vec<Entry>, place: u32, answer: SetAnswer) -> SetAns
 // The answer twice, or `Memory` twice.
 fn two_tests(answer: TestAnswer) -> (TestAnswer, TestAnswer)
     ensures same { result.0 ≡ result.1 }
-    ensures told { IsKeptTest answer result.1 }
+    ensures shown { IsKeptTest answer result.1 }
 {
     match answer {
         TestAnswer::Yes => (TestAnswer::Yes, TestAnswer::Yes),
@@ -60,7 +62,7 @@ fn two_tests(answer: TestAnswer) -> (TestAnswer, TestAnswer)
 
 fn two_sets(answer: SetAnswer) -> (SetAnswer, SetAnswer)
     ensures same { result.0 ≡ result.1 }
-    ensures told { IsKeptSet answer result.1 }
+    ensures shown { IsKeptSet answer result.1 }
 {
     match answer {
         SetAnswer::Done => (SetAnswer::Done, SetAnswer::Done),

@@ -1,6 +1,6 @@
 //! The places of keys, which are lists of bytes.
 ghost use Rattle.std.specs.Prelude.{◌≡◌, ◌↔◌, ℕ, List, IfOk, IsTrue, OnOk};
-ghost use Rattle.resource_kinds.specs.Keys.{AnyBeginsWith, Puts, place_of};
+ghost use Rattle.resource_kinds.specs.Keys.{AnyBeginsWith, Puts, kept_place};
 
 use std::alloc::{AllocError, Global};
 use std::collections::BTreeMap;
@@ -14,7 +14,7 @@ pub struct Keys {
 impl Keys {
     /// No key has a place.
     pub fn new(alloc: Global) -> Keys
-        ensures { (key : List ℕ) → place_of result key ≡ None }
+        ensures { (key : List ℕ) → kept_place result key ≡ None }
     {
         Keys {
             by_key: BTreeMap::new(alloc),
@@ -23,7 +23,7 @@ impl Keys {
 
     /// Gives the key this place, and returns the one that it had.
     pub fn put(&mut self, key: Vec<u8>, place: u32) -> Result<Option<u32>, AllocError>
-        ensures had { IfOk result (λ had. had ≡ place_of self.old key.items) }
+        ensures had { IfOk result (λ had. had ≡ kept_place self.old key.items) }
         ensures put { OnOk result (Puts self.old self.new key.items place) }
     {
         Ok(self.by_key.insert(key, place)?)

@@ -64,19 +64,22 @@ impl<H: Host> Resources for Kinds<H> {
 
     ghost faults = { λ k. H.faults (host_of k) };
 
-    ghost does = { λ a document e b. TellsEntry (H.told (host_of a)) document e (H.told (host_of b)) };
+    ghost does = { λ a document e b. TellsEntry (H.shown (host_of a)) document e
+        (H.shown (host_of b)) };
 
-    ghost still = { λ a b. H.told (host_of a) ≡ H.told (host_of b) };
+    ghost still = { λ a b. H.shown (host_of a) ≡ H.shown (host_of b) };
 
     ghost stays = { λ a. refl };
 
-    ghost still_does = { λ a b c document e same step. subst (λ (t : Option HostState). TellsEntry t document e (H.told (host_of c))) (sym same) step };
+    ghost still_does = { λ a b c document e same step.
+        subst (λ (t : Option HostState). TellsEntry t document e (H.shown (host_of c)))
+        (sym same) step };
 
     fn reserve(&mut self, entries: u32) -> Result<(), Memory>
         ensures room { OnOk result (entries ≤ spare_of self.new) }
         ensures kept { calls_of self.new ≡ calls_of self.old }
         ensures faults { H.faults (host_of self.new) ≡ H.faults (host_of self.old) }
-        ensures still { H.told (host_of self.old) ≡ H.told (host_of self.new) }
+        ensures still { H.shown (host_of self.old) ≡ H.shown (host_of self.new) }
         ensures host { host_of self.new ≡ host_of self.old }
     {
         self.calls.reserve(entries as usize)?;
@@ -101,34 +104,40 @@ impl<H: Host> Resources for Kinds<H> {
 }
 
 impl<H: Host> Machine for Kinds<H> {
-    ghost use Rattle.std.specs.Prelude.{◌≡◌, ◌⊎◌, IfOk, IfSome, OnOk};
+    ghost use Rattle.std.specs.Prelude.{◌≡◌, OnOk};
     ghost use Rattle.dsc_outside.specs.Causes.{HasCauseOf};
-    ghost use Rattle.dsc_outside.specs.Changes.{AllOrNothing, Does, with_package};
-    ghost use Rattle.dsc_outside.specs.Host.{has_package};
+    ghost use Rattle.dsc_outside.specs.Changes.{PutsPackage};
     ghost use Rattle.resource_kinds.specs.PackageSteps.{changed_again, unchanged};
     ghost use Rattle.std.proofs.Common.{◌∙◌, ap};
     ghost use Rattle.resource_kinds.specs.Kinds.{calls_of, host_of, spare_of};
-    ghost use Rattle.resource_kinds.specs.Packages.{AddsPackage, ChangesPackages, packages_of};
+    ghost use Rattle.resource_kinds.specs.Packages.{AddsAtMost, AddsPackage, ChangesPackages, TellsPackage, packages_of};
 
-    ghost packages = { λ k. packages_of (H.told (host_of k)) };
+    ghost packages = { λ k. packages_of (H.shown (host_of k)) };
 
-    ghost packages_changed = { λ a b. ChangesPackages (H.told (host_of a)) (H.told (host_of b)) };
+    ghost packages_changed = { λ a b.
+        ChangesPackages (H.shown (host_of a)) (H.shown (host_of b)) };
 
     ghost still_still = { λ a b c first second. first ∙ second };
 
     ghost still_packages = { λ a b same. ap packages_of same };
 
-    ghost still_changed = { λ a b same. unchanged (H.told (host_of a)) (H.told (host_of b)) same };
+    ghost still_changed = { λ a b same. unchanged (H.shown (host_of a))
+        (H.shown (host_of b)) same };
 
-    ghost changed_changed = { λ a b c first second. changed_again (H.told (host_of a)) (H.told (host_of b)) (H.told (host_of c)) first second };
+    ghost changed_changed = { λ a b c first second.
+        changed_again (H.shown (host_of a)) (H.shown (host_of b))
+        (H.shown (host_of c)) first second };
 
     fn package_has(&mut self, name: &str, version: &str) -> Result<bool, HostError>
         ensures kept { calls_of self.new ≡ calls_of self.old }
         ensures room { spare_of self.new ≡ spare_of self.old }
-        ensures still { H.told (host_of self.old) ≡ H.told (host_of self.new) }
-        ensures same { packages_of (H.told (host_of self.new)) ≡ packages_of (H.told (host_of self.old)) }
-        ensures answer { IfSome (packages_of (H.told (host_of self.old))) (λ list. IfOk result (λ there. there ≡ has_package list name.now version.now)) }
-        ensures cause { HasCauseOf HostError.Failed (H.faults (host_of self.old)) (H.faults (host_of self.new)) result }
+        ensures still { H.shown (host_of self.old) ≡ H.shown (host_of self.new) }
+        ensures same { packages_of (H.shown (host_of self.new)) ≡
+            packages_of (H.shown (host_of self.old)) }
+        ensures answer { TellsPackage (packages_of (H.shown (host_of self.old)))
+            name.now version.now result }
+        ensures cause { HasCauseOf HostError.Failed
+            (H.faults (host_of self.old)) (H.faults (host_of self.new)) result }
     {
         self.host.package_has(name, version)
     }
@@ -136,11 +145,16 @@ impl<H: Host> Machine for Kinds<H> {
     fn package_put(&mut self, name: &str, version: &str, bytes: &[u8]) -> Result<(), HostError>
         ensures kept { calls_of self.new ≡ calls_of self.old }
         ensures room { spare_of self.new ≡ spare_of self.old }
-        ensures changed { ChangesPackages (H.told (host_of self.old)) (H.told (host_of self.new)) }
-        ensures added { OnOk result (AddsPackage (packages_of (H.told (host_of self.old))) (packages_of (H.told (host_of self.new))) name.now version.now bytes.now) }
-        ensures whole { (packages_of (H.told (host_of self.new)) ≡ packages_of (H.told (host_of self.old))) ⊎ AddsPackage (packages_of (H.told (host_of self.old))) (packages_of (H.told (host_of self.new))) name.now version.now bytes.now }
-        ensures change { Does (H.told (host_of self.old)) (H.told (host_of self.new)) result (with_package name.now version.now bytes.now) (AllOrNothing (with_package name.now version.now bytes.now)) }
-        ensures cause { HasCauseOf HostError.Failed (H.faults (host_of self.old)) (H.faults (host_of self.new)) result }
+        ensures changed { ChangesPackages (H.shown (host_of self.old))
+            (H.shown (host_of self.new)) }
+        ensures added { OnOk result (AddsPackage (packages_of (H.shown (host_of self.old)))
+            (packages_of (H.shown (host_of self.new))) name.now version.now bytes.now) }
+        ensures whole { AddsAtMost (packages_of (H.shown (host_of self.old)))
+            (packages_of (H.shown (host_of self.new))) name.now version.now bytes.now }
+        ensures change { PutsPackage name.now version.now bytes.now
+            (H.shown (host_of self.old)) (H.shown (host_of self.new)) result }
+        ensures cause { HasCauseOf HostError.Failed
+            (H.faults (host_of self.old)) (H.faults (host_of self.new)) result }
     {
         self.host.package_put(name, version, bytes)
     }

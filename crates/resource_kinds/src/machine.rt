@@ -1,9 +1,8 @@
 //! Machines that also keep module packages.
-ghost use Rattle.std.specs.Prelude.{◌≡◌, ◌⊎◌, IfOk, IfSome, List, OnOk, Option};
+ghost use Rattle.std.specs.Prelude.{◌≡◌, List, OnOk, Option};
 ghost use Rattle.dsc_outside.specs.Causes.{HasCauseOf};
-ghost use Rattle.dsc_outside.specs.Host.{has_package};
 ghost use Rattle.dsc_outside.specs.declared.entries.Package.{Package};
-ghost use Rattle.resource_kinds.specs.Packages.{AddsPackage};
+ghost use Rattle.resource_kinds.specs.Packages.{AddsAtMost, AddsPackage, TellsPackage};
 
 use crate::resources::Resources;
 use dsc_outside::HostError;
@@ -22,17 +21,21 @@ pub trait Machine: Resources {
         ensures room { Self.spare self.new ≡ Self.spare self.old }
         ensures still { Self.still self.old self.new }
         ensures same { packages self.new ≡ packages self.old }
-        ensures answer { IfSome (packages self.old) (λ list. IfOk result (λ there. there ≡ has_package list name.now version.now)) }
-        ensures cause { HasCauseOf HostError.Failed (Self.faults self.old) (Self.faults self.new) result };
+        ensures answer { TellsPackage (packages self.old) name.now version.now result }
+        ensures cause { HasCauseOf HostError.Failed
+            (Self.faults self.old) (Self.faults self.new) result };
 
     /// Adds a package at the end of the list.
     fn package_put(&mut self, name: &str, version: &str, bytes: &[u8]) -> Result<(), HostError>
         ensures kept { Self.kept self.new ≡ Self.kept self.old }
         ensures room { Self.spare self.new ≡ Self.spare self.old }
         ensures changed { packages_changed self.old self.new }
-        ensures added { OnOk result (AddsPackage (packages self.old) (packages self.new) name.now version.now bytes.now) }
-        ensures whole { (packages self.new ≡ packages self.old) ⊎ AddsPackage (packages self.old) (packages self.new) name.now version.now bytes.now }
-        ensures cause { HasCauseOf HostError.Failed (Self.faults self.old) (Self.faults self.new) result };
+        ensures added { OnOk result (AddsPackage (packages self.old) (packages self.new)
+            name.now version.now bytes.now) }
+        ensures whole { AddsAtMost (packages self.old) (packages self.new)
+            name.now version.now bytes.now }
+        ensures cause { HasCauseOf HostError.Failed
+            (Self.faults self.old) (Self.faults self.new) result };
 
     ghost still_still: { (a b c : Self) → Self.still a b → Self.still b c → Self.still a c };
 
@@ -40,5 +43,6 @@ pub trait Machine: Resources {
 
     ghost still_changed: { (a b : Self) → Self.still a b → packages_changed a b };
 
-    ghost changed_changed: { (a b c : Self) → packages_changed a b → packages_changed b c → packages_changed a c };
+    ghost changed_changed: { (a b c : Self) → packages_changed a b → packages_changed b c
+        → packages_changed a c };
 }

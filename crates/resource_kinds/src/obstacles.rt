@@ -2,7 +2,7 @@
 ghost use Rattle.std.specs.Prelude.{◌≡◌, ◌↔◌, ◌⊎◌, IfOk, IsTrue, take, length, ◌≤◌, ◌<◌};
 ghost use Rattle.dsc_outside.specs.Causes.{HasCauseOf};
 ghost use Rattle.dsc_outside.specs.Host.{Tells};
-ghost use Rattle.resource_kinds.specs.Holds.{AsksPath, BarsFile, BarsFolder, InTheWay, IsBarred};
+ghost use Rattle.resource_kinds.specs.Holds.{AsksPath, BarsFile, BarsFolder, InTheWay, IsBarred, TestsInTheWay};
 ghost use Rattle.resource_kinds.specs.declared.wanted.Wanted.TheVariants as wants;
 
 use crate::utf8::Utf8;
@@ -11,8 +11,8 @@ use dsc_outside::{Host, HostError, PathState};
 
 /// Returns whether something on the host is in the way of what is asked for.
 pub fn is_in_the_way<H: Host>(host: &mut H, wanted: &Wanted) -> Result<bool, HostError>
-    ensures told { H.told host.new ≡ H.told host.old }
-    ensures answer { Tells (H.told host.old) result (λ state yes. IsTrue yes ↔ InTheWay state wanted.now) }
+    ensures shown { H.shown host.new ≡ H.shown host.old }
+    ensures answer { TestsInTheWay wanted.now (H.shown host.old) result }
     ensures path { IfOk result (λ yes. IsTrue yes → AsksPath wanted.now) }
     ensures cause { HasCauseOf HostError.Failed (H.faults host.old) (H.faults host.new) result }
 {
@@ -30,8 +30,8 @@ pub fn is_in_the_way<H: Host>(host: &mut H, wanted: &Wanted) -> Result<bool, Hos
 }
 
 fn bars_file<H: Host>(host: &mut H, path: &Utf8) -> Result<bool, HostError>
-    ensures told { H.told host.new ≡ H.told host.old }
-    ensures answer { Tells (H.told host.old) result (λ state yes. IsTrue yes ↔ InTheWay state (wants.NoFile path.now)) }
+    ensures shown { H.shown host.new ≡ H.shown host.old }
+    ensures answer { TestsInTheWay (wants.NoFile path.now) (H.shown host.old) result }
     ensures cause { HasCauseOf HostError.Failed (H.faults host.old) (H.faults host.new) result }
 {
     if is_barred(host, path.as_str())? {
@@ -44,8 +44,8 @@ fn bars_file<H: Host>(host: &mut H, path: &Utf8) -> Result<bool, HostError>
 }
 
 fn bars_folder<H: Host>(host: &mut H, path: &Utf8) -> Result<bool, HostError>
-    ensures told { H.told host.new ≡ H.told host.old }
-    ensures answer { Tells (H.told host.old) result (λ state yes. IsTrue yes ↔ InTheWay state (wants.Folder path.now)) }
+    ensures shown { H.shown host.new ≡ H.shown host.old }
+    ensures answer { TestsInTheWay (wants.Folder path.now) (H.shown host.old) result }
     ensures cause { HasCauseOf HostError.Failed (H.faults host.old) (H.faults host.new) result }
 {
     if is_barred(host, path.as_str())? {
@@ -56,8 +56,9 @@ fn bars_folder<H: Host>(host: &mut H, path: &Utf8) -> Result<bool, HostError>
 
 // Returns whether something that is no folder stands at the path.
 fn stands_for_folder<H: Host>(host: &mut H, path: &str) -> Result<bool, HostError>
-    ensures told { H.told host.new ≡ H.told host.old }
-    ensures answer { Tells (H.told host.old) result (λ state yes. IsTrue yes ↔ BarsFolder (state.path path.now)) }
+    ensures shown { H.shown host.new ≡ H.shown host.old }
+    ensures answer { Tells (H.shown host.old) result
+        (λ state yes. IsTrue yes ↔ BarsFolder (state.path path.now)) }
     ensures cause { HasCauseOf HostError.Failed (H.faults host.old) (H.faults host.new) result }
 {
     match host.path_state(path)? {
@@ -67,8 +68,8 @@ fn stands_for_folder<H: Host>(host: &mut H, path: &str) -> Result<bool, HostErro
 }
 
 fn bars_removal<H: Host>(host: &mut H, path: &Utf8, forced: bool) -> Result<bool, HostError>
-    ensures told { H.told host.new ≡ H.told host.old }
-    ensures answer { Tells (H.told host.old) result (λ state yes. IsTrue yes ↔ InTheWay state (wants.NoFolder path.now forced)) }
+    ensures shown { H.shown host.new ≡ H.shown host.old }
+    ensures answer { TestsInTheWay (wants.NoFolder path.now forced) (H.shown host.old) result }
     ensures cause { HasCauseOf HostError.Failed (H.faults host.old) (H.faults host.new) result }
 {
     if is_barred(host, path.as_str())? {
@@ -83,8 +84,9 @@ fn bars_removal<H: Host>(host: &mut H, path: &Utf8, forced: bool) -> Result<bool
 
 // Returns whether something that is no folder stands above the path; it looks from the top, and no further than that.
 fn is_barred<H: Host>(host: &mut H, path: &str) -> Result<bool, HostError>
-    ensures told { H.told host.new ≡ H.told host.old }
-    ensures answer { Tells (H.told host.old) result (λ state yes. IsTrue yes ↔ IsBarred state.path path.now) }
+    ensures shown { H.shown host.new ≡ H.shown host.old }
+    ensures answer { Tells (H.shown host.old) result
+        (λ state yes. IsTrue yes ↔ IsBarred state.path path.now) }
     ensures cause { HasCauseOf HostError.Failed (H.faults host.old) (H.faults host.new) result }
 {
     for at in 0..path.len() {

@@ -2,8 +2,8 @@
 ghost use Rattle.std.specs.Prelude.{◌≡◌, ◌<◌, ◌^◌, ◌↔◌, IfOk, OnOk, IsTrue, length, map, ◌∷◌, option_and_then, true, false};
 ghost use Rattle.std.specs.Result.{result_ok};
 ghost use Rattle.resource_kinds.specs.Apart.{Apart, MeetsEarlier, Overlap, closed_path, target_of};
-ghost use Rattle.resource_kinds.specs.Keys.{PutsIfAny, place_of};
-ghost use Rattle.resource_kinds.specs.OverlapSteps.{HasBelow, HasBelowIfAny, HasInside, entry_key, key_if_any, key_of};
+ghost use Rattle.resource_kinds.specs.Keys.{PutsIfAny, kept_place};
+ghost use Rattle.resource_kinds.specs.OverlapSteps.{HasBelow, HasBelowIfAny, HasInside, entry_key, key_if_any, target_key};
 ghost use Rattle.resource_kinds.specs.Wanted.{wanted_of};
 
 use crate::keys::Keys;
@@ -70,7 +70,8 @@ fn meets_earlier(document: &Document, second: usize) -> bool
 
 // What each resource asks for, where it asks for anything.
 fn all_wanted(alloc: Global, resources: &[Resource]) -> Result<Vec<Option<Wanted>>, AllocError>
-    ensures { IfOk result (λ all. all.items ≡ map (λ resource. result_ok (wanted_of resource)) resources.now) }
+    ensures { IfOk result (λ all. all.items ≡
+        map (λ resource. result_ok (wanted_of resource)) resources.now) }
 {
     let mut all = Vec::new(alloc);
     for resource in resources {
@@ -96,11 +97,12 @@ fn put_key(
     wanted: &Option<Wanted>,
     place: u32,
 ) -> Result<Option<u32>, AllocError>
-    ensures had { IfOk result (λ had. had ≡ option_and_then (place_of keys.old) (key_if_any wanted.now)) }
+    ensures had { IfOk result (λ had. had ≡ option_and_then (kept_place keys.old)
+        (key_if_any wanted.now)) }
     ensures put { OnOk result (PutsIfAny keys.old keys.new (key_if_any wanted.now) place) }
 {
     match wanted {
-        Some(wanted) => keys.put(key_of(alloc, wanted)?, place),
+        Some(wanted) => keys.put(target_key(alloc, wanted)?, place),
         None => Ok(None),
     }
 }
@@ -116,7 +118,8 @@ fn has_inside(alloc: Global, keys: &Keys, wanted: &Option<Wanted>) -> Result<boo
 }
 
 fn encloses_one(alloc: Global, keys: &Keys, wanted: &Wanted) -> Result<bool, AllocError>
-    ensures { IfOk result (λ inside. IsTrue inside ↔ HasBelowIfAny keys.now (closed_path wanted.now)) }
+    ensures { IfOk result (λ inside. IsTrue inside ↔
+        HasBelowIfAny keys.now (closed_path wanted.now)) }
 {
     match wanted {
         Wanted::File { path, .. } => has_below(alloc, keys, path),
@@ -141,8 +144,8 @@ fn has_below(alloc: Global, keys: &Keys, path: &Utf8) -> Result<bool, AllocError
 
 // The key of what is asked for: a byte for its sort, and what it is about. Of an entry of the log the bytes of the id
 // have a 0 in front of each, and the message a 1.
-fn key_of(alloc: Global, wanted: &Wanted) -> Result<Vec<u8>, AllocError>
-    ensures { IfOk result (λ key. key.items ≡ key_of (target_of wanted.now)) }
+fn target_key(alloc: Global, wanted: &Wanted) -> Result<Vec<u8>, AllocError>
+    ensures { IfOk result (λ key. key.items ≡ target_key (target_of wanted.now)) }
 {
     match wanted {
         Wanted::File { path, .. } => with_sort(alloc, 0, path),

@@ -35,7 +35,8 @@ pub enum PathOrder {
 
 /// What a text would mean as a path, where it begins as one: `..` counts as a name, and there may be none at all.
 pub fn path_in<'a>(text: &'a [char]) -> Option<PathRest<'a>>
-    ensures { option_map path_left result ≡ option_map (λ all. join_with_byte 47 (kept_segments all)) (rooted text.now) }
+    ensures { option_map path_left result ≡ option_map
+        (λ all. join_with_byte 47 (kept_segments all)) (rooted text.now) }
 {
     match rooted(text) {
         Some(parts) => Some(begun(parts)),
@@ -66,7 +67,8 @@ pub fn skipped<'a>(text: &'a [char]) -> &'a [char]
 
 // What stands after a first segment that is no name.
 fn passed<'a>(text: &'a [char]) -> Option<&'a [char]>
-    ensures names { MatchOption result (names_behind text.now ≡ from_name text.now) (λ rest. names_behind text.now ≡ names_behind rest.now) }
+    ensures names { MatchOption result (names_behind text.now ≡ from_name text.now)
+        (λ rest. names_behind text.now ≡ names_behind rest.now) }
     ensures shorter { IfSome result (λ rest. length rest.now < length text.now) }
 {
     match text {
@@ -79,7 +81,8 @@ fn passed<'a>(text: &'a [char]) -> Option<&'a [char]>
 
 // The next character, and what is left after it.
 fn next<'a>(path: PathRest<'a>) -> Option<(char, PathRest<'a>)>
-    ensures { MatchOption result (path_left path.entry ≡ []) (λ step. path_left path.entry ≡ step.0 ∷ path_left step.1) }
+    ensures { MatchOption result (path_left path.entry ≡ [])
+        (λ step. path_left path.entry ≡ step.0 ∷ path_left step.1) }
 {
     match path {
         PathRest::Drive(letter, text) => Some((letter, PathRest::Names(text))),
@@ -93,7 +96,8 @@ fn next<'a>(path: PathRest<'a>) -> Option<(char, PathRest<'a>)>
 }
 
 fn next_name<'a>(text: &'a [char]) -> Option<(char, PathRest<'a>)>
-    ensures { MatchOption result (names_behind text.now ≡ []) (λ step. names_behind text.now ≡ step.0 ∷ path_left step.1) }
+    ensures { MatchOption result (names_behind text.now ≡ [])
+        (λ step. names_behind text.now ≡ step.0 ∷ path_left step.1) }
 {
     match skipped(text) {
         [] => None,

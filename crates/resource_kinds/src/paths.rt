@@ -106,8 +106,10 @@ fn has_parent(rest: &[char]) -> bool
 // The path of the names after a root.
 fn path_behind(alloc: Global, parts: &PathText) -> Result<Option<String>, AllocError>
     requires { IfSome parts.now.drive (λ letter. letter ≢ 46) }
-    ensures path { IfOk result (λ path. option_map string_bytes path ≡ option_map joined_path (names_of (all_segments parts.now))) }
-    ensures memory { OnErr result (is_some (option_map joined_path (names_of (all_segments parts.now))) ≡ true) }
+    ensures path { IfOk result (λ path. option_map string_bytes path ≡
+        option_map joined_path (names_of (all_segments parts.now))) }
+    ensures memory { OnErr result
+        (is_some (option_map joined_path (names_of (all_segments parts.now))) ≡ true) }
 {
     if has_parent(parts.rest) {
         return Ok(None);
@@ -119,7 +121,8 @@ fn path_behind(alloc: Global, parts: &PathText) -> Result<Option<String>, AllocE
 // The segments that are kept, with `/` between.
 fn joined(alloc: Global, parts: &PathText) -> Result<String, AllocError>
     requires { IfSome parts.now.drive (λ letter. letter ≢ 46) }
-    ensures path { IfOk result (λ path. string_bytes path ≡ joined_path (kept_segments (all_segments parts.now))) }
+    ensures path { IfOk result (λ path. string_bytes path ≡
+        joined_path (kept_segments (all_segments parts.now))) }
     ensures memory { OnErr result (0 < length (kept_segments (all_segments parts.now))) }
 {
     let mut path = begun(alloc, parts.drive)?;

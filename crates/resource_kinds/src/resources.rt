@@ -15,7 +15,7 @@ pub trait Resources {
     /// The entries so far.
     ghost kept: { Self → List Entry };
 
-    /// How many more entries there is room for.
+    /// For how many more entries capacity is reserved.
     ghost spare: { Self → ℕ };
 
     /// How often a call of the machine has failed; it never falls.
@@ -24,10 +24,10 @@ pub trait Resources {
     /// One call over the document adds this entry and leads from one value to another.
     ghost does: { Self → Document → Entry → Self → Type 0 };
 
-    /// Nothing has changed but the room.
+    /// Nothing has changed but the reserved capacity.
     ghost still: { Self → Self → Type 0 };
 
-    /// Makes room for so many more entries.
+    /// Reserves capacity for this many more entries.
     fn reserve(&mut self, entries: u32) -> Result<(), Memory>
         ensures room { OnOk result (entries ≤ spare self.new) }
         ensures kept { kept self.new ≡ kept self.old }
@@ -42,7 +42,8 @@ pub trait Resources {
         ensures room { spare self.old ≤ spare self.new + 1 }
         ensures does { does self.old document.now (Tested place result) self.new }
         ensures later { faults self.old ≤ faults self.new }
-        ensures cause { RoseBy (entry_failures (Tested place result)) (faults self.old) (faults self.new) };
+        ensures cause { RoseBy (entry_failures (Tested place result)) (faults self.old)
+            (faults self.new) };
 
     /// Sets the resource at that place, and adds its entry.
     fn set(&mut self, document: &Document, place: u32) -> SetAnswer
@@ -52,7 +53,8 @@ pub trait Resources {
         ensures room { spare self.old ≤ spare self.new + 1 }
         ensures does { does self.old document.now (Set place result) self.new }
         ensures later { faults self.old ≤ faults self.new }
-        ensures cause { RoseBy (entry_failures (Set place result)) (faults self.old) (faults self.new) };
+        ensures cause { RoseBy (entry_failures (Set place result)) (faults self.old)
+            (faults self.new) };
 
     /// The entries so far.
     fn calls(&self) -> &[Entry]
@@ -60,5 +62,6 @@ pub trait Resources {
 
     ghost stays: { (a : Self) → still a a };
 
-    ghost still_does: { (a b c : Self) (document : Document) (e : Entry) → still a b → does b document e c → does a document e c };
+    ghost still_does: { (a b c : Self) (document : Document) (e : Entry) → still a b
+        → does b document e c → does a document e c };
 }

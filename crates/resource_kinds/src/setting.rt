@@ -3,8 +3,7 @@ ghost use Rattle.std.specs.Prelude.{◌≡◌, ◌≤◌, ◌↔◌, ◌⊎◌, 
 ghost use Rattle.std.specs.Result.{IfErr};
 ghost use Rattle.dsc_terms.specs.Counts.{RoseBy};
 ghost use Rattle.dsc_outside.specs.Causes.{HasCauseOf};
-ghost use Rattle.dsc_outside.specs.Changes.{ChangedVariable, Does};
-ghost use Rattle.resource_kinds.specs.Holds.{ChangedTarget, InTheWay, applied};
+ghost use Rattle.resource_kinds.specs.Holds.{Applies, InTheWay};
 ghost use Rattle.resource_kinds.specs.Wanted.{wanted_of};
 ghost use Rattle.resource_kinds.specs.True.{BlamesMachine, SetKeepsTable, SetsKnown, SetsTrue, TellsStep};
 ghost use Rattle.resource_kinds.specs.Trace.{set_failures};
@@ -19,12 +18,13 @@ use crate::wanted::{Wanted, WantedError, wanted_of};
 use dsc_document::Resource;
 use dsc_outside::{Host, HostError};
 use mof_values::Text;
-use std::alloc::Global;
+use std::alloc::{AllocError, Global};
 
 /// Makes of the host what the resource asks for, where nothing is in the way, and returns whether the host wants a reboot
 /// for it; with a fault of its own the host is not called.
 pub fn set<H: Host>(alloc: Global, host: &mut H, resource: &Resource) -> SetAnswer
-    ensures told { TellsStep (H.told host.old) (H.told host.new) (λ before after. SetsTrue before resource.now.id (wanted_of resource.now) result after) }
+    ensures shown { TellsStep (H.shown host.old) (H.shown host.new)
+        (λ before after. SetsTrue before resource.now.id (wanted_of resource.now) result after) }
     ensures table { SetKeepsTable (wanted_of resource.now) result }
     ensures unseen { IfErr (wanted_of resource.now) (λ _. host.new ≡ host.old) }
     ensures later { H.faults host.old ≤ H.faults host.new }
@@ -39,7 +39,8 @@ pub fn set<H: Host>(alloc: Global, host: &mut H, resource: &Resource) -> SetAnsw
 
 /// The same of what is asked for.
 pub fn set_wanted<H: Host>(alloc: Global, host: &mut H, id: &Text, wanted: &Wanted) -> SetAnswer
-    ensures told { TellsStep (H.told host.old) (H.told host.new) (λ before after. SetsKnown before id.now wanted.now result after) }
+    ensures shown { TellsStep (H.shown host.old) (H.shown host.new)
+        (λ before after. SetsKnown before id.now wanted.now result after) }
     ensures table { BlamesMachine wanted.now result }
     ensures later { H.faults host.old ≤ H.faults host.new }
     ensures cause { RoseBy (set_failures result) (H.faults host.old) (H.faults host.new) }
@@ -54,14 +55,16 @@ pub fn set_wanted<H: Host>(alloc: Global, host: &mut H, id: &Text, wanted: &Want
 
 // The Set of a resource that nothing is in the way of.
 fn set_clear<H: Host>(alloc: Global, host: &mut H, id: &Text, wanted: &Wanted) -> SetAnswer
-    requires { IfSome (H.told host.old) (λ state. InTheWay state wanted.now → ⊥) }
-    ensures told { TellsStep (H.told host.old) (H.told host.new) (λ before after. SetsKnown before id.now wanted.now result after) }
+    requires { IfSome (H.shown host.old) (λ state. InTheWay state wanted.now → ⊥) }
+    ensures shown { TellsStep (H.shown host.old) (H.shown host.new)
+        (λ before after. SetsKnown before id.now wanted.now result after) }
     ensures table { BlamesMachine wanted.now result }
     ensures later { H.faults host.old ≤ H.faults host.new }
     ensures cause { RoseBy (set_failures result) (H.faults host.old) (H.faults host.new) }
 {
-    let Ok(id) = Utf8::folded(alloc, id) else {
-        return SetAnswer::Memory;
+    let id = match Utf8::folded(alloc, id) {
+        Ok(id) => id,
+        Err(AllocError) => return SetAnswer::Memory,
     };
     match apply(alloc, host, wanted) {
         Ok(()) => {}
@@ -78,7 +81,7 @@ fn set_clear<H: Host>(alloc: Global, host: &mut H, id: &Text, wanted: &Wanted) -
 
 // Makes of the host what is asked for.
 fn apply<H: Host>(alloc: Global, host: &mut H, wanted: &Wanted) -> Result<(), HostError>
-    ensures change { Does (H.told host.old) (H.told host.new) result (applied wanted.now) (ChangedTarget wanted.now) }
+    ensures change { Applies wanted.now (H.shown host.old) (H.shown host.new) result }
     ensures cause { HasCauseOf HostError.Failed (H.faults host.old) (H.faults host.new) result }
 {
     match wanted {
@@ -106,7 +109,8 @@ fn add_entries<H: Host>(
     name: &Utf8,
     value: &Utf8,
 ) -> Result<(), HostError>
-    ensures change { Does (H.told host.old) (H.told host.new) result (applied (wants.Entries name.now value.now)) (ChangedVariable name.now) }
+    ensures change { Applies (wants.Entries name.now value.now)
+        (H.shown host.old) (H.shown host.new) result }
     ensures cause { HasCauseOf HostError.Failed (H.faults host.old) (H.faults host.new) result }
 {
     let found = variable(alloc, host, name)?;
@@ -120,7 +124,8 @@ fn take_entries<H: Host>(
     name: &Utf8,
     value: &Utf8,
 ) -> Result<(), HostError>
-    ensures change { Does (H.told host.old) (H.told host.new) result (applied (wants.NoEntries name.now value.now)) (ChangedVariable name.now) }
+    ensures change { Applies (wants.NoEntries name.now value.now)
+        (H.shown host.old) (H.shown host.new) result }
     ensures cause { HasCauseOf HostError.Failed (H.faults host.old) (H.faults host.new) result }
 {
     match variable(alloc, host, name)? {

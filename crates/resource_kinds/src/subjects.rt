@@ -36,7 +36,8 @@ pub enum Subject<'a> {
 
 /// What the resource is about, where it has no fault.
 pub fn subject_of<'a>(resource: &'a Resource) -> Option<Subject<'a>>
-    ensures { option_map subject_matter result ≡ option_map matter_of (result_ok (wanted_of resource.now)) }
+    ensures { option_map subject_matter result ≡
+        option_map matter_of (result_ok (wanted_of resource.now)) }
 {
     if has_fault(resource) {
         return None;
@@ -46,7 +47,8 @@ pub fn subject_of<'a>(resource: &'a Resource) -> Option<Subject<'a>>
 
 /// Returns whether the resource has no fault and is about what meets the subject.
 pub fn meets(resource: &Resource, subject: Subject) -> bool
-    ensures { IsTrue result ↔ AsksMeeting (result_ok (wanted_of resource.now)) (subject_matter subject.entry) }
+    ensures { IsTrue result ↔ AsksMeeting (result_ok (wanted_of resource.now))
+        (subject_matter subject.entry) }
 {
     match named_subject(resource) {
         Some(own) => meet(own, subject) && !has_fault(resource),
@@ -65,7 +67,8 @@ fn has_fault(resource: &Resource) -> bool
 
 // Returns whether the key is missing, or no path where it should be one.
 fn lacks_key(kind: Kind, resource: &Resource) -> bool
-    ensures { result ≡ is_err (by_table kind resource.now None (text_named (key_of kind) resource.now.instance)) }
+    ensures { result ≡
+        is_err (by_table kind resource.now None (text_named (key_of kind) resource.now.instance)) }
 {
     match resource.instance.text_named(key_of(kind)) {
         Some(text) => kind == Kind::File && !is_path(text),
@@ -75,7 +78,8 @@ fn lacks_key(kind: Kind, resource: &Resource) -> bool
 
 // What the resource is about by its class and its key alone, whatever else is wrong with it.
 fn named_subject<'a>(resource: &'a Resource) -> Option<Subject<'a>>
-    ensures { IfOk (wanted_of resource.now) (λ wanted. option_map subject_matter result ≡ Some (matter_of wanted)) }
+    ensures { IfOk (wanted_of resource.now) (λ wanted. option_map subject_matter result ≡
+        Some (matter_of wanted)) }
 {
     match kind_of(&resource.instance) {
         Some(kind) => match resource.instance.text_named(key_of(kind)) {
@@ -87,7 +91,8 @@ fn named_subject<'a>(resource: &'a Resource) -> Option<Subject<'a>>
 }
 
 fn by_key<'a>(kind: Kind, resource: &'a Resource, text: &'a Text) -> Option<Subject<'a>>
-    ensures { IfOk (by_key kind resource.now text.now) (λ wanted. option_map subject_matter result ≡ Some (matter_of wanted)) }
+    ensures { IfOk (by_key kind resource.now text.now)
+        (λ wanted. option_map subject_matter result ≡ Some (matter_of wanted)) }
 {
     match kind {
         Kind::File => on_path(&resource.instance, text),
@@ -100,7 +105,8 @@ fn by_key<'a>(kind: Kind, resource: &'a Resource, text: &'a Text) -> Option<Subj
 }
 
 fn on_path<'a>(instance: &'a Instance, text: &'a Text) -> Option<Subject<'a>>
-    ensures { IfOk (on_path instance.now (path_of text.now)) (λ wanted. option_map subject_matter result ≡ Some (matter_of wanted)) }
+    ensures { IfOk (on_path instance.now (path_of text.now))
+        (λ wanted. option_map subject_matter result ≡ Some (matter_of wanted)) }
 {
     match path_in(text.as_slice()) {
         Some(path) => Some(Subject::Path { path, instance }),
@@ -137,7 +143,8 @@ fn paths_meet(
     other: PathRest,
     other_instance: &Instance,
 ) -> bool
-    ensures { IsTrue result ↔ MattersMeet (path_matter path.entry instance.now) (path_matter other.entry other_instance.now) }
+    ensures { IsTrue result ↔ MattersMeet (path_matter path.entry instance.now)
+        (path_matter other.entry other_instance.now) }
 {
     match compare(path, other) {
         PathOrder::Same => true,
@@ -162,7 +169,8 @@ fn names_meet(name: &Text, other: &Text) -> bool
 }
 
 fn entries_meet(id: &Text, message: &Text, other_id: &Text, other: &Text) -> bool
-    ensures { IsTrue result ↔ MattersMeet (entry_matter id.now message.now) (entry_matter other_id.now other.now) }
+    ensures { IsTrue result ↔ MattersMeet (entry_matter id.now message.now)
+        (entry_matter other_id.now other.now) }
 {
     message.as_slice() == other.as_slice() && same_text(id, other_id)
 }

@@ -5,7 +5,7 @@ ghost use Rattle.std.specs.Option.{option_copied};
 ghost use Rattle.dsc_terms.specs.Counts.{RoseBy};
 ghost use Rattle.dsc_outside.specs.Causes.{HasCauseOf};
 ghost use Rattle.dsc_outside.specs.Host.{Tells};
-ghost use Rattle.resource_kinds.specs.Holds.{Holds};
+ghost use Rattle.resource_kinds.specs.Holds.{TestsHolding};
 ghost use Rattle.resource_kinds.specs.Wanted.{wanted_of};
 ghost use Rattle.resource_kinds.specs.True.{AnswersKnown, AnswersTrue, BlamesHost, TestKeepsTable};
 ghost use Rattle.resource_kinds.specs.Trace.{test_failures};
@@ -21,8 +21,9 @@ use std::alloc::Global;
 
 /// Returns whether what the resource asks for holds on the host, which stays as it is; one with a fault is not looked for.
 pub fn test<H: Host>(alloc: Global, host: &mut H, resource: &Resource) -> TestAnswer
-    ensures told { H.told host.new ≡ H.told host.old }
-    ensures answer { IfSome (H.told host.old) (λ state. AnswersTrue state (wanted_of resource.now) result) }
+    ensures shown { H.shown host.new ≡ H.shown host.old }
+    ensures answer { IfSome (H.shown host.old)
+        (λ state. AnswersTrue state (wanted_of resource.now) result) }
     ensures table { TestKeepsTable (wanted_of resource.now) result }
     ensures unseen { IfErr (wanted_of resource.now) (λ _. host.new ≡ host.old) }
     ensures later { H.faults host.old ≤ H.faults host.new }
@@ -37,8 +38,8 @@ pub fn test<H: Host>(alloc: Global, host: &mut H, resource: &Resource) -> TestAn
 
 /// The same of what is asked for.
 pub fn test_wanted<H: Host>(alloc: Global, host: &mut H, wanted: &Wanted) -> TestAnswer
-    ensures told { H.told host.new ≡ H.told host.old }
-    ensures answer { IfSome (H.told host.old) (λ state. AnswersKnown state wanted.now result) }
+    ensures shown { H.shown host.new ≡ H.shown host.old }
+    ensures answer { IfSome (H.shown host.old) (λ state. AnswersKnown state wanted.now result) }
     ensures table { BlamesHost result }
     ensures later { H.faults host.old ≤ H.faults host.new }
     ensures cause { RoseBy (test_failures result) (H.faults host.old) (H.faults host.new) }
@@ -52,8 +53,8 @@ pub fn test_wanted<H: Host>(alloc: Global, host: &mut H, wanted: &Wanted) -> Tes
 }
 
 fn holds<H: Host>(alloc: Global, host: &mut H, wanted: &Wanted) -> Result<bool, HostError>
-    ensures told { H.told host.new ≡ H.told host.old }
-    ensures answer { Tells (H.told host.old) result (λ state yes. IsTrue yes ↔ Holds state wanted.now) }
+    ensures shown { H.shown host.new ≡ H.shown host.old }
+    ensures answer { TestsHolding wanted.now (H.shown host.old) result }
     ensures cause { HasCauseOf HostError.Failed (H.faults host.old) (H.faults host.new) result }
 {
     match wanted {
@@ -73,8 +74,8 @@ fn has_file_of<H: Host>(
     path: &Utf8,
     contents: &Option<Utf8>,
 ) -> Result<bool, HostError>
-    ensures told { H.told host.new ≡ H.told host.old }
-    ensures answer { Tells (H.told host.old) result (λ state yes. IsTrue yes ↔ Holds state (wants.File path.now contents.now)) }
+    ensures shown { H.shown host.new ≡ H.shown host.old }
+    ensures answer { TestsHolding (wants.File path.now contents.now) (H.shown host.old) result }
     ensures cause { HasCauseOf HostError.Failed (H.faults host.old) (H.faults host.new) result }
 {
     match contents {
@@ -84,8 +85,8 @@ fn has_file_of<H: Host>(
 }
 
 fn has_file<H: Host>(host: &mut H, path: &Utf8) -> Result<bool, HostError>
-    ensures told { H.told host.new ≡ H.told host.old }
-    ensures answer { Tells (H.told host.old) result (λ state yes. IsTrue yes ↔ Holds state (wants.File path.now None)) }
+    ensures shown { H.shown host.new ≡ H.shown host.old }
+    ensures answer { TestsHolding (wants.File path.now None) (H.shown host.old) result }
     ensures cause { HasCauseOf HostError.Failed (H.faults host.old) (H.faults host.new) result }
 {
     match host.path_state(path.as_str())? {
@@ -97,8 +98,8 @@ fn has_file<H: Host>(host: &mut H, path: &Utf8) -> Result<bool, HostError>
 }
 
 fn has_folder<H: Host>(host: &mut H, path: &Utf8) -> Result<bool, HostError>
-    ensures told { H.told host.new ≡ H.told host.old }
-    ensures answer { Tells (H.told host.old) result (λ state yes. IsTrue yes ↔ Holds state (wants.Folder path.now)) }
+    ensures shown { H.shown host.new ≡ H.shown host.old }
+    ensures answer { TestsHolding (wants.Folder path.now) (H.shown host.old) result }
     ensures cause { HasCauseOf HostError.Failed (H.faults host.old) (H.faults host.new) result }
 {
     match host.path_state(path.as_str())? {
@@ -108,8 +109,8 @@ fn has_folder<H: Host>(host: &mut H, path: &Utf8) -> Result<bool, HostError>
 }
 
 fn has_nothing<H: Host>(host: &mut H, path: &Utf8) -> Result<bool, HostError>
-    ensures told { H.told host.new ≡ H.told host.old }
-    ensures answer { Tells (H.told host.old) result (λ state yes. IsTrue yes ↔ Holds state (wants.NoFile path.now)) }
+    ensures shown { H.shown host.new ≡ H.shown host.old }
+    ensures answer { TestsHolding (wants.NoFile path.now) (H.shown host.old) result }
     ensures cause { HasCauseOf HostError.Failed (H.faults host.old) (H.faults host.new) result }
 {
     match host.path_state(path.as_str())? {
@@ -126,8 +127,8 @@ fn has_variable<H: Host>(
     name: &Utf8,
     value: &Utf8,
 ) -> Result<bool, HostError>
-    ensures told { H.told host.new ≡ H.told host.old }
-    ensures answer { Tells (H.told host.old) result (λ state yes. IsTrue yes ↔ Holds state (wants.Variable name.now value.now)) }
+    ensures shown { H.shown host.new ≡ H.shown host.old }
+    ensures answer { TestsHolding (wants.Variable name.now value.now) (H.shown host.old) result }
     ensures cause { HasCauseOf HostError.Failed (H.faults host.old) (H.faults host.new) result }
 {
     match variable(alloc, host, name)? {
@@ -142,8 +143,8 @@ fn has_all<H: Host>(
     name: &Utf8,
     value: &Utf8,
 ) -> Result<bool, HostError>
-    ensures told { H.told host.new ≡ H.told host.old }
-    ensures answer { Tells (H.told host.old) result (λ state yes. IsTrue yes ↔ Holds state (wants.Entries name.now value.now)) }
+    ensures shown { H.shown host.new ≡ H.shown host.old }
+    ensures answer { TestsHolding (wants.Entries name.now value.now) (H.shown host.old) result }
     ensures cause { HasCauseOf HostError.Failed (H.faults host.old) (H.faults host.new) result }
 {
     match variable(alloc, host, name)? {
@@ -153,8 +154,8 @@ fn has_all<H: Host>(
 }
 
 fn has_no_variable<H: Host>(alloc: Global, host: &mut H, name: &Utf8) -> Result<bool, HostError>
-    ensures told { H.told host.new ≡ H.told host.old }
-    ensures answer { Tells (H.told host.old) result (λ state yes. IsTrue yes ↔ Holds state (wants.NoVariable name.now)) }
+    ensures shown { H.shown host.new ≡ H.shown host.old }
+    ensures answer { TestsHolding (wants.NoVariable name.now) (H.shown host.old) result }
     ensures cause { HasCauseOf HostError.Failed (H.faults host.old) (H.faults host.new) result }
 {
     match variable(alloc, host, name)? {
@@ -169,8 +170,8 @@ fn has_none<H: Host>(
     name: &Utf8,
     value: &Utf8,
 ) -> Result<bool, HostError>
-    ensures told { H.told host.new ≡ H.told host.old }
-    ensures answer { Tells (H.told host.old) result (λ state yes. IsTrue yes ↔ Holds state (wants.NoEntries name.now value.now)) }
+    ensures shown { H.shown host.new ≡ H.shown host.old }
+    ensures answer { TestsHolding (wants.NoEntries name.now value.now) (H.shown host.old) result }
     ensures cause { HasCauseOf HostError.Failed (H.faults host.old) (H.faults host.new) result }
 {
     match variable(alloc, host, name)? {
@@ -185,8 +186,9 @@ pub fn variable<H: Host>(
     host: &mut H,
     name: &Utf8,
 ) -> Result<Option<Vec<u8>>, HostError>
-    ensures told { H.told host.new ≡ H.told host.old }
-    ensures answer { Tells (H.told host.old) result (λ state found. option_map (λ v. v.items) found ≡ state.variable name.now) }
+    ensures shown { H.shown host.new ≡ H.shown host.old }
+    ensures answer { Tells (H.shown host.old) result (λ state found.
+        option_map (λ v. v.items) found ≡ state.variable name.now) }
     ensures cause { HasCauseOf HostError.Failed (H.faults host.old) (H.faults host.new) result }
 {
     let mut found = Vec::new(alloc);

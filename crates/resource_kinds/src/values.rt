@@ -3,7 +3,7 @@ ghost use Rattle.std.specs.Prelude.{◌≡◌, Some};
 ghost use Rattle.std.specs.Option.{option_copied};
 ghost use Rattle.mof_values.specs.Fold.{same_name};
 ghost use Rattle.mof_values.specs.Values.{text_of, value_named, text_named};
-ghost use Rattle.resource_kinds.specs.Tables.{is_absent, is_directory, is_either, is_filled, is_filled_text, is_kind_of_file, is_null, is_presence, is_text, is_truth_value, is_word, is_yes, says, says_yes};
+ghost use Rattle.resource_kinds.specs.Tables.{is_absent, is_directory, is_either, is_given, is_filled_text, is_kind_of_file, is_null, is_presence, is_text, is_truth_value, is_word, is_true, says, says_yes};
 
 use mof_values::{Instance, Scalar, Text, Value, is_named};
 
@@ -23,13 +23,13 @@ pub fn is_filled_text(value: &Value) -> bool
     ensures { result ≡ is_filled_text value.now }
 {
     match value.as_text() {
-        Some(text) => is_filled(text),
+        Some(text) => is_given(text),
         None => false,
     }
 }
 
-fn is_filled(text: &Text) -> bool
-    ensures { result ≡ is_filled (Some text.now) }
+fn is_given(text: &Text) -> bool
+    ensures { result ≡ is_given (Some text.now) }
 {
     match text.as_slice() {
         [_, ..] => true,
@@ -73,13 +73,13 @@ pub fn says_yes(instance: &Instance, name: &str) -> bool
     ensures { result ≡ says_yes name.now instance.now }
 {
     match instance.value_named(name) {
-        Some(value) => is_yes(value),
+        Some(value) => is_true(value),
         None => false,
     }
 }
 
-fn is_yes(value: &Value) -> bool
-    ensures { result ≡ is_yes value.now }
+fn is_true(value: &Value) -> bool
+    ensures { result ≡ is_true value.now }
 {
     match value {
         Value::One(Scalar::Bool(yes)) => *yes,

@@ -63,7 +63,8 @@ impl From<AllocError> for WantedError {
 /// The fault is the first of: no kind, the first property in the text that may not stand there, a missing key, a path
 /// that is none.
 pub fn wanted_of(alloc: Global, resource: &Resource) -> Result<Wanted, WantedError>
-    ensures { MatchResult result (λ wanted. wanted_of resource.now ≡ Ok wanted) (λ error. IsWhy (wanted_of resource.now) error) }
+    ensures { MatchResult result (λ wanted. wanted_of resource.now ≡ Ok wanted)
+        (λ error. IsWhy (wanted_of resource.now) error) }
 {
     match kind_of(&resource.instance) {
         Some(kind) => of_kind(alloc, kind, resource),
@@ -72,7 +73,8 @@ pub fn wanted_of(alloc: Global, resource: &Resource) -> Result<Wanted, WantedErr
 }
 
 fn of_kind(alloc: Global, kind: Kind, resource: &Resource) -> Result<Wanted, WantedError>
-    ensures { MatchResult result (λ wanted. of_kind (Some kind) resource.now ≡ Ok wanted) (λ error. IsWhy (of_kind (Some kind) resource.now) error) }
+    ensures { MatchResult result (λ wanted. of_kind (Some kind) resource.now ≡ Ok wanted)
+        (λ error. IsWhy (of_kind (Some kind) resource.now) error) }
 {
     if let Some(property) = first_wrong(kind, &resource.instance) {
         return Err(out_of_profile(property.name.clone()));
@@ -84,7 +86,8 @@ fn of_kind(alloc: Global, kind: Kind, resource: &Resource) -> Result<Wanted, Wan
 }
 
 fn out_of_profile(name: Result<Ident, AllocError>) -> WantedError
-    ensures { MatchResult name (λ name. result ≡ WantedError.Fault (Failure.OutOfProfile name)) (λ _. result ≡ WantedError.Memory) }
+    ensures { MatchResult name (λ name. result ≡ WantedError.Fault (Failure.OutOfProfile name))
+        (λ _. result ≡ WantedError.Memory) }
 {
     match name {
         Ok(name) => WantedError::Fault(Failure::OutOfProfile(name)),
@@ -98,7 +101,8 @@ fn by_key(
     resource: &Resource,
     text: &Text,
 ) -> Result<Wanted, WantedError>
-    ensures { MatchResult result (λ wanted. by_key kind resource.now text.now ≡ Ok wanted) (λ error. IsWhy (by_key kind resource.now text.now) error) }
+    ensures { MatchResult result (λ wanted. by_key kind resource.now text.now ≡ Ok wanted)
+        (λ error. IsWhy (by_key kind resource.now text.now) error) }
 {
     match kind {
         Kind::File => on_path(alloc, &resource.instance, text),
@@ -113,7 +117,8 @@ fn by_key(
 
 // What is to stand at the path that a text means, or not to.
 fn on_path(alloc: Global, instance: &Instance, text: &Text) -> Result<Wanted, WantedError>
-    ensures { MatchResult result (λ wanted. on_path instance.now (path_of text.now) ≡ Ok wanted) (λ error. IsWhy (on_path instance.now (path_of text.now)) error) }
+    ensures { MatchResult result (λ wanted. on_path instance.now (path_of text.now) ≡ Ok wanted)
+        (λ error. IsWhy (on_path instance.now (path_of text.now)) error) }
 {
     match path_of(alloc, text)? {
         Some(path) => Ok(standing_at(alloc, instance, Utf8::of(path))?),
@@ -190,7 +195,8 @@ fn value_of(alloc: Global, instance: &Instance) -> Result<Utf8, AllocError>
 }
 
 fn logged(alloc: Global, id: &Text, message: &Text) -> Result<Wanted, AllocError>
-    ensures { IfOk result (λ wanted. wanted ≡ Wanted.Logged (folded_utf8 id.now) (encode_utf8_all message.now)) }
+    ensures { IfOk result (λ wanted. wanted ≡
+        Wanted.Logged (folded_utf8 id.now) (encode_utf8_all message.now)) }
 {
     Ok(Wanted::Logged {
         id: Utf8::folded(alloc, id)?,

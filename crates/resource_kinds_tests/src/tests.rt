@@ -6,8 +6,8 @@ mod rows;
 
 use documents::document;
 use dsc_document::Document;
-use dsc_outside::{HostContents, MemoryHost};
 use machines::{hold_the_same, host, machine};
+use memory_outside::{HostContents, MemoryHost};
 use resource_kinds::{Kinds, Resources, SetAnswer, TestAnswer};
 use rows::{SETS, SetRow, TESTS, TestRow};
 use std::alloc::{AllocError, Global};

@@ -14,7 +14,8 @@ pub(crate) fn text_of(
     name: &str,
 ) -> Result<Text, AllocError>
     requires given { HasText name.now (rows_of (found_of matches.now)) }
-    ensures { IfOk result (λ text. first_of name.now (rows_of (found_of matches.now)) ≡ Some (encode_utf8_all text)) }
+    ensures { IfOk result (λ text. first_of name.now (rows_of (found_of matches.now))
+        ≡ Some (encode_utf8_all text)) }
 {
     let Some(value) = matches.get_str(name) else {
         unreachable!();

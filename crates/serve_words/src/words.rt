@@ -1,4 +1,4 @@
-//! The arguments and their values.
+//! The arguments of the pull server, and their values.
 ghost use Rattle.std.specs.Prelude.{◌≡◌, ◌≢◌, [], IfOk, IsErrOf, map, string_bytes};
 ghost use Rattle.clap.specs.Words.{fault_of, found_of, matches_of, rows_of};
 ghost use Rattle.serve_words.specs.Words.{AreValues, serve_app};
@@ -32,7 +32,7 @@ pub enum WordsError {
     /// The arguments are not the four options, each once and with a value that it takes.
     Usage,
 
-    /// Memory was refused.
+    /// It ran out of memory.
     Memory,
 }
 
@@ -50,7 +50,8 @@ impl From<AllocError> for WordsError {
 /// The values of `--store FILE --shelf FOLDER --listen ADDRESS --connections N`; a value may stand after `=` too, and the
 /// options in any order.
 pub fn serve_words(alloc: Global, words: &[String]) -> Result<ServeWords, WordsError>
-    ensures usage { IsErrOf result WordsError.Usage → fault_of serve_app (map string_bytes words.now) ≢ [] }
+    ensures usage { IsErrOf result WordsError.Usage
+        → fault_of serve_app (map string_bytes words.now) ≢ [] }
     ensures taken { IfOk result (λ values. AreValues (map string_bytes words.now) values) }
 {
     let matches = parse(alloc, words)?;
@@ -63,9 +64,11 @@ pub fn serve_words(alloc: Global, words: &[String]) -> Result<ServeWords, WordsE
 }
 
 fn parse<'a>(alloc: Global, words: &'a [String]) -> Result<ArgMatches<'a>, WordsError>
-    ensures usage { IsErrOf result WordsError.Usage → fault_of serve_app (map string_bytes words.now) ≢ [] }
+    ensures usage { IsErrOf result WordsError.Usage
+        → fault_of serve_app (map string_bytes words.now) ≢ [] }
     ensures taken { IfOk result (λ _. fault_of serve_app (map string_bytes words.now) ≡ []) }
-    ensures rows { IfOk result (λ matches. rows_of (found_of matches) ≡ matches_of serve_app (map string_bytes words.now)) }
+    ensures rows { IfOk result (λ matches. rows_of (found_of matches)
+        ≡ matches_of serve_app (map string_bytes words.now)) }
 {
     let command = command(alloc)?;
     match command.try_get_matches_from(words) {

@@ -1,4 +1,6 @@
+-- what the layer above cites
 pub mod Checksum
 pub mod Hmac
-pub mod KeyedHash
 pub mod Signature
+-- for private clauses alone
+pub mod KeyedHash

@@ -1,4 +1,4 @@
-//! Digests and checksums.
+//! SHA-256 digests, and checksums, which are their texts.
 ghost use Rattle.std.specs.Prelude.{◌≡◌, ◌↔◌, IsSome, IfSome};
 ghost use Rattle.std.specs.Str.{str_to_ascii_uppercase};
 ghost use Rattle.sha2.specs.Sha256.{sha256};
@@ -32,7 +32,8 @@ pub fn checksum_text(digest: &[u8; 32]) -> [u8; 64]
 pub fn read_checksum(text: &[u8]) -> Option<[u8; 32]>
     ensures value { result ≡ spelled_digest text.now }
     ensures found { IsSome result ↔ IsChecksum text.now }
-    ensures spelled { IfSome result (λ digest. str_to_ascii_uppercase text.now ≡ checksum_of digest) }
+    ensures spelled { IfSome result (λ digest.
+        str_to_ascii_uppercase text.now ≡ checksum_of digest) }
 {
     <[u8; 32]>::from_hex(text).ok()
 }

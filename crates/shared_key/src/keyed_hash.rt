@@ -42,7 +42,8 @@ impl KeyedHash {
     /// Adds a piece to the text.
     #[tactic(auto, unfolding(crate::specs::KeyedHash::Holds))]
     pub fn update(&mut self, piece: &[u8])
-        ensures { (key text : List ℕ) → Holds self.old key text → Holds self.new key (text ++ piece.now) }
+        ensures { (key text : List ℕ) → Holds self.old key text
+            → Holds self.new key (text ++ piece.now) }
     {
         self.inner.update(piece);
     }

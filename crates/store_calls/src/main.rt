@@ -8,8 +8,8 @@
 
 mod staging;
 
-use dsc_outside::real::FileDisk;
 use node_store::{StoreError, open_store};
+use real_outside::{FileDisk, hold_standard_descriptors};
 use staging::stage_all;
 use std::env;
 use std::process::ExitCode;
@@ -23,6 +23,9 @@ enum Ask {
 }
 
 fn main(rt: HostRuntime) -> ExitCode {
+    let Ok(_held) = hold_standard_descriptors(&rt) else {
+        return ExitCode::from(4);
+    };
     let Some((file, ask)) = read_arguments(&rt) else {
         return ExitCode::from(2);
     };

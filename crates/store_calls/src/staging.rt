@@ -4,7 +4,7 @@ ghost use Rattle.node_state.specs.Table.{IsWithin};
 ghost use Rattle.node_store.specs.Store.{IsReady};
 
 use dsc_outside::Disk;
-use mof_values::Text;
+use mof_values::{Memory, Text};
 use node_state::{Event, stored};
 use node_store::{NodeStore, StoreError};
 use partial_merge::{Part, part_of};
@@ -36,12 +36,12 @@ fn stage_of(alloc: Global, size: u32) -> Result<Event, StoreError>
 {
     let parts = match parts(alloc, size) {
         Ok(parts) => parts,
-        Err(_) => return Err(StoreError::Memory),
+        Err(AllocError) => return Err(StoreError::Memory),
     };
     match stored(alloc, parts) {
         Ok(Some(staged)) => Ok(Event::Stage(staged)),
         Ok(None) => Err(StoreError::NotAStore { at: 0 }),
-        Err(_) => Err(StoreError::Memory),
+        Err(Memory) => Err(StoreError::Memory),
     }
 }
 

@@ -12,6 +12,7 @@ use Rattle.store_fields.specs.declared.error.FieldError.{FieldError}
 use Rattle.store_fields.specs.declared.error.FieldError.TheVariants.{Wrong, Memory}
 use Rattle.store_fields.specs.Fields.{bytes_of_number, bytes_of_byte, bytes_of_flag, bytes_of_text, bytes_of_blob, IsNumber, IsByte, IsFlag, IsText, IsBlob}
 use Rattle.store_fields.specs.Reading.{Reads, IsUnique}
+use Rattle.store_fields.specs.declared.limits.TheConstants.{MAX_TEXT}
 use Rattle.store_fields.proofs.Numbers.{behind as behind_front, wide16, wide32, wide64, number_unique}
 use Rattle.store_fields.proofs.Composing.{taken, wrong, refused, out_of_memory}
 
@@ -37,7 +38,7 @@ blob_unique x y r s small less e =
     let long = number_unique w32 wide32 (length x) (length y) (x ++ r) (y ++ s) small less (sym (append_assoc (bytes_of_number w32 (length x)) x r) ∙ e ∙ append_assoc (bytes_of_number w32 (length y)) y s) in
     behind_front x y r s long.0 long.1
 
-pub text_unique : (limit : ℕ) → limit ≤ 65535 → IsUnique bytes_of_text (IsText limit)
+pub text_unique : (limit : ℕ) → limit ≤ MAX_TEXT → IsUnique bytes_of_text (IsText limit)
 text_unique limit most x y r s range other e =
     let a = encode_utf8_all x in
     let b = encode_utf8_all y in
@@ -46,7 +47,7 @@ text_unique limit most x y r s range other e =
     (encodes_same x y both.0, both.1)
 
 -- the bytes that were decoded are those after the length
-pub text_read : (limit n : ℕ) (before behind front after : List ℕ) (result : Result (List ℕ) FieldError) → limit ≤ 65535 → n ≤ limit → Reads (bytes_of_number w16) (IsNumber w16) before behind (Ok n)
+pub text_read : (limit n : ℕ) (before behind front after : List ℕ) (result : Result (List ℕ) FieldError) → limit ≤ MAX_TEXT → n ≤ limit → Reads (bytes_of_number w16) (IsNumber w16) before behind (Ok n)
     → n ≤ length behind → front ≡ take n behind → after ≡ drop n behind → length front ≡ n
     → IfOk result (λ text. (all_scalars text ≡ true) × (encode_utf8_all text ≡ front)) → IfErr result (λ e. e ≡ Wrong → IsUtf8 front → ⊥)
     → Reads bytes_of_text (IsText limit) before after result

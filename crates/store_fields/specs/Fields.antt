@@ -1,5 +1,5 @@
 -- The bytes of the fields that stored bodies are made of.
-use Rattle.std.specs.Prelude.{◌≡◌, ℕ, ◌<◌, ◌≤◌, ◌^◌, ◌++◌, Bool, cond, true, List, [], ◌∷◌, length, encode_utf8_all, ⊤}
+use Rattle.std.specs.Prelude.{◌≡◌, ℕ, ◌<◌, ◌≤◌, ◌^◌, ◌++◌, Bool, if◌then◌else◌, true, List, [], ◌∷◌, length, encode_utf8_all, ⊤}
 use Rattle.std.specs.Int.{Width, w16, w32, byte_len, to_be_bytes}
 use Rattle.std.specs.List.{flat_map, AllByRecursion}
 use Rattle.std.specs.Str.{all_scalars}
@@ -14,7 +14,7 @@ bytes_of_byte n = n ∷ []
 
 -- a truth value
 abbrev pub bytes_of_flag : Bool → List ℕ
-bytes_of_flag b = cond b 1 0 ∷ []
+bytes_of_flag b = (if b then 1 else 0) ∷ []
 
 -- a text: two bytes of length, and its characters in UTF-8
 abbrev pub bytes_of_text : List ℕ → List ℕ

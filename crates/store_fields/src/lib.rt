@@ -1,19 +1,21 @@
 //! The fields that the bodies of both stores are made of: numbers, truth values, texts, bytes and digests.
 //!
 //! `specs/Fields.antt` says which bytes a value has. A layer above may rely on this: a writer appends exactly these, and
-//! takes no memory where the room suffices; a reader takes exactly the value that stands at the front of the bytes, and
+//! takes no memory where the buffer's capacity suffices; a reader takes exactly the value that stands at the front of the bytes, and
 //! refuses exactly where no value in range does. So a body that is fields one after the other is read field by field, and no
 //! two values have the same bytes.
 #![tactic(auto)]
 
 mod error;
 mod laws;
+mod limits;
 mod lists;
 mod reading;
 mod writing;
 
 pub use error::FieldError;
 pub use laws::bytes_are_of_one_value;
+pub use limits::MAX_TEXT;
 pub use lists::{Form, TextForm, put_list, read_list};
 pub use reading::Fields;
 pub use writing::{

@@ -6,6 +6,7 @@ ghost use Rattle.store_fields.specs.Reading.{Reads};
 ghost use Rattle.store_fields.specs.Writing.{Writes};
 
 use crate::error::FieldError;
+use crate::limits::MAX_TEXT;
 use crate::reading::Fields;
 use crate::writing::{put_byte, put_text};
 use mof_values::{Items, Memory, Text};
@@ -77,16 +78,17 @@ pub struct TextForm;
 
 impl Form<Text> for TextForm {
     ghost use Rattle.std.specs.Prelude.{◌≤◌, length, encode_utf8_all};
+    ghost use Rattle.store_fields.specs.declared.limits.TheConstants.{MAX_TEXT};
     ghost use Rattle.store_fields.specs.Fields.{bytes_of_text, IsText};
 
     ghost bytes_of = { bytes_of_text };
 
-    ghost is_in_range = { IsText 65535 };
+    ghost is_in_range = { IsText MAX_TEXT };
 
-    ghost fits = { λ text. length (encode_utf8_all text) ≤ 65535 };
+    ghost fits = { λ text. length (encode_utf8_all text) ≤ MAX_TEXT };
 
     fn read(alloc: Global, fields: &mut Fields<'_>) -> Result<Text, FieldError> {
-        fields.text(alloc, u16::MAX)
+        fields.text(alloc, MAX_TEXT)
     }
 
     fn write(text: &Text, into: &mut Vec<u8>) -> Result<(), Memory> {

@@ -1,11 +1,12 @@
 //! Fields at the end of a buffer.
 //!
-//! The only error is `Memory`. It comes only where the buffer has no room for the field, and leaves what was there, maybe
+//! The only error is `Memory`. It comes only where the buffer lacks the capacity for the field, and leaves what was there, maybe
 //! followed by a part of the field.
 ghost use Rattle.std.specs.Prelude.{◌≡◌, ◌≤◌, true, length, encode_utf8_all};
 ghost use Rattle.std.specs.Int.{w16, w32, w64, w128};
 ghost use Rattle.std.specs.Str.{all_scalars};
 ghost use Rattle.store_fields.specs.Fields.{bytes_of_number, bytes_of_byte, bytes_of_flag, bytes_of_text, bytes_of_blob, bytes_of_digest};
+ghost use Rattle.store_fields.specs.declared.limits.TheConstants.{MAX_TEXT};
 ghost use Rattle.store_fields.specs.Fields.{IsBlob, IsDigest};
 ghost use Rattle.store_fields.specs.Writing.{Writes};
 
@@ -67,7 +68,7 @@ pub fn put_digest(into: &mut Vec<u8>, digest: &[u8; 32]) -> Result<(), Memory>
 
 /// A text of at most 65,535 bytes in UTF-8.
 pub fn put_text(into: &mut Vec<u8>, text: &Text) -> Result<(), Memory>
-    requires { length (encode_utf8_all text.now) ≤ 65535 }
+    requires { length (encode_utf8_all text.now) ≤ MAX_TEXT }
     ensures writes { Writes (bytes_of_text text.now) into.old into.new result }
     ensures scalars { all_scalars text.now ≡ true }
 {
@@ -93,7 +94,7 @@ pub fn put_bytes(into: &mut Vec<u8>, bytes: &[u8]) -> Result<(), Memory>
 
 // How many bytes the text has in UTF-8.
 fn utf8_length(text: &Text) -> usize
-    requires { length (encode_utf8_all text.now) ≤ 65535 }
+    requires { length (encode_utf8_all text.now) ≤ MAX_TEXT }
     ensures length { result ≡ length (encode_utf8_all text.now) }
     ensures scalars { all_scalars text.now ≡ true }
 {

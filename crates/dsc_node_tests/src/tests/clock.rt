@@ -1,6 +1,6 @@
 //! Starts whose clock fails or is set back.
 use crate::{Left, Trouble, started};
-use dsc_outside::HostContents;
+use memory_outside::HostContents;
 use mof_values::Memory;
 use std::alloc::Global;
 use std::test::Fail;

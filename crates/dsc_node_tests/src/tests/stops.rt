@@ -1,7 +1,7 @@
 //! Starts that a failure of the disk or a stop ends, and the start after each.
 use crate::{Left, Outcome, Trouble, started};
 use dsc_node::Status;
-use dsc_outside::{DiskPart, DiskStop, HostContents};
+use memory_outside::{DiskPart, DiskStop, HostContents};
 use mof_values::Memory;
 use std::alloc::Global;
 use std::test::Fail;

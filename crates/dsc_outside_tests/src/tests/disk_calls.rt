@@ -65,7 +65,7 @@ pub fn is_answered<D: Disk>(
     known: u64,
     row: &DiskRow<'_>,
 ) -> Result<bool, AllocError>
-    requires { IfSome (D.seen disk.old) (λ held. known ≤ length held) }
+    requires { IfSome (D.shown disk.old) (λ held. known ≤ length held) }
 {
     let (ask, want) = row;
     Ok(match ask {

@@ -6,13 +6,14 @@ use super::host_calls::Call::{
 use super::host_calls::{Row, expect_of, expect_one_of};
 use super::scratch::make_folder;
 use super::watched_files::SystemCall::{
-    Create, List, Look, MakeFolder, Mode, Open, Read, RemoveFolder, Rename, Sync, SyncFolder,
-    Unlink, Write,
+    Compare, Create, Find, List, Look, MakeFolder, Mode, Mounts, Open, Read, RemoveFolder, Rename,
+    Sync, SyncFolder, Unlink, Write,
 };
 use super::watched_files::{SystemCall, Watch, WatchedFiles};
-use dsc_outside::real::FolderHost;
+use real_outside::FolderHost;
 use std::alloc::{AllocError, Global};
 use std::io::ErrorKind;
+use std::os::fd::{AsFd, AsRawFd};
 use std::rt::Files;
 use std::test::Fail;
 use std::{fs, io};
@@ -31,8 +32,8 @@ const CASES: &[Case<'_>] = &[
     (
         (Put("a/file", b"new"), Done),
         &[
-            MakeFolder, Look, Look, Look, Unlink, Create, Write, Write, Sync, Mode, Rename, Open,
-            SyncFolder,
+            Look, Open, Compare, Look, Open, Compare, Look, Unlink, Create, Write, Write, Sync,
+            Compare, Mode, Compare, Rename, Look, SyncFolder,
         ],
         &[(Same("a/file", b"old"), Yes)],
         &[(Same("a/file", b"new"), Yes)],
@@ -40,8 +41,8 @@ const CASES: &[Case<'_>] = &[
     (
         (Put("a/other", b"new"), Done),
         &[
-            MakeFolder, Look, Look, Look, Unlink, Create, Write, Write, Sync, Rename, Open,
-            SyncFolder,
+            Look, Open, Compare, Look, Open, Compare, Look, Find, Unlink, Create, Write, Write,
+            Sync, Compare, Rename, Look, SyncFolder,
         ],
         &[(State("a/other"), Nothing)],
         &[(Same("a/other", b"new"), Yes)],
@@ -49,57 +50,139 @@ const CASES: &[Case<'_>] = &[
     (
         (Make("d"), Done),
         &[
-            MakeFolder, Look, Look, MakeFolder, Open, SyncFolder, Open, SyncFolder,
+            Look, Open, Compare, Look, Find, MakeFolder, SyncFolder, Look, Open, Compare,
+            SyncFolder,
         ],
         &[(State("d"), Nothing)],
         &[(State("d"), Empty)],
     ),
     (
         (Remove("a/file"), Done),
-        &[Look, Look, Look, Unlink, Open, SyncFolder],
+        &[
+            Look, Open, Compare, Look, Open, Compare, Look, Unlink, SyncFolder,
+        ],
         &[(Same("a/file", b"old"), Yes)],
         &[(State("a"), Empty)],
     ),
     (
-        (Remove("b"), Done),
-        &[Look, Look, RemoveFolder, Open, SyncFolder],
+        (Remove("b/c"), Done),
+        &[
+            Look,
+            Open,
+            Compare,
+            Look,
+            Open,
+            Compare,
+            Look,
+            Open,
+            Compare,
+            Mounts,
+            Open,
+            Read,
+            Read,
+            Open,
+            Read,
+            Read,
+            Find,
+            Open,
+            Read,
+            Read,
+            Find,
+            Open,
+            Read,
+            Read,
+            RemoveFolder,
+            SyncFolder,
+        ],
         &[(State("b/c"), Empty)],
-        &[(State("b"), Nothing)],
+        &[(State("b/c"), Nothing)],
     ),
-    ((State("a/file"), File), &[Look, Look, Look], &[], &[]),
-    ((State("b"), Folder), &[Look, Look, List], &[], &[]),
+    (
+        (Remove("b"), Done),
+        &[
+            Look,
+            Open,
+            Compare,
+            Look,
+            Open,
+            Compare,
+            Mounts,
+            Open,
+            Read,
+            Read,
+            Open,
+            Read,
+            Read,
+            Find,
+            Open,
+            Read,
+            Read,
+            Find,
+            Open,
+            Read,
+            Read,
+            Find,
+            Find,
+            Open,
+            Read,
+            Read,
+            Find,
+            Open,
+            Read,
+            Read,
+            Find,
+            RemoveFolder,
+            SyncFolder,
+        ],
+        &[(State("b"), Folder)],
+        &[(State("b/c"), Nothing)],
+    ),
+    (
+        (State("a/file"), File),
+        &[Look, Open, Compare, Look, Open, Compare, Look],
+        &[],
+        &[],
+    ),
+    (
+        (State("b"), Folder),
+        &[Look, Open, Compare, Look, List],
+        &[],
+        &[],
+    ),
     (
         (Same("a/file", b"old"), Yes),
-        &[Look, Look, Look, Open, Read, Read],
+        &[
+            Look, Open, Compare, Look, Open, Compare, Look, Open, Compare, Read, Read,
+        ],
         &[],
         &[],
     ),
     (
         (Value("path", b"old"), Yes),
-        &[Look, Look, Open, Read, Read],
+        &[Look, Open, Compare, Look, Open, Compare, Read, Read],
         &[],
         &[],
     ),
     (
         (Set("path", b"new"), Done),
         &[
-            MakeFolder, Look, Look, Unlink, Create, Write, Write, Sync, Mode, Rename, Open,
-            SyncFolder,
+            Look, Open, Compare, Look, Unlink, Create, Write, Write, Sync, Compare, Mode, Compare,
+            Rename, Look, SyncFolder,
         ],
         &[(Value("path", b"old"), Yes)],
         &[(Value("path", b"new"), Yes)],
     ),
     (
         (Unset("path"), Done),
-        &[Look, Unlink, Open, SyncFolder],
+        &[Look, Open, Compare, Look, Unlink, SyncFolder],
         &[(Value("path", b"old"), Yes)],
         &[(Value("path", b""), No)],
     ),
     (
         (AddEntry("i", "m"), Done),
         &[
-            MakeFolder, Look, MakeFolder, Open, SyncFolder, Open, SyncFolder, Look, Unlink, Create,
-            Write, Write, Sync, Rename, Open, SyncFolder,
+            Look, MakeFolder, MakeFolder, Open, SyncFolder, Look, Open, Compare, SyncFolder, Look,
+            Find, Unlink, Create, Write, Write, Sync, Compare, Rename, Look, SyncFolder,
         ],
         &[(HasEntry("i", "m"), No)],
         &[(HasEntry("i", "m"), Yes)],
@@ -107,8 +190,8 @@ const CASES: &[Case<'_>] = &[
     (
         (AddPackage("name", "1", b"new"), Done),
         &[
-            MakeFolder, Look, MakeFolder, Open, SyncFolder, Open, SyncFolder, Look, Unlink, Create,
-            Write, Write, Sync, Rename, Open, SyncFolder,
+            Look, MakeFolder, MakeFolder, Open, SyncFolder, Look, Open, Compare, SyncFolder, Look,
+            Find, Unlink, Create, Write, Write, Sync, Compare, Rename, Look, SyncFolder,
         ],
         &[(HasPackage("name", "1"), No)],
         &[(HasPackage("name", "1"), Yes)],
@@ -126,8 +209,11 @@ fn expect_in<F: Files + Drop>(
     files: F,
     folder: String,
     rows: &[Row<'_>],
-) -> Result<(), Fail> {
-    expect_of(alloc, FolderHost::new(files, folder), rows)
+) -> Result<(), Fail>
+where
+    F::File: AsFd + AsRawFd,
+{
+    expect_of(alloc, FolderHost::new(files, folder, None), rows)
 }
 
 // Expects of a host in that folder the first answers, or the second.
@@ -137,8 +223,11 @@ fn expect_one_in<F: Files + Drop>(
     folder: String,
     first: &[Row<'_>],
     second: &[Row<'_>],
-) -> Result<(), Fail> {
-    expect_one_of(alloc, FolderHost::new(files, folder), first, second)
+) -> Result<(), Fail>
+where
+    F::File: AsFd + AsRawFd,
+{
+    expect_one_of(alloc, FolderHost::new(files, folder, None), first, second)
 }
 
 fn make_before(rt: &HostRuntime, scratch: &str) -> Result<(), Fail> {
@@ -225,23 +314,60 @@ fn each_call_takes_its_steps_and_one_that_fails_leaves_the_old_or_the_new(
     Ok(())
 }
 
-// The number of the system's call that is not permitted, and the answer.
-const DENIED: &[(Row<'_>, usize)] = &[
-    ((State("a/file"), Failed), 0),
-    ((State("a/file"), Failed), 1),
-    ((State("a/file"), Failed), 2),
-    ((Same("a/file", b"old"), Failed), 3),
-    ((State("b/c"), Folder), 3),
-    ((Value("path", b""), Failed), 0),
-    ((Value("path", b""), Failed), 1),
-    ((HasEntry("i", "m"), Failed), 0),
+// How a call of the system fails, its number, and the answer.
+const DENIED: &[(Row<'_>, ErrorKind, usize)] = &[
+    ((State("a/file"), Failed), ErrorKind::PermissionDenied, 0),
+    ((State("a/file"), Failed), ErrorKind::PermissionDenied, 1),
+    ((State("a/file"), Failed), ErrorKind::PermissionDenied, 3),
+    ((State("a/file"), Failed), ErrorKind::PermissionDenied, 6),
+    (
+        (Same("a/file", b"old"), Failed),
+        ErrorKind::PermissionDenied,
+        7,
+    ),
+    ((State("b/c"), Folder), ErrorKind::PermissionDenied, 7),
+    ((Value("path", b""), Failed), ErrorKind::PermissionDenied, 0),
+    ((Value("path", b""), Failed), ErrorKind::PermissionDenied, 4),
+    ((HasEntry("i", "m"), Failed), ErrorKind::PermissionDenied, 0),
+    // As where /proc is missing: what is not found there may still be in the folder.
+    ((State("a/none"), Failed), ErrorKind::NotFound, 7),
+    ((Value("none", b""), Failed), ErrorKind::NotFound, 4),
+    ((Remove("b/c"), Failed), ErrorKind::NotFound, 9),
 ];
 
 #[test]
 fn what_may_not_be_looked_at_is_not_taken_for_nothing(rt: HostRuntime) -> Result<(), Fail> {
-    for (row, failing) in DENIED {
-        let watch = Watch::new(&[], *failing, ErrorKind::PermissionDenied);
+    for (row, kind, failing) in DENIED {
+        let watch = Watch::new(&[], *failing, *kind);
         play(&rt, &watch, *row, &[], &[])?;
     }
     Ok(())
+}
+
+// Calls on one host, and the calls of the system that they make.
+const ROWS: &[Row<'_>] = &[
+    (State("a/file"), File),
+    (Same("a/file", b"old"), Yes),
+    (State("b"), Folder),
+];
+
+const HELD: &[SystemCall] = &[
+    Look, Open, Compare, Look, Open, Compare, Look, // The folders are held, and looked at again.
+    Look, Look, Look, Open, Compare, Read, Read, // The first of them is held.
+    Look, Look, List,
+];
+
+#[test]
+fn folders_stay_held_from_one_call_to_the_next(rt: HostRuntime) -> Result<(), Fail> {
+    let scratch = make_folder(&rt)?;
+    make_before(&rt, &scratch)?;
+    let watch = Watch::new(HELD, usize::MAX, ErrorKind::Other);
+    let folder = folder_in(rt.alloc(), &scratch)?;
+    let files = WatchedFiles {
+        rt: &rt,
+        watch: &watch,
+    };
+    expect_in(rt.alloc(), files, folder, ROWS)?;
+    fs::remove_dir_all(&rt, scratch)?;
+    watch.expect_all()
 }

@@ -60,7 +60,7 @@ fn done(outcome: Result<(), HostError>) -> Answer {
     }
 }
 
-fn told(outcome: Result<bool, HostError>) -> Answer {
+fn yes_or_no(outcome: Result<bool, HostError>) -> Answer {
     match outcome {
         Ok(true) => Answer::Yes,
         Ok(false) => Answer::No,
@@ -68,7 +68,7 @@ fn told(outcome: Result<bool, HostError>) -> Answer {
     }
 }
 
-fn seen(outcome: Result<PathState, HostError>) -> Answer {
+fn state_of(outcome: Result<PathState, HostError>) -> Answer {
     match outcome {
         Ok(PathState::Nothing) => Answer::Nothing,
         Ok(PathState::File) => Answer::File,
@@ -82,19 +82,19 @@ fn seen(outcome: Result<PathState, HostError>) -> Answer {
 // Makes the call; a value goes after what the buffer has.
 fn make_call<H: Host>(host: &mut H, call: &Call<'_>, into: &mut Vec<u8>) -> Answer {
     match call {
-        Call::State(path) => seen(host.path_state(path)),
-        Call::Same(path, bytes) => told(host.file_equals(path, bytes)),
+        Call::State(path) => state_of(host.path_state(path)),
+        Call::Same(path, bytes) => yes_or_no(host.file_equals(path, bytes)),
         Call::Put(path, bytes) => done(host.put_file(path, bytes)),
         Call::Make(path) => done(host.make_dir(path)),
         Call::Remove(path) => done(host.remove(path)),
-        Call::Value(name, _) => told(host.env_state(name, into)),
+        Call::Value(name, _) => yes_or_no(host.env_state(name, into)),
         Call::Set(name, value) => done(host.env_put(name, value)),
         Call::Unset(name) => done(host.env_remove(name)),
-        Call::HasEntry(id, message) => told(host.log_has(id, message)),
+        Call::HasEntry(id, message) => yes_or_no(host.log_has(id, message)),
         Call::AddEntry(id, message) => done(host.log_add(id, message)),
-        Call::HasPackage(name, version) => told(host.package_has(name, version)),
+        Call::HasPackage(name, version) => yes_or_no(host.package_has(name, version)),
         Call::AddPackage(name, version, bytes) => done(host.package_put(name, version, bytes)),
-        Call::Wanting(id) => told(host.reboot_wanted(id)),
+        Call::Wanting(id) => yes_or_no(host.reboot_wanted(id)),
     }
 }
 

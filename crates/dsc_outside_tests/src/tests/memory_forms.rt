@@ -1,4 +1,5 @@
-use dsc_outside::{Failed, HostError, LinkError, MemorySink, MemorySource, Sink, Source};
+use dsc_outside::{Failed, HostError, LinkError, Sink, Source};
+use memory_outside::{MemorySink, MemorySource};
 use std::alloc::{AllocError, Global};
 use std::test::Fail;
 

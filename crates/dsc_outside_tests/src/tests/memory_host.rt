@@ -4,7 +4,7 @@ use super::host_calls::Call::{
     Wanting,
 };
 use super::host_calls::{Row, expect, expect_of};
-use dsc_outside::{
+use memory_outside::{
     Done as Part, HostContents, MemoryHost, PathEntry, ReliableHost, Standing, Stop,
 };
 use mof_values::Bytes;

@@ -3,7 +3,7 @@ use super::disk_calls::Ask::{Cut, Length, Read, Sync, Write};
 use super::disk_calls::{DiskRow, is_answered};
 use super::scratch::make_folder;
 use dsc_outside::Clock;
-use dsc_outside::real::{FileDisk, SystemClock};
+use real_outside::{FileDisk, SystemClock};
 use std::alloc::{AllocError, Global};
 use std::fs::File;
 use std::rt::Files;

@@ -1,5 +1,5 @@
-use dsc_outside::real::{InSource, OutSink};
 use dsc_outside::{Failed, Sink, Source};
+use real_outside::{InSource, OutSink};
 use std::cell::Cell;
 use std::fmt::Display;
 use std::io;

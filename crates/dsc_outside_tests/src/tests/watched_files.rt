@@ -4,7 +4,7 @@ use std::cell::Cell;
 use std::fs::{Metadata, OpenFile, OpenOptions, Permissions};
 use std::io;
 use std::io::{ErrorKind, PipeReader, PipeWriter, Read, Seek, SeekFrom, Write};
-use std::os::fd::BorrowedFd;
+use std::os::fd::{AsFd, AsRawFd, BorrowedFd};
 use std::os::unix::net::SocketAddr;
 use std::path::PathBuf;
 use std::rt::Files;
@@ -15,13 +15,21 @@ use std::test::Fail;
 pub enum SystemCall {
     /// Looks at a path, a link as itself.
     Look,
+
+    /// Looks at what a descriptor's path below `/proc` leads to.
+    Find,
     Open,
+
+    /// Looks at what was opened.
+    Compare,
+
+    /// Opens the table of mounts, of which the length is the machine's.
+    Mounts,
     Create,
     Read,
     Write,
     Sync,
     SyncFolder,
-    Own,
     Mode,
     Rename,
     Unlink,
@@ -84,11 +92,26 @@ pub struct WatchedFile<'a, F: Read + Write + Seek + OpenFile + Drop> {
     file: F,
     watch: &'a Watch<'a>,
     writes: bool,
+    is_table: bool,
+}
+
+impl<'a, F: Read + Write + Seek + OpenFile + AsFd + Drop> AsFd for WatchedFile<'a, F> {
+    fn as_fd(&self) -> BorrowedFd<'_> {
+        self.file.as_fd()
+    }
+}
+
+impl<'a, F: Read + Write + Seek + OpenFile + AsRawFd + Drop> AsRawFd for WatchedFile<'a, F> {
+    fn as_raw_fd(&self) -> i32 {
+        self.file.as_raw_fd()
+    }
 }
 
 impl<'a, F: Read + Write + Seek + OpenFile + Drop> Read for WatchedFile<'a, F> {
     fn read(&mut self, buf: &mut [u8]) -> io::Result<usize> {
-        self.watch.begin(SystemCall::Read)?;
+        if !self.is_table {
+            self.watch.begin(SystemCall::Read)?;
+        }
         self.file.read(buf)
     }
 }
@@ -112,6 +135,7 @@ impl<'a, F: Read + Write + Seek + OpenFile + Drop> Seek for WatchedFile<'a, F> {
 
 impl<'a, F: Read + Write + Seek + OpenFile + Drop> OpenFile for WatchedFile<'a, F> {
     fn metadata(&self) -> io::Result<Metadata> {
+        self.watch.begin(SystemCall::Compare)?;
         self.file.metadata()
     }
 
@@ -146,15 +170,17 @@ impl<'a, R: Files> Files for WatchedFiles<'a, R> {
 
     fn open_file(&self, how: &OpenOptions, path: &str) -> io::Result<WatchedFile<'a, R::File>> {
         let writes = how.asks_write();
-        self.watch.begin(if writes {
-            SystemCall::Create
-        } else {
-            SystemCall::Open
+        let is_table = path == "/proc/self/mountinfo";
+        self.watch.begin(match (writes, is_table) {
+            (true, _) => SystemCall::Create,
+            (false, true) => SystemCall::Mounts,
+            (false, false) => SystemCall::Open,
         })?;
         Ok(WatchedFile {
             file: self.rt.open_file(how, path)?,
             watch: self.watch,
             writes,
+            is_table,
         })
     }
 
@@ -164,6 +190,9 @@ impl<'a, R: Files> Files for WatchedFiles<'a, R> {
     }
 
     fn metadata(&self, path: &str) -> io::Result<Metadata> {
+        if path.starts_with("/proc/self/fd/") {
+            self.watch.begin(SystemCall::Find)?;
+        }
         self.rt.metadata(path)
     }
 
@@ -192,11 +221,11 @@ impl<'a, R: Files> Files for WatchedFiles<'a, R> {
     }
 
     fn remove_dir(&self, path: &str) -> io::Result<()> {
+        self.watch.begin(SystemCall::RemoveFolder)?;
         self.rt.remove_dir(path)
     }
 
     fn remove_dir_all<B: Allocator>(&self, alloc: B, path: &str) -> io::Result<()> {
-        self.watch.begin(SystemCall::RemoveFolder)?;
         self.rt.remove_dir_all(alloc, path)
     }
 
@@ -205,7 +234,6 @@ impl<'a, R: Files> Files for WatchedFiles<'a, R> {
     }
 
     fn lchown(&self, path: &str, user: Option<u32>, group: Option<u32>) -> io::Result<()> {
-        self.watch.begin(SystemCall::Own)?;
         self.rt.lchown(path, user, group)
     }
 

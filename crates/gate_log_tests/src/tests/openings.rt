@@ -2,8 +2,8 @@
 ghost use Rattle.std.specs.Prelude.{⊤};
 
 use super::stores::{add_two, bodies_of, holds, rewrite, small, with_memory};
-use dsc_outside::MemoryDisk;
 use gate_log::{LogError, Replay, TakeError, replay_log};
+use memory_outside::MemoryDisk;
 use std::alloc::Global;
 use std::test::Fail;
 

@@ -1,7 +1,7 @@
 //! Stops in each call of an append and of a rewrite.
 use super::stores::{add, add_two, bodies_of, holds, open, rewrite, with_memory};
-use dsc_outside::{DiskPart, DiskStop, MemoryDisk};
 use gate_log::LogError;
+use memory_outside::{DiskPart, DiskStop, MemoryDisk};
 use std::alloc::Global;
 use std::test::Fail;
 

@@ -1,7 +1,7 @@
 //! Bodies of many sizes, and the texts of errors.
 use super::stores::with_memory;
-use dsc_outside::MemoryDisk;
 use gate_log::{Bodies, LogError, Shape, replay_log};
+use memory_outside::MemoryDisk;
 use std::alloc::Global;
 use std::fmt::Write;
 use std::test::Fail;

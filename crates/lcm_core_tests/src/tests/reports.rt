@@ -100,7 +100,7 @@ fn reported(
 }
 
 // What the run came to, how many were missed, and what is listed.
-fn told(rt: &impl AllocGlobal, report: &Report) -> Result<String, Fail> {
+fn shown(rt: &impl AllocGlobal, report: &Report) -> Result<String, Fail> {
     let mut made = format!(in rt.alloc();
         "{:?} {} of {}",
         report.outcome, report.missed, report.total
@@ -115,7 +115,7 @@ fn told(rt: &impl AllocGlobal, report: &Report) -> Result<String, Fail> {
 
 fn check_report(rt: &impl AllocGlobal, report: Option<Report>, wanted: &str) -> Result<(), Fail> {
     match report {
-        Some(report) if is_in_size(&report) && told(rt, &report)?.as_str() == wanted => Ok(()),
+        Some(report) if is_in_size(&report) && shown(rt, &report)?.as_str() == wanted => Ok(()),
         _ => Err(wanted.into()),
     }
 }

@@ -61,18 +61,18 @@ impl Resources for Script {
 
     fn test(&mut self, _: &Document, place: u32) -> TestAnswer {
         let answer = test_of(self.alloc, next(&mut self.tests, "yes"));
-        let (answer, told) = two_tests(answer);
+        let (answer, shown) = two_tests(answer);
         match self.calls.push(Entry::Tested { place, answer }) {
-            Ok(()) => told,
+            Ok(()) => shown,
             Err(_) => unreachable!(),
         }
     }
 
     fn set(&mut self, _: &Document, place: u32) -> SetAnswer {
         let answer = set_of(self.alloc, next(&mut self.sets, "done"));
-        let (answer, told) = two_sets(answer);
+        let (answer, shown) = two_sets(answer);
         match self.calls.push(Entry::Set { place, answer }) {
-            Ok(()) => told,
+            Ok(()) => shown,
             Err(_) => unreachable!(),
         }
     }

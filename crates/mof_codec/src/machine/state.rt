@@ -6,49 +6,49 @@ pub(crate) enum Place {
     /// Between declarations.
     Start,
 
-    /// Behind `instance`.
+    /// After `instance`.
     AfterInstance,
 
-    /// Behind `of`.
+    /// After `of`.
     AfterOf,
 
-    /// Behind the name of the class.
+    /// After the name of the class.
     AfterClass,
 
-    /// Behind `as`.
+    /// After `as`.
     AfterAs,
 
-    /// Behind the alias of the declaration.
+    /// After the alias of the declaration.
     AfterAlias,
 
-    /// Behind the brace of the declaration, or after a property.
+    /// After the brace of the declaration, or after a property.
     Body,
 
-    /// Behind the closing brace of the declaration.
+    /// After the closing brace of the declaration.
     AfterBody,
 
-    /// Behind the name of a property.
+    /// After the name of a property.
     AfterName,
 
-    /// Behind `=`.
+    /// After `=`.
     AfterEquals,
 
-    /// Behind a literal that is a property's value or a front of it.
+    /// After a literal that is a property's value or a front of it.
     AfterStrings,
 
-    /// Behind any other value of a property.
+    /// After any other value of a property.
     AfterValue,
 
-    /// Behind the brace of an array.
+    /// After the brace of an array.
     InArray,
 
-    /// Behind a comma in an array.
+    /// After a comma in an array.
     AfterComma,
 
-    /// Behind a literal that is an element or a front of it.
+    /// After a literal that is an element or a front of it.
     AfterElementStrings,
 
-    /// Behind any other element.
+    /// After any other element.
     AfterElement,
 }
 

@@ -1,4 +1,4 @@
-//! Where a text goes wrong.
+//! Finds where a text goes wrong.
 ghost use Rattle.std.specs.Prelude.{◌≡◌, ◌↔◌, true, None, IfSome, IfNone};
 ghost use Rattle.std.specs.Str.{chars};
 ghost use Rattle.mof_syntax.specs.Grammar.{Wide};
@@ -6,7 +6,7 @@ ghost use Rattle.mof_syntax.specs.Fronts.{IsSyntaxFault};
 ghost use Rattle.mof_codec.specs.declared.machine.state.Place.TheVariants as places;
 ghost use Rattle.mof_codec.specs.Machine.{is_whole};
 ghost use Rattle.mof_codec.specs.Walked.{walked};
-ghost use Rattle.mof_codec.specs.Searching.{StandsBehind};
+ghost use Rattle.mof_codec.specs.Searching.{StandsAfter};
 
 use crate::machine::state::{Place, START, State};
 use crate::machine::step::{is_whole, step};
@@ -32,9 +32,9 @@ pub(crate) fn fault(text: &str) -> Option<usize>
     Some(char_count(text))
 }
 
-/// The state after the characters, or none where no text begins with them.
-pub(crate) fn state_behind(text: &str) -> Option<State>
-    ensures some { IfSome result (λ state. StandsBehind (chars text.now) state) }
+/// The state after the text, or none where no text of the wide grammar begins with it.
+pub(crate) fn state_after(text: &str) -> Option<State>
+    ensures some { IfSome result (λ state. StandsAfter (chars text.now) state) }
     ensures none { IfNone result (walked (chars text.now) ≡ None) }
 {
     let mut state = START;

@@ -9,11 +9,11 @@ ghost use Rattle.mof_codec.specs.Searching.{IsFirstForm, HasNoForm, BeginsWord, 
 
 use crate::machine::beginnings::{begins_declaration, begins_scalar};
 use crate::machine::state::State;
-use crate::refusing::fault::state_behind;
+use crate::refusing::fault::state_after;
 use crate::refusing::scalar::{Wanted, first_scalar};
 use crate::values::is_word;
 use mof_syntax::Form;
-use mof_syntax::text::{char_count, first_char, split_chars};
+use mof_syntax::text::{first_char, split_chars};
 use mof_values::may_follow;
 
 /// The form that stands in a text which goes wrong at `fault`, and where it begins.
@@ -30,14 +30,14 @@ pub(crate) fn form_at(text: &str, fault: usize) -> Option<(usize, Form)>
             None => None,
         };
     }
-    let state = state_behind(front)?;
+    let state = state_after(front)?;
     match form_here(state, left) {
         Some(form) => Some((fault, form)),
         None => None,
     }
 }
 
-// The form that stands where the machine is in the state and these characters come.
+// The form that stands where the machine is in the state and this text comes.
 fn form_here(state: State, left: &str) -> Option<Form>
     ensures some { IfSome result (λ form. StandsForm state (chars left.now) form) }
     ensures none { IfNone result ((form : Form) → StandsForm state (chars left.now) form → ⊥) }
@@ -83,11 +83,25 @@ fn begins_with(text: &str, c: char) -> bool
 fn begins_word(text: &str, word: &str) -> bool
     ensures { result ≡ true ↔ BeginsWord (chars text.now) word.now }
 {
-    if char_count(text) < word.len() {
+    if !has_chars(text, word.len()) {
         return false;
     }
     let (front, rest) = split_chars(text, word.len());
     is_word(front, word) && stops(rest)
+}
+
+// Returns whether the text has that many characters; of a longer text only those are looked at.
+fn has_chars(text: &str, count: usize) -> bool
+    ensures { result ≡ true ↔ (count ≤ length (chars text.now)) }
+{
+    let mut left = text;
+    for _ in 0..count {
+        let Some((_, rest)) = first_char(left) else {
+            return false;
+        };
+        left = rest;
+    }
+    true
 }
 
 fn stops(text: &str) -> bool

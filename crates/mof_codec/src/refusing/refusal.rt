@@ -15,7 +15,7 @@ use crate::refusing::scalar::{Wanted, first_scalar};
 use mof_syntax::text::{char_count, split_chars};
 use mof_syntax::{Form, MofError};
 
-/// Why the characters spell no instances within the limits, or none where they do.
+/// Why the text spells no instances within the limits, or none where it spells some.
 pub(crate) fn refusal_of(text: &str) -> Option<MofError>
     ensures some { IfSome result (λ e. Wins (chars text.now) e) }
     ensures none { IfNone result ((is : List Instance) × Spells (chars text.now) is) }
@@ -29,7 +29,7 @@ pub(crate) fn refusal_of(text: &str) -> Option<MofError>
     sooner(out_of_profile(form), sooner(number_range(number), others))
 }
 
-// How far the text goes.
+// Where the text goes wrong, or its length where it does not.
 fn end_of(text: &str, fault: Option<usize>) -> usize
     ensures { result ≡ end_of (chars text.now) fault }
 {

@@ -19,11 +19,11 @@ pub(crate) enum Wanted {
     /// An integer below -2^63 or above 2^64-1.
     ExcessInteger,
 
-    /// The front of a floating-point constant up to its point, where all characters are of it.
+    /// The front of a floating-point constant up to its point, where that is all of the text.
     Real,
 }
 
-/// The first place of such a literal in characters with which some text begins.
+/// The first place of such a literal in a text with which some text of the wide grammar begins.
 pub(crate) fn first_scalar(front: &str, wanted: Wanted) -> Option<usize>
     requires { IsFront (chars front.now) }
     ensures some { IfSome result (λ at. FirstOf (ScalarStands wanted (chars front.now)) at) }

@@ -6,7 +6,7 @@ ghost use Rattle.mof_syntax.specs.Limits.{ValueFits};
 ghost use Rattle.mof_codec.specs.Reading.{BeginsWith, Lacks};
 ghost use Rattle.mof_codec.specs.Values.{IsArray, ArrayFits};
 
-use crate::values::marks::{Mark, behind_mark};
+use crate::values::marks::{Mark, mark_rest};
 use crate::values::scalars::constant;
 use mof_syntax::MAX_ELEMENTS;
 use mof_values::{Items, Scalar, Value};
@@ -17,8 +17,8 @@ pub(crate) fn initializer(alloc: Global, text: &str) -> Result<Option<(Value, &s
     ensures some { IfOk result (λ found. IfSome found (λ x. BeginsWith Initializer ValueFits (chars text.now) x.0 (chars x.1.now))) }
     ensures none { IfOk result (λ found. IfNone found (Lacks Initializer ValueFits (chars text.now))) }
 {
-    if let Some(behind) = behind_mark(text, Mark::LeftBrace) {
-        let Some((elements, rest)) = array(alloc, behind)? else {
+    if let Some(inside) = mark_rest(text, Mark::LeftBrace) {
+        let Some((elements, rest)) = array(alloc, inside)? else {
             return Ok(None);
         };
         return Ok(Some((Value::Many(Items::of(elements)), rest)));
@@ -35,8 +35,8 @@ fn array(alloc: Global, text: &str) -> Result<Option<(Vec<Scalar>, &str)>, Alloc
     ensures none { IfOk result (λ found. IfNone found (Lacks IsArray ArrayFits (chars text.now))) }
 {
     let mut elements = Vec::new(alloc);
-    if let Some(behind) = behind_mark(text, Mark::RightBrace) {
-        return Ok(Some((elements, behind)));
+    if let Some(rest) = mark_rest(text, Mark::RightBrace) {
+        return Ok(Some((elements, rest)));
     }
     let Some((first, rest)) = constant(alloc, text)? else {
         return Ok(None);
@@ -44,10 +44,10 @@ fn array(alloc: Global, text: &str) -> Result<Option<(Vec<Scalar>, &str)>, Alloc
     elements.push(first)?;
     let mut left = rest;
     'elements: loop {
-        if let Some(behind) = behind_mark(left, Mark::RightBrace) {
-            return Ok(Some((elements, behind)));
+        if let Some(rest) = mark_rest(left, Mark::RightBrace) {
+            return Ok(Some((elements, rest)));
         }
-        let Some(next) = behind_mark(left, Mark::Comma) else {
+        let Some(next) = mark_rest(left, Mark::Comma) else {
             return Ok(None);
         };
         if elements.len() == MAX_ELEMENTS {

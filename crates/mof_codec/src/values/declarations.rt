@@ -6,14 +6,14 @@ ghost use Rattle.mof_syntax.specs.Limits.{InstanceFits, IsShortName, Spells};
 ghost use Rattle.mof_codec.specs.Reading.{BeginsWith, Lacks};
 ghost use Rattle.mof_codec.specs.Values.{IsHead, IsNaming, NamingFits, IsDeclaration};
 
-use crate::values::marks::{Mark, behind_mark};
+use crate::values::marks::{Mark, mark_rest};
 use crate::values::properties::properties;
 use crate::values::words::{alias, keyword, word};
 use mof_syntax::{MAX_INSTANCES, separators_rest};
 use mof_values::{Ident, Instance, Items};
 use std::alloc::{AllocError, Global};
 
-/// The instances that the characters spell within the limits, or none where they spell none.
+/// The instances that the text spells within the limits, or none where it spells none.
 pub(crate) fn instances_of(alloc: Global, text: &str) -> Result<Option<Vec<Instance>>, AllocError>
     ensures spelled { IfOk result (λ found. IfSome found (λ v. Spells (chars text.now) v.items)) }
     ensures none { IfOk result (λ found. IfNone found ((is : List Instance) → Spells (chars text.now) is → ⊥)) }
@@ -47,7 +47,7 @@ fn declaration(alloc: Global, text: &str) -> Result<Option<(Instance, &str)>, Al
     let Some((properties, end)) = properties(alloc, body)? else {
         return Ok(None);
     };
-    let Some(rest) = behind_mark(end, Mark::Semicolon) else {
+    let Some(rest) = mark_rest(end, Mark::Semicolon) else {
         return Ok(None);
     };
     let instance = Instance {
@@ -80,7 +80,7 @@ fn naming(alloc: Global, text: &str) -> Result<Option<(Option<Ident>, &str)>, Al
     ensures some { IfOk result (λ found. IfSome found (λ x. BeginsWith IsNaming NamingFits (chars text.now) x.0 (chars x.1.now))) }
     ensures none { IfOk result (λ found. IfNone found (Lacks IsNaming NamingFits (chars text.now))) }
 {
-    if let Some(rest) = behind_mark(text, Mark::LeftBrace) {
+    if let Some(rest) = mark_rest(text, Mark::LeftBrace) {
         return Ok(Some((None, rest)));
     }
     let Some(named) = keyword(text, "as") else {
@@ -89,7 +89,7 @@ fn naming(alloc: Global, text: &str) -> Result<Option<(Option<Ident>, &str)>, Al
     let Some((name, left)) = alias(alloc, named)? else {
         return Ok(None);
     };
-    let Some(rest) = behind_mark(left, Mark::LeftBrace) else {
+    let Some(rest) = mark_rest(left, Mark::LeftBrace) else {
         return Ok(None);
     };
     Ok(Some((Some(name), rest)))

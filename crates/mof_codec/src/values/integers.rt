@@ -7,7 +7,7 @@ ghost use Rattle.mof_syntax.specs.Limits.{IsInRange};
 ghost use Rattle.mof_syntax.specs.Scanning.{run_of, zero_value, unmarked_value, magnitude_value};
 ghost use Rattle.mof_codec.specs.Reading.{BeginsWith, Lacks};
 ghost use Rattle.mof_codec.specs.Searching.{BeginsExcessInteger};
-ghost use Rattle.mof_codec.specs.Values.{IsNumber, IsCapped, signed, is_negative, behind_sign};
+ghost use Rattle.mof_codec.specs.Values.{IsNumber, IsCapped, signed, is_negative, sign_rest};
 
 use mof_syntax::scan::{binary_rest, magnitude_rest};
 use mof_syntax::separators_rest;
@@ -22,7 +22,7 @@ pub(crate) fn integer(text: &str) -> Option<(i128, &str)>
     ensures none { IfNone result (Lacks IsNumber IsInRange (chars text.now)) }
 {
     let left = separators_rest(text);
-    let digits = behind_sign(left);
+    let digits = sign_rest(left);
     let rest = magnitude_rest(digits)?;
     let value = in_range(is_negative(left), magnitude(digits))?;
     Some((value, rest))
@@ -32,7 +32,7 @@ pub(crate) fn integer(text: &str) -> Option<(i128, &str)>
 pub(crate) fn is_out_of_range(text: &str) -> bool
     ensures { result ≡ true ↔ BeginsExcessInteger (chars text.now) }
 {
-    let digits = behind_sign(text);
+    let digits = sign_rest(text);
     match magnitude_rest(digits) {
         Some(_) => match in_range(is_negative(text), magnitude(digits)) {
             Some(_) => false,
@@ -48,8 +48,8 @@ fn is_negative(text: &str) -> bool
     matches!(first_char(text), Some(('-', _)))
 }
 
-fn behind_sign(text: &str) -> &str
-    ensures { chars result.now ≡ behind_sign (chars text.now) }
+fn sign_rest(text: &str) -> &str
+    ensures { chars result.now ≡ sign_rest (chars text.now) }
 {
     match first_char(text) {
         Some(('-' | '+', rest)) => rest,
@@ -87,12 +87,12 @@ fn unmarked(text: &str) -> u128
     ensures { IsCapped (unmarked_value (chars text.now)) result }
 {
     match first_char(text) {
-        Some(('0', rest)) => behind_zero(rest),
+        Some(('0', rest)) => zero_magnitude(rest),
         _ => digits(text, 10),
     }
 }
 
-fn behind_zero(text: &str) -> u128
+fn zero_magnitude(text: &str) -> u128
     ensures { IsCapped (zero_value (chars text.now)) result }
 {
     match first_char(text) {

@@ -3,7 +3,7 @@ ghost use Rattle.std.specs.Prelude.{◌≡◌, IfSome, IfNone};
 ghost use Rattle.std.specs.Str.{chars};
 ghost use Rattle.mof_syntax.specs.Scanning.{left_of};
 ghost use Rattle.mof_codec.specs.Reading.{Begins, BeginsNo};
-ghost use Rattle.mof_codec.specs.Values.{behind_char, code_of, IsMark};
+ghost use Rattle.mof_codec.specs.Values.{char_rest, code_of, IsMark};
 
 use mof_syntax::separators_rest;
 use mof_syntax::text::first_char;
@@ -33,16 +33,16 @@ impl Mark {
 }
 
 /// After the mark.
-pub(crate) fn behind_mark(text: &str, mark: Mark) -> Option<&str>
+pub(crate) fn mark_rest(text: &str, mark: Mark) -> Option<&str>
     ensures some { IfSome result (λ rest. Begins (IsMark mark) (chars text.now) (chars rest.now)) }
     ensures none { IfNone result (BeginsNo (IsMark mark) (chars text.now)) }
 {
-    behind_char(separators_rest(text), mark.code())
+    char_rest(separators_rest(text), mark.code())
 }
 
 /// After the character, where it comes first.
-pub(crate) fn behind_char(text: &str, code: char) -> Option<&str>
-    ensures { left_of result ≡ behind_char code (chars text.now) }
+pub(crate) fn char_rest(text: &str, code: char) -> Option<&str>
+    ensures { left_of result ≡ char_rest code (chars text.now) }
 {
     match first_char(text)? {
         (c, rest) if c == code => Some(rest),

@@ -7,7 +7,7 @@ ghost use Rattle.mof_codec.specs.Reading.{BeginsWith, Lacks};
 ghost use Rattle.mof_codec.specs.Values.{IsProperty, PropertiesFit};
 
 use crate::values::arrays::initializer;
-use crate::values::marks::{Mark, behind_mark};
+use crate::values::marks::{Mark, mark_rest};
 use crate::values::words::word;
 use mof_syntax::MAX_PROPERTIES;
 use mof_values::Property;
@@ -24,8 +24,8 @@ pub(crate) fn properties(
     let mut properties = Vec::new(alloc);
     let mut left = text;
     'properties: loop {
-        if let Some(behind) = behind_mark(left, Mark::RightBrace) {
-            return Ok(Some((properties, behind)));
+        if let Some(rest) = mark_rest(left, Mark::RightBrace) {
+            return Ok(Some((properties, rest)));
         }
         if properties.len() == MAX_PROPERTIES {
             return Ok(None);
@@ -46,13 +46,13 @@ fn property(alloc: Global, text: &str) -> Result<Option<(Property, &str)>, Alloc
     let Some((name, named)) = word(alloc, text)? else {
         return Ok(None);
     };
-    let Some(given) = behind_mark(named, Mark::EqualsSign) else {
+    let Some(given) = mark_rest(named, Mark::EqualsSign) else {
         return Ok(None);
     };
     let Some((value, end)) = initializer(alloc, given)? else {
         return Ok(None);
     };
-    let Some(rest) = behind_mark(end, Mark::Semicolon) else {
+    let Some(rest) = mark_rest(end, Mark::Semicolon) else {
         return Ok(None);
     };
     Ok(Some((Property { name, value }, rest)))

@@ -7,7 +7,7 @@ ghost use Rattle.mof_syntax.specs.Grammar.{StringValue};
 ghost use Rattle.mof_codec.specs.Reading.{BeginsWith, Lacks};
 ghost use Rattle.mof_codec.specs.Values.{AnyText, BeginsQuote, NoLiteralFirst, AddsQuoted, NoQuoted, is_plain, IsPlainTo, GoesOnBy, GoesOnByOne, OnlyQuoteFirst, NoEscape, HexEscape, NoHexEscape};
 
-use crate::values::marks::behind_char;
+use crate::values::marks::char_rest;
 use mof_syntax::scan::{hex_digit, hex_tail};
 use mof_syntax::separators_rest;
 use mof_syntax::text::{before, char_count, first_char};
@@ -19,7 +19,7 @@ pub(crate) fn string(alloc: Global, text: &str) -> Result<Option<(Text, &str)>, 
     ensures some { IfOk result (λ found. IfSome found (λ x. BeginsWith StringValue AnyText (chars text.now) x.0 (chars x.1.now))) }
     ensures none { IfOk result (λ found. IfNone found (Lacks StringValue AnyText (chars text.now))) }
 {
-    let Some(first) = behind_quote(text) else {
+    let Some(first) = quote_rest(text) else {
         return Ok(None);
     };
     let mut read = Vec::new(alloc);
@@ -27,7 +27,7 @@ pub(crate) fn string(alloc: Global, text: &str) -> Result<Option<(Text, &str)>, 
         return Ok(None);
     };
     let mut left = rest;
-    while let Some(behind) = behind_quote(left) {
+    while let Some(behind) = quote_rest(left) {
         let Some(rest) = push_quoted(&mut read, behind)? else {
             return Ok(None);
         };
@@ -37,11 +37,11 @@ pub(crate) fn string(alloc: Global, text: &str) -> Result<Option<(Text, &str)>, 
 }
 
 // After a quote that stands after separators.
-fn behind_quote(text: &str) -> Option<&str>
+fn quote_rest(text: &str) -> Option<&str>
     ensures some { IfSome result (λ behind. BeginsQuote (chars text.now) (chars behind.now)) }
     ensures none { IfNone result (NoLiteralFirst (chars text.now)) }
 {
-    behind_char(separators_rest(text), '"')
+    char_rest(separators_rest(text), '"')
 }
 
 // Adds the text of a literal, of which the quote was read: what is after it.
@@ -53,7 +53,7 @@ fn push_quoted<'a>(read: &mut Vec<char>, text: &'a str) -> Result<Option<&'a str
     loop {
         let (plain, behind) = plain_front(left);
         push_chars(read, plain)?;
-        if let Some(rest) = behind_char(behind, '"') {
+        if let Some(rest) = char_rest(behind, '"') {
             return Ok(Some(rest));
         }
         let Some((c, rest)) = literal_char(behind) else {
@@ -64,6 +64,7 @@ fn push_quoted<'a>(read: &mut Vec<char>, text: &'a str) -> Result<Option<&'a str
     }
 }
 
+// Appends the characters of a text, for all of which memory is reserved at once.
 fn push_chars(read: &mut Vec<char>, text: &str) -> Result<(), AllocError>
     ensures { IfOk result (λ _. read.new.items ≡ read.old.items ++ chars text.now) }
 {
@@ -81,12 +82,12 @@ fn plain_front(text: &str) -> (&str, &str)
     ensures front { GoesOnBy (chars text.now) (chars result.0.now) (chars result.1.now) }
     ensures split { chars text.now ≡ chars result.0.now ++ chars result.1.now }
 {
-    let left = behind_plain(text);
+    let left = plain_rest(text);
     (before(text, left), left)
 }
 
 // What begins with the first quote or backslash.
-fn behind_plain(text: &str) -> &str
+fn plain_rest(text: &str) -> &str
     ensures { IsPlainTo (chars text.now) (chars result.now) }
 {
     let mut left = text;
@@ -160,7 +161,7 @@ fn hex_escape(text: &str) -> Option<(char, &str)>
     ensures some { IfSome result (λ found. HexEscape (chars text.now) found.0 (chars found.1.now)) }
     ensures none { IfNone result (NoHexEscape (chars text.now)) }
 {
-    let (first, behind) = hex_digit(text)?;
-    let (value, rest) = hex_tail(behind, first);
+    let (first, others) = hex_digit(text)?;
+    let (value, rest) = hex_tail(others, first);
     Some((char::from_u32(value)?, rest))
 }

@@ -8,7 +8,7 @@ ghost use Rattle.mof_syntax.specs.Tokens.{Identifier};
 ghost use Rattle.mof_codec.specs.Reading.{Begins, BeginsNo, BeginsWith, Lacks};
 ghost use Rattle.mof_codec.specs.Values.{IsKeyword, IsWord, IsAlias, NoIdentifier, DollarIdentifier, NoDollarIdentifier};
 
-use crate::values::marks::behind_char;
+use crate::values::marks::char_rest;
 use mof_syntax::scan::identifier_rest;
 use mof_syntax::separators_rest;
 use mof_syntax::text::{before, first_char};
@@ -28,7 +28,7 @@ pub(crate) fn keyword<'a>(text: &'a str, keyword: &str) -> Option<&'a str>
     }
 }
 
-/// A word of at most 255 characters, and what is after.
+/// A word that is short enough for an identifier, and what is after.
 pub(crate) fn word(alloc: Global, text: &str) -> Result<Option<(Ident, &str)>, AllocError>
     ensures some { IfOk result (λ found. IfSome found (λ x. BeginsWith IsWord IsShortName (chars text.now) x.0 (chars x.1.now))) }
     ensures none { IfOk result (λ found. IfNone found (Lacks IsWord IsShortName (chars text.now))) }
@@ -42,7 +42,7 @@ pub(crate) fn word(alloc: Global, text: &str) -> Result<Option<(Ident, &str)>, A
     Ok(Some((name, rest)))
 }
 
-/// The name of an alias, of at most 255 characters, and what is after.
+/// The name of an alias that is short enough for an identifier, and what is after.
 pub(crate) fn alias(alloc: Global, text: &str) -> Result<Option<(Ident, &str)>, AllocError>
     ensures some { IfOk result (λ found. IfSome found (λ x. BeginsWith IsAlias IsShortName (chars text.now) x.0 (chars x.1.now))) }
     ensures none { IfOk result (λ found. IfNone found (Lacks IsAlias IsShortName (chars text.now))) }
@@ -58,7 +58,7 @@ pub(crate) fn alias(alloc: Global, text: &str) -> Result<Option<(Ident, &str)>, 
 
 // The identifier that the text spells, where it is short enough.
 fn name(alloc: Global, text: &str) -> Result<Option<Ident>, AllocError>
-    ensures some { IfOk result (λ found. IfSome found (λ name. (name ≡ (chars text.now)) × IsIdent (chars text.now))) }
+    ensures some { IfOk result (λ found. IfSome found (λ name. (name ≡ chars text.now) × IsIdent (chars text.now))) }
     ensures none { IfOk result (λ found. IfNone found (is_ident (chars text.now) ≡ false)) }
 {
     match Ident::parse(alloc, text) {
@@ -72,7 +72,7 @@ fn dollar_identifier(text: &str) -> Option<(&str, &str)>
     ensures some { IfSome result (λ found. DollarIdentifier (chars text.now) (chars found.0.now) (chars found.1.now)) }
     ensures none { IfNone result (NoDollarIdentifier (chars text.now)) }
 {
-    identifier(behind_char(text, '$')?)
+    identifier(char_rest(text, '$')?)
 }
 
 // An identifier of any length, and what is after.
@@ -90,13 +90,13 @@ pub(crate) fn is_word(text: &str, word: &str) -> bool
 {
     let (mut left, mut codes) = (text, word.as_bytes());
     while let Some((c, rest)) = first_char(left) {
-        let [code, behind @ ..] = codes else {
+        let [code, others @ ..] = codes else {
             return false;
         };
         if c.to_ascii_lowercase() as u32 != code.to_ascii_lowercase() as u32 {
             return false;
         }
-        (left, codes) = (rest, behind);
+        (left, codes) = (rest, others);
     }
     codes.is_empty()
 }

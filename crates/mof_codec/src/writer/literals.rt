@@ -15,6 +15,7 @@ pub(crate) fn push_name(out: &mut String, name: &Ident) -> Result<(), AllocError
     push_chars(out, name.as_slice())
 }
 
+// Appends the characters in UTF-8.
 fn push_chars(out: &mut String, chars: &[char]) -> Result<(), AllocError>
     ensures text { OnOk result (Adds (string_bytes out.old) (string_bytes out.new) chars.now) }
     ensures valid { OnOk result (AreChars chars.now) }
@@ -29,7 +30,8 @@ fn push_chars(out: &mut String, chars: &[char]) -> Result<(), AllocError>
 
 /// Appends the text as one literal.
 pub fn push_literal(out: &mut String, text: &[char]) -> Result<(), AllocError>
-    ensures text { OnOk result (Adds (string_bytes out.old) (string_bytes out.new) (canonical_literal text.now)) }
+    ensures text { OnOk result
+        (Adds (string_bytes out.old) (string_bytes out.new) (canonical_literal text.now)) }
     ensures valid { OnOk result (AreChars text.now) }
 {
     out.push('"')?;
@@ -38,6 +40,7 @@ pub fn push_literal(out: &mut String, text: &[char]) -> Result<(), AllocError>
     Ok(())
 }
 
+// Appends the characters, each as itself or by its escape.
 fn push_literal_chars(out: &mut String, text: &[char]) -> Result<(), AllocError>
     ensures text { OnOk result (Adds (string_bytes out.old) (string_bytes out.new) (flat_map literal_char text.now)) }
     ensures valid { OnOk result (AreChars text.now) }

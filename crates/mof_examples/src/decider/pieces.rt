@@ -184,8 +184,8 @@ fn ends_literal(chars: &[char]) -> bool {
     while let [c, rest @ ..] = left {
         left = match *c {
             '"' => return rest.is_empty(),
-            '\\' => match behind_escape(rest) {
-                Some(behind) => behind,
+            '\\' => match escape_rest(rest) {
+                Some(after) => after,
                 None => return false,
             },
             _ => rest,
@@ -195,18 +195,18 @@ fn ends_literal(chars: &[char]) -> bool {
 }
 
 // What is after the escape whose backslash was before.
-fn behind_escape(chars: &[char]) -> Option<&[char]>
+fn escape_rest(chars: &[char]) -> Option<&[char]>
     ensures { IfSome result (λ rest. length rest.now ≤ length chars.now) }
 {
     match chars {
         ['b' | 't' | 'n' | 'f' | 'r' | '"' | '\'' | '\\', rest @ ..] => Some(rest),
-        ['x' | 'X', digits @ ..] if !is_surrogate(digits) => behind_digits(digits),
+        ['x' | 'X', digits @ ..] if !is_surrogate(digits) => digits_rest(digits),
         _ => None,
     }
 }
 
 // What is after one to four hexadecimal digits, as many as there are.
-fn behind_digits(chars: &[char]) -> Option<&[char]>
+fn digits_rest(chars: &[char]) -> Option<&[char]>
     ensures { IfSome result (λ rest. length rest.now ≤ length chars.now) }
 {
     match chars {

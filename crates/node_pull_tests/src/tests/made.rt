@@ -2,7 +2,7 @@
 ghost use Rattle.std.specs.Prelude.{IfOk};
 ghost use Rattle.meta_config.specs.Parts.{IsMeta};
 
-use dsc_outside::MemoryLink;
+use memory_outside::MemoryLink;
 use meta_config::{Meta, read_meta};
 use mof_values::{Bytes, Memory, Text};
 use partial_merge::{Part, part_of};

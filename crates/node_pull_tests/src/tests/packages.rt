@@ -2,7 +2,8 @@
 use super::made::Answer::{Given, Told};
 use super::made::{link, meta, parts};
 use super::pulling::outcome_over;
-use dsc_outside::{MemoryHost, Package};
+use dsc_outside::Package;
+use memory_outside::MemoryHost;
 use mof_values::Memory;
 use resource_kinds::Kinds;
 use std::alloc::Global;

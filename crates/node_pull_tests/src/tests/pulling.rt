@@ -5,10 +5,10 @@ ghost use Rattle.node_state.specs.Metas.{IsNodeMeta};
 ghost use Rattle.node_pull.specs.Names.{CanAsk};
 
 use super::made::{AGENT, Answer, Held, link, meta, parts};
-use dsc_outside::{MemoryHost, MemoryLink};
+use memory_outside::{MemoryHost, MemoryLink};
 use meta_config::{Meta, parts_order};
 use mof_values::Memory;
-use node_pull::{PullError, pull};
+use node_pull::{PullFault, pull};
 use node_state::Staged;
 use partial_merge::Part;
 use resource_kinds::{Kinds, Machine};
@@ -81,7 +81,7 @@ fn of_node<M: Machine>(
     match &meta.server {
         Some(server) => {
             let pulled = pull(alloc, link, machine, meta, server, AGENT, held);
-            told(alloc, &pulled)
+            shown(alloc, &pulled)
         }
         None => String::from_str(alloc, "no server"),
     }
@@ -97,7 +97,7 @@ fn can_ask(meta: &Meta) -> bool
     }
 }
 
-fn told(alloc: Global, pulled: &Result<Option<Staged>, PullError>) -> Result<String, AllocError> {
+fn shown(alloc: Global, pulled: &Result<Option<Staged>, PullFault>) -> Result<String, AllocError> {
     match pulled {
         Ok(Some(staged)) => names_of(alloc, staged.parts()),
         Ok(None) => String::from_str(alloc, "nothing"),

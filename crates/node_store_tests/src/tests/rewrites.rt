@@ -3,7 +3,8 @@ ghost use Rattle.node_store.specs.Store.{IsReady};
 
 use super::banks::filled;
 use crate::{body_of, commit_body, kept_in, shown};
-use dsc_outside::{Disk, DiskCall, DiskPart, DiskStop, MemoryDisk, RecordedCall};
+use dsc_outside::Disk;
+use memory_outside::{DiskCall, DiskPart, DiskStop, MemoryDisk, RecordedCall};
 use node_store::{NodeStore, StoreError, open_store};
 use std::alloc::{AllocError, Global};
 use std::test::Fail;

@@ -2,7 +2,8 @@
 ghost use Rattle.node_store.specs.Store.{IsReady};
 
 use crate::{INIT, commit_body, new_disk};
-use dsc_outside::{Disk, MemoryDisk};
+use dsc_outside::Disk;
+use memory_outside::MemoryDisk;
 use mof_values::Text;
 use node_store::{NodeStore, StoreError, open_store};
 use partial_merge::part_of;

@@ -2,7 +2,8 @@
 ghost use Rattle.node_store.specs.Store.{IsReady};
 
 use crate::{commit_word, kept_in, new_disk, run, shown};
-use dsc_outside::{Disk, DiskPart, DiskStop, MemoryDisk};
+use dsc_outside::Disk;
+use memory_outside::{DiskPart, DiskStop, MemoryDisk};
 use node_store::{NodeStore, StoreError, open_store};
 use std::alloc::Global;
 use std::test::Fail;

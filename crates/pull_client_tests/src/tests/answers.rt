@@ -1,7 +1,7 @@
 //! Answers that are refused, the first reason of several, and what comes without an answer.
 use super::calls::{Call, Wanted, answers, answers_over, link};
 use super::made::{PLAIN, Site};
-use dsc_outside::MemoryLink;
+use memory_outside::MemoryLink;
 use std::alloc::Global;
 
 const CALLS: [Call; 5] = [

@@ -1,6 +1,7 @@
 //! Calls over a link in memory, and what they answer as texts.
 use super::made::{AGENT, Site, bytes, held, report, server, text, texts};
-use dsc_outside::{Exchange, MemoryLink};
+use dsc_outside::Exchange;
+use memory_outside::MemoryLink;
 use meta_config::Server;
 use mof_values::Memory;
 use pull_client::{PeerError, ask, fetch, fetch_module, message_of, register};

@@ -1,15 +1,15 @@
 //! A connection in memory.
-ghost use Rattle.std.specs.Prelude.{◌≡◌, ◌<◌, ◌↔◌, IsErr, IsTrue, IfOk, Some, [], false, drop, length, min, take};
+ghost use Rattle.std.specs.Prelude.{◌≡◌, ◌<◌, ◌↔◌, IsErr, IsTrue, IfOk, Some, length, min, take};
 ghost use Rattle.std.specs.Io.{ReadsAtMost, WritesAtMost};
 ghost use Rattle.std.specs.Io.KnownBytes.{ReadConsumes, WriteAppends};
 ghost use Rattle.dsc_outside.specs.Causes.{HasCause};
-ghost use Rattle.pull_outside.specs.Calls.{counted, is_to_fail, uncalled};
-ghost use Rattle.pull_outside.specs.Conn.{ConnWrites};
+ghost use Rattle.pull_outside.specs.Calls.{counted, is_to_fail};
+ghost use Rattle.pull_outside.specs.Conn.{ConnWrites, new_conn};
 
 use super::calls::Calls;
 use crate::door::Parting;
 use dsc_outside::{Ends, Failed, Sink, Source};
-use std::alloc::Global;
+use std::alloc::{AllocError, Global};
 use std::marker::Model;
 
 /// A connection that gives these bytes, piece by piece, and keeps what it takes.
@@ -35,11 +35,11 @@ impl Model for MemoryConn {
 }
 
 impl MemoryConn {
-    /// A connection that gives these bytes. Each call reads or writes at most so many; the calls of these numbers, counted from
-    /// 0, are to fail.
+    /// A connection that gives these bytes. Each call reads or writes at most `most` bytes; the calls of these numbers, counted
+    /// from 0, are to fail.
     pub fn new(alloc: Global, bytes: Vec<u8>, most: usize, failing: Vec<u64>) -> MemoryConn
         requires { 0 < most }
-        ensures { result ≡ record { left = bytes.items; held = []; most = most; short = false; calls = uncalled failing.items } }
+        ensures { result ≡ new_conn bytes.items most failing.items }
     {
         MemoryConn {
             bytes,
@@ -58,7 +58,7 @@ impl MemoryConn {
         &self.taken
     }
 
-    /// Answers whether a call failed because there was no memory.
+    /// Answers whether a call failed because it ran out of memory.
     pub fn short(&self) -> bool
         ensures { result ≡ self.now.short }
     {
@@ -84,7 +84,8 @@ impl Source for MemoryConn {
         // Exactly when it fails, and exactly how much it gives.
         ensures fails { IsErr result ↔ IsTrue (is_to_fail self.old.calls) }
         ensures count { self.new.calls ≡ counted self.old.calls }
-        ensures most { IfOk result (λ n. n ≡ min (min (length self.old.left) (length into.new)) self.old.most) }
+        ensures most { IfOk result (λ n. n
+            ≡ min (min (length self.old.left) (length into.new)) self.old.most) }
     {
         self.calls.begin()?;
         let count = copy_front(&self.bytes[self.at..], into, self.most);
@@ -108,7 +109,7 @@ impl Sink for MemoryConn {
         let count = piece.len().min(self.most);
         match self.taken.extend_from_slice(&piece[..count]) {
             Ok(()) => Ok(count),
-            Err(_) => {
+            Err(AllocError) => {
                 self.short = true;
                 self.calls.add_fault();
                 Err(Failed)
@@ -124,7 +125,7 @@ pub struct ClosedConn {
     pub parting: Parting,
 }
 
-// Copies the front of the bytes as far as there is room, and at most so many, and answers how many.
+// Copies as many bytes from the front as the slice takes, and at most `most`, and answers how many.
 fn copy_front(from: &[u8], into: &mut [u8], most: usize) -> usize
     ensures most { result ≡ min (min (length from.now) (length into.new)) most }
     ensures front { take result into.new ≡ take result from.now }

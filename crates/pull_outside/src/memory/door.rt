@@ -1,9 +1,8 @@
 //! A door in memory.
-ghost use Rattle.std.specs.Prelude.{◌≡◌, ◌<◌, ◌≤◌, ◌+◌, [], Some, false, not, map, IfOk, OnOk, OnErr};
+ghost use Rattle.std.specs.Prelude.{◌≡◌, ◌<◌, ◌≤◌, ◌+◌, false, IfOk, OnOk, OnErr};
 ghost use Rattle.dsc_outside.specs.Causes.{HasCause};
-ghost use Rattle.pull_outside.specs.Calls.{uncalled};
 ghost use Rattle.pull_outside.specs.Door.{GetsBack, TakesFirst};
-ghost use Rattle.pull_outside.specs.Memory.{counted_with, handed_back, is_empty, known};
+ghost use Rattle.pull_outside.specs.Memory.{back_of, coming_of, counted_next, known, new_door};
 
 use super::calls::Calls;
 use super::conn::{ClosedConn, MemoryConn};
@@ -34,13 +33,13 @@ impl Model for MemoryDoor {
 }
 
 impl MemoryDoor {
-    /// A door whose calls of these numbers, counted from 0, are to fail. It takes the room for all its connections.
+    /// A door whose calls of these numbers, counted from 0, are to fail. It reserves capacity for all its connections.
     pub fn new(
         alloc: Global,
         coming: Vec<MemoryConn>,
         failing: Vec<u64>,
     ) -> Result<MemoryDoor, Memory>
-        ensures { IfOk result (λ door. door ≡ record { coming = coming.items; back = []; out = 0; calls = uncalled failing.items }) }
+        ensures { IfOk result (λ door. door ≡ new_door coming.items failing.items) }
     {
         let back = Vec::with_capacity(alloc, coming.len())?;
         Ok(MemoryDoor {
@@ -58,7 +57,7 @@ impl MemoryDoor {
         &self.back
     }
 
-    /// Answers whether a call failed because there was no memory. None does: the room was taken before.
+    /// Answers whether a call failed because it ran out of memory. None does: the capacity was reserved before.
     pub fn short(&self) -> bool
         ensures { result ≡ false }
     {
@@ -69,24 +68,25 @@ impl MemoryDoor {
 impl Door for MemoryDoor {
     type Conn = MemoryConn;
 
-    ghost coming = { λ d. Some (map known d.coming) };
+    ghost coming = { coming_of };
 
-    ghost back = { λ d. Some (map handed_back d.back) };
+    ghost back = { back_of };
 
     ghost out = { λ d. d.out };
 
     ghost faults = { λ d. d.calls.faults };
 
     fn next(&mut self) -> Result<MemoryConn, Failed>
-        ensures taken { IfOk result (λ conn. TakesFirst (Some (map known self.old.coming)) (Some (map known self.new.coming)) (known conn)) }
-        ensures kept { OnErr result (Some (map known self.new.coming) ≡ Some (map known self.old.coming)) }
-        ensures back { Some (map handed_back self.new.back) ≡ Some (map handed_back self.old.back) }
+        ensures taken { IfOk result (λ conn. TakesFirst (coming_of self.old) (coming_of self.new)
+            (known conn)) }
+        ensures kept { OnErr result (coming_of self.new ≡ coming_of self.old) }
+        ensures back { back_of self.new ≡ back_of self.old }
         ensures given { OnOk result (self.new.out ≡ self.old.out + 1) }
         ensures not_given { OnErr result (self.new.out ≡ self.old.out) }
         ensures cause { HasCause self.old.calls.faults self.new.calls.faults result }
 
         // Exactly when it fails.
-        ensures exact { self.new.calls ≡ counted_with (not (is_empty self.old.coming)) self.old.calls }
+        ensures exact { self.new.calls ≡ counted_next self.old }
     {
         self.calls.begin()?;
         if self.coming.is_empty() {
@@ -99,8 +99,9 @@ impl Door for MemoryDoor {
 
     fn close(&mut self, conn: MemoryConn, parting: Parting)
         requires { 0 < self.old.out }
-        ensures back { GetsBack (Some (map handed_back self.old.back)) (Some (map handed_back self.new.back)) (record { known = known conn; parting = parting }) }
-        ensures coming { Some (map known self.new.coming) ≡ Some (map known self.old.coming) }
+        ensures back { GetsBack (back_of self.old) (back_of self.new)
+            (record { known = known conn; parting = parting }) }
+        ensures coming { coming_of self.new ≡ coming_of self.old }
         ensures out { self.old.out ≡ self.new.out + 1 }
         ensures count { self.old.calls.faults ≤ self.new.calls.faults }
     {

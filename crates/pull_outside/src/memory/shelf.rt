@@ -1,11 +1,10 @@
 //! A shelf in memory.
-ghost use Rattle.std.specs.Prelude.{◌≡◌, ◌≤◌, false, Some, OnErr, length, option_map, slice_get};
+ghost use Rattle.std.specs.Prelude.{◌≡◌, ◌≤◌, false, Some, OnErr, length, slice_get};
 ghost use Rattle.std.specs.Option.{option_copied};
 ghost use Rattle.sha2.specs.Sha256.{sha256};
 ghost use Rattle.dsc_outside.specs.Causes.{HasCauseOf};
-ghost use Rattle.pull_outside.specs.Calls.{uncalled};
-ghost use Rattle.pull_outside.specs.Memory.{Looks};
-ghost use Rattle.pull_outside.specs.Shelf.{Finds, Leaves, configuration_of, content_named, key_of, package_named, package_of};
+ghost use Rattle.pull_outside.specs.Memory.{Looks, new_shelf};
+ghost use Rattle.pull_outside.specs.Shelf.{Finds, FindsConfiguration, FindsKey, FindsPackage, Leaves, configuration_of, content_named, key_of, package_named, package_of};
 ghost use Rattle.dsc_terms.specs.Counts.{Rose};
 
 use super::calls::Calls;
@@ -23,17 +22,17 @@ pub struct MemoryShelf {
 }
 
 impl Model for MemoryShelf {
-    ghost use Rattle.pull_outside.specs.Memory.{ShelfInMemory, told_by};
+    ghost use Rattle.pull_outside.specs.Memory.{ShelfInMemory, contents_of};
 
     ghost Value = { ShelfInMemory };
 
-    ghost view = { λ s. record { contents = told_by s.contents; calls = s.calls } };
+    ghost view = { λ s. record { contents = contents_of s.contents; calls = s.calls } };
 }
 
 impl MemoryShelf {
     /// A shelf whose calls of these numbers, counted from 0, are to fail.
     pub fn new(contents: ShelfContents, failing: Vec<u64>) -> MemoryShelf
-        ensures { result ≡ record { contents = record { configurations = contents.configurations; packages = contents.packages; keys = contents.keys }; calls = uncalled failing.items } }
+        ensures { result ≡ new_shelf contents failing.items }
     {
         MemoryShelf {
             contents,
@@ -41,7 +40,7 @@ impl MemoryShelf {
         }
     }
 
-    /// Answers whether a call failed because there was no memory. None does: it answers `Memory`.
+    /// Answers whether a call failed because it ran out of memory. None does: it answers `Memory`.
     pub fn short(&self) -> bool
         ensures { result ≡ false }
     {
@@ -55,26 +54,32 @@ impl Shelf for MemoryShelf {
     ghost faults = { λ s. s.calls.faults };
 
     fn configuration(&mut self, name: &str, into: &mut Vec<u8>) -> Result<bool, ShelfError>
-        ensures finds { Finds (Some (configuration_of name.now self.old.contents)) result into.old.items into.new.items }
+        ensures finds { FindsConfiguration name.now (Some self.old.contents) result
+            into.old.items into.new.items }
         ensures leaves { Leaves result into.old.items into.new.items }
         ensures same { self.new.contents ≡ self.old.contents }
-        ensures cause { HasCauseOf ShelfError.Failed self.old.calls.faults self.new.calls.faults result }
+        ensures cause { HasCauseOf ShelfError.Failed
+            self.old.calls.faults self.new.calls.faults result }
 
         // Exactly when it fails.
-        ensures exact { Looks self.old.calls (configuration_of name.now self.old.contents) result self.new.calls }
+        ensures exact { Looks self.old.calls
+            (configuration_of name.now self.old.contents) result self.new.calls }
     {
         let item = content_named(self.contents.configurations.as_slice(), name.as_bytes());
         look(&mut self.calls, item, into)
     }
 
     fn package(&mut self, name: &str, version: &str, into: &mut Vec<u8>) -> Result<bool, ShelfError>
-        ensures finds { Finds (Some (package_of name.now version.now self.old.contents)) result into.old.items into.new.items }
+        ensures finds { FindsPackage name.now version.now (Some self.old.contents) result
+            into.old.items into.new.items }
         ensures leaves { Leaves result into.old.items into.new.items }
         ensures same { self.new.contents ≡ self.old.contents }
-        ensures cause { HasCauseOf ShelfError.Failed self.old.calls.faults self.new.calls.faults result }
+        ensures cause { HasCauseOf ShelfError.Failed
+            self.old.calls.faults self.new.calls.faults result }
 
         // Exactly when it fails.
-        ensures exact { Looks self.old.calls (package_of name.now version.now self.old.contents) result self.new.calls }
+        ensures exact { Looks self.old.calls
+            (package_of name.now version.now self.old.contents) result self.new.calls }
     {
         let item = package_named(
             self.contents.packages.as_slice(),
@@ -85,13 +90,16 @@ impl Shelf for MemoryShelf {
     }
 
     fn key(&mut self, index: u32, into: &mut Vec<u8>) -> Result<bool, ShelfError>
-        ensures finds { Finds (Some (key_of index self.old.contents)) result into.old.items into.new.items }
+        ensures finds { FindsKey index (Some self.old.contents) result
+            into.old.items into.new.items }
         ensures leaves { Leaves result into.old.items into.new.items }
         ensures same { self.new.contents ≡ self.old.contents }
-        ensures cause { HasCauseOf ShelfError.Failed self.old.calls.faults self.new.calls.faults result }
+        ensures cause { HasCauseOf ShelfError.Failed
+            self.old.calls.faults self.new.calls.faults result }
 
         // Exactly when it fails.
-        ensures exact { Looks self.old.calls (key_of index self.old.contents) result self.new.calls }
+        ensures exact { Looks self.old.calls
+            (key_of index self.old.contents) result self.new.calls }
     {
         let item = match self.contents.keys.as_slice().get(index as usize) {
             Some(key) => Some(key.as_slice()),

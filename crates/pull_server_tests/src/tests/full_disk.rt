@@ -105,7 +105,7 @@ impl Disk for FullDisk {
     ghost use Rattle.std.specs.Prelude.{None};
     ghost use Rattle.std.proofs.lemmas.Option.{none-some};
 
-    ghost seen = { λ d. None };
+    ghost shown = { λ d. None };
 
     ghost images = { λ d c. ⊥ };
 

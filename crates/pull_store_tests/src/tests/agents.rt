@@ -3,7 +3,8 @@ ghost use Rattle.std.specs.Prelude.{IfOk};
 ghost use Rattle.pull_store.specs.Store.{IsReady};
 
 use crate::{new_disk, put, register, said};
-use dsc_outside::{Disk, MemoryDisk};
+use dsc_outside::Disk;
+use memory_outside::MemoryDisk;
 use pull_store::{PullError, PullStore, open_pull};
 use std::alloc::Global;
 use std::test::Fail;

@@ -1,6 +1,6 @@
 //! Files that are opened as stores.
 use crate::{file_of, place_of, shown_in};
-use dsc_outside::MemoryDisk;
+use memory_outside::MemoryDisk;
 use pull_store::{PullError, open_pull};
 use std::alloc::{AllocError, Global};
 use std::test::Fail;

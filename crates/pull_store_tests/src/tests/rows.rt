@@ -1,6 +1,6 @@
 //! What calls of a store make of its rows.
 use crate::{call, file_of, run, shown, shown_in};
-use dsc_outside::MemoryDisk;
+use memory_outside::MemoryDisk;
 use pull_store::{PullError, open_pull};
 use std::alloc::Global;
 use std::test::Fail;

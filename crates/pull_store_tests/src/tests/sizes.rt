@@ -1,6 +1,6 @@
 //! That ample memory is enough, and the texts of errors.
 use crate::{new_disk, put, register};
-use dsc_outside::MemoryDisk;
+use memory_outside::MemoryDisk;
 use pull_store::{PullError, PullStore, Row, open_pull};
 use std::alloc::{AllocError, Global};
 use std::fmt::Write;

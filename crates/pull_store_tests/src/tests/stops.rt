@@ -2,7 +2,8 @@
 ghost use Rattle.pull_store.specs.Store.{IsReady};
 
 use crate::{call, run, shown, shown_in};
-use dsc_outside::{Disk, DiskPart, DiskStop, MemoryDisk};
+use dsc_outside::Disk;
+use memory_outside::{DiskPart, DiskStop, MemoryDisk};
 use pull_store::{PullError, PullStore, open_pull};
 use std::alloc::Global;
 use std::test::Fail;

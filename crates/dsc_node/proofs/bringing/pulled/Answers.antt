@@ -2,7 +2,7 @@ use Rattle.std.proofs.Common.{List, Option, Ok, Err, refl, sym, ap, subst}
 use Rattle.partial_merge.specs.declared.part.Part.{Part}
 use Rattle.node_state.specs.declared.list.Staged.{Staged}
 use Rattle.node_pull.specs.Pulling.{Pulled}
-use Rattle.node_pull.specs.Views.{view_of}
+use Rattle.dsc_outside.specs.LinkView.{view_of}
 use Rattle.dsc_node.specs.Bringing.{staged_by}
 use Rattle.dsc_node.proofs.Tasks.{can_ask}
 use Rattle.dsc_node.proofs.bringing.pulled.Goals as goal

@@ -8,7 +8,7 @@ use Rattle.lcm_core.proofs.Traces.{legal_places}
 use Rattle.node_state.specs.declared.node.Node.{Node}
 use Rattle.node_state.specs.Sound.{Sound}
 use Rattle.node_store.specs.Store.{StoreTerm}
-use Rattle.node_pull.specs.Views.{view_of}
+use Rattle.dsc_outside.specs.LinkView.{view_of}
 use Rattle.dsc_node.specs.Documents.{IsOfPending}
 use Rattle.dsc_node.specs.Path.{KeepGoes, NothingGoes}
 use Rattle.dsc_node.specs.Readings.{Took}
@@ -64,9 +64,9 @@ returns-in-Nothing-clause-goes g c =
     let asked = view_of g.L.Link c.args.link.now in
     let heard = view_of g.L.Link c.end_nothing.new.link in
     let goes = subst (λ (s : StoreTerm). NothingGoes g.D.Disk c.args.disk.now c.end_nothing.new.disk s asked heard status lines) is c.end_nothing.ensures.goes in
-    let told = finish_nothing (known g.D.Disk g.M.Resources g.M.Machine g.C.Clock) c.args.disk.now c.end_nothing.new.disk reserved c.args.stopped (g.C.Clock.coming c.args.clock.now) (g.C.Clock.coming c.run_step.new.clock)
+    let shown = finish_nothing (known g.D.Disk g.M.Resources g.M.Machine g.C.Clock) c.args.disk.now c.end_nothing.new.disk reserved c.args.stopped (g.C.Clock.coming c.args.clock.now) (g.C.Clock.coming c.run_step.new.clock)
     c.args.start asked heard c.args.machine.now c.run_step.new.machine status lines none step.1 step.2 goes in
-    (told.0, ends_reserved g.D.Disk {before = store} {reserved = reserved} refl told.1)
+    (shown.0, ends_reserved g.D.Disk {before = store} {reserved = reserved} refl shown.1)
 
 pub returns-in-Memory-clause-goes : goal.returns-in-Memory-clause-goes
 returns-in-Memory-clause-goes g c =
@@ -100,5 +100,5 @@ returns-in-Over-clause-goes g c =
     let step = subst (λ (n : Node). IsOver machine n c.args.stopped readings c.args.start over before after × Took 1 readings left) node c.in-Over.ensures.step in
     let kept = subst (λ (t : List Entry). KeepGoes d old now c.reserve.new.self over t asked heard status lines) c.calls.ensures c.keep.ensures.goes in
     let goes = subst (λ (s : StoreTerm). KeepGoes d old now s over (machine.kept after) asked heard status lines) is kept in
-    let told = finish_kept (known d machine g.M.Machine g.C.Clock) old now reserved c.args.stopped readings left c.args.start asked heard before after status lines over step goes in
-    (told.0, ends_reserved d {before = store} {reserved = reserved} refl told.1)
+    let shown = finish_kept (known d machine g.M.Machine g.C.Clock) old now reserved c.args.stopped readings left c.args.start asked heard before after status lines over step goes in
+    (shown.0, ends_reserved d {before = store} {reserved = reserved} refl shown.1)

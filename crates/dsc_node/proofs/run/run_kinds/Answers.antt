@@ -11,8 +11,9 @@ returns g c =
         legal = run.legal;
         whole = run.whole;
         ended = run.end;
-        is_true = kinds_tell g.H.Host.told c.args.document.now c.args.kinds.now c.run_merged.new.machine (calls_of c.run_merged.new.machine) run.chain;
+        is_true = kinds_tell g.H.Host.shown c.args.document.now c.args.kinds.now c.run_merged.new.machine (calls_of c.run_merged.new.machine) run.chain;
         failures = run.faults;
+        later = run.later;
       };
       later = run.later;
       bound = run.bound;

@@ -17,7 +17,7 @@ returns-in-Memory-clause-step g c =
         record {
           chosen = chosen;
           ran = ran_of g.M.Resources choice document order c.as_slice.result.now c.run_merged-end.result c.args.machine.now c.run_merged-end.new.machine c.as_slice.ensures
-              c.requires.ready.merged c.requires.ready.ordered.order r.legal r.whole r.end r.chain r.faults;
+              c.requires.ready.merged c.requires.ready.ordered.order r.legal r.whole r.end r.chain r.faults r.later;
           ended = c.in-Memory.is;
         },
       ),
@@ -31,15 +31,15 @@ report_of-report-requires g c =
     let order = c.args.ready.ordered.order in
     let r = c.run_merged-end.ensures in
     let ran = ran_of g.M.Resources choice document order c.as_slice.result.now c.run_merged-end.result c.args.machine.now c.run_merged-end.new.machine c.as_slice.ensures
-    c.requires.ready.merged c.requires.ready.ordered.order r.legal r.whole r.end r.chain r.faults in
+    c.requires.ready.merged c.requires.ready.ordered.order r.legal r.whole r.end r.chain r.faults r.later in
     let run = the_run g.M.Resources choice document order c.as_slice.result.now c.run_merged-end.result c.args.machine.now c.run_merged-end.new.machine in
-    let told = subst (λ (t : List Entry). IsReportable document t) (sym c.calls.ensures) (reportable c.report_laws.ensures.runs g.M.Resources run c.args.machine.now c.run_merged-end.new.machine ran c.in_default.not-Memory) in
+    let shown = subst (λ (t : List Entry). IsReportable document t) (sym c.calls.ensures) (reportable c.report_laws.ensures.runs g.M.Resources run c.args.machine.now c.run_merged-end.new.machine ran c.in_default.not-Memory) in
     record {
       room = c.requires.ready.room;
       document = c.requires.ready.in_size;
-      known = told.known;
-      memory = told.memory;
-      settled = λ place at lt. told.settled place at;
+      known = shown.known;
+      memory = shown.memory;
+      settled = λ place at lt. shown.settled place at;
       frame = frame_in_size c.args.chosen.parts.now _ c.requires.staged.named c.requires.ready.marks c.requires.moment c.end_of.ensures.moment;
     }
 
@@ -50,7 +50,7 @@ returns g c =
     let order = c.args.ready.ordered.order in
     let r = c.run_merged-end.ensures in
     let ran = ran_of g.M.Resources choice document order c.as_slice.result.now c.run_merged-end.result c.args.machine.now c.run_merged-end.new.machine c.as_slice.ensures
-    c.requires.ready.merged c.requires.ready.ordered.order r.legal r.whole r.end r.chain r.faults in
+    c.requires.ready.merged c.requires.ready.ordered.order r.legal r.whole r.end r.chain r.faults r.later in
     let run = the_run g.M.Resources choice document order c.as_slice.result.now c.run_merged-end.result c.args.machine.now c.run_merged-end.new.machine in
     record {
       step = λ stopped chosen. (

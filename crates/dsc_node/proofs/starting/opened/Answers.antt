@@ -1,6 +1,6 @@
 use Rattle.std.proofs.Common.{Some, None, Bool, false, refl, ◌∙◌, arith, sym, subst}
 use Rattle.std.specs.Prelude.{string_bytes}
-use Rattle.node_pull.specs.Views.{view_of}
+use Rattle.dsc_outside.specs.LinkView.{view_of}
 use Rattle.dsc_node.specs.Commands.{IsAllowed}
 use Rattle.dsc_node.specs.Work.{ReadsBefore, beside, clock_failed, known, not_allowed, waiting}
 use Rattle.dsc_node.proofs.Commits.{ends_as, ends_here}

@@ -1,5 +1,5 @@
 use Rattle.std.specs.Prelude.{string_bytes}
-use Rattle.node_pull.specs.Views.{view_of}
+use Rattle.dsc_outside.specs.LinkView.{view_of}
 use Rattle.dsc_node.specs.Start.{outside}
 use Rattle.dsc_node.proofs.Headline.{host_headline}
 use Rattle.dsc_node.proofs.starting.start.Goals as goal

@@ -1,10 +1,12 @@
 use Rattle.std.proofs.Common.{[], refl, ◌∙◌}
 use Rattle.std.specs.Prelude.{string_bytes}
-use Rattle.node_pull.specs.Views.{view_of}
+use Rattle.dsc_outside.specs.LinkView.{view_of}
+use Rattle.node_pull.proofs.GoingOn.{stays}
 use Rattle.dsc_node.specs.Start.{Start, opened, outside, refused, unopened}
 use Rattle.dsc_node.specs.Work.{known}
 use Rattle.dsc_node.proofs.Commits.{opens}
 use Rattle.dsc_node.proofs.Headline.{headline}
+use Rattle.dsc_node.proofs.LinksGoOn.{start_goes_on}
 use Rattle.dsc_node.proofs.Nodes.{kept_sound}
 use Rattle.dsc_node.proofs.Starts.{begins_again}
 use Rattle.dsc_node.proofs.starting.start_over.Goals as goal
@@ -57,6 +59,21 @@ pub returns-in-Err-open_store-clause-start : goal.returns-in-Err-open_store-clau
 returns-in-Err-open_store-clause-start g c =
     unopened c.in-Ok.prepared.task c.in-Err-open_store.error c.in-Ok.ensures.ok c.in-Err-open_store.ensures.count c.in-Err-open_store.ensures.cause refl c.in-Err-open_store.ensures.any_moment
     (c.silent-in-Err-open_store.ensures.status ∙ c.status_of.ensures, c.silent-in-Err-open_store.ensures.lines)
+
+-- the exchanges are only added
+
+pub returns-in-Err-clause-goes_on : goal.returns-in-Err-clause-goes_on
+returns-in-Err-clause-goes_on g c = stays _
+
+pub returns-in-Ok-open_store-clause-goes_on : goal.returns-in-Ok-open_store-clause-goes_on
+returns-in-Ok-open_store-clause-goes_on g c =
+    start_goes_on (known g.D.Disk g.M.Resources g.M.Machine g.C.Clock) c.args.command
+    (outside c.args.disk.now c.args.machine.now (view_of g.L.Link c.args.link.now) c.args.clock.now)
+    (outside c.opened.new.disk c.opened.new.machine (view_of g.L.Link c.opened.new.link) c.opened.new.clock)
+    c.opened.result.status (string_bytes c.opened.result.lines) (returns-in-Ok-open_store-clause-start g c)
+
+pub returns-in-Err-open_store-clause-goes_on : goal.returns-in-Err-open_store-clause-goes_on
+returns-in-Err-open_store-clause-goes_on g c = stays _
 
 -- the headline follows from the table, whatever that says
 

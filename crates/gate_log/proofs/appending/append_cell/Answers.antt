@@ -16,6 +16,6 @@ returns-clause-ok g c = λ shape second bodies le room texts.
 
 pub returns-clause-long : goal.returns-clause-long
 returns-clause-long g c = λ n long.
-    subst (λ (m : ℕ). OnOk c.write_cell.result (IfSome (g.D.Disk.seen c.write_cell.new.disk) (λ now. max n (c.args.closed + 1 + m) ≡ length now)))
+    subst (λ (m : ℕ). OnOk c.write_cell.result (IfSome (g.D.Disk.shown c.write_cell.new.disk) (λ now. max n (c.args.closed + 1 + m) ≡ length now)))
     (cell_size _ c.args.body.now c.fill-size.ensures.cell)
     (c.write_cell.ensures.long n long)

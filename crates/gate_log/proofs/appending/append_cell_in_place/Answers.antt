@@ -26,7 +26,7 @@ returns-clause-any_moment g c = λ shape second bodies le room texts.
     let is_cell = closed_cell _ body (c.number.ensures c.args.tail.now refl) in
     then_on g.D.Disk.moment g.D.Disk.left_since disk mid c.write_through.new.disk P _
     (weaker g.D.Disk.moment g.D.Disk.left_since disk mid _ P (c.stage_cell.ensures.any_moment shape second bodies texts) (λ f t. inl t)) c.write_through.ensures.any_moment
-    (second_moment shape second c.args.closed bodies body _ is_cell le room (g.D.Disk.images disk) texts (g.D.Disk.seen disk) (g.D.Disk.seen mid) (g.met.D.Disk.honest disk) (g.D.Disk.images mid)
+    (second_moment shape second c.args.closed bodies body _ is_cell le room (g.D.Disk.images disk) texts (g.D.Disk.shown disk) (g.D.Disk.shown mid) (g.met.D.Disk.honest disk) (g.D.Disk.images mid)
     c.in_ok-stage_cell.ensures.written c.in_ok-stage_cell.ensures.only)
 
 pub returns-clause-ok : goal.returns-clause-ok
@@ -38,8 +38,8 @@ returns-clause-ok g c = λ shape second bodies le room texts.
     let is_cell = closed_cell _ body (c.number.ensures c.args.tail.now refl) in
     both_ok c.write_through.result c.write_through.ensures.written c.write_through.ensures.only (λ is only.
     subst (λ (n : ℕ). Each (g.D.Disk.images new) (λ f. IsText shape second (c.args.closed + n) f (bodies ++ body ∷ []))) (cell_size _ body is_cell)
-    (appended shape second c.args.closed bodies body _ is_cell le room (g.D.Disk.images disk) texts (g.D.Disk.seen disk) (g.D.Disk.seen mid) (g.met.D.Disk.honest disk) (g.D.Disk.images mid)
-    c.in_ok-stage_cell.ensures.written c.in_ok-stage_cell.ensures.only (g.D.Disk.seen new) (g.D.Disk.images new) (g.met.D.Disk.honest mid) is only))
+    (appended shape second c.args.closed bodies body _ is_cell le room (g.D.Disk.images disk) texts (g.D.Disk.shown disk) (g.D.Disk.shown mid) (g.met.D.Disk.honest disk) (g.D.Disk.images mid)
+    c.in_ok-stage_cell.ensures.written c.in_ok-stage_cell.ensures.only (g.D.Disk.shown new) (g.D.Disk.images new) (g.met.D.Disk.honest mid) is only))
 
 pub returns-clause-long : goal.returns-clause-long
 returns-clause-long g c = λ n long.
@@ -49,5 +49,5 @@ returns-clause-long g c = λ n long.
     let body = body_in c.args.head.now c.args.tail.now in
     let is_cell = closed_cell _ body (c.number.ensures c.args.tail.now refl) in
     both_ok c.write_through.result c.write_through.ensures.written c.write_through.ensures.only (λ is only.
-    subst (λ (m : ℕ). IfSome (g.D.Disk.seen new) (λ now. max n (c.args.closed + 1 + m) ≡ length now)) (cell_size _ body is_cell)
-    (lengths c.args.closed 165 _ (g.D.Disk.seen disk) (g.D.Disk.seen mid) (g.D.Disk.seen new) n c.in_ok-stage_cell.ensures.written is c.requires.room long))
+    subst (λ (m : ℕ). IfSome (g.D.Disk.shown new) (λ now. max n (c.args.closed + 1 + m) ≡ length now)) (cell_size _ body is_cell)
+    (lengths c.args.closed 165 _ (g.D.Disk.shown disk) (g.D.Disk.shown mid) (g.D.Disk.shown new) n c.in_ok-stage_cell.ensures.written is c.requires.room long))

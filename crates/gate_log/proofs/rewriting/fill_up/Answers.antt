@@ -20,9 +20,9 @@ loop-end-preserved g c =
       size = l.invariant.size;
       past = omega (arith, l.invariant.past);
       upper = omega (arith, l.invariant.upper, l.invariant.past, c.piece-size.ensures.rest, c.loop-end-test.true);
-      end = subst (λ (n : ℕ). IfSome (g.D.Disk.seen c.write_on.new.disk) (λ held. l.end + n ≡ length held)) (length-take-le c.piece-size.result c.zero_front-room.new.buffer (omega (arith, c.piece-size.ensures.room, c.zero_front-room.ensures.room)))
-          (filled_long l.end _ (g.D.Disk.seen l.disk) (g.D.Disk.seen c.write_on.new.disk) written l.invariant.end);
-      holds = λ at bytes there. filled_holds at l.end bytes _ (g.D.Disk.seen l.disk) (g.D.Disk.seen c.write_on.new.disk) written l.invariant.end (l.invariant.holds at bytes there);
+      end = subst (λ (n : ℕ). IfSome (g.D.Disk.shown c.write_on.new.disk) (λ held. l.end + n ≡ length held)) (length-take-le c.piece-size.result c.zero_front-room.new.buffer (omega (arith, c.piece-size.ensures.room, c.zero_front-room.ensures.room)))
+          (filled_long l.end _ (g.D.Disk.shown l.disk) (g.D.Disk.shown c.write_on.new.disk) written l.invariant.end);
+      holds = λ at bytes there. filled_holds at l.end bytes _ (g.D.Disk.shown l.disk) (g.D.Disk.shown c.write_on.new.disk) written l.invariant.end (l.invariant.holds at bytes there);
       ok = λ shape second closed bodies le texts f here.
           filled_text shape second closed l.end _ bodies (g.D.Disk.images l.disk) (omega (arith, le, l.invariant.past)) (l.invariant.ok shape second closed bodies le texts) f (c.write_on.ensures.crash f here);
       any_moment = λ shape second closed bodies le texts.

@@ -9,8 +9,8 @@ invariant-loop-end g l = record {
   size : length l.buffer ≡ length l.fn.buffer;
   past : l.long ≤ l.end;
   upper : l.end ≤ max l.long l.to;
-  end : IfSome (g.D.Disk.seen l.disk) (λ held. l.end ≡ length held);
-  holds : (at : ℕ) (bytes : List ℕ) → IfSome (g.D.Disk.seen l.fn.disk) (Holds at bytes) → IfSome (g.D.Disk.seen l.disk) (Holds at bytes);
+  end : IfSome (g.D.Disk.shown l.disk) (λ held. l.end ≡ length held);
+  holds : (at : ℕ) (bytes : List ℕ) → IfSome (g.D.Disk.shown l.fn.disk) (Holds at bytes) → IfSome (g.D.Disk.shown l.disk) (Holds at bytes);
   ok : (shape : Shape) (second : Bool) (closed : ℕ) (bodies : List (List ℕ)) → closed + 1 ≤ l.long → Each (g.D.Disk.images l.fn.disk) (λ c. IsText shape second closed c bodies) → Each (g.D.Disk.images l.disk) (λ c. IsText shape second closed c bodies);
   any_moment : (shape : Shape) (second : Bool) (closed : ℕ) (bodies : List (List ℕ)) → closed + 1 ≤ l.long → Each (g.D.Disk.images l.fn.disk) (λ c. IsText shape second closed c bodies)
       → AnyMoment g.D.Disk.moment g.D.Disk.left_since l.fn.disk l.disk (λ c. IsText shape second closed c bodies);

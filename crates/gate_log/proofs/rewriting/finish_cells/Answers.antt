@@ -31,7 +31,7 @@ returns-clause-any_moment g c = λ shape closed bodies put le whole there texts.
     let closes = then_on g.D.Disk.moment g.D.Disk.left_since c.args.disk.now mid c.write_through.new.disk P _ first c.write_through.ensures.any_moment
     (gate_moment shape second closed c.args.at c.args.long bodies put whole (g.D.Disk.images mid) texts0) in
     then_on g.D.Disk.moment g.D.Disk.left_since c.args.disk.now c.write_through.new.disk c.write_through-2.new.disk P _ closes c.write_through-2.ensures.any_moment
-    (selector_moment shape second closed c.args.at c.args.long bodies put whole (g.D.Disk.images mid) texts0 (g.D.Disk.seen mid) (g.D.Disk.seen c.write_through.new.disk) (g.met.D.Disk.honest mid)
+    (selector_moment shape second closed c.args.at c.args.long bodies put whole (g.D.Disk.images mid) texts0 (g.D.Disk.shown mid) (g.D.Disk.shown c.write_through.new.disk) (g.met.D.Disk.honest mid)
     c.in_ok-fill_up.ensures.long (c.in_ok-fill_up.ensures.holds (begin shape (not second)) (cells put) there)
     (g.D.Disk.images c.write_through.new.disk) c.in_ok-write_through.ensures.written c.in_ok-write_through.ensures.only)
 
@@ -41,12 +41,12 @@ returns-clause-ok g c = λ shape closed bodies put le whole there texts.
     let mid = c.fill_up.new.disk in
     both_ok c.write_through-2.result c.write_through-2.ensures.written c.write_through-2.ensures.only (λ is only.
     switched shape second closed c.args.at c.args.long bodies put whole (g.D.Disk.images mid) (c.in_ok-fill_up.ensures.ok shape second closed bodies le texts)
-    (g.D.Disk.seen mid) (g.D.Disk.seen c.write_through.new.disk) (g.met.D.Disk.honest mid) c.in_ok-fill_up.ensures.long (c.in_ok-fill_up.ensures.holds (begin shape (not second)) (cells put) there)
+    (g.D.Disk.shown mid) (g.D.Disk.shown c.write_through.new.disk) (g.met.D.Disk.honest mid) c.in_ok-fill_up.ensures.long (c.in_ok-fill_up.ensures.holds (begin shape (not second)) (cells put) there)
     (g.D.Disk.images c.write_through.new.disk) c.in_ok-write_through.ensures.written c.in_ok-write_through.ensures.only
-    c.selector.result (g.D.Disk.seen c.write_through-2.new.disk) (g.D.Disk.images c.write_through-2.new.disk) c.selector.ensures (g.met.D.Disk.honest c.write_through.new.disk) is only)
+    c.selector.result (g.D.Disk.shown c.write_through-2.new.disk) (g.D.Disk.images c.write_through-2.new.disk) c.selector.ensures (g.met.D.Disk.honest c.write_through.new.disk) is only)
 
 pub returns-clause-long : goal.returns-clause-long
 returns-clause-long g c =
     both_ok c.write_through-2.result c.write_through-2.ensures.written c.write_through-2.ensures.only (λ is only.
-    switched_long c.args.at c.args.long c.selector.result (g.D.Disk.seen c.fill_up.new.disk) (g.D.Disk.seen c.write_through.new.disk) (g.D.Disk.seen c.write_through-2.new.disk) c.requires.place
+    switched_long c.args.at c.args.long c.selector.result (g.D.Disk.shown c.fill_up.new.disk) (g.D.Disk.shown c.write_through.new.disk) (g.D.Disk.shown c.write_through-2.new.disk) c.requires.place
     c.in_ok-fill_up.ensures.long c.in_ok-write_through.ensures.written is)

@@ -1,13 +1,13 @@
 use Rattle.std.proofs.Common.{◌≡◌, ◌∙◌, Some, ap, arith, refl, subst}
 use Rattle.dsc_outside.specs.Host.{HostState, empty_host}
-use Rattle.dsc_outside.specs.ReliableHost.{told_by}
+use Rattle.memory_outside.specs.ReliableHost.{shown_by}
 use Rattle.depend_order.proofs.DocumentOrders.{order_below}
 use Rattle.lcm_core.specs.declared.modes.RunMode.TheVariants.{Repair}
 use Rattle.lcm_core.proofs.Successes.{legal_ends}
 use Rattle.lcm_core.proofs.Traces.{legal_places}
 use Rattle.resource_kinds.specs.Kinds.{calls_of, host_of}
 use Rattle.resource_kinds.specs.Trace.{host_failures}
-use Rattle.dsc_node.specs.Ran.{Ran}
+use Rattle.dsc_node.specs.Ran.{RanOnHost}
 use Rattle.lcm_program.specs.Generate.{generated_lines}
 use Rattle.lcm_program.proofs.GeneratedRuns.{finishes, none_missed}
 use Rattle.lcm_program.proofs.GeneratedVariables.{ask_variables}
@@ -30,11 +30,11 @@ returns-in-Finished c =
     let document = c.in_ok-document.document in
     let order = c.in_ok-order.order.items in
     let trace = calls_of c.run_kinds.new.kinds in
-    let after = told_by (host_of c.run_kinds.new.kinds) in
+    let after = shown_by (host_of c.run_kinds.new.kinds) in
     let left = rw c.deref.ensures.value at c.run_kinds.ensures.ran in
     let none : host_failures trace ≡ 0 = omega (arith, left.failures) in
-    let begun = subst (λ (h : HostState). Ran document Repair order c.run_kinds.result trace (Some h) (Some after) 0 0)
-    (ap told_by (c.new-kinds.ensures.host ∙ c.of.ensures) ∙ c.empty.ensures) left in
+    let begun = subst (λ (h : HostState). RanOnHost document Repair order c.run_kinds.result trace (Some h) (Some after) 0 0)
+    (ap shown_by (c.new-kinds.ensures.host ∙ c.of.ensures) ∙ c.empty.ensures) left in
     let succeeds = c.repair_laws.ensures.succeeds in
     let ask = ask_variables c.args.count document c.in_ok-document.ensures.contents in
     let run = finishes succeeds document order trace empty_host after ask refl none c.run_kinds.result c.in-Finished.is begun in

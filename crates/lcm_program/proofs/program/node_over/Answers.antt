@@ -1,4 +1,5 @@
 use Rattle.std.proofs.Common.{refl}
+use Rattle.node_pull.proofs.GoingOn.{stays}
 use Rattle.lcm_program.specs.Objects.{known, objects}
 use Rattle.lcm_program.specs.Further.{nothing_further}
 use Rattle.lcm_program.proofs.Forms.{in_range}
@@ -32,3 +33,6 @@ returns-in-Err-clause-nothing g c = λ none.
     (objects c.args.input.now c.args.output.now c.args.disk.now c.args.machine.now c.args.link.now c.args.clock.now)
     (objects c.args.input.now c.refuse.new.output c.args.disk.now c.args.machine.now c.args.link.now c.args.clock.now)
     _ c.in-Err.field-0.word c.refuse.result refl (record { offline = record { disk = refl; link = refl; clock = refl }; machine = refl }) c.in-Err.ensures.usage c.refuse.ensures
+
+pub returns-in-Err-clause-goes_on : goal.returns-in-Err-clause-goes_on
+returns-in-Err-clause-goes_on g c = stays _

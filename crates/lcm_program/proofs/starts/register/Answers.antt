@@ -1,8 +1,12 @@
 use Rattle.std.proofs.Common.{inl, inr, refl}
+use Rattle.node_pull.proofs.GoingOn.{stays}
 use Rattle.lcm_program.proofs.starts.register.Goals as goal
 
-pub returns-in-Ok : goal.returns-in-Ok
-returns-in-Ok g c = inl (rw c.in-Ok.ensures at c.start_node.ensures)
+pub returns-in-Ok-clause-ends : goal.returns-in-Ok-clause-ends
+returns-in-Ok-clause-ends g c = inl (rw c.in-Ok.ensures at c.start_node.ensures.starts)
 
-pub returns-in-Err : goal.returns-in-Err
-returns-in-Err g c = inr ((refl, refl), refl)
+pub returns-in-Err-clause-ends : goal.returns-in-Err-clause-ends
+returns-in-Err-clause-ends g c = inr ((refl, refl), refl)
+
+pub returns-in-Err-clause-goes_on : goal.returns-in-Err-clause-goes_on
+returns-in-Err-clause-goes_on g c = stays _

@@ -1,8 +1,8 @@
 use Rattle.std.proofs.Common.{string_bytes}
 use Rattle.lcm_program.proofs.starts.start_node.Goals as goal
 
-pub returns : goal.returns
-returns g c = record {
+pub returns-clause-starts : goal.returns-clause-starts
+returns-clause-starts g c = record {
   ended = c.start_over.result.status;
   lines = string_bytes c.start_over.result.lines;
   start = c.start_over.ensures.start;

@@ -28,6 +28,7 @@ returns-in_err-outcome_of-in-Finished-clause-run g c =
         ended = c.run_merged.ensures.end;
         chain = c.run_merged.ensures.chain;
         failures = c.run_merged.ensures.faults;
+        later = c.run_merged.ensures.later;
         more = tt;
       },
     )
@@ -45,6 +46,7 @@ returns-in_ok-outcome_of-in-Finished g c =
       ended = c.run_merged.ensures.end;
       chain = c.run_merged.ensures.chain;
       failures = c.run_merged.ensures.faults;
+      later = c.run_merged.ensures.later;
       more = tt;
     } in
     let all = monitored_all g.M.Resources document c.run_merged.result c.args.machine.now c.run_merged.new.machine c.in-Finished.is run in
@@ -68,6 +70,7 @@ returns-in-Memory-clause-run g c =
         ended = c.run_merged.ensures.end;
         chain = c.run_merged.ensures.chain;
         failures = c.run_merged.ensures.faults;
+        later = c.run_merged.ensures.later;
         more = tt;
       },
     )

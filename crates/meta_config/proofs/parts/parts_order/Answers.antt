@@ -7,14 +7,15 @@ use Rattle.meta_config.proofs.PartPlaces.{all_known, resolved_count, resolved_be
 use Rattle.meta_config.proofs.ReadBack.{is_well_formed}
 use Rattle.meta_config.proofs.WrittenTexts.{at_most}
 use Rattle.meta_config.proofs.parts.parts_order.Goals as goal
+use Rattle.meta_config.specs.declared.limits.TheConstants.{MAX_PARTIALS}
 
-few : (n : ℕ) → n ≤ 8 → n < 2 ^ 32
+few : (n : ℕ) → n ≤ MAX_PARTIALS → n < 2 ^ 32
 few n h = omega arith
 
 pub places_of_names-requires-clause-few : goal.places_of_names-requires-clause-few
 places_of_names-requires-clause-few c =
     let w = is_well_formed c.args.meta.now c.requires in
-    rw c.as_slice.ensures (few (length c.args.meta.now.partials) (at_most (length c.args.meta.now.partials) 8 w.few_partials))
+    rw c.as_slice.ensures (few (length c.args.meta.now.partials) (at_most (length c.args.meta.now.partials) MAX_PARTIALS w.few_partials))
 
 pub places_of_names-requires-clause-known : goal.places_of_names-requires-clause-known
 places_of_names-requires-clause-known c =
@@ -26,7 +27,7 @@ order_of-requires-clause-few c =
     let meta = c.args.meta.now in
     let w = is_well_formed meta c.requires in
     rw (c.deref.ensures.value, resolved_count meta c.in_ok-depends.depends.items (rw c.as_slice.ensures at c.in_ok-depends.ensures))
-    (few (length meta.partials) (at_most (length meta.partials) 8 w.few_partials))
+    (few (length meta.partials) (at_most (length meta.partials) MAX_PARTIALS w.few_partials))
 
 pub order_of-requires-clause-below : goal.order_of-requires-clause-below
 order_of-requires-clause-below c =

@@ -38,6 +38,6 @@ unfolding begin encode
 returns c = record {
   too_long = longer;
   longest = longest;
-  behind_a_mark = record { within = omega arith; text = given (codes "1.5"); decoded = record { scalars = refl; spelled = refl }; wins = refusal_wins _ _ refl };
+  after_a_mark = record { within = omega arith; text = given (codes "1.5"); decoded = record { scalars = refl; spelled = refl }; wins = refusal_wins _ _ refl };
   no_character = (omega arith, record { before = codes "instance"; scalars = refl; spelled = refl; within = omega arith; no_char = no_char });
 }

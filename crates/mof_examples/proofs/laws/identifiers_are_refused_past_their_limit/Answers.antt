@@ -14,5 +14,5 @@ returns c = record {
   at_the_end = refusal_wins _ _ refl;
   where_none_stands = refusal_wins _ _ refl;
   in_a_literal = no_refusal_spells _ refl;
-  not_behind_an_escape = λ b. b.outside (taken_front (take 26 long_literal ++ 35 ∷ []) refl);
+  not_after_an_escape = λ b. b.outside (taken_front (take 26 long_literal ++ 35 ∷ []) refl);
 }

@@ -26,5 +26,5 @@ returns c = record {
   no_hex_g = no_digit_token 48 (codes "xg") refl refl;
   no_binary_2 = no_digit_token 49 (codes "2b") refl refl;
   no_binary_tail = no_digit_token 48 (codes "b1") refl refl;
-  no_letter_behind = no_digit_token 49 (codes "a") refl refl;
+  no_letter_after = no_digit_token 49 (codes "a") refl refl;
 }

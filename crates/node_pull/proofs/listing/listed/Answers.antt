@@ -3,7 +3,7 @@ use Rattle.pull_client.specs.declared.error.PeerError.TheVariants.{Memory}
 use Rattle.node_pull.specs.Listing.{no_memory}
 use Rattle.node_pull.proofs.Exits.{out_of}
 use Rattle.node_pull.proofs.ListedParts.{listed_named, named_if_listed}
-use Rattle.node_pull.proofs.ListRows.{answered, no_answer}
+use Rattle.node_pull.proofs.ListRows.{listing_answered, no_answer}
 use Rattle.node_pull.proofs.listing.listed.Goals as goal
 
 pub returns-in_err-names-clause-listed : goal.returns-in_err-names-clause-listed
@@ -14,9 +14,9 @@ returns-in_err-marks-clause-listed g c = rw (out_of Memory c.from_residual-in_er
 
 pub returns-in-Ok-clause-listed : goal.returns-in-Ok-clause-listed
 returns-in-Ok-clause-listed g c =
-    answered c.args.meta.now c.args.server.now c.args.agent c.args.held.now c.deref.result.now c.in_ok-names.names.items c.deref-2.result.now c.deref-in-Ok.result.now
+    listing_answered c.args.meta.now c.args.server.now c.args.agent c.args.held.now c.deref.result.now c.in_ok-names.names.items c.deref-2.result.now c.deref-in-Ok.result.now
     c.in-Ok.fetches.items c.deref-in-Ok-2.result.now c.new.result.items _ _ _ _ c.in_ok-names.ensures (c.deref.ensures.value ∙ c.in_ok-marks.ensures) c.deref-2.ensures.value
-    c.deref-in-Ok.ensures.value c.deref-in-Ok-2.ensures.value c.new.ensures.items c.in-Ok.ensures.asks c.contents.ensures
+    c.deref-in-Ok.ensures.value c.deref-in-Ok-2.ensures.value c.new.ensures.items c.in-Ok.ensures.asks c.contents.ensures.contents
 
 pub returns-in-Ok-clause-named : goal.returns-in-Ok-clause-named
 returns-in-Ok-clause-named g c = named_if_listed c.contents.result (listed_named c.requires.meta c.requires.names (returns-in-Ok-clause-listed g c))

@@ -1,5 +1,5 @@
 use Rattle.std.proofs.Common.{◌∙◌, refl}
-use Rattle.node_pull.specs.declared.error.PullError.TheVariants.{Memory}
+use Rattle.node_pull.specs.declared.error.PullFault.TheVariants.{Memory}
 use Rattle.node_pull.specs.Packages.{no_memory, not_given}
 use Rattle.node_pull.proofs.Exits.{out_of}
 use Rattle.node_pull.proofs.PackageRows.{added, ended_looking, lacks, not_put, there}

@@ -1,5 +1,5 @@
 use Rattle.node_state.specs.declared.error.StageError.TheVariants as stages
-use Rattle.node_pull.specs.declared.error.PullError.TheVariants.{Memory}
+use Rattle.node_pull.specs.declared.error.PullFault.TheVariants.{Memory}
 use Rattle.node_pull.specs.Pulling.{not_staged}
 use Rattle.node_pull.proofs.Exits.{out_of}
 use Rattle.node_pull.proofs.PullRows.{pulled_short, pulled_whole}

@@ -3,6 +3,7 @@ use Rattle.partial_merge.specs.declared.part.Part.{Part}
 use Rattle.node_state.specs.Lists.{IsStaged, bytes_of}
 use Rattle.node_state.proofs.Merging.{small_of_merged}
 use Rattle.node_state.proofs.staging.listed.Goals as goal
+use Rattle.node_state.specs.declared.limits.TheConstants.{MAX_BYTES}
 
 pub bytes_of-requires : goal.bytes_of-requires
 bytes_of-requires c =
@@ -11,8 +12,8 @@ bytes_of-requires c =
 
 pub invariant_of-result : goal.invariant_of-result
 invariant_of-result c =
-    let counted = subst (λ (n : ℕ). n ≤ 16777216) c.bytes_of.ensures c.if-bytes_of-gt-MAX_BYTES.false in
-    let long = subst (λ (ps : List Part). bytes_of ps ≤ 16777216) c.deref.ensures.value counted in
+    let counted = subst (λ (n : ℕ). n ≤ MAX_BYTES) c.bytes_of.ensures c.if-bytes_of-gt-MAX_BYTES.false in
+    let long = subst (λ (ps : List Part). bytes_of ps ≤ MAX_BYTES) c.deref.ensures.value counted in
     record {
       whole = subst (λ (ps : List Part). IsStaged ps) (sym c.of.ensures)
           (record { named = c.requires.named; long = long; merged = c.requires.merged });

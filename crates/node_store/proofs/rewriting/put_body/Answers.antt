@@ -7,7 +7,7 @@ use Rattle.node_store.proofs.rewriting.put_body.Goals as goal
 pub put-requires-clause-room : goal.put-requires-clause-room
 put-requires-clause-room g c =
     let can = c.requires.can in
-    room_left (g.D.Disk.seen c.args.disk.now) c.args.log.now can.put can.rest c.args.body.now can.putting.shape can.putting.has can.fits
+    room_left (g.D.Disk.shown c.args.disk.now) c.args.log.now can.put can.rest c.args.body.now can.putting.shape can.putting.has can.fits
 
 pub put-requires-clause-of : goal.put-requires-clause-of
 put-requires-clause-of g c = (c.requires.can.bodies, c.requires.can.putting.of c.requires.can.bodies c.requires.can.of)

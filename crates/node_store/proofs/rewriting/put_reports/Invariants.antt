@@ -3,6 +3,7 @@ use Rattle.gate_log.specs.Log.{LogTerm}
 use Rattle.report_log.specs.Sizes.{ReportInSize}
 use Rattle.node_store.specs.declared.error.StoreError.{StoreError}
 use Rattle.node_store.specs.Rewriting.{CanPut, Puts, marked_body}
+use Rattle.node_store.specs.declared.limits.TheConstants.{MAX_BODY}
 use Rattle.node_store.proofs.rewriting.put_reports.Given as goal
 
 -- what puts the rest puts the whole
@@ -12,7 +13,7 @@ invariant-loop-left g l = record {
       → Puts g.D.Disk l.fn.disk new l.fn.log log (map (marked_body l.sent) l.reports) result;
   can : CanPut g.D.Disk l.disk l.log (map (marked_body l.sent) l.left);
   sizes : All (λ kept. ReportInSize kept.report) l.left;
-  room : 16842752 ≤ vec_capacity l.room;
+  room : MAX_BODY ≤ vec_capacity l.room;
 }
 
 abbrev pub decreases-loop-left : goal.decreases-loop-left

@@ -4,8 +4,8 @@ use Rattle.pull_client.proofs.asking.ask.Goals as goal
 
 pub returns-in-Ok-clause-asks : goal.returns-in-Ok-clause-asks
 returns-in-Ok-clause-asks g c =
-    asks_carried c.args.server.now c.if-server.false (c.deref.ensures.value ∙ c.in_ok-request.ensures) c.in-Ok.ensures c.told_in.ensures
+    asks_carried c.args.server.now c.if-server.false (c.deref.ensures.value ∙ c.in_ok-request.ensures) c.in-Ok.ensures.asks c.fetches_in.ensures
 
 pub returns-clause-asks : goal.returns-clause-asks
 returns-clause-asks g c =
-    asks_raised c.args.server.now c.if-server.false (c.deref.ensures.value ∙ c.in_ok-request.ensures) c.in-Err.ensures
+    asks_raised c.args.server.now c.if-server.false (c.deref.ensures.value ∙ c.in_ok-request.ensures) c.in-Err.ensures.asks

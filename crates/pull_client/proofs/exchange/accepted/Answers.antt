@@ -13,5 +13,5 @@ returns-else-is_accepted-clause-heard c =
 
 pub returns-in-Err : goal.returns-in-Err
 returns-in-Err c =
-    let heard = rw (sym c.fault_of.ensures) at (refused_answer c.args.bytes.now c.in-Err.error c.in-Err.ensures.refused) in
+    let heard = rw (sym c.frame_fault.ensures) at (refused_answer c.args.bytes.now c.in-Err.error c.in-Err.ensures.refused) in
     record { heard = heard.0; answered = heard.1 }

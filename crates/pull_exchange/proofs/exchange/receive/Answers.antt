@@ -19,4 +19,4 @@ returns-in-Err-feed-clause-received g c =
     (λ other. consumes_on (g.X.Ends.left c.args.conn.now) (g.X.Ends.left c.loop-reader.conn) (g.X.Ends.left c.read.new.self) c.loop-reader.reader.bytes (take c.in-Ok.count c.read.new.into)
     c.feed.new.self.bytes c.loop-reader.invariant.so_far c.in-Ok.ensures.bytes.0 (but_memory e other c.in-Err-feed.ensures.fed))
     (λ other. c.in-Err-feed.ensures.refused other) in
-    subst (λ (r : Received). IfSome (g.X.Ends.left c.args.conn.now) (λ all. IsReceived all r)) (sym c.told_by.ensures) is
+    subst (λ (r : Received). IfSome (g.X.Ends.left c.args.conn.now) (λ all. IsReceived all r)) (sym c.received_of.ensures) is

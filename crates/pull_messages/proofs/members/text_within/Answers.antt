@@ -5,12 +5,12 @@ use Rattle.pull_messages.specs.Limits.{is_within}
 use Rattle.pull_messages.specs.Members.{within}
 use Rattle.pull_messages.proofs.members.text_within.Goals as goal
 
-pub returns-in_ok-characters : goal.returns-in_ok-characters
+pub returns-in_ok-from_utf8 : goal.returns-in_ok-from_utf8
 unfolding within
-returns-in_ok-characters c =
+returns-in_ok-from_utf8 c =
     let size = encodes-chars c.args.text.now c.utf8.text in
     let allowed : is_within c.args.limit (length c.args.text.now) ≡ true = cc in
-    let text : c.of.result ≡ chars c.args.text.now = c.of.ensures ∙ c.in_ok-characters.ensures in
+    let text : c.in_ok-from_utf8.field-0 ≡ chars c.args.text.now = c.in_ok-from_utf8.ensures in
     rw (size, allowed, text) refl
 
 pub returns-else-allows : goal.returns-else-allows

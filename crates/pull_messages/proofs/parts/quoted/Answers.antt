@@ -4,6 +4,7 @@ use Rattle.pull_messages.specs.Targets.{doubled, IsQuoted}
 use Rattle.pull_messages.proofs.Quotes.{no_open, no_close, no_end, value_more, room_more, quoted_taken, no_chars, some_chars}
 use Rattle.std.proofs.lemmas.Bool.{eqb-true}
 use Rattle.std.proofs.lemmas.Str.{length-encode}
+use Rattle.mof_values.specs.declared.limits.TheConstants.{MAX_NAME_BYTES}
 use Rattle.pull_messages.proofs.parts.quoted.Goals as goal
 
 pub returns-in_default-clause-stop : goal.returns-in_default-clause-stop
@@ -30,7 +31,7 @@ loop-c-preserved c =
     let char = c.in-Some-value_char.ensures.some in
     let text = c.loop-c.text.items in
     let size = c.len_utf8-room.ensures.value ∙ sym (length-encode c.in-Some-value_char.c) in
-    subst (λ (t : List ℕ). (c.args.chars.now ≡ (39 ∷ doubled t) ++ c.in-Some-value_char.rest.now) × (length (encode_utf8_all t) + (c.loop-c.room - c.len_utf8-room.result) ≡ 255))
+    subst (λ (t : List ℕ). (c.args.chars.now ≡ (39 ∷ doubled t) ++ c.in-Some-value_char.rest.now) × (length (encode_utf8_all t) + (c.loop-c.room - c.len_utf8-room.result) ≡ MAX_NAME_BYTES))
     (sym c.in_ok-push.ensures.items) (
       value_more c.args.chars.now text c.loop-c.left.now c.in-Some-value_char.rest.now c.in-Some-value_char.c c.loop-c.invariant.0 char.0,
       room_more text c.in-Some-value_char.c c.loop-c.room c.len_utf8-room.result c.loop-c.invariant.1 char.1 size,

@@ -11,7 +11,7 @@ use Rattle.pull_messages.proofs.targets.target.Goals as goal
 pub returns-then-at-text-clause-ok : goal.returns-then-at-text-clause-ok
 returns-then-at-text-clause-ok c =
     let text = c.args.text.now in
-    let cs = c.in_ok-spelled.spelled.items in
+    let cs = c.in_ok-spelled.spelled in
     let bytes = c.in_ok-bytes.bytes.items in
     let decoded = subst (λ (l : List ℕ). IsDecoded l cs) c.as_slice.ensures.value c.in_ok-spelled.ensures in
     let spelled = subst (SpellsTarget c.in-Ok.target) c.as_slice-chars.ensures.value c.in-Ok.ensures.ok in
@@ -25,7 +25,7 @@ returns-then-at-text-clause-only c = λ t is. one_target c.args.text.now t c.in-
 longest-in-Ok : goal.returns-in-Ok-clause-bad
 longest-in-Ok c =
     let text = c.args.text.now in
-    let cs = c.in_ok-spelled.spelled.items in
+    let cs = c.in_ok-spelled.spelled in
     let bytes = c.in_ok-bytes.bytes.items in
     let decoded = subst (λ (l : List ℕ). IsDecoded l cs) c.as_slice.ensures.value c.in_ok-spelled.ensures in
     let spelled = subst (SpellsTarget c.in-Ok.target) c.as_slice-chars.ensures.value c.in-Ok.ensures.ok in
@@ -42,7 +42,7 @@ returns-in-Ok-clause-refused c = no_target c.args.text.now c.front_size-at.resul
 
 pub encoded_size-requires-in-Err-Left : goal.encoded_size-requires-in-Err-Left
 encoded_size-requires-in-Err-Left c =
-    let cs = c.in_ok-spelled.spelled.items in
+    let cs = c.in_ok-spelled.spelled in
     let bytes = c.in_ok-bytes.bytes.items in
     let decoded = subst (λ (l : List ℕ). IsDecoded l cs) c.as_slice.ensures.value c.in_ok-spelled.ensures in
     let ends = subst (λ (l : List ℕ). EndsAt IsAnyTarget l c.in-Err-Left.left) c.as_slice-chars.ensures.value (rw c.in-Err-Left.field-0-is at c.in-Err-Left.ensures.bad) in
@@ -54,7 +54,7 @@ encoded_size-requires-in-Err-Left c =
 pub returns-in-Err-Left-clause-bad : goal.returns-in-Err-Left-clause-bad
 returns-in-Err-Left-clause-bad c =
     let text = c.args.text.now in
-    let cs = c.in_ok-spelled.spelled.items in
+    let cs = c.in_ok-spelled.spelled in
     let bytes = c.in_ok-bytes.bytes.items in
     let decoded = subst (λ (l : List ℕ). IsDecoded l cs) c.as_slice.ensures.value c.in_ok-spelled.ensures in
     let ends = subst (λ (l : List ℕ). EndsAt IsAnyTarget l c.in-Err-Left.left) c.as_slice-chars.ensures.value (rw c.in-Err-Left.field-0-is at c.in-Err-Left.ensures.bad) in
@@ -67,7 +67,7 @@ returns-in-Err-Left-clause-bad c =
 pub returns-in-Err-Left-clause-refused : goal.returns-in-Err-Left-clause-refused
 returns-in-Err-Left-clause-refused c =
     let text = c.args.text.now in
-    let cs = c.in_ok-spelled.spelled.items in
+    let cs = c.in_ok-spelled.spelled in
     let decoded = subst (λ (l : List ℕ). IsDecoded l cs) c.as_slice.ensures.value c.in_ok-spelled.ensures in
     let ends = subst (λ (l : List ℕ). EndsAt IsAnyTarget l c.in-Err-Left.left) c.as_slice-chars.ensures.value (rw c.in-Err-Left.field-0-is at c.in-Err-Left.ensures.bad) in
     λ t is. ends.none (t, whole_target text c.in_ok-bytes.bytes.items cs t c.in_ok-bytes.ensures decoded is)

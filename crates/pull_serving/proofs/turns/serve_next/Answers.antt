@@ -1,7 +1,7 @@
 use Rattle.std.proofs.Common.{sym, subst, arith, List, Option}
 use Rattle.pull_outside.specs.Door.{GetsBack, HandedBack, Known, TakesFirst}
 use Rattle.pull_outside.specs.declared.door.Parting.{Parting}
-use Rattle.pull_serving.specs.Turn.{known_by}
+use Rattle.pull_outside.specs.Door.{known_of}
 use Rattle.pull_serving.proofs.Stepped.{stepped}
 use Rattle.pull_serving.proofs.turns.serve_next.Goals as goal
 
@@ -9,8 +9,8 @@ pub returns-clause-step : goal.returns-clause-step
 returns-clause-step g c =
     let conn = c.in_ok-conn.conn in
     let after = c.serve_connection-end.new.conn in
-    let came = known_by (g.G.Conn.Ends.left conn) (g.G.Conn.Ends.held conn) (g.G.Conn.Ends.faults conn) in
-    let went = known_by (g.G.Conn.Ends.left after) (g.G.Conn.Ends.held after) (g.G.Conn.Ends.faults after) in
+    let came = known_of g.G.Conn.Ends conn in
+    let went = known_of g.G.Conn.Ends after in
     let took = subst (λ (o : Option (List Known)). TakesFirst (g.G.Door.coming c.args.door.now) o came) (sym c.close.ensures.coming) c.in_ok-conn.ensures.taken in
     let back = subst (λ (o : Option (List HandedBack)). GetsBack o (g.G.Door.back c.close.new.self) (record { known = went; parting = c.parting.result })) c.in_ok-conn.ensures.back c.close.ensures.back in
     let gave = subst (λ (p : Parting). GetsBack (g.G.Door.back c.args.door.now) (g.G.Door.back c.close.new.self) (record { known = went; parting = p })) c.parting.ensures back in

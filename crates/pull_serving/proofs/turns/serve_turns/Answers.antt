@@ -6,7 +6,7 @@ use Rattle.pull_serving.specs.declared.status.ServeStatus.{ServeStatus}
 use Rattle.pull_serving.specs.declared.status.ServeStatus.TheVariants as statuses
 use Rattle.pull_serving.specs.Printing.{Printed, lines, output_of, refusal_line}
 use Rattle.pull_serving.specs.Turn.{state}
-use Rattle.pull_serving.specs.Turns.{doorway}
+use Rattle.pull_serving.specs.Turns.{doorway_of}
 use Rattle.pull_serving.proofs.Ends.{rose_earlier, writes_earlier}
 use Rattle.pull_serving.proofs.Pushed.{prints_more, prints_part, run_push, run_start}
 use Rattle.pull_serving.proofs.turns.serve_turns.Goals as goal
@@ -15,7 +15,7 @@ pub loop-number-init : goal.loop-number-init
 loop-number-init g c = record {
   kept = c.requires;
   run = run_start g.D.Disk c.args.disk.now c.args.store.now (g.S.Shelf.holds c.args.shelf.now) (g.S.Shelf.faults c.args.shelf.now)
-      (doorway (g.G.Door.coming c.args.door.now) (g.G.Door.back c.args.door.now) (g.G.Door.out c.args.door.now))
+      (doorway_of g.G.Door c.args.door.now)
       (λ turns. (length turns ≡ 0) × Appends (g.K.Ends.held c.args.output.now) (g.K.Ends.held c.args.output.now) (lines 1 turns))
       (g.met.D.Disk.only_now c.args.disk.now) c.requires (refl, Appends-nil (g.K.Ends.held c.args.output.now));
   holds = refl;
@@ -28,11 +28,11 @@ returns-in-Err-clause-run g c =
     let first = state g.D.Disk c.args.disk.now c.args.store.now (g.S.Shelf.faults c.args.shelf.now) in
     let half = state g.D.Disk c.loop-number.disk c.loop-number.store (g.S.Shelf.faults c.loop-number.shelf) in
     let last = state g.D.Disk c.serve_next.new.disk c.serve_next.new.store (g.S.Shelf.faults c.serve_next.new.shelf) in
-    let door = doorway (g.G.Door.coming c.args.door.now) (g.G.Door.back c.args.door.now) (g.G.Door.out c.args.door.now) in
-    let door1 = doorway (g.G.Door.coming c.loop-number.door) (g.G.Door.back c.loop-number.door) (g.G.Door.out c.loop-number.door) in
-    let door2 = doorway (g.G.Door.coming c.serve_next.new.door) (g.G.Door.back c.serve_next.new.door) (g.G.Door.out c.serve_next.new.door) in
-    let old = output_of (g.K.Ends.held c.args.output.now) (g.K.Ends.faults c.args.output.now) in
-    let new = output_of (g.K.Ends.held c.write_all.new.sink) (g.K.Ends.faults c.write_all.new.sink) in
+    let door = doorway_of g.G.Door c.args.door.now in
+    let door1 = doorway_of g.G.Door c.loop-number.door in
+    let door2 = doorway_of g.G.Door c.serve_next.new.door in
+    let old = output_of g.K.Ends c.args.output.now in
+    let new = output_of g.K.Ends c.write_all.new.sink in
     let is = c.as_bytes.ensures.value ∙ c.as_str.ensures.value ∙ c.line.ensures in
     let rose = rose_earlier old.faults (g.K.Ends.faults c.loop-number.output) new.faults c.loop-number.invariant.output c.in-Err.ensures.cause.failed in
     run_push g.D.Disk c.args.disk.now c.loop-number.disk c.serve_next.new.disk (g.S.Shelf.holds c.args.shelf.now) (g.S.Shelf.holds c.loop-number.shelf) first half last door door1 door2 c.in-Ok.end
@@ -48,12 +48,12 @@ returns-then-is_spent-clause-run g c =
     let first = state g.D.Disk c.args.disk.now c.args.store.now (g.S.Shelf.faults c.args.shelf.now) in
     let half = state g.D.Disk c.loop-number.disk c.loop-number.store (g.S.Shelf.faults c.loop-number.shelf) in
     let last = state g.D.Disk c.serve_next.new.disk c.serve_next.new.store (g.S.Shelf.faults c.serve_next.new.shelf) in
-    let door = doorway (g.G.Door.coming c.args.door.now) (g.G.Door.back c.args.door.now) (g.G.Door.out c.args.door.now) in
-    let door1 = doorway (g.G.Door.coming c.loop-number.door) (g.G.Door.back c.loop-number.door) (g.G.Door.out c.loop-number.door) in
-    let door2 = doorway (g.G.Door.coming c.serve_next.new.door) (g.G.Door.back c.serve_next.new.door) (g.G.Door.out c.serve_next.new.door) in
-    let old = output_of (g.K.Ends.held c.args.output.now) (g.K.Ends.faults c.args.output.now) in
-    let mid = output_of (g.K.Ends.held c.write_all.new.sink) (g.K.Ends.faults c.write_all.new.sink) in
-    let new = output_of (g.K.Ends.held c.refuse-then-is_spent.new.output) (g.K.Ends.faults c.refuse-then-is_spent.new.output) in
+    let door = doorway_of g.G.Door c.args.door.now in
+    let door1 = doorway_of g.G.Door c.loop-number.door in
+    let door2 = doorway_of g.G.Door c.serve_next.new.door in
+    let old = output_of g.K.Ends c.args.output.now in
+    let mid = output_of g.K.Ends c.write_all.new.sink in
+    let new = output_of g.K.Ends c.refuse-then-is_spent.new.output in
     let is = c.as_bytes.ensures.value ∙ c.as_str.ensures.value ∙ c.line.ensures in
     let spent = sym c.is_spent.ensures ∙ c.if-is_spent.true in
     run_push g.D.Disk c.args.disk.now c.loop-number.disk c.serve_next.new.disk (g.S.Shelf.holds c.args.shelf.now) (g.S.Shelf.holds c.loop-number.shelf) first half last door door1 door2 c.in-Ok.end
@@ -70,9 +70,9 @@ loop-number-preserved g c =
     let first = state g.D.Disk c.args.disk.now c.args.store.now (g.S.Shelf.faults c.args.shelf.now) in
     let half = state g.D.Disk c.loop-number.disk c.loop-number.store (g.S.Shelf.faults c.loop-number.shelf) in
     let last = state g.D.Disk c.serve_next.new.disk c.serve_next.new.store (g.S.Shelf.faults c.serve_next.new.shelf) in
-    let door = doorway (g.G.Door.coming c.args.door.now) (g.G.Door.back c.args.door.now) (g.G.Door.out c.args.door.now) in
-    let door1 = doorway (g.G.Door.coming c.loop-number.door) (g.G.Door.back c.loop-number.door) (g.G.Door.out c.loop-number.door) in
-    let door2 = doorway (g.G.Door.coming c.serve_next.new.door) (g.G.Door.back c.serve_next.new.door) (g.G.Door.out c.serve_next.new.door) in
+    let door = doorway_of g.G.Door c.args.door.now in
+    let door1 = doorway_of g.G.Door c.loop-number.door in
+    let door2 = doorway_of g.G.Door c.serve_next.new.door in
     let is = c.as_bytes.ensures.value ∙ c.as_str.ensures.value ∙ c.line.ensures in
     record {
       kept = is_kept g.D.Disk c.serve_next.new.disk c.serve_next.new.store c.serve_next.ensures.ready (sym c.is_spent.ensures ∙ c.if-is_spent.false);

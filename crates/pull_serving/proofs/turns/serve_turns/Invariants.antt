@@ -3,14 +3,14 @@ use Rattle.std.specs.Io.KnownBytes.{Appends}
 use Rattle.pull_store.specs.Store.{IsKept}
 use Rattle.pull_serving.specs.Printing.{lines}
 use Rattle.pull_serving.specs.Turn.{state}
-use Rattle.pull_serving.specs.Turns.{IsRun, doorway}
+use Rattle.pull_serving.specs.Turns.{IsRun, doorway_of}
 use Rattle.pull_serving.proofs.turns.serve_turns.Given as goal
 
 abbrev pub invariant-loop-number : goal.invariant-loop-number
 invariant-loop-number g l = record {
   kept : IsKept g.D.Disk l.disk l.store;
   run : IsRun g.D.Disk l.fn.disk l.disk (g.S.Shelf.holds l.fn.shelf) (state g.D.Disk l.fn.disk l.fn.store (g.S.Shelf.faults l.fn.shelf)) (state g.D.Disk l.disk l.store (g.S.Shelf.faults l.shelf))
-      (doorway (g.G.Door.coming l.fn.door) (g.G.Door.back l.fn.door) (g.G.Door.out l.fn.door)) (doorway (g.G.Door.coming l.door) (g.G.Door.back l.door) (g.G.Door.out l.door))
+      (doorway_of g.G.Door l.fn.door) (doorway_of g.G.Door l.door)
       (λ turns. (length turns ≡ l.number) × Appends (g.K.Ends.held l.fn.output) (g.K.Ends.held l.output) (lines 1 turns));
   holds : g.S.Shelf.holds l.shelf ≡ g.S.Shelf.holds l.fn.shelf;
   door : g.G.Door.faults l.fn.door ≤ g.G.Door.faults l.door;

@@ -1,6 +1,5 @@
 use Rattle.std.proofs.Common.{◌≡◌, inl, inr, ◌+◌, ◌<◌, ◌≤◌, ◌∙◌, ◌++◌, ◌∷◌, [], ℕ, Bool, true, false, length, refl, sym, ap, subst, arith}
-use Rattle.std.specs.Prelude.{leb}
-use Rattle.std.proofs.lemmas.Bool.Decides.{leb_tells}
+use Rattle.std.proofs.lemmas.Bool.{cases_lt}
 use Rattle.gate_log.specs.declared.shape.Shape.{Shape}
 use Rattle.gate_log.specs.Log.{room_in}
 use Rattle.pull_store.specs.Rows.{after}
@@ -11,16 +10,11 @@ use Rattle.pull_store.proofs.SoundSteps.{is_row}
 use Rattle.pull_store.proofs.Committed.{written_of, kept_of, moment_of, appended, rewritten, needs, still_moment}
 use Rattle.pull_store.proofs.committing.write.Goals as goal
 
-le_of : (b : Bool) (m n : ℕ) → b ≡ leb m n → b ≡ true → m ≤ n
-le_of b m n is yes_ = elim (leb_tells m n) [
-  | inl t ↦ t.1
-  | inr f ↦ absurd (cc (is, yes_, f.0))
-]
-
-lt_of : (b : Bool) (m n : ℕ) → b ≡ leb m n → b ≡ false → n < m
-lt_of b m n is no_ = elim (leb_tells m n) [
-  | inl t ↦ absurd (cc (is, no_, t.0))
-  | inr f ↦ f.1
+-- a test that is true wherever one number is at most another, and is false
+lt_of : (b : Bool) (m n : ℕ) → (m ≤ n → b ≡ true) → b ≡ false → n < m
+lt_of b m n yes_ no_ = elim (cases_lt n m) [
+  | inl less ↦ less
+  | inr le ↦ absurd (cc (yes_ le, no_))
 ]
 
 pub append_body-requires-clause-size : goal.append_body-requires-clause-size
@@ -29,7 +23,7 @@ append_body-requires-clause-size g c =
 
 pub append_body-requires-clause-room : goal.append_body-requires-clause-room
 append_body-requires-clause-room g c =
-    omega (arith, le_of c.has_room.result (5 + c.len.result) (room_in c.args.log.now) c.has_room.ensures c.if-has_room.true, c.len.ensures, c.deref.ensures.len)
+    omega (arith, c.has_room.ensures.0 c.if-has_room.true, c.len.ensures, c.deref.ensures.len)
 
 pub append_body-requires-clause-of : goal.append_body-requires-clause-of
 append_body-requires-clause-of g c = (c.requires.kept.bodies, c.requires.kept.of)
@@ -37,7 +31,7 @@ append_body-requires-clause-of g c = (c.requires.kept.bodies, c.requires.kept.of
 pub returns-then-has_room-clause-answer : goal.returns-then-has_room-clause-answer
 returns-then-has_room-clause-answer g c =
     written_of g.D.Disk c.args.disk.now c.append_body.new.disk c.args.log.now c.append_body.new.log c.args.rows.now c.args.change.now c.append_body.result
-    (inl (omega (arith, le_of c.has_room.result (5 + c.len.result) (room_in c.args.log.now) c.has_room.ensures c.if-has_room.true, c.len.ensures, c.deref.ensures.len, ap length c.deref.ensures.value, ap length c.requires.spelled)))
+    (inl (omega (arith, c.has_room.ensures.0 c.if-has_room.true, c.len.ensures, c.deref.ensures.len, ap length c.deref.ensures.value, ap length c.requires.spelled)))
     c.append_body.ensures.ends
 
 pub returns-then-has_room-clause-kept : goal.returns-then-has_room-clause-kept
@@ -78,7 +72,7 @@ returns-then-need-gt-BANK-clause-answer g c =
     let is : c.need_of_rows.result + c.need_of_row.result + c.need_of_rows-2.result + 1 ≡ whole_need (after c.args.change.now c.args.rows.now) =
     omega (arith, sum, c.need_of_rows.ensures.need, c.need_of_row.ensures.need, c.need_of_rows-2.ensures.need, cells_both (bodies_of_rows front) (bodies_of_row row ++ bodies_of_rows behind), cells_both (bodies_of_row row) (bodies_of_rows behind)) in (
       record {
-        cell = omega (arith, lt_of c.has_room.result (5 + c.len.result) (room_in c.args.log.now) c.has_room.ensures c.if-has_room.false, c.len.ensures, ap length c.requires.spelled);
+        cell = omega (arith, lt_of c.has_room.result (5 + c.len.result) (room_in c.args.log.now) c.has_room.ensures.1 c.if-has_room.false, c.len.ensures, ap length c.requires.spelled);
         needs = is;
         bank = refl;
         rows = omega (arith, c.if-need-gt-BANK.true);

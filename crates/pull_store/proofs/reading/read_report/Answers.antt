@@ -9,8 +9,8 @@ returns-in-Err-clause-wrong c = λ same change is.
     let p = report_at c.args.rest.now change is in
     none_read bytes_of_ids AreIds c.of-fields.result c.read_ids.new.fields c.in-Err.error (p.agent, p.job) p.body same c.in-Err.ensures p.ids (c.of-fields.ensures ∙ p.spells)
 
-pub returns-then-body-gt131072-clause-wrong : goal.returns-then-body-gt131072-clause-wrong
-returns-then-body-gt131072-clause-wrong c = λ same change is.
+pub returns-then-body-gt-MAX_BYTES-clause-wrong : goal.returns-then-body-gt-MAX_BYTES-clause-wrong
+returns-then-body-gt-MAX_BYTES-clause-wrong c = λ same change is.
     let p = report_at c.args.rest.now change is in
     let found = c.in-Ok.ensures.only (p.agent, p.job) p.body p.ids (c.of-fields.ensures ∙ p.spells) in
-    omega (arith, p.short, ap length found.1, ap length c.rest-body.ensures, c.if-body-gt131072.true)
+    omega (arith, p.short, ap length found.1, ap length c.rest-body.ensures, c.if-body-gt-MAX_BYTES.true)

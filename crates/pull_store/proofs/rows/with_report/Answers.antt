@@ -12,5 +12,5 @@ returns-then-at-reports c =
 
 pub returns : goal.returns
 returns c =
-    pushed (record { job = c.args.job; body = c.args.body } ∷ []) (c.in_ok-kept-2.ensures ∙ c.newest_three.ensures) c.in_ok-push.was c.push.ensures.items
+    pushed (record { job = c.args.job; body = c.args.body } ∷ []) (c.in_ok-kept-2.ensures ∙ c.older_reports.ensures) c.in_ok-push.was c.push.ensures.items
     ∙ reports_push c.args.job c.args.body c.args.reports.now c.place_of_job-at.result c.place_of_job-at.ensures.place c.if-at-reports.false

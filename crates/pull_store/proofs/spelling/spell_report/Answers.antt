@@ -1,6 +1,7 @@
 use Rattle.std.proofs.Common.{◌≡◌, ◌≤◌, ◌++◌, ◌∙◌, ℕ, List, length, sym, subst, ap, arith}
 use Rattle.pull_store.specs.declared.change.Change.TheVariants.{Report}
 use Rattle.pull_store.specs.Bodies.{body_of}
+use Rattle.pull_store.specs.declared.limits.TheConstants.{BODY_CAPACITY}
 use Rattle.pull_store.proofs.Sizes.{report_short}
 use Rattle.pull_store.proofs.spelling.spell_report.Goals as goal
 
@@ -13,4 +14,4 @@ pub returns-clause-short : goal.returns-clause-short
 returns-clause-short c =
     let spelled = body_of (Report c.args.agent c.args.job c.args.body.now) in
     let is : c.put_report.new.into.items ≡ spelled = c.in-Ok.ensures.items ∙ ap (λ (l : List ℕ). l ++ spelled) c.clear.ensures.items in
-    subst (λ (l : List ℕ). length l ≤ 131200) (sym is) (omega (arith, report_short c.args.agent c.args.job c.args.body.now c.requires.size))
+    subst (λ (l : List ℕ). length l ≤ BODY_CAPACITY) (sym is) (omega (arith, report_short c.args.agent c.args.job c.args.body.now c.requires.size))

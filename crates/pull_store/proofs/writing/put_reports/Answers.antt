@@ -5,6 +5,7 @@ use Rattle.pull_store.specs.declared.row.StoredReport.{StoredReport}
 use Rattle.pull_store.specs.Bodies.{body_of, bodies_of_reports}
 use Rattle.pull_store.specs.Puts.{CanPut, Puts}
 use Rattle.pull_store.specs.Sound.{IsReport}
+use Rattle.pull_store.specs.declared.limits.TheConstants.{MAX_BYTES}
 use Rattle.pull_store.proofs.Putting.{PutSoFar, can_first, so_far_none, so_far_can, so_far_more, so_far_fails, so_far_ends}
 use Rattle.pull_store.proofs.Sizes.{reports_split, all_split}
 use Rattle.pull_store.proofs.writing.put_reports.Goals as goal
@@ -20,7 +21,7 @@ loop-left-init g c = record {
 pub spell_report-requires-clause-size : goal.spell_report-requires-clause-size
 spell_report-requires-clause-size g c =
     let one = all_split IsReport c.loop-left.left.now c.first-item.result c.in-len1-up.len_at_least c.first-item.is c.loop-left.invariant.each in
-    subst (λ (l : List ℕ). length l ≤ 131072) (sym c.as_slice.ensures) one.0.short
+    subst (λ (l : List ℕ). length l ≤ MAX_BYTES) (sym c.as_slice.ensures) one.0.short
 
 pub put_body-requires : goal.put_body-requires
 put_body-requires g c =

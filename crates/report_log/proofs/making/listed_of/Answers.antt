@@ -10,7 +10,7 @@ use Rattle.report_log.specs.declared.marks.Mark.TheVariants.{NotCalled}
 use Rattle.report_log.specs.declared.report.Missed.{Missed}
 use Rattle.report_log.specs.declared.report.Reason.{Reason}
 use Rattle.report_log.specs.Marks.{listed_at, reason_of}
-use Rattle.report_log.specs.Report.{listed_limit}
+use Rattle.report_log.specs.declared.limits.TheConstants.{LISTED_LIMIT}
 use Rattle.report_log.proofs.Grown.{length-first, made_none, made_one, take_grown}
 use Rattle.report_log.proofs.making.listed_of.Goals as goal
 
@@ -31,17 +31,17 @@ module _ (rebooting : Bool) (ids : List (List ℕ)) (marks : List Mark) (place k
   lists_none is = ap (λ (o : Option Reason). option_map (λ (why : Reason). missed_of (get_or ids k []) why) o) (read_here ∙ is)
 
 -- the list after one more place
-module _ (f : ℕ → Option Missed) (listed : List Missed) (k n : ℕ) (before : listed ≡ take listed_limit (filter_map f (places_below k))) (more : n ≡ suc k) where
-  goes_on : take listed_limit (filter_map f (places_below (suc k))) ≡ take listed_limit (filter_map f (places_below n))
-  goes_on = ap (λ (j : ℕ). take listed_limit (filter_map f (places_below j))) (sym more)
+module _ (f : ℕ → Option Missed) (listed : List Missed) (k n : ℕ) (before : listed ≡ take LISTED_LIMIT (filter_map f (places_below k))) (more : n ≡ suc k) where
+  goes_on : take LISTED_LIMIT (filter_map f (places_below (suc k))) ≡ take LISTED_LIMIT (filter_map f (places_below n))
+  goes_on = ap (λ (j : ℕ). take LISTED_LIMIT (filter_map f (places_below j))) (sym more)
 
-  one_listed : (missed : Missed) → f k ≡ Some missed → take listed_limit (listed ++ missed ∷ []) ≡ take listed_limit (filter_map f (places_below n))
+  one_listed : (missed : Missed) → f k ≡ Some missed → take LISTED_LIMIT (listed ++ missed ∷ []) ≡ take LISTED_LIMIT (filter_map f (places_below n))
   one_listed missed is =
-      ap (λ (l : List Missed). take listed_limit (l ++ missed ∷ [])) before ∙ take_grown listed_limit (filter_map f (places_below k)) missed
-      ∙ ap (take listed_limit) (sym (made_one f (places_below k) k missed is)) ∙ goes_on
+      ap (λ (l : List Missed). take LISTED_LIMIT (l ++ missed ∷ [])) before ∙ take_grown LISTED_LIMIT (filter_map f (places_below k)) missed
+      ∙ ap (take LISTED_LIMIT) (sym (made_one f (places_below k) k missed is)) ∙ goes_on
 
-  none_listed : f k ≡ None → listed ≡ take listed_limit (filter_map f (places_below n))
-  none_listed is = before ∙ ap (take listed_limit) (sym (made_none f (places_below k) k is)) ∙ goes_on
+  none_listed : f k ≡ None → listed ≡ take LISTED_LIMIT (filter_map f (places_below n))
+  none_listed is = before ∙ ap (take LISTED_LIMIT) (sym (made_none f (places_below k) k is)) ∙ goes_on
 
 -- the id that was read stands at that place
 module _ (ids : List (List ℕ)) (k place : ℕ) (id : List ℕ)
@@ -60,8 +60,8 @@ module _ (ids : List (List ℕ)) (k place : ℕ) (id : List ℕ)
 
 pub list-requires-clause-bound : goal.list-requires-clause-bound
 list-requires-clause-bound c =
-    subst (λ (l : List Missed). length l ≤ listed_limit) (sym c.loop-place.invariant.listed)
-    (length-first listed_limit (filter_map (listed_at c.args.rebooting c.args.ids.items c.args.marks.now) (places_below (length c.loop-place.yielded))))
+    subst (λ (l : List Missed). length l ≤ LISTED_LIMIT) (sym c.loop-place.invariant.listed)
+    (length-first LISTED_LIMIT (filter_map (listed_at c.args.rebooting c.args.ids.items c.args.marks.now) (places_below (length c.loop-place.yielded))))
 
 pub loop-place-preserved-in-Some-reason_of : goal.loop-place-preserved-in-Some-reason_of
 loop-place-preserved-in-Some-reason_of c =

@@ -12,7 +12,8 @@ use Rattle.report_log.specs.declared.marks.Mark.TheVariants.{NotCalled, Unsettle
 use Rattle.report_log.specs.declared.report.Missed.{Missed}
 use Rattle.report_log.specs.declared.room.ReportRoom.{ReportRoom}
 use Rattle.report_log.specs.Marks.{is_success, listed_of, mark_of, marks_of}
-use Rattle.report_log.specs.Report.{IsMissed, IsOutcome, listed_limit, missed_places}
+use Rattle.report_log.specs.Report.{IsMissed, IsOutcome, missed_places}
+use Rattle.report_log.specs.declared.limits.TheConstants.{LISTED_LIMIT}
 use Rattle.report_log.specs.Room.{IsRoomFor}
 use Rattle.report_log.proofs.InSize.{report_in_size}
 use Rattle.report_log.proofs.Listed.{ids_of, listed_first}
@@ -75,7 +76,7 @@ reported c =
       outcome = subst (IsOutcome calls c.count_missed-missed.result) (sym c.outcome_of.ensures) (is_outcome calls rebooting says c.count_missed-missed.result);
       total = ap length c.as_slice.ensures;
       missed = counted document calls c.deref.result.now c.count_missed-missed.result marks c.count_missed-missed.ensures;
-      listed = subst (λ (l : List Missed). AllZip (IsMissed document calls) (take listed_limit (missed_places document calls)) l) (sym listed)
+      listed = subst (λ (l : List Missed). AllZip (IsMissed document calls) (take LISTED_LIMIT (missed_places document calls)) l) (sym listed)
           (listed_first document calls rebooting says (settled document calls c.requires.memory c.requires.settled));
       parts = refl;
     }

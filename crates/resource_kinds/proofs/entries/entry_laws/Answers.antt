@@ -2,7 +2,7 @@ use Rattle.std.proofs.Common.{◌≡◌, ◌⊎◌, inl, inr, ℕ, true, not, Li
 use Rattle.std.proofs.lemmas.Bool.{cases_Bool, false≢true, not_from_true, not_from_false}
 use Rattle.std.proofs.lemmas.List.{append-nil}
 use Rattle.std.proofs.lemmas.List.Elements.{All-contains, All-filter, filter_passes, Contains-get_or, Contains-append_left, Contains-append_right}
-use Rattle.resource_kinds.specs.Entries.{entries, entries_of, joined, is_filled, wanted_entries, HasEntries, LacksEntries, is_among, each_once, missing_entries, appended, with_entries, kept_entries, variable_of, without_entries}
+use Rattle.resource_kinds.specs.Entries.{entries, entries_of, joined, is_filled, wanted_entries, HasEntries, LacksEntries, is_among, each_once, missing_entries, appended, with_entries, kept_entries, variable_with, without_entries}
 use Rattle.resource_kinds.proofs.EntryLists.{IsPiece, entries-append, entries-pieces, entries-joined, cons_cases, Contains-filter, filter-none, among-Contains, Contains-among, Contains-each_once, All-each_once}
 use Rattle.resource_kinds.proofs.entries.entry_laws.Goals as goal
 
@@ -71,7 +71,7 @@ unchanged old value has =
 
 -- ---- Absent
 
-entries_of_variable : (pieces : List (List ℕ)) → All IsPiece pieces → entries_of (variable_of pieces) ≡ pieces
+entries_of_variable : (pieces : List (List ℕ)) → All IsPiece pieces → entries_of (variable_with pieces) ≡ pieces
 entries_of_variable [] all = refl
 entries_of_variable (piece ∷ pieces) all = entries-joined piece pieces all
 

@@ -1,5 +1,6 @@
 use Rattle.std.proofs.Common.{arith}
 use Rattle.std.specs.Int.{w16, w32, w64}
+use Rattle.store_fields.specs.declared.limits.TheConstants.{MAX_TEXT}
 use Rattle.store_fields.proofs.Numbers.{wide16, wide32, wide64, number_unique, digest_unique}
 use Rattle.store_fields.proofs.LongNumbers.{long_unique}
 use Rattle.store_fields.proofs.Texts.{byte_unique, flag_unique, text_unique, blob_unique}
@@ -14,6 +15,6 @@ returns c = record {
   number_64 = number_unique w64 wide64;
   number_128 = long_unique;
   digest = digest_unique;
-  text = text_unique 65535 (omega arith);
+  text = text_unique MAX_TEXT (omega arith);
   blob = blob_unique;
 }

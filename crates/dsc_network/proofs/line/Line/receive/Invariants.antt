@@ -6,6 +6,6 @@ use Rattle.dsc_network.proofs.line.Line.receive.Given as goal
 abbrev pub invariant-loop : goal.invariant-loop
 invariant-loop g l = record {
   start : StartsWith l.into.items l.fn.into.items;
-  room : length l.into.items + l.room ≡ length l.fn.into.items + answer_limit;
-  left : 0 < l.room;
+  capacity : length l.into.items + l.capacity ≡ length l.fn.into.items + answer_limit;
+  left : 0 < l.capacity;
 }

@@ -11,7 +11,7 @@ append_cell-requires-clause-room g c =
     let log = c.args.self.now in
     let same : log.closed ≡ c.self.inside.closed = ap (λ (t : LogTerm). t.closed) (sym c.self.view_is) in
     let of = c.requires.of.1 in
-    if_some (g.D.Disk.seen c.args.disk.now) (λ held is. rw (← same) (text_long log.shape log.second log.closed c.requires.of.0 held (of.each held (g.met.D.Disk.honest c.args.disk.now held is))))
+    if_some (g.D.Disk.shown c.args.disk.now) (λ held is. rw (← same) (text_long log.shape log.second log.closed c.requires.of.0 held (of.each held (g.met.D.Disk.honest c.args.disk.now held is))))
 
 pub returns-in_err-append_cell-clause-any_moment : goal.returns-in_err-append_cell-clause-any_moment
 returns-in_err-append_cell-clause-any_moment g c = λ bodies of.
@@ -44,6 +44,6 @@ returns-clause-ok g c = λ bodies of.
     let closed = c.self.inside.closed in
     let same : log.closed ≡ closed = ap (λ (t : LogTerm). t.closed) (sym c.self.view_is) in
     let longest : c.max-self-inside.result ≡ max c.self.inside.long (closed + 1 + (length body + 5)) = grind (arith, common_steps, c.max-self-inside.ensures) in
-    grown_of (g.D.Disk.seen c.append_cell.new.disk) (g.D.Disk.images c.append_cell.new.disk) log _ closed body bodies (grown_is _ log (length body + 5) c.max-self-inside.result body c.self.view_is (omega arith) longest) same
+    grown_of (g.D.Disk.shown c.append_cell.new.disk) (g.D.Disk.images c.append_cell.new.disk) log _ closed body bodies (grown_is _ log (length body + 5) c.max-self-inside.result body c.self.view_is (omega arith) longest) same
     (c.in_ok-append_cell.ensures.ok log.shape log.second bodies c.requires.size (room_there log closed body same c.requires.room) (texts_there g.D.Disk c.args.disk.now log closed bodies same of))
     (c.in_ok-append_cell.ensures.long log.long of.long)

@@ -21,7 +21,7 @@ append_cell_in_place-requires-clause-room g c =
     let log = c.args.self.now in
     let same : log.closed ≡ c.self.inside.closed = ap (λ (t : LogTerm). t.closed) (sym c.self.view_is) in
     let of = c.requires.of.1 in
-    if_some (g.D.Disk.seen c.args.disk.now) (λ held is. rw (← same) (text_long log.shape log.second log.closed c.requires.of.0 held (of.each held (g.met.D.Disk.honest c.args.disk.now held is))))
+    if_some (g.D.Disk.shown c.args.disk.now) (λ held is. rw (← same) (text_long log.shape log.second log.closed c.requires.of.0 held (of.each held (g.met.D.Disk.honest c.args.disk.now held is))))
 
 pub returns-in_err-append_cell_in_place-clause-any_moment : goal.returns-in_err-append_cell_in_place-clause-any_moment
 returns-in_err-append_cell_in_place-clause-any_moment g c = λ bodies of.
@@ -70,7 +70,7 @@ returns-clause-ok g c = λ bodies of.
     let closed = c.self.inside.closed in
     let same : log.closed ≡ closed = ap (λ (t : LogTerm). t.closed) (sym c.self.view_is) in
     let longest : c.max-self-inside.result ≡ max c.self.inside.long (closed + 1 + (length head + length tail + 1)) = grind (arith, common_steps, c.max-self-inside.ensures) in
-    grown_of (g.D.Disk.seen c.append_cell_in_place.new.disk) (g.D.Disk.images c.append_cell_in_place.new.disk) log _ closed (body_in head tail) bodies
+    grown_of (g.D.Disk.shown c.append_cell_in_place.new.disk) (g.D.Disk.images c.append_cell_in_place.new.disk) log _ closed (body_in head tail) bodies
     (grown_is _ log (length head + length tail + 1) c.max-self-inside.result (body_in head tail) c.self.view_is (need_in head tail c.requires.whole) longest) same
     (c.in_ok-append_cell_in_place.ensures.ok log.shape log.second bodies (is_small head tail c.requires.whole log.shape c.requires.size) (room_there log closed (body_in head tail) same (has_room head tail c.requires.whole log c.requires.room))
     (texts_there g.D.Disk c.args.disk.now log closed bodies same of))

@@ -9,22 +9,22 @@ use Rattle.gate_log.proofs.Rewrites.{is_whole}
 use Rattle.gate_log.proofs.log.Log.finish_rewrite.Goals as goal
 
 -- what the calls need of the log, by the fields that it keeps
-record Begun (seen : Option (List ℕ)) (images : List ℕ → Type 0) (kept : LogTerm) (bodies put : List (List ℕ)) (at : ℕ) : Type 0 where
-  of : IsOf seen images kept bodies
-  has : HasPut seen kept put
+record Begun (shown : Option (List ℕ)) (images : List ℕ → Type 0) (kept : LogTerm) (bodies put : List (List ℕ)) (at : ℕ) : Type 0 where
+  of : IsOf shown images kept bodies
+  has : HasPut shown kept put
   whole : IsWhole kept.shape kept.second at put
 
-begun : (seen : Option (List ℕ)) (images : List ℕ → Type 0) (log kept : LogTerm) (bodies put : List (List ℕ)) (at : ℕ) → kept ≡ log → kept.filled ≡ Some at → IsOf seen images log bodies → HasPut seen log put → Begun seen images kept bodies put at
-begun seen images log kept bodies put at same is of has =
-    let has_it = subst (λ (t : LogTerm). HasPut seen t put) (sym same) has in
-    record { of = subst (λ (t : LogTerm). IsOf seen images t bodies) (sym same) of; has = has_it; whole = is_whole seen kept put at has_it is }
+begun : (shown : Option (List ℕ)) (images : List ℕ → Type 0) (log kept : LogTerm) (bodies put : List (List ℕ)) (at : ℕ) → kept ≡ log → kept.filled ≡ Some at → IsOf shown images log bodies → HasPut shown log put → Begun shown images kept bodies put at
+begun shown images log kept bodies put at same is of has =
+    let has_it = subst (λ (t : LogTerm). HasPut shown t put) (sym same) has in
+    record { of = subst (λ (t : LogTerm). IsOf shown images t bodies) (sym same) of; has = has_it; whole = is_whole shown kept put at has_it is }
 
 -- every moment of the call, by what the log keeps
 at_each_moment : {D : Type 0} (d : Ghosts D) (old new : D) (log kept : LogTerm) (bodies put : List (List ℕ)) (at : ℕ) → kept ≡ log → kept.filled ≡ Some at → IsLogOf d old log bodies → HasPutOn d old log put
-    → (IsWhole kept.shape kept.second at put → IfSome (d.seen old) (Holds (begin kept.shape (not kept.second)) (cells put)) → Each (d.images old) (λ f. IsText kept.shape kept.second kept.closed f bodies) → AtAnyMoment d old new (OldOrNew kept.shape bodies put))
+    → (IsWhole kept.shape kept.second at put → IfSome (d.shown old) (Holds (begin kept.shape (not kept.second)) (cells put)) → Each (d.images old) (λ f. IsText kept.shape kept.second kept.closed f bodies) → AtAnyMoment d old new (OldOrNew kept.shape bodies put))
     → AtAnyMoment d old new (OldOrNew log.shape bodies put)
 at_each_moment d old new log kept bodies put at same is of has moments =
-    let b = begun (d.seen old) (d.images old) log kept bodies put at same is of has in
+    let b = begun (d.shown old) (d.images old) log kept bodies put at same is of has in
     subst (λ (t : LogTerm). AtAnyMoment d old new (OldOrNew t.shape bodies put)) same (moments b.whole b.has.holds b.of.each)
 
 pub returns-in_err-finish_cells-clause-any_moment : goal.returns-in_err-finish_cells-clause-any_moment
@@ -40,10 +40,10 @@ returns-clause-any_moment g c = λ bodies put of has.
 pub returns-clause-ok : goal.returns-clause-ok
 returns-clause-ok g c = λ bodies put of has.
     let inside = c.self.inside in
-    let b = begun (g.D.Disk.seen c.args.disk.now) (g.D.Disk.images c.args.disk.now) c.args.self.now _ bodies put c.in-Some.at c.self.view_is c.in-Some.is of has in
+    let b = begun (g.D.Disk.shown c.args.disk.now) (g.D.Disk.images c.args.disk.now) c.args.self.now _ bodies put c.in-Some.at c.self.view_is c.in-Some.is of has in
     let texts = c.in_ok-finish_cells.ensures.ok inside.shape inside.closed bodies put c.self.invariant.2 b.whole b.has.holds b.of.each in
     let longest : max inside.long (c.in-Some.at + 1) ≡ c.max-self-inside.result = grind (arith, common_steps, c.max-self-inside.ensures) in
     record {
       each = texts;
-      long = subst (λ (n : ℕ). IfSome (g.D.Disk.seen c.finish_cells.new.disk) (λ held. n ≡ length held)) longest c.in_ok-finish_cells.ensures.long;
+      long = subst (λ (n : ℕ). IfSome (g.D.Disk.shown c.finish_cells.new.disk) (λ held. n ≡ length held)) longest c.in_ok-finish_cells.ensures.long;
     }

@@ -11,20 +11,20 @@ use Rattle.gate_log.proofs.Rewrites.{in_other, put_at}
 use Rattle.gate_log.proofs.log.Log.put.Goals as goal
 
 -- what the calls need of the log, by the fields that it keeps
-of_kept : (seen : Option (List ℕ)) (images : List ℕ → Type 0) (log kept : LogTerm) (bodies : List (List ℕ)) → kept ≡ log → IsOf seen images log bodies → IsOf seen images kept bodies
-of_kept seen images log kept bodies same of = subst (λ (t : LogTerm). IsOf seen images t bodies) (sym same) of
+of_kept : (shown : Option (List ℕ)) (images : List ℕ → Type 0) (log kept : LogTerm) (bodies : List (List ℕ)) → kept ≡ log → IsOf shown images log bodies → IsOf shown images kept bodies
+of_kept shown images log kept bodies same of = subst (λ (t : LogTerm). IsOf shown images t bodies) (sym same) of
 
-other_kept : (seen : Option (List ℕ)) (log kept : LogTerm) (put : List (List ℕ)) (at : ℕ) (body : List ℕ) → kept ≡ log → kept.filled ≡ Some at → HasPut seen log put → need_of body ≤ room_to_put log → IsInOther kept.shape kept.second at (1 + need_of body)
-other_kept seen log kept put at body same is has room =
-    in_other seen kept put at body (subst (λ (t : LogTerm). HasPut seen t put) (sym same) has) is (subst (λ (t : LogTerm). need_of body ≤ room_to_put t) (sym same) room)
+other_kept : (shown : Option (List ℕ)) (log kept : LogTerm) (put : List (List ℕ)) (at : ℕ) (body : List ℕ) → kept ≡ log → kept.filled ≡ Some at → HasPut shown log put → need_of body ≤ room_to_put log → IsInOther kept.shape kept.second at (1 + need_of body)
+other_kept shown log kept put at body same is has room =
+    in_other shown kept put at body (subst (λ (t : LogTerm). HasPut shown t put) (sym same) has) is (subst (λ (t : LogTerm). need_of body ≤ room_to_put t) (sym same) room)
 
 -- every moment of the call, by what the log keeps
 at_each_moment : {D : Type 0} (d : Ghosts D) (old new : D) (log kept : LogTerm) (bodies put : List (List ℕ)) (at : ℕ) (body : List ℕ) → kept ≡ log → kept.filled ≡ Some at → IsLogOf d old log bodies → HasPutOn d old log put → need_of body ≤ room_to_put log
     → (IsInOther kept.shape kept.second at (1 + need_of body) → Each (d.images old) (λ f. IsText kept.shape kept.second kept.closed f bodies) → AtAnyMoment d old new (λ f. IsText kept.shape kept.second kept.closed f bodies))
     → AtAnyMoment d old new (λ f. Gives log.shape f bodies)
 at_each_moment d old new log kept bodies put at body same is of has room moments =
-    let of_it = of_kept (d.seen old) (d.images old) log kept bodies same of in
-    weaker d.moment d.left_since old new _ (λ f. Gives log.shape f bodies) (moments (other_kept (d.seen old) log kept put at body same is has room) of_it.each)
+    let of_it = of_kept (d.shown old) (d.images old) log kept bodies same of in
+    weaker d.moment d.left_since old new _ (λ f. Gives log.shape f bodies) (moments (other_kept (d.shown old) log kept put at body same is has room) of_it.each)
     (λ f t. subst (λ (t : LogTerm). Gives t.shape f bodies) same (text_gives kept.shape kept.second kept.closed f bodies t))
 
 pub returns-in_err-put_cell-clause-any_moment : goal.returns-in_err-put_cell-clause-any_moment
@@ -39,15 +39,15 @@ returns-clause-any_moment g c = λ bodies of.
 
 pub returns-clause-ok : goal.returns-clause-ok
 returns-clause-ok g c = λ bodies of.
-    let seen = g.D.Disk.seen c.args.disk.now in
+    let shown = g.D.Disk.shown c.args.disk.now in
     let inside = c.self.inside in
-    let of_it = of_kept seen (g.D.Disk.images c.args.disk.now) c.args.self.now _ bodies c.self.view_is of in
-    let other = other_kept seen c.args.self.now _ c.requires.begun.0 c.in-Some.at c.args.body.now c.self.view_is c.in-Some.is c.requires.begun.1 c.requires.room in
+    let of_it = of_kept shown (g.D.Disk.images c.args.disk.now) c.args.self.now _ bodies c.self.view_is of in
+    let other = other_kept shown c.args.self.now _ c.requires.begun.0 c.in-Some.at c.args.body.now c.self.view_is c.in-Some.is c.requires.begun.1 c.requires.room in
     let texts = c.in_ok-put_cell.ensures.ok inside.shape inside.second inside.closed bodies c.self.invariant.2 other of_it.each in
     let longest : max (max inside.long c.in-Some.at) (c.in-Some.at + 6 + length c.args.body.now) ≡ c.max-self-inside.result = grind (arith, common_steps, c.max.ensures, c.max-self-inside.ensures) in
     record {
       each = texts;
-      long = subst (λ (n : ℕ). IfSome (g.D.Disk.seen c.put_cell.new.disk) (λ held. n ≡ length held)) longest c.in_ok-put_cell.ensures.long;
+      long = subst (λ (n : ℕ). IfSome (g.D.Disk.shown c.put_cell.new.disk) (λ held. n ≡ length held)) longest c.in_ok-put_cell.ensures.long;
     }
 
 abbrev some_of : ℕ → Option ℕ
@@ -55,13 +55,13 @@ some_of n = Some n
 
 pub returns-clause-put : goal.returns-clause-put
 returns-clause-put g c = λ put has.
-    let seen = g.D.Disk.seen c.args.disk.now in
+    let shown = g.D.Disk.shown c.args.disk.now in
     let at = c.in-Some.at in
     let inside = c.self.inside in
     let is : c.args.self.now.filled ≡ Some at = ap (λ (t : LogTerm). t.filled) (sym c.self.view_is) ∙ c.in-Some.is in
-    let has_it = subst (λ (t : LogTerm). HasPut seen t put) (sym c.self.view_is) has in
-    let other = subst (λ (t : LogTerm). IsInOther t.shape t.second at (1 + need_of c.args.body.now)) (sym c.self.view_is) (in_other seen c.args.self.now put at c.args.body.now has is c.requires.room) in
-    let place : at ≡ begin inside.shape (not inside.second) + length (cells put) = subst (λ (t : LogTerm). at ≡ begin t.shape (not t.second) + length (cells put)) (sym c.self.view_is) (put_at seen c.args.self.now put at has is) in
+    let has_it = subst (λ (t : LogTerm). HasPut shown t put) (sym c.self.view_is) has in
+    let other = subst (λ (t : LogTerm). IsInOther t.shape t.second at (1 + need_of c.args.body.now)) (sym c.self.view_is) (in_other shown c.args.self.now put at c.args.body.now has is c.requires.room) in
+    let place : at ≡ begin inside.shape (not inside.second) + length (cells put) = subst (λ (t : LogTerm). at ≡ begin t.shape (not t.second) + length (cells put)) (sym c.self.view_is) (put_at shown c.args.self.now put at has is) in
     let fits = subst (λ (t : LogTerm). length c.args.body.now ≤ t.shape.largest) (sym c.self.view_is) c.requires.size in
     record {
       filled = ap (λ (n : ℕ). some_of n) (omega (arith, place, length-cells-push put c.args.body.now));

@@ -13,21 +13,21 @@ pub elements-init : goal.elements-init
 elements-init c =
     rw (c.in_ok-push.ensures.items, c.new-elements.ensures.items) (search rules, array_start _ _ _ (of_some _ _ _ c.in-Some-2.is c.in_ok-first.ensures.some))
 
-pub returns-in-Some-behind_mark-clause-some : goal.returns-in-Some-behind_mark-clause-some
-returns-in-Some-behind_mark-clause-some c = reads_array _ _ _ c.elements.invariant.1 _ c.in-Some-behind_mark.ensures.some
+pub returns-in-Some-mark_rest-clause-some : goal.returns-in-Some-mark_rest-clause-some
+returns-in-Some-mark_rest-clause-some c = reads_array _ _ _ c.elements.invariant.1 _ c.in-Some-mark_rest.ensures.some
 
-pub returns-in_default-behind_mark-2-clause-none : goal.returns-in_default-behind_mark-2-clause-none
-returns-in_default-behind_mark-2-clause-none c =
-    lacks_mark _ _ _ c.elements.invariant.1 c.in_default-behind_mark.ensures.none c.in_default-behind_mark-2.ensures.none
+pub returns-in_default-mark_rest-2-clause-none : goal.returns-in_default-mark_rest-2-clause-none
+returns-in_default-mark_rest-2-clause-none c =
+    lacks_mark _ _ _ c.elements.invariant.1 c.in_default-mark_rest.ensures.none c.in_default-mark_rest-2.ensures.none
 
 pub returns-then-len-eq-MAX_ELEMENTS-clause-none : goal.returns-then-len-eq-MAX_ELEMENTS-clause-none
-returns-then-len-eq-MAX_ELEMENTS-clause-none c = lacks_room _ _ _ c.elements.invariant.1 _ c.in-Some-behind_mark-2.ensures.some (omega arith)
+returns-then-len-eq-MAX_ELEMENTS-clause-none c = lacks_room _ _ _ c.elements.invariant.1 _ c.in-Some-mark_rest-2.ensures.some (omega arith)
 
 pub returns-in_default-3-clause-none : goal.returns-in_default-3-clause-none
 returns-in_default-3-clause-none c =
-    lacks_element _ _ _ c.elements.invariant.1 _ c.in-Some-behind_mark-2.ensures.some (of_none _ _ c.in_default-3.is c.in_ok-element.ensures.none)
+    lacks_element _ _ _ c.elements.invariant.1 _ c.in-Some-mark_rest-2.ensures.some (of_none _ _ c.in_default-3.is c.in_ok-element.ensures.none)
 
 pub elements-preserved : goal.elements-preserved
 elements-preserved c =
     rw c.in_ok-push-2.ensures.items
-    (search rules, array_next _ _ _ c.elements.invariant.1 _ _ _ c.in-Some-behind_mark-2.ensures.some (λ same. omega arith) (of_some _ _ _ c.in-Some-3.is c.in_ok-element.ensures.some))
+    (search rules, array_next _ _ _ c.elements.invariant.1 _ _ _ c.in-Some-mark_rest-2.ensures.some (λ same. omega arith) (of_some _ _ _ c.in-Some-3.is c.in_ok-element.ensures.some))

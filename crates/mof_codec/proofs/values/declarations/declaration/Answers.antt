@@ -14,12 +14,12 @@ returns-in_default-3-clause-none c =
     lacks_body _ _ _ (of_some _ _ _ c.in-Some.is c.in_ok-class.ensures.some) _ _ (of_some _ _ _ c.in-Some-2.is c.in_ok-alias.ensures.some)
     (of_none _ _ c.in_default-3.is c.in_ok-properties.ensures.none)
 
-pub returns-in_default-behind_mark-clause-none : goal.returns-in_default-behind_mark-clause-none
-returns-in_default-behind_mark-clause-none c =
+pub returns-in_default-mark_rest-clause-none : goal.returns-in_default-mark_rest-clause-none
+returns-in_default-mark_rest-clause-none c =
     lacks_end _ _ _ (of_some _ _ _ c.in-Some.is c.in_ok-class.ensures.some) _ _ (of_some _ _ _ c.in-Some-2.is c.in_ok-alias.ensures.some)
-    _ _ (of_some _ _ _ c.in-Some-3.is c.in_ok-properties.ensures.some) c.in_default-behind_mark.ensures.none
+    _ _ (of_some _ _ _ c.in-Some-3.is c.in_ok-properties.ensures.some) c.in_default-mark_rest.ensures.none
 
 pub returns-clause-some : goal.returns-clause-some
 returns-clause-some c =
     rw c.of.ensures (reads_declaration _ _ _ (of_some _ _ _ c.in-Some.is c.in_ok-class.ensures.some) _ _ (of_some _ _ _ c.in-Some-2.is c.in_ok-alias.ensures.some)
-    _ _ (of_some _ _ _ c.in-Some-3.is c.in_ok-properties.ensures.some) _ c.in-Some-behind_mark.ensures.some)
+    _ _ (of_some _ _ _ c.in-Some-3.is c.in_ok-properties.ensures.some) _ c.in-Some-mark_rest.ensures.some)

@@ -12,10 +12,10 @@ pub returns-in_default-2-clause-none : goal.returns-in_default-2-clause-none
 returns-in_default-2-clause-none c =
     lacks_alias_name _ c.in_default.ensures.none _ c.in-Some-keyword.ensures.some (of_none _ _ c.in_default-2.is c.in_ok-name.ensures.none)
 
-pub returns-in_default-behind_mark-clause-none : goal.returns-in_default-behind_mark-clause-none
-returns-in_default-behind_mark-clause-none c =
-    lacks_brace _ c.in_default.ensures.none _ c.in-Some-keyword.ensures.some _ _ (of_some _ _ _ c.in-Some-2.is c.in_ok-name.ensures.some) c.in_default-behind_mark.ensures.none
+pub returns-in_default-mark_rest-clause-none : goal.returns-in_default-mark_rest-clause-none
+returns-in_default-mark_rest-clause-none c =
+    lacks_brace _ c.in_default.ensures.none _ c.in-Some-keyword.ensures.some _ _ (of_some _ _ _ c.in-Some-2.is c.in_ok-name.ensures.some) c.in_default-mark_rest.ensures.none
 
 pub returns-clause-some : goal.returns-clause-some
 returns-clause-some c =
-    reads_named _ _ c.in-Some-keyword.ensures.some _ _ (of_some _ _ _ c.in-Some-2.is c.in_ok-name.ensures.some) _ c.in-Some-behind_mark.ensures.some
+    reads_named _ _ c.in-Some-keyword.ensures.some _ _ (of_some _ _ _ c.in-Some-2.is c.in_ok-name.ensures.some) _ c.in-Some-mark_rest.ensures.some

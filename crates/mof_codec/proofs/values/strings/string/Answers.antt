@@ -11,14 +11,14 @@ loop-behind-init c = (search rules, strings_start _ _ _ _ _ c.in-Some.ensures.so
 
 pub returns-in_default-3-clause-none : goal.returns-in_default-3-clause-none
 returns-in_default-3-clause-none c =
-    lacks_open_behind _ _ _ _ c.loop-behind.invariant.1 c.in-Some-behind_quote.ensures.some (of_none _ _ c.in_default-3.is c.in_ok-rest-2.ensures.none)
+    lacks_open_behind _ _ _ _ c.loop-behind.invariant.1 c.in-Some-quote_rest.ensures.some (of_none _ _ c.in_default-3.is c.in_ok-rest-2.ensures.none)
 
 pub loop-behind-smaller : goal.loop-behind-smaller
-loop-behind-smaller c = string_shorter _ _ _ _ _ c.in-Some-behind_quote.ensures.some (of_some _ _ _ c.in-Some-3.is c.in_ok-rest-2.ensures.some)
+loop-behind-smaller c = string_shorter _ _ _ _ _ c.in-Some-quote_rest.ensures.some (of_some _ _ _ c.in-Some-3.is c.in_ok-rest-2.ensures.some)
 
 pub loop-behind-preserved : goal.loop-behind-preserved
 loop-behind-preserved c =
-    (search rules, strings_next _ _ _ _ _ _ c.loop-behind.invariant.1 c.in-Some-behind_quote.ensures.some (of_some _ _ _ c.in-Some-3.is c.in_ok-rest-2.ensures.some))
+    (search rules, strings_next _ _ _ _ _ _ c.loop-behind.invariant.1 c.in-Some-quote_rest.ensures.some (of_some _ _ _ c.in-Some-3.is c.in_ok-rest-2.ensures.some))
 
 pub returns-clause-some : goal.returns-clause-some
-returns-clause-some c = rw c.of.ensures (reads_string _ _ _ c.loop-behind.invariant.1 c.in_default-behind_quote.ensures.none)
+returns-clause-some c = rw c.of.ensures (reads_string _ _ _ c.loop-behind.invariant.1 c.in_default-quote_rest.ensures.none)

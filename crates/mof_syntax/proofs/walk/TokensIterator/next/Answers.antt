@@ -3,7 +3,7 @@ use Rattle.mof_syntax.proofs.Walking.{IsPlace-next, skipped, found, slice_is, se
 use Rattle.mof_syntax.proofs.walk.TokensIterator.next.Goals as goal
 
 pub before-requires : goal.before-requires
-before-requires c = separators_before _ _ c.separators_rest-behind.ensures.stands
+before-requires c = separators_before _ _ c.separators_rest-start.ensures.stands
 
 pub overflow_cast-from : goal.overflow_cast-from
 overflow_cast-from c = rw c.char_count.ensures (record { fits = count_fits _ _ _ _ _ c.self.invariant.0 c.before-2.ensures c.self.invariant.1 })
@@ -17,7 +17,7 @@ invariant_of-self c = rw c.char_count.ensures (IsPlace-next _ _ _ _ _ c.self.inv
 pub returns-in_err-kind-clause-steps : goal.returns-in_err-kind-clause-steps
 returns-in_err-kind-clause-steps c = rw (← c.self.view_is, c.from_residual.ensures, c.char_count.ensures) (record {
   text = refl;
-  skips = skipped _ _ _ _ _ c.self.invariant.0 c.before-2.ensures c.separators_rest-behind.ensures.stands c.separators_rest-behind.ensures.stops;
+  skips = skipped _ _ _ _ _ c.self.invariant.0 c.before-2.ensures c.separators_rest-start.ensures.stands c.separators_rest-start.ensures.stops;
   no_token = none_found _ _ _ _ _ c.self.invariant.0 c.before-2.ensures c.in_err-kind.ensures.none;
 })
 
@@ -37,7 +37,7 @@ pub returns-clause-steps : goal.returns-clause-steps
 returns-clause-steps c = rw (← c.self.view_is, c.char_count.ensures, c.char_count-2.ensures) (record {
   text = refl;
   place = refl;
-  skips = skipped _ _ _ _ _ c.self.invariant.0 c.before-2.ensures c.separators_rest-behind.ensures.stands c.separators_rest-behind.ensures.stops;
+  skips = skipped _ _ _ _ _ c.self.invariant.0 c.before-2.ensures c.separators_rest-start.ensures.stands c.separators_rest-start.ensures.stops;
   stands = found _ _ _ _ _ _ (IsPlace-next _ _ _ _ _ c.self.invariant.0 c.before-2.ensures) c.before-text.ensures c.in_ok-kind.ensures.some;
   slice = slice_is _ _ _ _ _ (IsPlace-next _ _ _ _ _ c.self.invariant.0 c.before-2.ensures) c.before-text.ensures;
 })

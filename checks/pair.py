@@ -1,0 +1,578 @@
+"""The pull server with the real node, for checks/pair, which says what is run. The arguments are the node and the server."""
+import hashlib, os, shutil, signal, socket, struct, subprocess, sys, tempfile, threading, time
+
+program, server_program = sys.argv[1:3]
+passed = failed = 0
+scratch = tempfile.mkdtemp()
+KILLS = int(os.environ.get('KILLS', '40'))
+AGENT = '00000000-0000-0000-0000-000000000010'
+HEADER = 'instance of OMI_ConfigurationDocument{Version="2.0.0";};'
+
+def check(name, got, wanted):
+    global passed, failed
+    if got == wanted:
+        passed += 1
+        return
+    failed += 1
+    print('FAILED', name, 'got', repr(got)[:600], 'wanted', repr(wanted)[:600], flush=True)
+
+def digest(text):
+    return hashlib.sha256(text.encode()).hexdigest().upper()
+
+# ---- the server
+
+def free_port():
+    with socket.socket() as probe:
+        probe.bind(('127.0.0.1', 0))
+        return probe.getsockname()[1]
+
+def listens(port):
+    with open('/proc/net/tcp') as lines:
+        return any(line.split()[1].endswith(':%04X' % port) and line.split()[3] == '0A' for line in lines)
+
+# The events of the server's store: its first bytes, then cells, each an open gate, a length and a body, then a closed gate.
+def events(path):
+    with open(path, 'rb') as file:
+        store = file.read()
+    found, at = [], 8
+    while store[at:at + 1] == b'\xa5':
+        size = int.from_bytes(store[at + 1:at + 5], 'big')
+        found.append(store[at + 5:at + 5 + size])
+        at += 5 + size
+    return found
+
+class Server:
+    def __init__(self, connections=1000000):
+        self.folder = tempfile.mkdtemp(dir=scratch)
+        self.store, self.shelf = self.folder + '/store', self.folder + '/shelf'
+        self.port = free_port()
+        os.makedirs(self.shelf + '/configurations')
+        os.makedirs(self.shelf + '/modules')
+        self.put('keys', 'k0\n')
+        self.start(connections)
+
+    def put(self, name, text):
+        with open(self.shelf + '/next', 'w', encoding='utf-8') as file:
+            file.write(text)
+        os.rename(self.shelf + '/next', os.path.join(self.shelf, name))
+
+    def configure(self, name, text):
+        self.put('configurations/%s.mof' % name, text)
+
+    def start(self, connections=1000000):
+        words = [server_program, '--store', self.store, '--shelf', self.shelf, '--listen', '127.0.0.1:%d' % self.port,
+                 '--connections', str(connections)]
+        self.process = subprocess.Popen(words, stdin=subprocess.DEVNULL, stdout=subprocess.PIPE, stderr=subprocess.PIPE)
+        until = time.monotonic() + 60
+        while self.process.poll() is None and not listens(self.port) and time.monotonic() < until:
+            time.sleep(0.002)
+
+    # Its lines and its status, once it has served as many connections as it was to.
+    def end(self):
+        try:
+            out, errors = self.process.communicate(timeout=60)
+        except subprocess.TimeoutExpired:
+            self.process.kill()
+            return 'no end'
+        return out.decode(), errors.decode(), self.process.returncode
+
+    # Kills it; its lines up to then.
+    def kill(self):
+        self.process.send_signal(signal.SIGKILL)
+        return self.process.communicate()[0].decode().split('\n')
+
+    def jobs(self):
+        """The numbers of the reports that it keeps."""
+        return [event[32] ^ 0x10 for event in events(self.store) if event[0] == 2]
+
+    def url(self):
+        return 'http://127.0.0.1:%d/PSDSCPullServer.svc' % self.port
+
+# ---- what stands between a node and its server: it counts and keeps the requests, and cuts an answer or gives another where it is set to
+
+class Relay:
+    def __init__(self, server):
+        self.server, self.requests, self.cut, self.reset, self.instead = server, [], None, False, None
+        self.listener = socket.create_server(('127.0.0.1', 0))
+        self.port = self.listener.getsockname()[1]
+        threading.Thread(target=self.serve, daemon=True).start()
+
+    def url(self):
+        return 'http://127.0.0.1:%d/PSDSCPullServer.svc' % self.port
+
+    def serve(self):
+        while True:
+            conn, _ = self.listener.accept()
+            try:
+                self.exchange(conn)
+            except OSError:
+                # a server that is gone: whether the request has come yet or not, the node is to see the same
+                self.resets(conn)
+            finally:
+                conn.close()
+
+    # Its end is to be a reset.
+    def resets(self, conn):
+        conn.setsockopt(socket.SOL_SOCKET, socket.SO_LINGER, struct.pack('ii', 1, 0))
+
+    def exchange(self, conn):
+        with socket.create_connection(('127.0.0.1', self.server.port), 60) as far:
+            request, size = b'', None
+            while size is None or len(request) < size:
+                request += conn.recv(1 << 16)
+                head, end, _ = request.partition(b'\r\n\r\n')
+                if end:
+                    lengths = [line.split(b':')[1] for line in head.lower().split(b'\r\n') if line.startswith(b'content-length:')]
+                    size = len(head) + 4 + int(lengths[0] if lengths else 0)
+            self.requests.append(request.split(b' HTTP/', 1)[0].decode())
+            far.sendall(request)
+            answer = b''.join(iter(lambda: far.recv(1 << 16), b''))
+        answer = answer if self.instead is None else self.instead
+        conn.sendall(answer if self.cut is None else answer[:self.cut])
+        if self.reset:
+            self.resets(conn)
+
+    # The requests since the last call, their targets without the path of the service.
+    def asked(self):
+        got, self.requests = self.requests, []
+        return [line.replace('/PSDSCPullServer.svc/', '').replace("Nodes(AgentId='%s')" % AGENT, 'NODE') for line in got]
+
+# ---- the node
+
+class Node:
+    def __init__(self):
+        self.folder = tempfile.mkdtemp(dir=scratch)
+        self.store, self.host = self.folder + '/store', self.folder + '/host'
+        os.mkdir(self.host)
+
+    def start(self, *words, text=''):
+        return subprocess.Popen([program, self.store, self.host, *words], stdin=self.input(text), stdout=subprocess.PIPE, stderr=subprocess.PIPE)
+
+    def input(self, text):
+        with open(self.folder + '/input', 'w', encoding='utf-8') as file:
+            file.write(text)
+        return open(self.folder + '/input', 'rb')
+
+    # What it printed, and its status.
+    def does(self, *words, text=''):
+        return self.ended(self.start(*words, text=text))
+
+    @staticmethod
+    def ended(process):
+        try:
+            out, errors = process.communicate(timeout=600)
+        except subprocess.TimeoutExpired:
+            process.kill()
+            return 'no end', None
+        return out.decode() + errors.decode(), process.returncode
+
+    def variable(self, name, value=None):
+        path = '%s/env/%s' % (self.host, name.lower().encode().hex().upper())
+        if value is not None:
+            with open(path, 'w', encoding='utf-8') as file:
+                file.write(value)
+        try:
+            with open(path, encoding='utf-8') as file:
+                return file.read()
+        except OSError:
+            return None
+
+    def packages(self):
+        folder = self.host + '/packages'
+        return sorted(os.listdir(folder)) if os.path.isdir(folder) else []
+
+def meta(url, key='k0', names=('Web',), settings='ConfigurationMode="ApplyAndAutoCorrect";', partials=(), reports=True):
+    names = ','.join('"%s"' % name for name in names)
+    text = 'instance of MSFT_DSCMetaConfiguration{RefreshMode="Pull";%s};' % settings
+    text += 'instance of MSFT_WebDownloadManager{ServerURL="%s";RegistrationKey="%s";ConfigurationNames={%s};};' % (url, key, names)
+    if reports:
+        text += 'instance of MSFT_WebReportManager{ServerURL="%s";};' % url
+    for name, depends in partials:
+        depends = ','.join('"[PartialConfiguration]%s"' % it for it in depends)
+        text += 'instance of MSFT_PartialConfiguration{ResourceID="[PartialConfiguration]%s";DependsOn={%s};};' % (name, depends)
+    return text
+
+# A node with an agent and this meta-configuration.
+def new_node(text):
+    node = Node()
+    check('init', node.does('init', AGENT), ('ok\n', 0))
+    check('meta', node.does('meta', text=text), ('ok\n', 0))
+    return node
+
+def variable(name, value, more=''):
+    return 'instance of MSFT_EnvironmentResource{ResourceID="[Environment]%s";Name="%s";Value="%s";%s};' % (name, name, value, more)
+
+def said_no(*names):
+    return ''.join('test "[Environment]%s" no\nset "[Environment]%s" done\ntest "[Environment]%s" yes\n' % (it, it, it) for it in names)
+
+def said_yes(*names):
+    return ''.join('test "[Environment]%s" yes\n' % it for it in names)
+
+def ends(count, end, job):
+    return 'resources %d succeeded %d\ncompliant\nend %s\nreport %d sent\n' % (count, count, end, job)
+
+# ---- two programs
+
+def two_programs():
+    server = Server(3)
+    server.configure('Web', HEADER)
+    node = new_node(meta(server.url(), reports=False))
+    until = time.monotonic() + 60
+    while True:
+        got = node.does('register', 'a node')
+        if got[1] == 0 or time.monotonic() > until:
+            break
+    check('a registration', got, ('ok\n', 0))
+    check('a pull', node.does('pull'), ('resources 0 succeeded 0\ncompliant\nend promoted\n', 0))
+    check('the server', server.end(), ('1 answer 204\n2 answer 200\n3 answer 200\n', '', 0))
+
+# ---- the life of a node
+
+def a_life():
+    server = Server()
+    relay = Relay(server)
+    server.configure('Web', variable('A', '1') + variable('B', '2') + HEADER)
+    node = new_node(meta(relay.url(), key='k1'))
+    check('a pull of a node that is not registered', node.does('pull'), ('refused NotAllowed NotRegistered\n', 7))
+    check('a wrong key', node.does('register', 'n'), ('refused PeerRefused Status 401\n', 6))
+    check('a pull after it', node.does('pull'), ('refused NotAllowed NotRegistered\n', 7))
+    check('the right key', node.does('meta', text=meta(relay.url())), ('ok\n', 0))
+    check('a name in any script', node.does('register', 'zürich "ß" ☂'), ('ok\n', 0))
+    relay.asked()
+    fetch = "GET NODE/Configurations(ConfigurationName='Web')/ConfigurationContent"
+    check('the first pull', node.does('pull'), (said_no('A', 'B') + ends(2, 'promoted', 1), 0))
+    check('what it asked', relay.asked(), ['POST NODE/GetDscAction', fetch, 'POST NODE/SendReport'])
+    check('the machine', (node.variable('A'), node.variable('B')), ('1', '2'))
+    node.variable('A', 'drift')
+    check('drift is put right', node.does('consistency'), (said_no('A') + said_yes('B') + ends(2, 'noted', 2), 0))
+    check('what it sent', relay.asked(), ['POST NODE/SendReport'])
+    check('the machine again', node.variable('A'), '1')
+    check('a pull of what is there', node.does('pull'), (said_yes('A', 'B') + ends(2, 'noted', 3), 0))
+    check('nothing was fetched', relay.asked(), ['POST NODE/GetDscAction', 'POST NODE/SendReport'])
+    server.configure('Web', variable('A', '3') + HEADER)
+    check('a content that changed', node.does('pull'), (said_no('A') + ends(1, 'promoted', 4), 0))
+    check('it was fetched', relay.asked(), ['POST NODE/GetDscAction', fetch, 'POST NODE/SendReport'])
+    text = node.does('get')[0]
+    check('Current and Previous', [line.split(' ')[0] for line in text.splitlines() if '"Web" ' in line], ['current', 'previous'])
+    os.remove(server.shelf + '/configurations/Web.mof')
+    check('a content that is gone', node.does('pull'), ('refused PeerRefused Retry "Web"\n', 6))
+    server.configure('Web', 'instance of A { X = ')
+    check('a content that is no text of the grammar', node.does('pull'), ('refused PeerRefused Document Part 0 Syntax 20\n', 6))
+    check('the node after them', node.does('get')[0], text)
+    lines = server.kill()
+    reports = ''.join('report %d Success %d 0 sent\n' % (job, total) for job, total in ((1, 2), (2, 2), (3, 2), (4, 1)))
+    check('the reports of the node', node.does('reports'), (reports, 0))
+    check('the reports of the server', server.jobs(), [1, 2, 3, 4])
+    check('its first lines', lines[:3], ['1 answer 401', '2 answer 204', '3 answer 200'])
+    check('a server that is gone', node.does('pull'), ('refused LinkFault\n', 4))
+    got = node.does('consistency')
+    check('a report that is not sent', got, (said_yes('A') + 'resources 1 succeeded 1\ncompliant\nend noted\nreport 5 not sent\n', 0))
+    server.start()
+    got = node.does('consistency')
+    check('it is sent later', got, (said_yes('A') + ends(1, 'noted', 5) + 'report 6 sent\n', 0))
+    server.kill()
+    check('all reports', server.jobs(), [1, 2, 3, 4, 5, 6])
+
+def partials():
+    server = Server()
+    relay = Relay(server)
+    server.configure('Base', variable('A', '1') + HEADER)
+    server.configure('App', variable('B', '2', 'DependsOn="[Environment]A";') + HEADER)
+    node = new_node(meta(relay.url(), names=(), partials=(('App', ('Base',)), ('Base', ()))))
+    check('a registration of partials', node.does('register', 'n'), ('ok\n', 0))
+    relay.asked()
+    check('a pull of partials', node.does('pull'), (said_no('A', 'B') + ends(2, 'promoted', 1), 0))
+    fetch = "GET NODE/Configurations(ConfigurationName='%s')/ConfigurationContent"
+    check('both were fetched', relay.asked(), ['POST NODE/GetDscAction', fetch % 'Base', fetch % 'App', 'POST NODE/SendReport'])
+    server.configure('App', variable('B', '3') + HEADER)
+    check('one changes', node.does('pull'), (said_yes('A') + said_no('B') + ends(2, 'promoted', 2), 0))
+    check('it alone was fetched', relay.asked(), ['POST NODE/GetDscAction', fetch % 'App', 'POST NODE/SendReport'])
+    check('a push of a whole document', node.does('push', text=HEADER), ('refused NotAllowed PartsDeclared\n', 7))
+    server.configure('App', variable('a', '3').replace('Name="a"', 'Name="Z"') + HEADER)
+    check('two parts with one id', node.does('pull'), ('refused PeerRefused Document DuplicateId 0.0 1.0\n', 6))
+    server.kill()
+
+# A part that is held is found under its name in any case, and keeps its own spelling.
+def a_name_in_another_case():
+    server = Server()
+    relay = Relay(server)
+    server.configure('Base', variable('A', '1') + HEADER)
+    server.configure('BASE', variable('A', '1') + HEADER)
+    node = new_node(meta(relay.url(), names=(), partials=(('Base', ()),)))
+    check('a registration of a partial', node.does('register', 'n'), ('ok\n', 0))
+    check('its pull', node.does('pull'), (said_no('A') + ends(1, 'promoted', 1), 0))
+    check('its name in capitals', node.does('meta', text=meta(relay.url(), names=(), partials=(('BASE', ()),))), ('ok\n', 0))
+    check('a registration under it', node.does('register', 'n'), ('ok\n', 0))
+    relay.asked()
+    check('a pull under it', node.does('pull'), (said_yes('A') + ends(1, 'noted', 2), 0))
+    check('nothing was fetched under it', relay.asked(), ['POST NODE/GetDscAction', 'POST NODE/SendReport'])
+    check('the spelling that is kept', [line for line in node.does('get')[0].splitlines() if '"Base" ' in line][:1] != [], True)
+    server.kill()
+
+# The body of an answer to a query is read up to 131,072 bytes, and a longer one costs no more memory than its bytes.
+def a_flood():
+    server = Server()
+    relay = Relay(server)
+    server.configure('Web', variable('A', '1') + HEADER)
+    node = new_node(meta(relay.url(), reports=False))
+    check('a registration before a flood', node.does('register', 'n'), ('ok\n', 0))
+
+    def pull_of(body):
+        relay.instead = b'HTTP/1.1 200 OK\r\nProtocolVersion: 2.0\r\nContent-Type: application/json\r\nContent-Length: %d\r\n\r\n' % len(body) + body
+        process = node.start('pull')
+        out = process.stdout.read().decode()
+        _, status, usage = os.wait4(process.pid, 0)
+        process.returncode = os.waitstatus_to_exitcode(status)
+        return out, process.returncode, usage.ru_maxrss
+
+    def answer_of(size):
+        front, end = b'{"NodeStatus":"RETRY","Details":[],"more":[', b'1]}'
+        return front + b'1,' * ((size - len(front) - len(end)) // 2) + b' ' * ((size - len(front) - len(end)) % 2) + end
+
+    check('an answer of 131,072 bytes', pull_of(answer_of(131_072))[:2], ('refused PeerRefused Retry "Web"\n', 6))
+    check('an answer of 131,073 bytes', pull_of(answer_of(131_073))[:2], ('refused PeerRefused TooLong\n', 6))
+    out, status, most = pull_of(answer_of(20_000_000))
+    check('an answer of 20 MB', (out, status), ('refused PeerRefused TooLong\n', 6))
+    check('its memory in KB: %d' % most, most < 120_000, True)
+    relay.instead = None
+    check('a pull after a flood', node.does('pull')[1], 0)
+    server.kill()
+
+def packages():
+    server = Server()
+    relay = Relay(server)
+    package = ''.join(chr(33 + at % 90) for at in range(100000))
+    server.put('modules/xWeb_1.0.zip', package)
+    named = 'ModuleName="xWeb";ModuleVersion="%s";'
+    server.configure('Web', variable('A', '1', named % '1.0') + variable('B', '1', named % '1.0') + HEADER)
+    node = new_node(meta(relay.url(), reports=False))
+    check('a registration', node.does('register', 'n'), ('ok\n', 0))
+    relay.asked()
+    done = 'resources 2 succeeded 2\ncompliant\nend %s\n'
+    fetch = "GET NODE/Configurations(ConfigurationName='Web')/ConfigurationContent"
+    module = "GET Modules(ModuleName='xWeb',ModuleVersion='%s')/ModuleContent"
+    check('a pull with a package', node.does('pull'), (said_no('A', 'B') + done % 'promoted', 0))
+    check('it was fetched once', relay.asked(), ['POST NODE/GetDscAction', fetch, module % '1.0'])
+    kept = node.packages()
+    check('one package is kept', len(kept), 1)
+    with open('%s/packages/%s' % (node.host, kept[0]), encoding='utf-8') as file:
+        check('as it was sent', file.read() == package, True)
+    server.configure('Web', variable('A', '2', named % '1.0') + HEADER)
+    check('a pull with the same package', node.does('pull')[1], 0)
+    check('it was not fetched again', relay.asked(), ['POST NODE/GetDscAction', fetch])
+    server.configure('Web', variable('A', '3', named % '1.1') + HEADER)
+    check('a package that is not there', node.does('pull'), ('refused PeerRefused Status 404\n', 6))
+    check('nothing was applied', (node.variable('A'), node.packages()), ('2', kept))
+    relay.asked()
+    server.put('modules/xWeb_1.1.zip', 'next')
+    check('once it is there', node.does('pull')[1], 0)
+    check('it was fetched', relay.asked(), ['POST NODE/GetDscAction', fetch, module % '1.1'])
+    check('both are kept', len(node.packages()), 2)
+    server.kill()
+
+# ---- sizes: whatever they are, no pull is short of memory
+
+def of_count(count):
+    return ''.join(variable('V%d' % it, '%d of %d' % (it, count)) for it in range(count)) + HEADER
+
+def sizes():
+    server = Server()
+    name = 'ä' * 125 + 'x'  # with .mof, the longest name of a file
+    server.configure(name, HEADER)
+    node = new_node(meta(server.url(), names=(name,), reports=False))
+    check('a registration under the longest name', node.does('register', 'n' * 255), ('ok\n', 0))
+    for count in (0, 1, 2, 3, 7, 12, 40, 300, 4096):
+        server.configure(name, of_count(count))
+        out, status = node.does('pull')
+        check('%d resources' % count, (status, out.splitlines()[-3:]), (0, ['resources %d succeeded %d' % (count, count), 'compliant', 'end promoted']))
+    filling = HEADER + '//'
+    server.configure(name, filling + 'x' * (2097152 - len(filling)))
+    check('the longest content', node.does('pull'), ('resources 0 succeeded 0\ncompliant\nend promoted\n', 0))
+    server.configure(name, filling + 'x' * (2097153 - len(filling)))
+    check('a byte more', node.does('pull'), ('refused PeerRefused TooLong\n', 6))
+    modules = ['m%d' % it * 50 for it in range(40)]
+    for it in modules:
+        server.put('modules/%s_1.zip' % it, it)
+    named = ''.join(variable('W%d' % at, it, 'ModuleName="%s";ModuleVersion="1";' % it) for at, it in enumerate(modules))
+    server.configure(name, named + HEADER)
+    check('forty packages', (node.does('pull')[1], len(node.packages())), (0, 40))
+    server.put('modules/empty_1.zip', '')
+    server.configure(name, variable('W', '1', 'ModuleName="empty";ModuleVersion="1";') + HEADER)
+    check('an empty package', (node.does('pull')[1], len(node.packages())), (0, 41))
+    for count in range(1, 9):
+        names = ['p%d' % it for it in range(count)]
+        for it in names:
+            server.configure(it, variable(it, str(count)) + HEADER)
+        parts = new_node(meta(server.url(), names=(), partials=[(it, names[:at]) for at, it in enumerate(names)], reports=False))
+        check('a registration of %d partials' % count, parts.does('register', 'n'), ('ok\n', 0))
+        check('%d partials' % count, parts.does('pull'), (said_no(*names) + 'resources %d succeeded %d\ncompliant\nend promoted\n' % (count, count), 0))
+    server.kill()
+
+# ---- answers that are cut
+
+def cut_answers():
+    server = Server()
+    relay = Relay(server)
+    server.configure('Web', variable('A', '1') + HEADER)
+    node = new_node(meta(relay.url()))
+    relay.cut = 30
+    check('a registration whose answer is cut', node.does('register', 'n'), ('refused PeerRefused Frame Torn 30\n', 6))
+    check('it is not kept', 'registered no\n' in node.does('get')[0], True)
+    relay.cut = None
+    check('the registration again', node.does('register', 'n'), ('ok\n', 0))
+    before = node.does('get')
+    for cut in (0, 1, 17, 60, 150):
+        relay.cut = cut
+        check('an answer of %d bytes' % cut, node.does('pull'), ('refused PeerRefused Frame Torn %d\n' % cut, 6))
+    relay.reset = True
+    check('a connection that is reset', node.does('pull'), ('refused LinkFault\n', 4))
+    check('the node after them', node.does('get'), before)
+    relay.cut, relay.reset = None, False
+    check('a whole pull', node.does('pull'), (said_no('A') + ends(1, 'promoted', 1), 0))
+    relay.cut = 10
+    got = node.does('consistency')
+    check('a report whose answer is cut', got, (said_yes('A') + 'resources 1 succeeded 1\ncompliant\nend noted\nreport 2 not sent\n', 0))
+    relay.cut = None
+    check('it is sent again', node.does('consistency'), (said_yes('A') + ends(1, 'noted', 2) + 'report 3 sent\n', 0))
+    server.kill()
+    check('the server has it twice', server.jobs(), [1, 2, 2, 3])
+    server = Server()
+    https = new_node(meta(server.url().replace('http://', 'https://')))
+    check('a server of https', https.does('register', 'n'), ('refused PeerRefused NotServed\n', 6))
+    check('it was not reached', [line for line in server.kill() if line], [])
+
+# ---- kills
+
+FILES = 120
+
+def files(prefix):
+    text = ''
+    for k in range(FILES):
+        text += 'instance of MSFT_FileDirectoryConfiguration{ResourceID="[File]F%d";DestinationPath="/srv/d%d/f%d.conf";Contents="%s %d";};\n' % (k, k % 10, k, prefix, k)
+    return text + HEADER
+
+def files_are(node, prefix):
+    for k in range(FILES):
+        try:
+            with open('%s/root/srv/d%d/f%d.conf' % (node.host, k % 10, k), encoding='utf-8') as file:
+                if file.read() != '%s %d' % (prefix, k):
+                    return 'file %d' % k
+        except OSError as error:
+            return str(error)
+    return 'right'
+
+def current(node):
+    return [line.split(' ')[-1] for line in node.does('get')[0].splitlines() if line.startswith('current')]
+
+# A third of the kills come in the first moments, while the server is asked and the document is stored; the others once a share of the
+# files is there, so that the work on this machine beside the check does not move them.
+def wait_for_kill(number, process, node, prefix):
+    early = KILLS // 3
+    if number < early:
+        time.sleep(0.001 * number)
+        return
+    k = (FILES - 1) * (number - early) // max(1, KILLS - early)
+    path = '%s/root/srv/d%d/f%d.conf' % (node.host, k % 10, k)
+    while process.poll() is None:
+        try:
+            with open(path, encoding='utf-8') as file:
+                if file.read().startswith(prefix + ' '):
+                    return
+        except OSError:
+            pass
+
+def killed_nodes():
+    server = Server()
+    server.configure('Web', files('begin'))
+    node = new_node(meta(server.url(), settings='ConfigurationMode="ApplyAndMonitor";', reports=False))
+    check('a registration', node.does('register', 'n'), ('ok\n', 0))
+    check('a pull of %d files' % FILES, (node.does('pull')[1], files_are(node, 'begin')), (0, 'right'))
+    reached = 0
+    for number in range(KILLS):
+        prefix = 'text%d' % number
+        text = files(prefix)
+        server.configure('Web', text)
+        process = node.start('pull')
+        wait_for_kill(number, process, node, prefix)
+        process.kill()
+        process.communicate()
+        reached += process.returncode == -signal.SIGKILL
+        got = node.does('pull')
+        check('the pull after kill %d' % number, (got[1], got[0].splitlines()[-1:] in (['end promoted'], ['end noted'])), (0, True))
+        check('its files', files_are(node, prefix), 'right')
+        check('its Current', current(node), [digest(text)])
+    check('%d of %d pulls were killed' % (reached, KILLS), reached >= KILLS * 2 // 3, True)
+    server.kill()
+
+# Kills the server some time after the process began, and starts it again.
+def killed_after(server, wait):
+    time.sleep(wait)
+    server.kill()
+    server.start()
+
+def killed_registrations():
+    server = Server()
+    server.configure('Web', HEADER)
+    node = new_node(meta(server.url(), reports=False))
+    begun = time.monotonic()
+    check('a registration', node.does('register', 'n'), ('ok\n', 0))
+    took = time.monotonic() - begun
+    refused = 0
+    for number in range(KILLS):
+        server.kill()
+        os.remove(server.store)
+        server.start()
+        node = new_node(meta(server.url(), reports=False))
+        process = node.start('register', 'n')
+        killed_after(server, 1.2 * took * number / KILLS)
+        got = node.ended(process)
+        refused += got[1] != 0
+        check('register over kill %d' % number, got == ('ok\n', 0) or got[1] in (4, 6), True)
+        if got[1] != 0:
+            check('the registration after kill %d' % number, node.does('register', 'n'), ('ok\n', 0))
+        check('the pull after kill %d' % number, node.does('pull'), ('resources 0 succeeded 0\ncompliant\nend promoted\n', 0))
+    check('%d of %d registrations were cut short, and not all' % (refused, KILLS), 0 < refused < KILLS, True)
+    server.kill()
+
+def killed_reports():
+    server = Server()
+    server.configure('Web', variable('A', '1') + HEADER)
+    node = new_node(meta(server.url()))
+    check('a registration', node.does('register', 'n'), ('ok\n', 0))
+    begun = time.monotonic()
+    check('a pull', node.does('pull'), (said_no('A') + ends(1, 'promoted', 1), 0))
+    took = time.monotonic() - begun
+    unsent, jobs = 0, 1
+    for number in range(KILLS):
+        # a node keeps its newest 16 reports, so those that wait are sent before so many are there, however slow the machine is
+        if number % 8 == 7:
+            check('a start between kills', node.does('consistency')[0].splitlines()[-1:], ['report %d sent' % (jobs + 1)])
+            jobs += 1
+        process = node.start('consistency')
+        killed_after(server, took * number / KILLS)
+        out, status = node.ended(process)
+        jobs += 1
+        told = [line for line in out.splitlines() if line.startswith('report ')]
+        unsent += told[-1:] != ['report %d sent' % jobs]
+        check('consistency over kill %d' % number, (status, bool(told)), (0, True))
+        acknowledged = {int(line.split(' ')[1]) for line in told if line.endswith(' sent') and not line.endswith('not sent')}
+        check('after kill %d: what was sent is kept' % number, acknowledged - set(server.jobs()), set())
+    out, status = node.does('consistency')
+    jobs += 1
+    check('the next start sends the rest', (status, out.splitlines()[-1]), (0, 'report %d sent' % jobs))
+    check('every report is there', sorted(set(server.jobs())), list(range(1, jobs + 1)))
+    check('all reports of the node are sent', 'unsent' in node.does('reports')[0], False)
+    check('%d of %d reports were not sent at once, and not all' % (unsent, KILLS), 0 < unsent < KILLS, True)
+    server.kill()
+
+for part in (two_programs, a_life, partials, a_name_in_another_case, a_flood, packages, sizes, cut_answers, killed_nodes, killed_registrations, killed_reports):
+    begun = time.monotonic()
+    try:
+        part()
+    except Exception as error:
+        check(part.__name__, '%s: %s' % (type(error).__name__, error), 'its end')
+    if os.environ.get('TIMES'):
+        print(part.__name__, '%.1f s' % (time.monotonic() - begun), flush=True)
+shutil.rmtree(scratch, ignore_errors=True)
+print('%d passed, %d failed' % (passed, failed))
+sys.exit(1 if failed or not passed else 0)

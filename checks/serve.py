@@ -1,0 +1,526 @@
+"""The pull server with real clients, for checks/serve, which says what is run. The argument is the program."""
+import base64, hashlib, hmac, json, os, random, shutil, signal, socket, struct, subprocess, sys, tempfile, threading, time
+
+program = sys.argv[1]
+passed = failed = 0
+counting = threading.Lock()
+scratch = tempfile.mkdtemp()
+LONGEST = 62914560
+
+def check(name, got, wanted):
+    global passed, failed
+    with counting:
+        if got == wanted:
+            passed += 1
+            return
+        failed += 1
+        print('FAILED', name, 'got', repr(got)[:600], 'wanted', repr(wanted)[:600], flush=True)
+
+# ---- what the protocol says
+
+PHRASES = {200: 'OK', 204: 'No Content', 400: 'Bad Request', 401: 'Unauthorized', 404: 'Not Found', 405: 'Method Not Allowed',
+           411: 'Length Required', 413: 'Payload Too Large', 500: 'Internal Server Error', 501: 'Not Implemented'}
+DATE = b'2026-01-02T03:04:05.0000000Z'
+
+def answer(code, body=b'', headers=()):
+    lines = ['HTTP/1.1 %d %s' % (code, PHRASES[code]), 'Connection: close', 'ProtocolVersion: 2.0', *headers]
+    if code != 204:
+        lines.append('Content-Length: %d' % len(body))
+    return '\r\n'.join(lines + ['', '']).encode() + body
+
+def content(body):
+    digest = hashlib.sha256(body).hexdigest().upper()
+    return answer(200, body, ('Content-Type: application/octet-stream', 'Checksum: ' + digest, 'ChecksumAlgorithm: SHA-256'))
+
+# The answer to a query, in its compact text with members in the order of their names.
+def statuses(node, *details):
+    details = ','.join('{"ConfigurationName":%s,"Status":"%s"}' % (json.dumps(name, ensure_ascii=False), status) for name, status in details)
+    body = '{"Details":[%s],"NodeStatus":"%s"}' % (details, node)
+    return answer(200, body.encode(), ('Content-Type: application/json',))
+
+def request(method, target, body=None, headers=()):
+    lines = ['%s /PSDSCPullServer.svc/%s HTTP/1.1' % (method, target), 'Host: s', 'ProtocolVersion: 2.0', *headers]
+    if body is not None:
+        lines.append('Content-Length: %d' % len(body))
+    return '\r\n'.join(lines + ['', '']).encode() + (body or b'')
+
+def agent(number):
+    return '00000000-0000-0000-0000-%012x' % number
+
+def node(number, rest=''):
+    return "Nodes(AgentId='%s')%s" % (agent(number), rest)
+
+def fetch(number, name):
+    return request('GET', node(number, "/Configurations(ConfigurationName='%s')/ConfigurationContent" % name))
+
+def module(name, version):
+    return request('GET', "Modules(ModuleName='%s',ModuleVersion='%s')/ModuleContent" % (name, version))
+
+def registration(names):
+    return json.dumps({'AgentInformation': {'LCMVersion': '2.0', 'NodeName': 'n', 'IPAddress': '::1'}, 'ConfigurationNames': names,
+                       'RegistrationInformation': {'RegistrationMessageType': 'ConfigurationRepository'}}).encode()
+
+def signature(key, body, date=DATE):
+    text = base64.b64encode(hashlib.sha256(body).digest()) + b'\n' + date
+    return base64.b64encode(hmac.new(key, text, hashlib.sha256).digest()).decode()
+
+def register(number, names=('Web',), key=b'k0', body=None):
+    body = registration(list(names)) if body is None else body
+    signed = ('x-ms-date: ' + DATE.decode(), 'Authorization: Shared ' + signature(key, body))
+    return request('PUT', node(number), body, signed)
+
+def query(number, *clients):
+    clients = [{'Checksum': sum_, 'ConfigurationName': name, 'ChecksumAlgorithm': 'SHA-256'} for name, sum_ in clients]
+    return request('POST', node(number, '/GetDscAction'), json.dumps({'ClientStatus': clients}).encode())
+
+def in_chunks(target, body, size):
+    pieces = [body[at:at + size] for at in range(0, len(body), size)]
+    framed = b''.join(b'%04x;a=b\r\n%s\r\n' % (len(piece), piece) for piece in pieces)
+    return request('POST', target, headers=('Transfer-Encoding: Chunked',)) + framed + b'0\r\nTrailer: t\r\n\r\n'
+
+def report(number, job, pad=0):
+    body = json.dumps({'JobId': agent(job), 'OperationType': 'Consistency', 'Status': 'Success', 'Errors': []}) + ' ' * pad
+    return request('POST', node(number, '/SendReport'), body.encode())
+
+# The events of a store: its first bytes, then cells, each an open gate, a length and a body, then a closed gate.
+def events(path):
+    with open(path, 'rb') as file:
+        store = file.read()
+    if store[:8] != b'DSCSTOR1':
+        return 'no store'
+    found, at = [], 8
+    while store[at:at + 1] == b'\xa5':
+        size = int.from_bytes(store[at + 1:at + 5], 'big')
+        found.append(store[at + 5:at + 5 + size])
+        at += 5 + size
+    return found if at < len(store) else 'no closed gate'
+
+def row(number, names=('Web',)):
+    texts = b''.join(len(text).to_bytes(2, 'big') + text for text in (b'2.0', b'n', b'::1'))
+    names = [name.encode() for name in names]
+    return b'\1' + bytes(12) + number.to_bytes(4, 'big') + texts + bytes([len(names)]) + b''.join(len(name).to_bytes(2, 'big') + name for name in names)
+
+def kept_report(number, job, pad=0):
+    return b'\2' + bytes(12) + number.to_bytes(4, 'big') + bytes(12) + job.to_bytes(4, 'big') + report(number, job, pad).split(b'\r\n\r\n', 1)[1]
+
+# ---- a server and its clients
+
+def free_port(family=socket.AF_INET, host='127.0.0.1'):
+    with socket.socket(family) as probe:
+        probe.bind((host, 0))
+        return probe.getsockname()[1]
+
+def listens(port):
+    for table in ('/proc/net/tcp', '/proc/net/tcp6'):
+        if os.path.exists(table):
+            with open(table) as lines:
+                for line in lines:
+                    fields = line.split()
+                    if fields[1].endswith(':%04X' % port) and fields[3] == '0A':
+                        return True
+    return False
+
+class Server:
+    def __init__(self, connections, folder=None, host='127.0.0.1', listen=None, port=None):
+        self.folder = folder or tempfile.mkdtemp(dir=scratch)
+        self.store, self.shelf = self.folder + '/store', self.folder + '/shelf'
+        self.host, self.port = host, port or free_port()
+        if not os.path.isdir(self.shelf):
+            os.makedirs(self.shelf + '/configurations')
+            os.makedirs(self.shelf + '/modules')
+            self.put('keys', b'k0\n')
+            self.put('configurations/Web.mof', b'abc')
+        self.process = run(self.store, self.shelf, listen or '%s:%d' % (host, self.port), connections)
+        until = time.monotonic() + 60
+        while self.process.poll() is None and not listens(self.port) and time.monotonic() < until:
+            time.sleep(0.005)
+
+    def put(self, name, data):
+        with open(os.path.join(self.shelf, name), 'wb') as file:
+            file.write(data)
+
+    # In one step, as an administrator should.
+    def replace(self, name, data):
+        self.put('configurations/next', data)
+        os.rename(self.shelf + '/configurations/next', os.path.join(self.shelf, name))
+
+    def connect(self, wait=120):
+        conn = socket.create_connection((self.host, self.port), wait)
+        conn.setsockopt(socket.IPPROTO_TCP, socket.TCP_NODELAY, 1)
+        return conn
+
+    def ask(self, sent):
+        with self.connect() as conn:
+            conn.sendall(sent)
+            return all_of(conn)
+
+    # Its lines and its status, once it has served as many connections as it was to.
+    def end(self):
+        try:
+            out, errors = self.process.communicate(timeout=60)
+        except subprocess.TimeoutExpired:
+            self.process.kill()
+            return 'no end'
+        return out.decode(), errors.decode(), self.process.returncode
+
+    def kill(self):
+        self.process.send_signal(signal.SIGKILL)
+        self.process.communicate()
+
+def run(store, shelf, listen, connections, **where):
+    words = [program, '--store', store, '--shelf', shelf, '--listen', listen, '--connections', str(connections)]
+    return subprocess.Popen(words, stdin=subprocess.DEVNULL, **(where or {'stdout': subprocess.PIPE, 'stderr': subprocess.PIPE}))
+
+# The bytes up to the orderly end of the connection; else how it ended.
+def all_of(conn, rate=None):
+    got, begun = b'', time.monotonic()
+    pieces = []
+    count = 0
+    try:
+        for piece in iter(lambda: conn.recv(1 << 16), b''):
+            pieces.append(piece)
+            count += len(piece)
+            if rate:
+                time.sleep(max(0, count / rate - (time.monotonic() - begun)))
+    except OSError as error:
+        return '%d bytes, then %s' % (count, error)
+    return b''.join(pieces)
+
+def lines(*ends):
+    return ''.join('%d %s\n' % (number, end) for number, end in enumerate(ends, 1)), '', 0
+
+def served(*codes):
+    return lines(*('answer %d' % code for code in codes))
+
+# One server for these requests, one connection each, with what each must be answered.
+def expect(name, *rows, server=None):
+    server = server or Server(len(rows))
+    for number, (sent, wanted) in enumerate(rows, 1):
+        check('%s, request %d' % (name, number), server.ask(sent), wanted)
+    check(name + ', the lines', server.end(), served(*(int(wanted.split(b' ', 2)[1]) for _, wanted in rows)))
+    return server
+
+# ---- a node
+
+def a_node():
+    package = bytes(range(256)) * 30
+    server = Server(22)
+    server.put('keys', b'k0\r\n\r\n\n a key \nlast\r')
+    server.put('configurations/App.mof', 'é'.encode())
+    server.put('modules/xWeb_1.0.zip', package)
+    app_sum = hashlib.sha256('é'.encode()).hexdigest()
+    web_sum = 'BA7816BF8F01CFEA414140DE5DAE2223B00361A396177A9CB410FF61F20015AD'
+    unsigned = request('PUT', node(1), registration(['Web']))
+    expect('a node',
+        (fetch(1, 'Web'), answer(404)),
+        (register(1, key=b'k1'), answer(401)),
+        (register(1, key=b''), answer(401)),
+        (unsigned, answer(401)),
+        (fetch(1, 'Web'), answer(404)),
+        (register(1), answer(204)),
+        (register(1, ('Web', 'App'), key=b' a key '), answer(204)),
+        (register(2, ('Web',), key=b'last\r'), answer(204)),
+        (query(1, ('Web', '')), statuses('GetConfiguration', ('Web', 'GetConfiguration'))),
+        (query(1, ('Web', web_sum), ('App', app_sum)), statuses('Ok', ('Web', 'Ok'), ('App', 'Ok'))),
+        (query(1, ('Other', '')), statuses('RETRY', ('Other', 'RETRY'))),
+        (query(1), statuses('GetConfiguration', ('Web', 'GetConfiguration'), ('App', 'GetConfiguration'))),
+        (in_chunks(node(1, '/GetDscAction'), b'{"ClientStatus":[{"ConfigurationName":"Web"}]}', 7), statuses('GetConfiguration', ('Web', 'GetConfiguration'))),
+        (request('POST', node(1, '/GetDscAction'), b'{'), answer(400, b'json')),
+        (fetch(1, 'Web'), content(b'abc')),
+        (fetch(1, 'App'), content('é'.encode())),
+        (fetch(2, 'App'), answer(404)),
+        (module('xWeb', '1.0'), content(package)),
+        (module('xWeb', '1.1'), answer(404)),
+        (report(1, 7), answer(200)),
+        (report(3, 7), answer(404)),
+        (b'DELETE /PSDSCPullServer.svc/' + node(1).encode() + b' HTTP/1.1\r\n\r\n', answer(501)),
+        server=server)
+    check('the store of a node', events(server.store), [row(1), row(1, ('Web', 'App')), row(2), kept_report(1, 7)])
+    server = expect('the same node after a restart',
+        (fetch(1, 'Web'), content(b'abc')),
+        (report(1, 8), answer(200)),
+        server=Server(2, server.folder))
+    check('the store after a restart', events(server.store), [row(1), row(1, ('Web', 'App')), row(2), kept_report(1, 7), kept_report(1, 8)])
+
+def frames():
+    large = report(1, 9, 10000 - len(report(1, 9)) - 1)
+    server = Server(9)
+    check('a registration', server.ask(register(1)), answer(204))
+    with server.connect() as conn:
+        for at in range(len(large)):
+            conn.sendall(large[at:at + 1])
+        check('a request that comes byte by byte', (len(large), all_of(conn)), (10000, answer(200)))
+    check('two requests on a connection', server.ask(fetch(1, 'Web') * 2), content(b'abc'))
+    rubbish = b'A' * 16000000
+    for name, sent, wanted in (('16 MB of one word', rubbish, answer(400, b'head')),
+                               ('16 MB that no request begins with', b'\0' * 16000000, answer(400, b'head')),
+                               ('a body of 16 MB', request('POST', node(1, '/SendReport'), rubbish), answer(413))):
+        check(name, server.ask(sent), wanted)
+    with server.connect() as conn:
+        conn.sendall(fetch(1, 'Web')[:30])
+        conn.shutdown(socket.SHUT_WR)
+        check('a request that is cut', all_of(conn), b'')
+    with server.connect():
+        pass
+    with server.connect() as conn:
+        conn.sendall(fetch(1, 'Web')[:30])
+        conn.setsockopt(socket.SOL_SOCKET, socket.SO_LINGER, struct.pack('ii', 1, 0))
+    check('frames, the lines', server.end(), lines('answer 204', 'answer 200', 'answer 200', 'answer 400', 'answer 400', 'answer 413', 'torn 30', 'torn 0', 'read fault'))
+    check('frames, the store', events(server.store), [row(1), b'\2' + bytes(12) + (1).to_bytes(4, 'big') + bytes(12) + (9).to_bytes(4, 'big') + large.split(b'\r\n\r\n', 1)[1]])
+
+def a_shelf():
+    full, names = bytes(LONGEST), ['Full', 'Over', 'Pipe', 'Folder', 'Link', '.hidden', 'b\\\\c', 'n' * 255, 'Gone']
+    server = Server(12)
+    for name, size in (('Full', LONGEST), ('Over', LONGEST + 1)):
+        server.put('configurations/%s.mof' % name, b'')
+        os.truncate('%s/configurations/%s.mof' % (server.shelf, name), size)
+    os.mkfifo(server.shelf + '/configurations/Pipe.mof')
+    os.mkdir(server.shelf + '/configurations/Folder.mof')
+    os.symlink('Web.mof', server.shelf + '/configurations/Link.mof')
+    server.put('configurations/.hidden.mof', b'x')
+    server.put('secret.mof', b'x')
+    server.put('modules/m_.1.zip', b'x')
+    expect('a shelf',
+        (register(1, names[:6] + ['../secret'] + names[7:]), answer(204)),
+        (fetch(1, 'Full'), content(full)),
+        (fetch(1, 'Over'), answer(500)),
+        (fetch(1, 'Pipe'), answer(500)),
+        (fetch(1, 'Folder'), answer(500)),
+        (fetch(1, 'Link'), answer(500)),
+        (fetch(1, '.hidden'), answer(404)),
+        (fetch(1, '../secret'), answer(404)),
+        (fetch(1, 'n' * 255), answer(404)),
+        (fetch(1, 'Gone'), answer(404)),
+        (module('m', '.1'), answer(404)),
+        (query(1, ('Gone', '')), statuses('RETRY', ('Gone', 'RETRY'))),
+        server=server)
+    server = Server(3)
+    check('an agent', server.ask(register(1)), answer(204))
+    server.replace('configurations/Web.mof', b'next')
+    check('a content that took the place of another', server.ask(fetch(1, 'Web')), content(b'next'))
+    shutil.rmtree(server.shelf)
+    check('a shelf that is not there', server.ask(fetch(1, 'Web')), answer(404))
+    check('a shelf that went, the lines', server.end(), served(204, 200, 404))
+    server = Server(2)
+    os.remove(server.shelf + '/keys')
+    check('a shelf without keys', server.ask(register(1)), answer(401))
+    os.mkdir(server.shelf + '/keys')
+    check('a folder in the place of the keys', server.ask(register(1)), answer(500))
+    check('the keys, the lines', server.end(), served(401, 500))
+
+# A content counts as it stands there now, whatever was handed out before it.
+def contents_that_change():
+    def sum_of(data):
+        return hashlib.sha256(data).hexdigest()
+
+    many = bytes(range(256)) * 8192
+    texts = [b'abc', b'abd', b'abdc', b'ab', b'', b'abc', many, many[:-1] + b'x', many + b'y', many + b'z', b'z' + many, many[:-1] + b'x', b'abd']
+    server = Server(2 + 4 * len(texts) + 8)
+    check('contents that change, an agent', server.ask(register(1, ('Web', 'App'))), answer(204))
+    check('the first content', server.ask(fetch(1, 'Web')), content(b'abc'))
+    before = b'other'
+    for number, text in enumerate(texts):
+        server.replace('configurations/Web.mof', text)
+        name = 'content %d, of %d bytes, in the place of one of %d' % (number, len(text), len(before))
+        check(name + ', the checksum of the one before it', server.ask(query(1, ('Web', sum_of(before)))), statuses('GetConfiguration', ('Web', 'GetConfiguration')))
+        check(name, server.ask(fetch(1, 'Web')), content(text))
+        check(name + ', again', server.ask(fetch(1, 'Web')), content(text))
+        check(name + ', its checksum', server.ask(query(1, ('Web', sum_of(text)))), statuses('Ok', ('Web', 'Ok')))
+        before = text
+    server.put('configurations/App.mof', b'App')
+    server.put('modules/m_1.zip', b'zip')
+    for _ in range(2):
+        for name, sent, text in (('Web', fetch(1, 'Web'), b'abd'), ('App', fetch(1, 'App'), b'App'), ('m', module('m', '1'), b'zip')):
+            check(name + ', in turns', server.ask(sent), content(text))
+    check('two contents, their checksums', server.ask(query(1, ('Web', sum_of(b'abd')), ('App', sum_of(b'App')))), statuses('Ok', ('Web', 'Ok'), ('App', 'Ok')))
+    check('two contents, each the checksum of the other', server.ask(query(1, ('Web', sum_of(b'App')), ('App', sum_of(b'abd')))),
+          statuses('GetConfiguration', ('Web', 'GetConfiguration'), ('App', 'GetConfiguration')))
+    check('contents that change, the lines', server.end(), served(204, *[200] * (1 + 4 * len(texts) + 8)))
+
+# ---- clients that are slow, and others
+
+# A good client comes right after another one: how long it waits for its answer.
+def served_after(name, other, least, most, *ends):
+    server = Server(3)
+    server.put('configurations/Web.mof', bytes(16000000))
+    check(name + ', an agent', server.ask(register(1)), answer(204))
+    with server.connect() as conn:
+        stop = threading.Event()
+        thread = threading.Thread(target=other, args=(conn, stop), daemon=True)
+        thread.start()
+        time.sleep(0.2)
+        begun = time.monotonic()
+        got = server.ask(request('DELETE', node(1)))
+        took = time.monotonic() - begun
+        stop.set()
+    check(name + ', the answer after it', got, answer(501))
+    check('%s, the answer after it came after %.1f s' % (name, took), least <= took <= most, True)
+    check(name + ', the lines', server.end(), lines('answer 204', *ends, 'answer 501'))
+
+def silent(conn, stop):
+    stop.wait(100)
+
+def dripping(conn, stop):
+    try:
+        while not stop.wait(1):
+            conn.sendall(b'G')
+    except OSError:
+        pass
+
+def never_reading(conn, stop):
+    conn.sendall(fetch(1, 'Web'))
+    stop.wait(100)
+
+def never_closing(conn, stop):
+    conn.sendall(request('DELETE', node(1)))
+    stop.wait(100)
+
+def never_closing_when_done(conn, stop):
+    conn.sendall(report(1, 1))
+    stop.wait(100)
+
+def a_slow_reader():
+    server = Server(2)
+    whole = bytes(range(250)) * 160000
+    server.put('configurations/Web.mof', whole)
+    check('a slow reader, an agent', server.ask(register(1)), answer(204))
+    begun = time.monotonic()
+    with socket.socket() as conn:
+        conn.setsockopt(socket.SOL_SOCKET, socket.SO_RCVBUF, 1 << 16)
+        conn.settimeout(120)
+        conn.connect((server.host, server.port))
+        conn.sendall(fetch(1, 'Web'))
+        got = all_of(conn, 1000000)
+    check('a reader of a megabyte a second gets all', got == content(whole) and time.monotonic() - begun > 35, True)
+    check('a slow reader, the lines', server.end(), served(204, 200))
+
+def many_at_once():
+    server, got = Server(201), []
+    check('many at once, an agent', server.ask(register(1)), answer(204))
+    threads = [threading.Thread(target=lambda: got.append(server.ask(fetch(1, 'Web')))) for _ in range(200)]
+    for thread in threads:
+        thread.start()
+    for thread in threads:
+        thread.join(120)
+    check('200 connections at once', got, [content(b'abc')] * 200)
+    check('200 connections at once, the lines', server.end(), served(204, *[200] * 200))
+
+# ---- addresses, refusals and faults
+
+def addresses():
+    hosts = [('127.0.0.1', 'localhost:%d')]
+    try:
+        hosts.append(('::1', '[::1]:%d')) if free_port(socket.AF_INET6, '::1') else None
+    except OSError:
+        pass
+    for host, listen in hosts:
+        port = free_port()
+        server = Server(1, host=host, listen=listen % port, port=port)
+        expect('the address ' + listen, (fetch(1, 'Web'), answer(404)), server=server)
+
+def refusals():
+    def ends(name, wanted, process):
+        out, errors = process.communicate(timeout=60)
+        check(name, (out.decode(), errors.decode(), process.returncode), wanted)
+
+    server = Server(1)
+    folder = tempfile.mkdtemp(dir=scratch)
+    ends('a store in use', ('refused DiskFault\n', '', 4), run(server.store, server.shelf, '127.0.0.1:0', 1))
+    ends('a port in use', ('refused DoorFault\n', '', 4), run(folder + '/store', server.shelf, '127.0.0.1:%d' % server.port, 1))
+    check('a port in use, the store', events(folder + '/store'), [])
+    for listen in ('127.0.0.1:x', '127.0.0.1', '', 'no.such.name.invalid:1'):
+        ends('the address %r' % listen, ('refused DoorFault\n', '', 4), run(folder + '/store', server.shelf, listen, 1))
+    with open(folder + '/text', 'w') as file:
+        file.write('no store at all')
+    ends('a text in the place of a store', ('refused NotAStore 0\n', '', 5), run(folder + '/text', server.shelf, '127.0.0.1:0', 1))
+    for place in (folder, folder + '/none/store', ''):
+        ends('%r in the place of a store' % place, ('refused DiskFault\n', '', 4), run(place, server.shelf, '127.0.0.1:0', 1))
+    for count in ('0', '1000001', '-1', 'x', ''):
+        ends('%r connections' % count, ('refused Usage\n', '', 2), run(folder + '/new', server.shelf, '127.0.0.1:0', count))
+    check('a refusal of the words makes no store', os.path.exists(folder + '/new'), False)
+    check('the server in use goes on', server.ask(fetch(1, 'Web')), answer(404))
+    check('the server in use, the lines', server.end(), served(404))
+    ends('no words', ('refused Usage\n', '', 2), subprocess.Popen([program], stdout=subprocess.PIPE, stderr=subprocess.PIPE))
+    ends('a word that is no UTF-8', ('refused Usage\n', '', 2), subprocess.Popen([program.encode(), b'\xff'], stdout=subprocess.PIPE, stderr=subprocess.PIPE))
+
+def a_full_output():
+    port, folder = free_port(), tempfile.mkdtemp(dir=scratch)
+    with open('/dev/full', 'wb') as full:
+        process = run(folder + '/store', folder, '127.0.0.1:%d' % port, 2, stdout=full, stderr=subprocess.PIPE)
+    while not listens(port) and process.poll() is None:
+        time.sleep(0.005)
+    with socket.create_connection(('127.0.0.1', port), 60) as conn:
+        conn.sendall(fetch(1, 'Web'))
+        check('an answer before the output failed', all_of(conn), answer(404))
+    check('an output that is full', (process.communicate(timeout=60)[1], process.returncode), (b'', 4))
+
+# ---- a server that is killed
+
+def killed(number):
+    server, acknowledged, jobs = Server(1000000), [], 0
+    check('killed, an agent', server.ask(register(1)), answer(204))
+    timer = threading.Timer(random.uniform(0, 0.25), server.kill)
+    timer.start()
+    while True:
+        jobs += 1
+        try:
+            if server.ask(report(1, jobs)) != answer(200):
+                break
+        except OSError:
+            break
+        acknowledged.append(jobs)
+    timer.join()
+    server = Server(2, server.folder)
+    kept = events(server.store)
+    told = [row(1)] + [kept_report(1, job) for job in acknowledged]
+    check('after kill %d: each report that was acknowledged is kept, and at most one more' % number,
+          kept in (told, told + [kept_report(1, jobs)]), True)
+    check('after kill %d: the agent is there' % number, server.ask(fetch(1, 'Web')), content(b'abc'))
+    check('after kill %d: a further report' % number, server.ask(report(1, 1000000)), answer(200))
+    check('after kill %d: the lines' % number, server.end(), served(200, 200))
+    check('after kill %d: the store' % number, events(server.store), kept + [kept_report(1, 1000000)])
+
+def kills():
+    for number in range(1, int(os.environ.get('KILLS', '12')) + 1):
+        killed(number)
+
+def a_common_client():
+    if not shutil.which('curl'):
+        print('skipped: requests by curl, since it is missing', flush=True)
+        return
+    server = Server(3)
+    base = 'http://127.0.0.1:%d/PSDSCPullServer.svc/' % server.port
+    body = registration(['Web'])
+    def curl(target, *words):
+        return subprocess.run(['curl', '-s', '-g', '-i', *words, base + target], capture_output=True, timeout=60).stdout
+    check('curl registers', curl(node(1), '-X', 'PUT', '--data-binary', body.decode(), '-H', 'x-ms-date: ' + DATE.decode(),
+                                 '-H', 'Authorization: Shared ' + signature(b'k0', body)), answer(204))
+    check('curl fetches', curl(node(1, "/Configurations(ConfigurationName='Web')/ConfigurationContent")), content(b'abc'))
+    check('curl reports in chunks', curl(node(1, '/SendReport'), '-H', 'Transfer-Encoding: chunked', '--data-binary',
+                                         report(1, 5).split(b'\r\n\r\n', 1)[1].decode()), answer(200))
+    check('curl, the lines', server.end(), served(204, 200, 200))
+
+todo = [a_node, frames, a_shelf, contents_that_change, many_at_once, addresses, refusals, a_full_output, kills, a_common_client]
+slow = [lambda: served_after('a silent client', silent, 9, 14, 'read fault'),
+        lambda: served_after('a client that sends a byte a second', dripping, 28, 36, 'read fault'),
+        lambda: served_after('a client that never reads', never_reading, 9, 60, 'write fault'),
+        lambda: served_after('a client that never closes', never_closing, 4, 8, 'answer 501'),
+        lambda: served_after('a client that never closes, whose request was done', never_closing_when_done, 0, 2, 'answer 200'),
+        a_slow_reader]
+
+def guarded(part):
+    try:
+        part()
+    except Exception as error:
+        check(getattr(part, '__name__', 'a part'), '%s: %s' % (type(error).__name__, error), 'its end')
+
+threads = [threading.Thread(target=guarded, args=(part,)) for part in slow]
+for thread in threads:
+    thread.start()
+for part in todo:
+    guarded(part)
+for thread in threads:
+    thread.join()
+shutil.rmtree(scratch, ignore_errors=True)
+print('%d passed, %d failed' % (passed, failed))
+sys.exit(1 if failed or not passed else 0)

@@ -1,7 +1,0 @@
-use Rattle.dsc_outside.specs.Memory.{course_of}
-use Rattle.dsc_outside.specs.MemoryDisk.{outcome_of}
-use Rattle.dsc_outside.proofs.DiskCalls.{sync_is_done}
-use Rattle.dsc_outside.proofs.memory.disk.MemoryDiskDisk.sync.Goals as goal
-
-pub returns-clause-only : goal.returns-clause-only
-returns-clause-only c = sync_is_done (outcome_of (course_of c.args.self.now.count)) c.args.self.now c.look.result c.look.new.self c.look.ensures.exact

@@ -1,7 +1,0 @@
-use Rattle.std.proofs.Common.{◌≡◌, take}
-use Rattle.dsc_outside.specs.Images.{DiskState}
-use Rattle.dsc_outside.specs.MemoryDisk.{state_after}
-use Rattle.dsc_outside.proofs.memory.disk_parts.replay.Given as goal
-
-abbrev pub invariant-loop-recorded : goal.invariant-loop-recorded
-invariant-loop-recorded l = (state : DiskState) → state.held ≡ l.fn.bytes.items → l.bytes.items ≡ (state_after (take l.recorded-index l.calls) state).held

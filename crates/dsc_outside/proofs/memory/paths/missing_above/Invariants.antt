@@ -1,6 +1,0 @@
-use Rattle.std.proofs.Common.{take}
-use Rattle.dsc_outside.specs.MemoryHost.{AreMissing}
-use Rattle.dsc_outside.proofs.memory.paths.missing_above.Given as goal
-
-abbrev pub invariant-loop-at : goal.invariant-loop-at
-invariant-loop-at l = AreMissing (take l.at l.path) l.paths l.missing.items

@@ -1,4 +1,0 @@
-use Rattle.dsc_outside.proofs.memory.paths.with_missing_above.Goals as goal
-
-pub returns : goal.returns
-returns c other = rw (← c.in_ok-added.ensures other) (c.in_ok-push.ensures other)

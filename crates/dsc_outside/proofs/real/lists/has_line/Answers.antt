@@ -1,9 +1,0 @@
--- Each line is tested.
-use Rattle.std.proofs.Common.{rules, ◌==◌}
-use Rattle.std.specs.Str.{bytes_eq}
-use Rattle.std.proofs.lemmas.Iterator.Search.{any_from_yields_List}
-use Rattle.std.proofs.lemmas.Iterator.Splits.{YieldsList-from_slice_split}
-use Rattle.dsc_outside.proofs.real.lists.has_line.Goals as goal
-
-pub returns : goal.returns
-returns c = any_from_yields_List (λ line. bytes_eq line c.args.id.now) _ _ _ c.any.ensures.ran (YieldsList-from_slice_split _ (λ b. b == 10) c.args.text.now c.split.ensures.rest c.split.ensures.done c.split.ensures.closure (λ x b q k. search rules)) (λ x b q k. search rules)

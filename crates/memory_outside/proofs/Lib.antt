@@ -1,0 +1,10 @@
+mod Bounds
+mod ClockReadings
+mod DiskBytes
+mod DiskCalls
+mod DiskParts
+mod Fronts
+mod Images
+mod Named
+mod PathEntries
+mod Tried

@@ -1,0 +1,36 @@
+//! The outside in memory: forms of the traits of `dsc_outside` that expose what they hold.
+//!
+//! `MemorySource`, `MemorySink`, `MemoryDisk`, `MemoryHost`, `MemoryLink` and `MemoryClock` are exact: they fail in the
+//! calls that they were set to fail in, the disk and the host also from their stop on, the link and the clock also
+//! where they have no answer or no moment to give, and in no other but where they run out of memory for what they keep.
+//! `ReliableHost` fails in none.
+#![tactic(auto)]
+
+mod calls;
+mod clock;
+mod contents;
+mod disk;
+mod disk_calls;
+mod disk_parts;
+mod host;
+mod link;
+mod lists;
+mod paths;
+mod reliable;
+mod sink;
+mod source;
+mod stop;
+mod variable;
+
+pub use clock::MemoryClock;
+pub use contents::HostContents;
+pub use disk::MemoryDisk;
+pub use disk_calls::{CallOutcome, DiskCall, DiskPart, DiskStop, RecordedCall};
+pub use host::MemoryHost;
+pub use link::MemoryLink;
+pub use paths::{PathEntry, Standing};
+pub use reliable::ReliableHost;
+pub use sink::MemorySink;
+pub use source::MemorySource;
+pub use stop::{Done, Stop};
+pub use variable::Variable;

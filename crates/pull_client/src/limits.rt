@@ -1,0 +1,4 @@
+//! Limits of what a node reads of a server.
+
+/// The most bytes of a body that is read as the answer to a query: read as JSON it takes a hundred times its size.
+pub(crate) const MAX_ACTION_ANSWER: usize = 131_072;

@@ -1,0 +1,205 @@
+//! Walking to a path below the host's folder, name by name, through folders that are held.
+ghost use Rattle.std.specs.Prelude.{◌≡◌, ◌++◌, ◌∷◌, Err, IfOk, IfSome};
+ghost use Rattle.real_outside.specs.declared.above.Above.TheVariants as ways;
+ghost use Rattle.real_outside.specs.declared.spot.Kind.TheVariants as kinds;
+ghost use Rattle.dsc_outside.specs.declared.host.HostError.TheVariants as errors;
+
+use crate::held_folder::{HeldFolder, sync_folder};
+use crate::identity::Identity;
+use crate::machine_folder::MachineFolder;
+use crate::places::path_in;
+use crate::spot::{Kind, Spot};
+use dsc_outside::HostError;
+use std::fs;
+use std::io::ErrorKind;
+use std::os::fd::{AsFd, AsRawFd};
+use std::path::PathBuf;
+use std::rt::Files;
+
+/// What the folders above a path are.
+#[derive(Clone, Copy, Debug, PartialEq, Eq)]
+pub enum Above {
+    /// Each of them is there, and the last one is held.
+    There,
+
+    /// One is missing.
+    Missing,
+
+    /// A file, or something else that is neither a folder nor a link, is in the place of one.
+    Blocked,
+}
+
+/// What the folders above a path are where the next of them is of that kind. A link is never followed: where one stands
+/// above a path, it is not known what stands at it.
+fn passed(kind: Kind) -> Result<Above, HostError>
+    ensures link { kind ≡ kinds.Link → result ≡ Err errors.Failed }
+    ensures there { IfOk result (λ above. above ≡ ways.There → kind ≡ kinds.Folder) }
+    ensures missing { IfOk result (λ above. above ≡ ways.Missing → kind ≡ kinds.Nothing) }
+{
+    match kind {
+        Kind::Folder => Ok(Above::There),
+        Kind::Nothing => Ok(Above::Missing),
+        Kind::File | Kind::Other => Ok(Above::Blocked),
+        Kind::Link => Err(HostError::Failed),
+    }
+}
+
+/// The folders above the path, and its last name.
+pub fn split_path(path: &str) -> Option<(&str, &str)>
+    ensures { IfSome result (λ parts. path.now ≡ parts.0.now ++ 47 ∷ parts.1.now) }
+{
+    path.rsplit_once('/')
+}
+
+impl<R: Files> MachineFolder<R>
+where
+    R::File: AsFd + AsRawFd,
+{
+    /// Walks to the folders of that path. Those that stand as they were found before stay held, and each is looked at
+    /// again.
+    pub(super) fn walk(&mut self, folders: &str) -> Result<Above, HostError> {
+        let kept = self.count_kept(folders)?;
+        self.ancestors.keep(kept);
+        for name in folders.split('/').skip(self.ancestors.len()) {
+            match self.step(name)? {
+                Above::There => {}
+                stop => return Ok(stop),
+            }
+        }
+        Ok(Above::There)
+    }
+
+    // How many of the folders stand as they were found before.
+    fn count_kept(&self, folders: &str) -> Result<usize, HostError> {
+        let mut place = PathBuf::from_str(self.alloc(), self.host.as_str())?;
+        let mut count = 0usize;
+        for (name, ancestor) in folders.split('/').zip(self.ancestors.as_slice()) {
+            place.push(name)?;
+            match fs::symlink_metadata(&self.rt, place.as_str()) {
+                Ok(seen) if seen.is_dir() && ancestor.is(name, Identity::of(&seen)) => {}
+                _ => return Ok(count),
+            }
+            count = count.saturating_add(1);
+        }
+        Ok(count)
+    }
+
+    // Takes the next folder.
+    fn step(&mut self, name: &str) -> Result<Above, HostError> {
+        let spot = self.look_below(name)?;
+        let above = passed(spot.kind())?;
+        match above {
+            Above::There => self.hold(name, &spot)?,
+            Above::Missing => {}
+            // Something else in the place of a folder that the host's folder has is a failure.
+            Above::Blocked if self.ancestors.len() == 0 => return Err(HostError::Failed),
+            Above::Blocked => {}
+        }
+        Ok(above)
+    }
+
+    // Holds the folder that was seen.
+    fn hold(&mut self, name: &str, spot: &Spot) -> Result<(), HostError> {
+        let alloc = self.alloc();
+        let folder = HeldFolder::open(&self.rt, alloc, spot)?;
+        Ok(self.ancestors.push(alloc, name, folder)?)
+    }
+
+    // Looks at a name in the last folder, or in the host's.
+    fn look_below(&self, name: &str) -> Result<Spot, HostError> {
+        match self.ancestors.last()? {
+            Some(folder) => folder.look(&self.rt, self.alloc(), name),
+            None => Spot::look(&self.rt, self.place_in_host(name)?),
+        }
+    }
+
+    pub(super) fn place_in_host(&self, name: &str) -> Result<String, HostError> {
+        Ok(path_in(self.alloc(), self.host.as_str(), name)?.into_string())
+    }
+
+    /// Walks to the folders of that path, and makes those that are missing, and the host's folder. Where one of them is the
+    /// node's own folder, it fails and makes none.
+    pub(super) fn walk_to_change(
+        &mut self,
+        folders: &str,
+        own: Option<Identity>,
+    ) -> Result<(), HostError> {
+        let above = self.walk(folders)?;
+        if self.ancestors.have(own) {
+            return Err(HostError::Failed);
+        }
+        match above {
+            Above::There => Ok(()),
+            Above::Missing => self.make_missing(folders),
+            Above::Blocked => Err(HostError::Failed),
+        }
+    }
+
+    /// The folder that a walk ended in.
+    pub(super) fn last_folder(&self) -> Result<&HeldFolder<R::File>, HostError> {
+        match self.ancestors.last()? {
+            Some(folder) => Ok(folder),
+            None => Err(HostError::Failed),
+        }
+    }
+
+    /// Looks at what stands at the path, where each folder above it is there.
+    pub(super) fn look_for(&mut self, path: &str) -> Result<Option<Spot>, HostError> {
+        let Some((folders, name)) = split_path(path) else {
+            return Err(HostError::Failed);
+        };
+        match self.walk(folders)? {
+            Above::There => Ok(Some(self.look_below(name)?)),
+            Above::Missing | Above::Blocked => Ok(None),
+        }
+    }
+
+    fn make_missing(&mut self, folders: &str) -> Result<(), HostError> {
+        if self.ancestors.len() == 0 {
+            self.make_host()?;
+        }
+        for name in folders.split('/').skip(self.ancestors.len()) {
+            self.make_step(name)?;
+        }
+        Ok(())
+    }
+
+    // Makes the next folder where nothing is there, and syncs both it and the one that it is in.
+    fn make_step(&mut self, name: &str) -> Result<(), HostError> {
+        let is_made = make_folder(&self.rt, self.place_below(name)?.as_str())?;
+        if is_made {
+            self.sync_last()?;
+        }
+        if self.step(name)? != Above::There {
+            return Err(HostError::Failed);
+        }
+        if is_made {
+            self.sync_last()?;
+        }
+        Ok(())
+    }
+
+    fn place_below(&self, name: &str) -> Result<String, HostError> {
+        match self.ancestors.last()? {
+            Some(folder) => folder.place_of(self.alloc(), name),
+            None => self.place_in_host(name),
+        }
+    }
+
+    // Syncs the last folder, or the host's.
+    fn sync_last(&self) -> Result<(), HostError> {
+        match self.ancestors.last()? {
+            Some(folder) => Ok(folder.sync()?),
+            None => Ok(sync_folder(&self.rt, self.host.as_str())?),
+        }
+    }
+}
+
+// Makes a folder at the place, and answers whether nothing was there.
+fn make_folder<R: Files>(rt: &R, place: &str) -> Result<bool, HostError> {
+    match fs::create_dir(rt, place) {
+        Ok(()) => Ok(true),
+        Err(e) if e.kind() == ErrorKind::AlreadyExists => Ok(false),
+        Err(e) => Err(HostError::from(e)),
+    }
+}

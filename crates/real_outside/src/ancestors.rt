@@ -1,0 +1,99 @@
+//! The folders above a path, held from one call to the next.
+use crate::held_folder::HeldFolder;
+use crate::identity::Identity;
+use dsc_outside::Failed;
+use std::alloc::{AllocError, Global};
+use std::fs::OpenFile;
+use std::os::fd::AsRawFd;
+
+/// How many folders are held at least, from the host's folder on; of those further down the last alone is, so that a deep
+/// path does not use up the descriptors.
+const HELD: usize = 32;
+
+/// The folders above a path, from one in the host's folder down, as they were found.
+#[derive(Drop)]
+pub struct Ancestors<F: OpenFile + AsRawFd + Drop> {
+    list: Vec<Ancestor<F>>,
+}
+
+/// A folder above a path. Its identity is that of the folder that is held, where it is.
+#[derive(Drop)]
+pub struct Ancestor<F: OpenFile + AsRawFd + Drop> {
+    name: String,
+    identity: Identity,
+    folder: Option<HeldFolder<F>>,
+}
+
+impl<F: OpenFile + AsRawFd + Drop> Ancestor<F> {
+    /// Answers whether it has that name, and that identity.
+    pub fn is(&self, name: &str, identity: Identity) -> bool {
+        self.name.as_str() == name && self.identity == identity
+    }
+}
+
+impl<F: OpenFile + AsRawFd + Drop> Ancestors<F> {
+    pub fn new(alloc: Global) -> Ancestors<F> {
+        Ancestors {
+            list: Vec::new(alloc),
+        }
+    }
+
+    pub fn as_slice(&self) -> &[Ancestor<F>] {
+        self.list.as_slice()
+    }
+
+    pub fn len(&self) -> usize {
+        self.list.len()
+    }
+
+    /// Answers whether one of them is this folder.
+    pub fn have(&self, folder: Option<Identity>) -> bool {
+        match folder {
+            None => false,
+            Some(identity) => self.list.iter().any(|a| a.identity == identity),
+        }
+    }
+
+    /// The last of them, or none where there is none at all.
+    pub fn last(&self) -> Result<Option<&HeldFolder<F>>, Failed> {
+        match self.list.last() {
+            None => Ok(None),
+            Some(ancestor) => match &ancestor.folder {
+                Some(folder) => Ok(Some(folder)),
+                None => Err(Failed),
+            },
+        }
+    }
+
+    /// Keeps the first of them: so many, or fewer where the last of these is not held.
+    pub fn keep(&mut self, count: usize) {
+        let is_held = match count.checked_sub(1) {
+            None => true,
+            Some(index) => self.list.get(index).is_some_and(|a| a.folder.is_some()),
+        };
+        self.list
+            .truncate(if is_held { count } else { count.min(HELD) });
+    }
+
+    /// Adds the folder of that name in the last one.
+    pub fn push(
+        &mut self,
+        alloc: Global,
+        name: &str,
+        folder: HeldFolder<F>,
+    ) -> Result<(), AllocError> {
+        let name = String::from_str(alloc, name)?;
+        if self.list.len() > HELD {
+            if let Some(last) = self.list.last_mut() {
+                last.folder = None;
+            }
+        }
+        let identity = folder.identity();
+        self.list.push(Ancestor {
+            name,
+            identity,
+            folder: Some(folder),
+        })?;
+        Ok(())
+    }
+}

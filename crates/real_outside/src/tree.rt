@@ -1,0 +1,149 @@
+//! The paths of a machine that a folder stands for. No link under the root is followed.
+ghost use Rattle.std.specs.Prelude.{◌≡◌, Err, false};
+ghost use Rattle.real_outside.specs.Folders.{is_plain_path};
+ghost use Rattle.dsc_outside.specs.declared.host.HostError.TheVariants as errors;
+
+use crate::above::{Above, split_path};
+use crate::emptiness::is_inhabited;
+use crate::identity::Identity;
+use crate::last_look::LastLook;
+use crate::machine_folder::MachineFolder;
+use crate::places::root_path;
+use crate::plain_files::{file_holds, take_away};
+use crate::removing::remove_folder;
+use crate::spot::{Kind, Spot};
+use dsc_outside::{HostError, PathState};
+use std::fs;
+use std::io::ErrorKind;
+use std::os::fd::{AsFd, AsRawFd};
+use std::rt::Files;
+
+impl<R: Files> MachineFolder<R>
+where
+    R::File: AsFd + AsRawFd,
+{
+    pub fn path_state(&mut self, path: &str) -> Result<PathState, HostError>
+        ensures { is_plain_path path.now ≡ false → result ≡ Err errors.Failed }
+    {
+        let place = root_path(self.alloc(), path)?;
+        self.last_look = None;
+        let spot = self.look_for(place.as_str())?;
+        let state = match &spot {
+            Some(spot) => self.state_of(spot)?,
+            None => PathState::Nothing,
+        };
+        self.last_look = Some(LastLook::new(place, state, &spot));
+        Ok(state)
+    }
+
+    fn state_of(&self, spot: &Spot) -> Result<PathState, HostError> {
+        match spot.kind() {
+            Kind::Nothing => Ok(PathState::Nothing),
+            Kind::File => Ok(PathState::File),
+            Kind::Link | Kind::Other => Ok(PathState::Other),
+            Kind::Folder if is_inhabited(&self.rt, spot.place.as_str())? => Ok(PathState::Folder),
+            Kind::Folder => Ok(PathState::EmptyFolder),
+        }
+    }
+
+    pub fn file_equals(&mut self, path: &str, bytes: &[u8]) -> Result<bool, HostError>
+        ensures { is_plain_path path.now ≡ false → result ≡ Err errors.Failed }
+    {
+        let place = root_path(self.alloc(), path)?;
+        match self.look_for(place.as_str())? {
+            Some(spot) if spot.kind() == Kind::File => file_holds(&self.rt, &spot, bytes),
+            _ => Ok(false),
+        }
+    }
+
+    pub fn put_file(&mut self, path: &str, bytes: &[u8]) -> Result<(), HostError>
+        ensures { is_plain_path path.now ≡ false → result ≡ Err errors.Failed }
+    {
+        let place = root_path(self.alloc(), path)?;
+        self.last_look = None;
+        let own = self.own_folder()?;
+        self.place(place.as_str(), bytes, own)
+    }
+
+    pub fn make_dir(&mut self, path: &str) -> Result<(), HostError>
+        ensures { is_plain_path path.now ≡ false → result ≡ Err errors.Failed }
+    {
+        let place = root_path(self.alloc(), path)?;
+        self.last_look = None;
+        let own = self.own_folder()?;
+        self.walk_to_change(place.as_str(), own)
+    }
+
+    pub fn remove(&mut self, path: &str) -> Result<(), HostError>
+        ensures { is_plain_path path.now ≡ false → result ≡ Err errors.Failed }
+    {
+        let place = root_path(self.alloc(), path)?;
+        let own = self.own_folder()?;
+        let outcome = self.remove_at(place.as_str(), own);
+        self.last_look = None;
+        outcome
+    }
+
+    fn remove_at(&mut self, place: &str, own: Option<Identity>) -> Result<(), HostError> {
+        let Some((folders, name)) = split_path(place) else {
+            return Err(HostError::Failed);
+        };
+        let above = self.walk(folders)?;
+        if self.ancestors.have(own) {
+            return Err(HostError::Failed);
+        }
+        match above {
+            Above::There => self.remove_name(place, name, own),
+            Above::Missing => Ok(()),
+            Above::Blocked => Err(HostError::Failed),
+        }
+    }
+
+    // Where the last look was at this place, only what it found there is taken away, and a folder that it found empty only
+    // while it is.
+    fn remove_name(&self, place: &str, name: &str, own: Option<Identity>) -> Result<(), HostError> {
+        let folder = self.last_folder()?;
+        let spot = folder.look(&self.rt, self.alloc(), name)?;
+        let looked = match &self.last_look {
+            Some(look) => look.at(place),
+            None => None,
+        };
+        if looked.is_some() && !self.is_as_found(&spot) {
+            return Err(HostError::Failed);
+        }
+        match (spot.kind(), looked) {
+            (Kind::Nothing, _) => Ok(()),
+            (Kind::Folder, Some(PathState::EmptyFolder)) => self.remove_empty(name, &spot, own),
+            (Kind::Folder, _) => remove_folder(&self.rt, self.alloc(), folder, name, &spot, own),
+            (Kind::File | Kind::Link | Kind::Other, _) => {
+                take_away(&self.rt, folder, spot.place.as_str())
+            },
+        }
+    }
+
+    // A folder in which nothing was but what a stop left there.
+    fn remove_empty(
+        &self,
+        name: &str,
+        spot: &Spot,
+        own: Option<Identity>,
+    ) -> Result<(), HostError> {
+        let folder = self.last_folder()?;
+        match fs::remove_dir(&self.rt, spot.place.as_str()) {
+            Ok(()) => Ok(folder.sync()?),
+            Err(e)
+                if e.kind() == ErrorKind::DirectoryNotEmpty
+                    && !is_inhabited(&self.rt, spot.place.as_str())? => {
+                remove_folder(&self.rt, self.alloc(), folder, name, spot, own)
+            }
+            Err(e) => Err(HostError::from(e)),
+        }
+    }
+
+    fn is_as_found(&self, spot: &Spot) -> bool {
+        match &self.last_look {
+            Some(look) => look.found(spot),
+            None => true,
+        }
+    }
+}
