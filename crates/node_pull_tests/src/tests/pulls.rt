@@ -48,10 +48,12 @@ const PULLS: &[Row] = &[
         2,
         "nothing",
     ),
+    // A part is held under its name in any case.
+    (WEB, &[("web", A)], &[Told(ONE_IS_RIGHT)], &[], 1, "nothing"),
     // A part under another name is not held.
     (
         WEB,
-        &[("web", A)],
+        &[("Wob", A)],
         &[Told(ONE_IS_RIGHT)],
         &[],
         1,

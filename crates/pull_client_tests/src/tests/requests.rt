@@ -28,6 +28,7 @@ const REQUESTS: &[(Call, Site, &'static [&'static str])] = &[
             "{\"AgentInformation\":{\"IPAddress\":\"\",\"LCMVersion\":\"2.0\",\"NodeName\":\"node \\\"1\\\"\\n\"},\"ConfigurationNames\":[\"Web\",\"Caf'é\"],\"RegistrationInformation\":{\"RegistrationMessageType\":\"ConfigurationRepository\"}}",
         ],
     ),
+    // What is held is found by fold.
     (
         Call::Ask(&["Web", "web"]),
         PLAIN,
@@ -37,8 +38,8 @@ const REQUESTS: &[(Call, Site, &'static [&'static str])] = &[
             "Connection: close\r\n",
             "ProtocolVersion: 2.0\r\n",
             "Content-Type: application/json\r\n",
-            "Content-Length: 226\r\n\r\n",
-            "{\"ClientStatus\":[{\"Checksum\":\"BA7816BF8F01CFEA414140DE5DAE2223B00361A396177A9CB410FF61F20015AD\",\"ChecksumAlgorithm\":\"SHA-256\",\"ConfigurationName\":\"Web\"},{\"Checksum\":\"\",\"ChecksumAlgorithm\":\"SHA-256\",\"ConfigurationName\":\"web\"}]}",
+            "Content-Length: 290\r\n\r\n",
+            "{\"ClientStatus\":[{\"Checksum\":\"BA7816BF8F01CFEA414140DE5DAE2223B00361A396177A9CB410FF61F20015AD\",\"ChecksumAlgorithm\":\"SHA-256\",\"ConfigurationName\":\"Web\"},{\"Checksum\":\"BA7816BF8F01CFEA414140DE5DAE2223B00361A396177A9CB410FF61F20015AD\",\"ChecksumAlgorithm\":\"SHA-256\",\"ConfigurationName\":\"web\"}]}",
         ],
     ),
     (
@@ -90,7 +91,7 @@ const REQUESTS: &[(Call, Site, &'static [&'static str])] = &[
         ],
     ),
     (
-        Call::Ask(&["Web", "web"]),
+        Call::Ask(&["Web", "Wob"]),
         OTHER,
         &[
             "POST /a/PSDSCPullServer.svc/Nodes(AgentId='00112233-4455-6677-8899-aabbccddeeff')/GetDscAction HTTP/1.1\r\n",
@@ -99,7 +100,7 @@ const REQUESTS: &[(Call, Site, &'static [&'static str])] = &[
             "ProtocolVersion: 2.0\r\n",
             "Content-Type: application/json\r\n",
             "Content-Length: 226\r\n\r\n",
-            "{\"ClientStatus\":[{\"Checksum\":\"BA7816BF8F01CFEA414140DE5DAE2223B00361A396177A9CB410FF61F20015AD\",\"ChecksumAlgorithm\":\"SHA-256\",\"ConfigurationName\":\"Web\"},{\"Checksum\":\"\",\"ChecksumAlgorithm\":\"SHA-256\",\"ConfigurationName\":\"web\"}]}",
+            "{\"ClientStatus\":[{\"Checksum\":\"BA7816BF8F01CFEA414140DE5DAE2223B00361A396177A9CB410FF61F20015AD\",\"ChecksumAlgorithm\":\"SHA-256\",\"ConfigurationName\":\"Web\"},{\"Checksum\":\"\",\"ChecksumAlgorithm\":\"SHA-256\",\"ConfigurationName\":\"Wob\"}]}",
         ],
     ),
     (
