@@ -52,21 +52,17 @@ def faults_of_links(path, text):
             yield f"{path}: no heading {target} to link to"
 
 
-def faults_of_names(path, text, words, listed):
-    """`words` are those of the code. A file `src/..`, `specs/..` or `proofs/..` stands in some crate, of docs/WHERE.md in that of its row."""
+def faults_of_names(path, text, words):
+    """`words` are those of the code. A file `src/..`, `specs/..` or `proofs/..` stands in some crate, or in the one whose name is before it."""
     for name in sorted(set(FILE.findall(text))):
         # a page that stands in such a folder may name files from there
         if not is_there(name) and not is_there(os.path.join(os.path.dirname(path), name)):
             yield f"{path}: no file {name}"
     for line in text.split("\n"):
-        row = re.match(r"^\| `([a-z_0-9]+)` \|", line) if path == "docs/WHERE.md" else None
-        crate = row.group(1) if row else "*"
-        if row and crate not in listed:
-            yield f"{path}: crates.txt has no crate {crate}"
         for span in SPAN.findall(line):
             inside = INSIDE.match(span)
-            if inside and not is_there(f"crates/{inside.group(1) or crate}/{inside.group(2)}"):
-                yield f"{path}: no file {span} in {inside.group(1) or crate}"
+            if inside and not is_there(f"crates/{inside.group(1) or '*'}/{inside.group(2)}"):
+                yield f"{path}: no file {span} in {inside.group(1) or 'a crate'}"
             elif NAME.match(span) and span not in words and path not in OTHER_NAMES:
                 yield f"{path}: {span} is not in the repository"
 
@@ -99,17 +95,12 @@ def faults(words):
         with open(path, encoding="utf-8") as page:
             text = page.read()
         yield from faults_of_links(path, text)
-        yield from faults_of_names(path, text, known, listed)
+        yield from faults_of_names(path, text, known)
     yield from faults_of_lists()
     costs = subprocess.run(["bench/cost"], stdout=subprocess.PIPE, text=True, check=False)
     with open("CONTRIBUTING.md", encoding="utf-8") as page:
         if costs.returncode or costs.stdout not in page.read():
             yield "CONTRIBUTING.md: the table of costs is not that of bench/cost: run bench/cost --write"
-    with open("docs/WHERE.md", encoding="utf-8") as page:
-        rows = set(re.findall(r"^\| `([a-z_0-9]+)` \|", page.read(), re.MULTILINE))
-    for crate in sorted(listed - rows):
-        if not crate.endswith("_tests"):
-            yield f"docs/WHERE.md: no row says what the crate {crate} is"
     for crate in sorted(listed):
         if not os.path.isdir(f"crates/{crate}"):
             yield f"crates.txt: there is no folder crates/{crate}"

@@ -1,10 +1,17 @@
 //! The order in which the resources of a document are applied.
 //!
-//! At each position of the order stands the earliest resource whose dependencies all stand before it. A layer
-//! above may rely on it that there is one such order at most, and that where there is none the error names a
-//! closed walk: resources of which each depends on the next, and the last on the first. `order_counted` bounds the
-//! steps that it takes, as `Steps` counts them. Names are those of DependsOn (PowerShell Desired State
-//! Configuration, "Resource dependencies"), and compare by fold.
+//! At each position of the order stands the earliest resource whose dependencies all stand before it. A layer above may
+//! rely on it that there is one such order at most, and that where there is none the error names a closed walk:
+//! resources of which each depends on the next, and the last on the first. `order_counted` gives either within three
+//! steps for each resource and two for each name in a DependsOn, as `Steps` counts them. Names are those of DependsOn
+//! (PowerShell Desired State Configuration, "Resource dependencies"), and compare by fold.
+//!
+//! Where a thing is:
+//! - the order, and the closed walk where there is none: `specs/Order.antt`, `specs/Cycle.antt`, of a document
+//!   `specs/Documents.antt`; `src/documents.rt`, `src/walk.rt`; that it is one `specs/Laws.antt`, `src/laws.rt`
+//! - a document together with its order, `OrderedDocument`: `src/ordered.rt`, `specs/Ordered.antt`
+//! - the steps that are counted: `src/steps.rt`
+//! - why a document has no order: `specs/Refused.antt`; names and ids that repeat `specs/Repeats.antt`
 #![tactic(auto)]
 
 mod counts;

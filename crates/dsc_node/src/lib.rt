@@ -1,12 +1,29 @@
 //! One start of a node, from its command to what is printed, and runs over merged documents.
 //!
-//! `start_over` does what a command asks for: it opens the store, asks the server, commits, runs, sends the reports and
-//! answers how that ended, on any machine and over any link. `start` is the same over the kinds of resources of a host, where the
-//! trace is true of the host. A layer above may rely on the table in `specs/Work.antt` and on the headline in `specs/Headline.antt`.
+//! `start_over` opens the store, asks the server, commits, runs, sends the reports and answers how that ended, on any
+//! machine and over any link; `start` is the same over the kinds of resources of a host, where the trace is true of the
+//! host. A layer above may rely on the table in `specs/Work.antt` and on the headline in `specs/Headline.antt`: what a
+//! crash leaves, and what a report says. `order_of_merged` gives the order of a merged document, `run_merged` runs over
+//! it, on any machine, `run_kinds` on a host; `lines_of` is the text that is printed of a run, and `Status` how a
+//! command ended.
 //!
-//! `order_of_merged` gives the order of a merged document. `run_merged` runs over its resources in that order, on any machine;
-//! `run_kinds` is the same over the kinds of resources of a host. `lines_of` gives the text that is printed of a run. `Status` is
-//! how a command ended.
+//! Where a thing is:
+//! - the table of a start, what it asks the server for, commits, runs, sends, prints and answers: `specs/Work.antt`;
+//!   the steps in their order `src/starting.rt`
+//! - where a command is allowed: `specs/Commands.antt`, `src/allowing.rt`
+//! - what a command brings before its run; a registration: `specs/Bringing.antt`, `src/bringing.rt`; `src/settling.rt`
+//! - the document of a push, which its run need not merge again: `specs/Documents.antt`, `proofs/KnownDocuments.antt`
+//! - which run is made, and what its report says: `specs/Runs.antt`, `src/choosing.rt`, `src/running.rt`; the event
+//!   that keeps the report `src/finishing.rt`
+//! - a run over a merged document on a machine, or on a host: `src/run.rt`, `specs/Ran.antt`
+//! - the sending of reports; the clock's readings: `specs/Sending.antt`, `src/sending.rt`, what each exit of it says
+//!   `proofs/Sent.antt`; `specs/Readings.antt`
+//! - what a crash at any moment of a start leaves, and the headline: `specs/Path.antt`, `specs/Headline.antt`, over a
+//!   host `specs/HostHeadline.antt`; one call after another `proofs/Commits.antt`; the headline row by row
+//!   `proofs/Headline.antt`, of its nodes `proofs/Nodes.antt`, of its run `proofs/HeadlineRuns.antt`
+//! - what is printed of a run; what `get` and `reports` print: `src/lines.rt`, `specs/Lines.antt`; `specs/Shown.antt`,
+//!   `src/showing.rt`
+//! - exit statuses: `src/status.rt`, `specs/Status.antt`
 #![tactic(auto)]
 
 mod allowing;

@@ -1,15 +1,24 @@
-//! Records on a disk that survive a crash at any moment.
+//! Bodies on a disk, in the live one of two banks, that survive a crash at any moment.
 //!
-//! A store is a file of two banks, of which one is live. A body is appended to the live bank after its closed gate, and the
-//! gate is opened once the body is on the disk; so a crash leaves the bodies with the new one or without it, never half
-//! of it. Where the live bank has no room left, the bodies that are still wanted are put into the other bank, and one byte
-//! makes that bank live: a crash leaves the old bodies or the new ones.
+//! A body is appended to the live bank after its closed gate, and the gate is opened once the body is on the disk.
+//! Where no room is left there, the bodies that are still wanted are put into the other bank, and one byte makes that
+//! bank live.
 //!
-//! A layer above may rely on this: every image that a crash at any moment of a call may leave gives the bodies before or
-//! after it, and after `Ok` the bodies after it. `specs/Text.antt` says which bytes give which bodies, `specs/Log.antt` what
-//! a log and its answers are, and `specs/Standing.antt` has the words in which a store says what its images stand for.
-//! A log keeps no disk; each call takes the disk that the log is of. No call takes memory but
-//! `replay_log`, which opens a store and hands its bodies to the layer above, one after the other, as they are read.
+//! A layer above may rely on this: every image that a crash at any moment of a call may leave gives the bodies before
+//! or after it, and after `Ok` the bodies after it; an opening hands over each body once, in order, or names the first
+//! failure. No call but `replay_log`, which opens, takes memory. A log keeps no disk: each call takes the disk that it
+//! is of.
+//!
+//! Where a thing is:
+//! - which bytes of a file give which bodies, and where a file is no store: `specs/Text.antt`; what a log is of and
+//!   what its calls answer `specs/Log.antt`
+//! - what takes the bodies of a store as they are read, and the first failure of a store: the trait `Replay` in
+//!   `src/replay.rt`, `specs/Replay.antt`; `src/bodies.rt` keeps them all. That an image whose bodies all have a
+//!   meaning is never refused: `never_refused` of `proofs/Both.antt`
+//! - what the images of a disk stand for, over any value: `specs/Standing.antt`
+//! - how a cell is appended, how the other bank is written and made live, how a store is opened: `src/appending.rt`,
+//!   `src/rewriting.rt`, `src/opening.rt` with `src/reading.rt`; what a torn write leaves `proofs/Cells.antt`,
+//!   `proofs/Switch.antt`
 #![tactic(auto)]
 
 mod appending;

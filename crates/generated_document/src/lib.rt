@@ -3,6 +3,9 @@
 //! `generated_document` makes the instances, writes their canonical text and merges that text as one part without a
 //! name. A layer above may rely on it that the document is exactly the one of `generated_instances`, and that there is
 //! one for each count in the range, out of memory aside.
+//!
+//! Where a thing is:
+//! - the document of the command `generate`: `specs/Generated.antt`
 #![tactic(auto)]
 
 mod document;

@@ -1,11 +1,12 @@
-//! Makes calls of the host that a folder is, and prints what each of them answers: a tool for tests on a real machine.
+//! Makes calls of the host that a folder is, and prints what each of them answers: a tool for `checks/folder`,
+//! `checks/host` and `checks/race`.
 //!
 //! The folder is the program's first argument. A second one is the file of a store, in whose folder nothing is to be
-//! changed. Each line of standard input is a call, its subject and its texts, with
-//! tabs between: `state PATH`, `same PATH TEXT`, `put PATH TEXT`, `make PATH`, `remove PATH`, `value NAME TEXT`, which
-//! asks whether the variable has that value, `set NAME TEXT`, `unset NAME`, `log ID TEXT`, `logged ID TEXT`,
-//! `package NAME VERSION TEXT`, `installed NAME VERSION` and `wanting ID`. A subject or a text that begins with `0x` stands
-//! for the bytes of its hex digits. It ends with 0, and with 2 where it cannot go on.
+//! changed. Each line of standard input is a call, its subject and its texts, with tabs between: `state PATH`, `same
+//! PATH TEXT`, `put PATH TEXT`, `make PATH`, `remove PATH`, `value NAME TEXT`, which asks whether the variable has that
+//! value, `set NAME TEXT`, `unset NAME`, `log ID TEXT`, `logged ID TEXT`, `package NAME VERSION TEXT`, `installed NAME
+//! VERSION` and `wanting ID`. A subject or a text that begins with `0x` stands for the bytes of its hex digits. It ends
+//! with 0, and with 2 where it cannot go on.
 #![tactic(auto)]
 
 use dsc_outside::{Host, HostError, PathState};

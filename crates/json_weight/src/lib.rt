@@ -1,5 +1,8 @@
 //! JSON texts (RFC 8259) as `serde_json` reads them, with a bound on what they hold: the strings of a value, names of
 //! members among them, have together no more bytes than the text that it was read from.
+//!
+//! Where a thing is:
+//! - how many bytes the strings of a value have together: `specs/Weight.antt`
 #![tactic(auto)]
 
 ghost use Rattle.std.specs.Prelude.{◌≡◌, ◌≤◌, length, IfOk, IfErr, IsUtf8};

@@ -1,7 +1,19 @@
 //! Runs over the resources of a document: the test-then-set cycle of the Local Configuration Manager.
 //!
-//! `run` goes through the resources in the order of their dependencies. It is generic over what tests and sets them, and its
-//! clauses speak of the entries that this keeps: they are the trace of a legal run, from which nothing is left out.
+//! `run` goes through the resources in the order of their dependencies, and tests them, or tests and sets them. It is
+//! generic over what tests and sets them, and its clauses speak of the entries that this keeps: they are the trace of a
+//! legal run, from which nothing is left out, a chain of the machine's own steps; and the answer says how the run
+//! ended.
+//!
+//! Where a thing is:
+//! - which traces a run may leave, and what it may not leave out: `specs/Legal.antt`, `specs/Whole.antt`; both take
+//!   monitoring and repairing runs
+//! - the run itself, and the turn of one resource in it: `src/runs.rt`, `src/turns.rt`, `specs/Turn.antt`; how it ends
+//!   `specs/Ends.antt`; what a repair has done at each turn `proofs/Past.antt`
+//! - where a repair succeeds, which traces can be reported, how often a resource is called: `specs/RepairLaws.antt`,
+//!   `specs/Bounds.antt`, `src/laws.rt`; `proofs/Repaired.antt`
+//! - how many resources succeeded, and that all hold together where each did: `src/last_entries.rt`,
+//!   `specs/RunLaws.antt`; `proofs/Successes.antt`, `proofs/Compliance.antt`
 #![tactic(auto)]
 
 mod last_entries;

@@ -1,7 +1,27 @@
 //! The node program, a Local Configuration Manager for a machine that a folder stands for.
 //!
-//! `node` does one command; its contract says what it printed, what it tested, and why it refused. `main` makes the
-//! real objects, hands them to `node`, and ends with the number of its status.
+//! `node` does one command; its contract says what it printed, what it tested, and why it refused. `node_over` is the
+//! same over any machine. `main` makes the real objects, hands them to `node`, and ends with the number of its status.
+//!
+//! Where a thing is:
+//! - the whole program's promise: `node` and `node_over` in `src/program.rt`
+//! - what a command promises: its row of the table in `specs/Did.antt`, a record in a file of its own; the objects that
+//!   it works with and what is known of them `specs/Objects.antt`
+//! - what a command promises that prints a text and changes nothing: `specs/Tool.antt`, one relation of the input to
+//!   the text or the error; as `specs/Canon.antt` with `src/canon.rt`, `specs/Check.antt` with `src/check.rt`.
+//!   `ran_tool` of `proofs/Tools.antt` proves each
+//! - what a command promises that starts the node: `specs/Started.antt`, over the table and the headline of `dsc_node`,
+//!   and what is more over a host (`specs/Further.antt`); `src/starts.rt`
+//! - the arguments of the command line: `src/words.rt`, `specs/Words.antt`
+//! - which instances, document or meta-configuration an input is, and why it is refused: `src/input.rt`,
+//!   `specs/Input.antt` (`ReadsMeta`); that an input is read in one way `proofs/Readings.antt`; which status an input
+//!   allows `specs/Answers.antt`
+//! - how an answer is printed, how a refused command ends, and a start: `src/printing.rt`, `specs/Printed.antt`,
+//!   `specs/Endings.antt`
+//! - the printed text of a refusal: `src/refusal.rt`, `specs/Refusal.antt`; of an input `src/merge_words.rt`,
+//!   `src/mof_words.rt`, `src/meta_words.rt`, `specs/InputWords.antt`; of what a server gave `src/peer_words.rt`,
+//!   `specs/PeerWords.antt`
+//! - the command `generate`: `src/generate.rt`, `specs/Generate.antt`
 #![tactic(auto)]
 
 mod canon;

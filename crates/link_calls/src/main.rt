@@ -1,4 +1,4 @@
-//! Makes exchanges over TCP, and prints what came of each: a tool for tests on a real machine.
+//! Makes exchanges over TCP, and prints what came of each: a tool for `checks/link`.
 //!
 //! The arguments are HOST, PORT and two limits in milliseconds, of connecting and of an exchange. Each line of standard
 //! input is a request, which is sent with a line feed after it. Of an answer it prints `answer`, how many bytes it has

@@ -1,9 +1,9 @@
-//! Makes calls of a log in a file: a tool for measurements.
+//! Makes calls of a log in a file: a tool for `checks/log` and `bench/commit`.
 //!
-//! The arguments are FILE `append` COUNT SIZE, FILE `rewrite` COUNT SIZE, FILE `open` or FILE `keep`. An append adds so many
-//! bodies of that size one by one, a rewrite puts them in place of all that was there, an open does no more than that, and
-//! `keep` keeps the bodies that were there.
-//! It ends with 0; with 2 where the arguments are others, and with 4 where the log could not do it.
+//! The arguments are FILE `append` COUNT SIZE, FILE `rewrite` COUNT SIZE, FILE `open` or FILE `keep`. An append adds so
+//! many bodies of that size one by one, a rewrite puts them in place of all that was there, an open does no more than
+//! that, and `keep` keeps the bodies that were there. It ends with 0; with 2 where the arguments are others, and with 4
+//! where the log could not do it.
 #![tactic(auto)]
 
 ghost use Rattle.std.specs.Prelude.{◌≡◌};

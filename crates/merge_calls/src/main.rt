@@ -1,4 +1,4 @@
-//! Merges parts from files: a tool for measurements and checks.
+//! Merges parts from files: a tool for `bench/merge` and `checks/merge`.
 //!
 //! The arguments are FILE.., 1 to 8. Each file is read whole and is a part, with the name `part0`, `part1` and so on.
 //! It prints the ids of the merged document in the order of dependencies, a line each, as the command `order` of the

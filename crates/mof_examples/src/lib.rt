@@ -1,10 +1,15 @@
-//! Examples of the instance syntax of DMTF DSP0004, proved of the definitions that mof_syntax states it by: for each rule
-//! characters or tokens that it holds of, with the value that they stand for, and near ones that it does not hold of; and
-//! the laws that these definitions keep. For each kind of refusal there is a text, with the place, of which it is proved
-//! that this refusal wins.
+//! Examples of the instance syntax of DMTF DSP0004, proved of the definitions that `mof_syntax` states it by: for each
+//! rule characters or tokens that it holds of, with the value that they stand for, and near ones that it does not hold
+//! of; and the laws that these definitions keep. For each kind of refusal there is a text, with the place, of which it
+//! is proved that this refusal wins.
 //!
-//! No program names this crate. Each function but `is_wide` has no body: its contract is the law. `is_wide` is a plain slow
-//! program that decides the grammar; tests set it beside the product's reader.
+//! No program names this crate. Each function but `is_wide` has no body: its contract is the law. `is_wide` is a plain
+//! slow program that decides the grammar; tests set it beside the product's reader.
+//!
+//! Where a thing is:
+//! - the plain slow decider: `src/decider.rt`
+//! - that bytes have an answer, and one alone: `src/laws.rt`; the lemmas `mof_syntax/proofs/Divided.antt`,
+//!   `mof_syntax/proofs/Decoded.antt`, `mof_codec/proofs/Answered.antt`, `mof_codec/proofs/OneRefusal.antt`
 #![tactic(auto)]
 
 mod decider;

@@ -4,6 +4,11 @@
 //! that is none; `tokens` gives each token where it stands, as long as the syntax allows, and where the walk ended;
 //! specs/ states the syntax as relations between bytes, characters, tokens and instances, with the limits, the
 //! canonical text and every reason to refuse a text.
+//!
+//! Where a thing is:
+//! - how long texts and their parts may be: `src/limits.rt`; the definitions cite these constants, `specs/Limits.antt`
+//! - how a text is gone over: `src/text.rt`, character by character; what is after a construct `src/scan.rt`, the
+//!   tokens `src/walk.rt`
 #![tactic(auto)]
 
 mod decoding;

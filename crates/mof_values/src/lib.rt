@@ -1,8 +1,14 @@
 //! The values of management documents: texts, identifiers, scalars, properties and instances.
 //!
-//! A layer above sees a `Text`, an `Ident` and a `Bytes` as lists of numbers, an `Items` as the list of its
-//! elements, and the other types as plain data of these. Names compare by fold: ASCII letters without case.
-//! The instance syntax that spells these values is that of DMTF DSP0004.
+//! A layer above sees a `Text`, an `Ident` and a `Bytes` as lists of numbers, an `Items` as the list of its elements,
+//! and the other types as plain data of these. Names compare by fold: ASCII letters without case. A look-up gives the
+//! first property of the name. The instance syntax that spells these values is that of DMTF DSP0004.
+//!
+//! Where a thing is:
+//! - what a value holds, and the first value of a name: `src/text.rt`, `src/value.rt`, `src/instance.rt`,
+//!   `specs/Values.antt`
+//! - identifiers; names that are the same by fold: `src/ident.rt`, `specs/Ident.antt`; `src/fold.rt`, `specs/Fold.antt`
+//! - how long an identifier may be: `src/limits.rt`
 #![tactic(auto)]
 
 mod bytes;

@@ -1,8 +1,16 @@
-//! What a node's pull server brings it: a registration, a new list of parts with the packages that it names, and the sending of reports.
+//! What a node's pull server brings it: a registration, a new list of parts with the packages that it names, and the
+//! sending of reports.
 //!
-//! A layer above may rely on this: a pull asks once about all names, then for each content that it is to fetch, in the order of the
-//! partial configurations; the list is merged and fits the meta-configuration before any package is asked for; and each package that the
-//! machine does not have is kept there only as its body was accepted. The first request that gives nothing ends it.
+//! A layer above may rely on this: a pull asks once about all names, then for each content that it is to fetch, in the
+//! order of the partial configurations; the list is merged and fits the meta-configuration before any package is asked
+//! for; each part that is brought is held or was accepted; and each package that the machine does not have is kept
+//! there only as its body was accepted. The first request that gives nothing ends it.
+//!
+//! Where a thing is:
+//! - what a pull asks and brings, row by row: `specs/Pulling.antt`, `src/pulling.rt`; the list of parts
+//!   `specs/Listing.antt`, `specs/Contents.antt`, `src/listing.rt`; the packages `specs/Packages.antt`,
+//!   `src/modules.rt`, `src/packages.rt`
+//! - the names that a node registers and asks for: `specs/Names.antt`, `src/names.rt`
 #![tactic(auto)]
 
 mod error;

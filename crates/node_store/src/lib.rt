@@ -1,14 +1,24 @@
 //! The state of a node on a disk, as events.
 //!
-//! A store is a file of two banks (`gate_log`), whose bodies are the events that happened to the node, after the pieces of a node
-//! where the store was rewritten. `specs/Bodies.antt` has the body of each event and piece, one line each; `specs/Stands.antt` says
-//! what an image of a store stands for, and `specs/Store.antt` what a commit answers.
+//! A store is a file of two banks (`gate_log`), whose bodies are the events that happened to the node, after the pieces
+//! of a node where the store was rewritten. A body has exactly the bytes of its definition, and is refused exactly
+//! where no value in range has them.
 //!
-//! What is written has exactly the bytes of its definition, and takes no memory where the buffer has room; what is read is
-//! exactly the value whose bytes stand there, and it is refused exactly where there is no such value in range.
+//! A layer above may rely on this: an opening gives the node that the disk reads as; a commit appends an event, or
+//! writes the whole node after it into the other bank, and a crash at any moment leaves the node before the event or
+//! after it.
 //!
-//! A commit appends an event, or writes the whole node after it into the other bank, and a crash at any moment leaves the node
-//! before the event or after it. An opening gives the node that the disk reads as.
+//! Where a thing is:
+//! - the body of an event or a piece of a node, and how it is read: `specs/Bodies.antt`; of a report
+//!   `specs/Reports.antt`, `src/reports.rt`; of parts `specs/Parts.antt`, `src/parts.rt`; `src/spelling.rt`,
+//!   `src/reading.rt`; the two pieces in which it is written `specs/Split.antt`, `proofs/Split.antt`
+//! - what an image of a node's store stands for, what a commit answers: `specs/Stands.antt`, `specs/Store.antt`
+//! - the opening of a node's store: `src/opening.rt` over `src/taking.rt`, which takes the bodies one by one;
+//!   `specs/Taking.antt`; that bodies lead to one node at most `proofs/Runs.antt`
+//! - a commit: `src/store.rt`, `specs/Store.antt`; a disk that no call was made of `proofs/AtRest.antt`
+//! - how an event is written, or the whole node after it: `src/writing.rt`, `src/appending.rt`, `src/rewriting.rt` over
+//!   `src/next.rt` (the node after an event, looked at before it is applied); `specs/Rewriting.antt`,
+//!   `proofs/RewriteSteps.antt`, `proofs/Rewritten.antt`
 #![tactic(auto)]
 
 mod appending;

@@ -1,5 +1,5 @@
-//! The tests of `node_store`: bodies of events from a word each, files of bodies, stores that events are committed to, and banks
-//! that are full, in files of 64 MiB.
+//! The tests of `node_store`: bodies of events from a word each, files of bodies, stores that events are committed to,
+//! and banks that are full, in files of 64 MiB.
 #![tactic(auto)]
 
 #[cfg(test)]

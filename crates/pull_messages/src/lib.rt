@@ -4,6 +4,11 @@
 //! section 3.3), in which names compare by fold and text values stand in quotes. A layer above may rely on it that what
 //! is read is the value that the bytes stand for, that a refusal names the first field of the table that is missing or
 //! wrong, or the longest front with which some target begins, and that what is written reads back.
+//!
+//! Where a thing is:
+//! - what a message of the pull protocol may hold: `specs/Tables.antt`, read by `src/members.rt` and `src/lists.rt`; as
+//!   it is written `specs/Writing.antt`
+//! - which targets there are: `specs/Targets.antt`; part by part `src/parts.rt`, form by form `src/forms.rt`
 #![tactic(auto)]
 
 mod action;

@@ -1,7 +1,11 @@
 //! The pull server program, over the files and the network of this machine.
 //!
-//! `serve` serves connections; its contract says what each was answered and what was printed. `main` makes the real objects
-//! that the arguments name, hands them to `serve` with the same arguments, and ends with the number of its status.
+//! `serve` serves connections; its contract says what each was answered and what was printed. `main` makes the real
+//! objects that the arguments name, hands them to `serve` with the same arguments, and ends with the number of its
+//! status.
+//!
+//! Where a thing is:
+//! - the command line, and a run of the server: `serve_words`; `pull_serving`
 #![tactic(auto)]
 
 use mof_values::Memory;

@@ -1,10 +1,14 @@
 //! A pull server of MS-DSCPM 2.0: what it answers to a request.
 //!
-//! `specs/Table.antt` is the answer table: its rows in order, of which the first that applies gives the reply and says whether
-//! the rows of the store change. A layer above may rely on this: `answer` gives the reply of the table, or 500 where the count of
-//! faults of the disk or of the shelf rose; a registration and a report are acknowledged only once every image of the disk stands
-//! for the rows after them; and a crash at any moment leaves the rows before the request, or those after a change that the table
-//! makes.
+//! The first row of the answer table that applies gives the reply and says whether the rows of the store change. A
+//! layer above may rely on this: `answer` gives the reply of the table, or 500 where the count of faults of the disk or
+//! of the shelf rose; a registration and a report are acknowledged only once every image of the disk stands for the
+//! rows after them; and a crash at any moment leaves the rows before the request, or those after a change that the
+//! table makes.
+//!
+//! Where a thing is:
+//! - the answer table of the pull server: `specs/Table.antt`, row by row; what it looks at `specs/Asked.antt`, what an
+//!   answer says `specs/Answers.antt`; the rows in code `src/judging.rt`, what is kept `src/keeping.rt`
 #![tactic(auto)]
 
 mod acting;

@@ -1,4 +1,5 @@
-//! The tests of `pull_server`: exchanges with a server in memory, one after the other, also over a bank that is nearly full.
+//! The tests of `pull_server`: exchanges with a server in memory, one after the other, also over a bank that is nearly
+//! full.
 #![tactic(auto)]
 
 #[cfg(test)]

@@ -1,13 +1,19 @@
 //! The rows of a pull server, on a disk.
 //!
-//! An agent has a row: its last registration, and its newest four reports. `specs/Rows.antt` says what a registration and a
-//! report make of the rows, as a list in the order of the first registrations. Each of them is one body of a log; where the
-//! live bank of the log has no room for it, the rows after it are written into the other bank.
+//! An agent has a row: its last registration, and its newest four reports; there are at most 512. Each change is one
+//! body of a log; where its live bank has no room, the rows after the change are written into the other bank.
 //!
-//! A layer above may rely on this: `open_pull` gives the rows that the disk read as, or the first byte that fails; a crash at
-//! any moment of `register` and `put_report` leaves the rows before or after it, and after `Ok` the rows after it; every
-//! answer has its cause. `specs/Stands.antt` says which rows an image stands for, and `specs/Store.antt` what each answer means.
-//! Agents are looked up by going over the rows, of which there are at most 512; look-ups take no memory.
+//! A layer above may rely on this: `open_pull` gives the rows that the disk read as, or the first byte that fails; a
+//! crash at any moment of `register` and `put_report` leaves the rows before or after it, and after `Ok` the rows after
+//! it; every answer has its cause. Look-ups go over the rows, and take no memory.
+//!
+//! Where a thing is:
+//! - the rows, and what a registration and a report make of them: `specs/Rows.antt`, `src/row.rt`, `src/rows.rt`,
+//!   `src/change.rt`; laws of rows `specs/Laws.antt`, `src/laws.rt`
+//! - which rows an image stands for, and what each answer means: `specs/Stands.antt`, `specs/Store.antt`
+//! - the bytes of a registration or a report: `specs/Bodies.antt`, `src/spelling.rt`, `src/reading.rt`
+//! - the opening of a store; one change of it: `src/opening.rt`; `src/committing.rt`
+//! - its limits: `src/limits.rt`
 #![tactic(auto)]
 
 mod change;

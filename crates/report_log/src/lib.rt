@@ -4,6 +4,10 @@
 //! first 64 of these in document order with the reason of each, and what the run came to. It takes no memory: all that
 //! it holds was made by `room_for` before the run. The layer above may rely on it that each reason is that of the
 //! resource's last entry, and that the report is in size.
+//!
+//! Where a thing is:
+//! - the report of a run: `specs/Report.antt`, `src/making.rt`; which reports are in size `specs/Sizes.antt`,
+//!   `src/sizes.rt`; the limits `src/limits.rt`
 #![tactic(auto)]
 
 mod limits;

@@ -1,9 +1,13 @@
-//! The fields that the bodies of both stores are made of: numbers, truth values, texts, bytes and digests.
+//! The fields that the bodies of both stores are made of: numbers, truth values, texts, bytes, digests and lists.
 //!
-//! `specs/Fields.antt` says which bytes a value has. A layer above may rely on this: a writer appends exactly these, and
-//! takes no memory where the buffer's capacity suffices; a reader takes exactly the value that stands at the front of the bytes, and
-//! refuses exactly where no value in range does. So a body that is fields one after the other is read field by field, and no
-//! two values have the same bytes.
+//! `specs/Fields.antt` says which bytes a value has. A layer above may rely on this: a writer appends exactly these,
+//! and takes no memory where the buffer's capacity suffices; a reader takes exactly the value that stands at the front
+//! of the bytes, and refuses exactly where no value in range does. So a body that is fields one after the other is read
+//! field by field, and no two values have the same bytes.
+//!
+//! Where a thing is:
+//! - the bytes of a field: `specs/Fields.antt`; what a reader takes `specs/Reading.antt`, `src/reading.rt`; what a
+//!   writer leaves `specs/Writing.antt`, `src/writing.rt`; lists `src/lists.rt`
 #![tactic(auto)]
 
 mod error;
