@@ -62,9 +62,11 @@ def faults():
     yield from faults_of_places("docs/ARCHITECTURE.md", row.group(0), STARTS)
     crate = ""
     for item in re.split(r"\n(?=\d\. )", paragraph.group(0)):
+        # a file without its crate may be of the one that the item before named last
         text = crate + item
         yield from faults_of_places("CONTRIBUTING.md", text, TOOL if "is a tool" in item else STARTS)
-        crate = "".join(f"`{name}` " for name in re.findall(r"`([a-z_]+)`", text) if os.path.isdir(f"crates/{name}"))
+        named_crates = [name for name in re.findall(r"`([a-z_]+)`", text) if os.path.isdir(f"crates/{name}")]
+        crate = f"`{named_crates[-1]}` " if named_crates else ""
     named = set(places_of(paragraph.group(0)))
     for path in sorted(set(files_with(STARTS)) - named):
         yield f"CONTRIBUTING.md: the list of how a command is added has no {path}, which has {STARTS}"
