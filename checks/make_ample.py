@@ -4,7 +4,8 @@
     make_ample.py FOLDER
 
 writes FOLDER/cases, a line for each case, with tabs between: the file of its input, the file of the lines that must come, the
-exit status, the seconds of processor time that it may take, the words, and its name.
+exit status, the seconds of processor time that it may take, the words, and its name. A push and a meta are done on a new node; with + in front
+of the words the node and its machine are those that the case before left, and +drift takes the machine's variables away.
 What must come is worked out here, by the rules of the README, and not by the program.
 """
 import hashlib
@@ -325,6 +326,62 @@ def generated():
         case(f"a repair of {count}", f"generate {count}", "", 0, lines + f'first "{ids[order[0]]}" last "{ids[order[-1]]}"\n')
 
 
+# ---- starts, one after the other on one node
+
+
+def valued(count, value, ids=None):
+    """A document of so many variables without dependencies."""
+    ids = ids or environment_ids(count)
+    return "".join(f'instance of MSFT_EnvironmentResource{{ResourceID="{ids[r]}";Name="V{r}";Value="{value}";}};\n' for r in range(count)) + HEADER
+
+
+def answered(ids, end, answers=("no", "yes")):
+    """What a run prints in which each Test answers so: no without a Set, no with one after which it answers yes, or yes."""
+    each = {("no",): 'test "{0}" no\n', ("yes",): 'test "{0}" yes\n', ("no", "yes"): 'test "{0}" no\nset "{0}" done\ntest "{0}" yes\n'}[tuple(answers)]
+    succeeded = len(ids) if answers[-1] == "yes" else 0
+    verdict = "compliant" if succeeded == len(ids) else f"not compliant {len(ids)}"
+    return "".join(each.format(id_) for id_ in ids) + f"resources {len(ids)} succeeded {succeeded}\n{verdict}\n{end}\n"
+
+
+def a_life(name, ids, first, second):
+    """Drift under Monitor, a boot, a second document, a restore, and drift under AutoCorrect."""
+    drifted = 1 if ids else 0
+    case(f"{name}, the first", "push", first, 0, answered(ids, "end promoted"), PUSHED)
+    case(f"{name}, the second", "+push", second, 0, answered(ids, "end promoted"), PUSHED)
+    case(f"{name}, restored", "+restore", "", 0, answered(ids, "end promoted"), PUSHED)
+    case(f"{name}, its drift", "+drift", "", 0, "")
+    for word in ("consistency", "boot"):
+        case(f"{name}, the drift seen", f"+{word}", "", drifted, answered(ids, "end noted", ["no"]), PUSHED)
+    case(f"{name}, AutoCorrect", "+meta", 'instance of MSFT_DSCMetaConfiguration{ConfigurationMode="ApplyAndAutoCorrect";};', 0, "ok\n")
+    case(f"{name}, the drift repaired", "+consistency", "", 0, answered(ids, "end noted"), PUSHED)
+    case(f"{name}, its drift again", "+drift", "", 0, "")
+    case(f"{name}, repaired by a boot", "+boot", "", 0, answered(ids, "end noted"), PUSHED)
+    case(f"{name}, nothing to repair", "+boot", "", 0, answered(ids, "end noted", ["yes"]), PUSHED)
+
+
+def starts():
+    for count in (0, 1, 7, 40, 300):
+        a_life(f"a life of {count}", environment_ids(count), valued(count, 1), valued(count, 2))
+    for character in ("x", "€", "\U0001f600"):
+        # each id has 256 bytes, and each version 64 characters
+        ids = []
+        for number in range(70):
+            room = 256 - len(f"[E]{number}")
+            fill = character * (room // len(character.encode()))
+            ids.append(f"[E]{number}{fill}{'x' * (room - len(fill.encode()))}")
+            assert len(ids[-1].encode()) == 256
+        texts = [valued(70, value, ids=ids).replace('Version="2.0.0"', f'Version="{character * (63 + value)}"') for value in (1, 2)]
+        a_life("ids of 256 bytes and a version of 64 characters", ids, *texts)
+    for count in (2, 40, 300, 4096):
+        # all are of one variable, so the first Set makes all of them right
+        ids = environment_ids(count)
+        text = "".join(f'instance of MSFT_EnvironmentResource{{ResourceID="{id_}";Name="V";Value="1";}};\n' for id_ in ids) + HEADER
+        rest = "".join(f'test "{id_}" yes\n' for id_ in ids[1:])
+        verdict = f"resources {count} succeeded {count}\ncompliant\noverlapping\n"
+        case(f"{count} resources that overlap", "push", text, 0, f'test "{ids[0]}" no\nset "{ids[0]}" done\ntest "{ids[0]}" yes\n{rest}{verdict}end promoted\n', PUSHED)
+        case(f"{count} resources that overlap, again", "+boot", "", 0, f'test "{ids[0]}" yes\n{rest}{verdict}end noted\n', PUSHED)
+
+
 # ---- meta-configurations
 
 META_LIMIT = 262_144  # the most bytes of a meta-configuration
@@ -366,6 +423,7 @@ def metas():
 
 
 documents()
+starts()
 metas()
 cycles()
 unknown_ids()

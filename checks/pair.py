@@ -88,11 +88,12 @@ class Server:
     def url(self):
         return 'http://127.0.0.1:%d/PSDSCPullServer.svc' % self.port
 
-# ---- what stands between a node and its server: it counts and keeps the requests, and cuts an answer or gives another where it is set to
+# ---- what stands between a node and its server: it counts and keeps the requests, and cuts an answer or gives another where it is set to,
+# or the next one of its plan, in which None is the server's own
 
 class Relay:
     def __init__(self, server):
-        self.server, self.requests, self.cut, self.reset, self.instead = server, [], None, False, None
+        self.server, self.requests, self.cut, self.reset, self.instead, self.plan = server, [], None, False, None, []
         self.listener = socket.create_server(('127.0.0.1', 0))
         self.port = self.listener.getsockname()[1]
         threading.Thread(target=self.serve, daemon=True).start()
@@ -127,7 +128,7 @@ class Relay:
             self.requests.append(request.split(b' HTTP/', 1)[0].decode())
             far.sendall(request)
             answer = b''.join(iter(lambda: far.recv(1 << 16), b''))
-        answer = answer if self.instead is None else self.instead
+        answer = (self.plan.pop(0) if self.plan else self.instead) or answer
         conn.sendall(answer if self.cut is None else answer[:self.cut])
         if self.reset:
             self.resets(conn)
@@ -441,6 +442,183 @@ def cut_answers():
     check('a server of https', https.does('register', 'n'), ('refused PeerRefused NotServed\n', 6))
     check('it was not reached', [line for line in server.kill() if line], [])
 
+# ---- the lines of what is refused, or fails
+
+def ok(body, *headers):
+    return '\r\n'.join(['HTTP/1.1 200 OK', *headers, 'Content-Length: %d' % len(body), '', body]).encode()
+
+GET_WEB = '{"NodeStatus":"GetConfiguration","Details":[{"ConfigurationName":"Web","Status":"GetConfiguration"}]}'
+
+def refused_answers():
+    server = Server()
+    relay = Relay(server)
+    server.configure('Web', variable('A', '1') + HEADER)
+    node = new_node(meta(relay.url(), reports=False))
+    check('a registration before refused answers', node.does('register', 'n'), ('ok\n', 0))
+    before = node.does('get')
+    sums = digest('other'), digest(HEADER)
+    for name, plan, line in (
+            ('another content than its checksum', [None, ok(HEADER, 'Checksum: ' + sums[0], 'ChecksumAlgorithm: SHA-256')], 'PeerRefused Mismatch %s %s' % sums),
+            ('a code of 999', [b'HTTP/1.1 999 X\r\nContent-Length: 0\r\n\r\n'], 'PeerRefused Status 999'),
+            ('a code of 99 in three digits', [b'HTTP/1.1 099 X\r\nContent-Length: 0\r\n\r\n'], 'PeerRefused Status 99'),
+            ('a code of two digits', [b'HTTP/1.1 99 X\r\nContent-Length: 0\r\n\r\n'], 'PeerRefused Frame Head'),
+            ('a code of four digits', [b'HTTP/1.1 1000 X\r\nContent-Length: 0\r\n\r\n'], 'PeerRefused Frame Head'),
+            ('a code of 100 alone', [b'HTTP/1.1 100 Continue\r\n\r\n'], 'PeerRefused Frame Torn 25')):
+        relay.plan = plan
+        check(name, node.does('pull'), ('refused %s\n' % line, 6))
+    # the end of an answer without a length is that of the connection, and a reset is no end
+    relay.reset = True
+    for name, sent in (('an answer without a length', b'HTTP/1.1 200 OK\r\n\r\n' + GET_WEB.encode()), ('a whole answer', ok(GET_WEB)), ('nothing', b'')):
+        relay.plan = [sent]
+        relay.cut = 0 if not sent else None
+        check('a reset after ' + name, node.does('pull'), ('refused LinkFault\n', 4))
+    relay.plan, relay.cut, relay.reset = [], None, False
+    check('the node after refused answers', node.does('get'), before)
+    relay.plan = [b'HTTP/1.1 100 Continue\r\n\r\nHTTP/1.1 200 OK\r\n\r\n' + GET_WEB.encode()]
+    check('an answer without a length after one of 100', node.does('pull')[1], 0)
+    server.kill()
+
+def refused_lists():
+    server = Server()
+    server.configure('Base', HEADER)
+    server.configure('App', 'instance of MSFT_FileDirectoryConfiguration{ResourceID="[File]F";DestinationPath="/f";};' + HEADER)
+    text = meta(server.url(), names=(), partials=(('Base', ()), ('App', ())), reports=False).replace('Base";DependsOn', 'Base";ExclusiveResources={"File"};DependsOn')
+    node = new_node(text)
+    check('a registration of an exclusive type', node.does('register', 'n'), ('ok\n', 0))
+    check('a type that another part has for itself', node.does('pull'), ('refused PeerRefused Fit ExclusiveTaken 1 0\n', 6))
+    check('nothing of it was kept', 'pending -\ncurrent -\n' in node.does('get')[0], True)
+    server.kill()
+
+def a_second_package():
+    server = Server()
+    relay = Relay(server)
+    named = 'ModuleName="%s";ModuleVersion="1.0";'
+    server.put('modules/first_1.0.zip', 'first')
+    server.configure('Web', variable('A', '1', named % 'first') + variable('B', '1', named % 'second') + HEADER)
+    node = new_node(meta(relay.url(), reports=False))
+    check('a registration before two packages', node.does('register', 'n'), ('ok\n', 0))
+    before = node.does('get')
+    with open(node.host + '/packages', 'w', encoding='utf-8') as file:
+        file.write('a file')
+    check('a file in the place of the packages', node.does('pull'), ('refused HostFault\n', 4))
+    check('the node after it', (node.does('get'), node.variable('A')), (before, None))
+    os.remove(node.host + '/packages')
+    check('a second package that is not there', node.does('pull'), ('refused PeerRefused Status 404\n', 6))
+    check('the first one stays, and nothing was applied', (len(node.packages()), node.does('get'), node.variable('A')), (1, before, None))
+    server.put('modules/second_1.0.zip', 'second')
+    relay.asked()
+    check('once the second is there', node.does('pull'), (said_no('A', 'B') + 'resources 2 succeeded 2\ncompliant\nend promoted\n', 0))
+    fetch = "GET Modules(ModuleName='second',ModuleVersion='1.0')/ModuleContent"
+    check('it alone was fetched', [line for line in relay.asked() if 'Modules' in line], [fetch])
+    server.kill()
+
+CLOCK = """
+#include <time.h>
+int clock_gettime(clockid_t clock, struct timespec *time) { time->tv_sec = SECONDS; time->tv_nsec = 0; return 0; }
+"""
+
+LAST_MOMENT = 253402207200  # 22:00 of the last day but one of the year 9999
+
+# Clocks before 1970 and after the last moment, which a library before that of the system gives.
+def clocks():
+    compiler = shutil.which('cc') or shutil.which('gcc') or shutil.which('clang')
+    if not compiler:
+        print('skipped: clocks, since there is no C compiler', flush=True)
+        return
+    fault, right = ('refused ClockFault', 4), ('end promoted', 0)
+    for seconds, wanted in ((-1, fault), (0, right), (LAST_MOMENT, right), (LAST_MOMENT + 1, fault)):
+        node = Node()
+        check('init before clocks', node.does('init', AGENT), ('ok\n', 0))
+        library = node.folder + '/clock.so'
+        subprocess.run([compiler, '-shared', '-fPIC', '-DSECONDS=%dL' % seconds, '-x', 'c', '-', '-o', library], input=CLOCK.encode(), check=True)
+        words = [program, node.store, node.host, 'push']
+        process = subprocess.Popen(words, stdin=node.input(variable('A', '1') + HEADER), stdout=subprocess.PIPE, stderr=subprocess.PIPE,
+                                   env={**os.environ, 'LD_PRELOAD': library})
+        out, status = node.ended(process)
+        check('a clock of %d seconds' % seconds, (out.splitlines()[-1:], status), ([wanted[0]], wanted[1]))
+        check('the start after a clock of %d seconds' % seconds, node.does('consistency')[1], 0)
+
+# ---- servers that are silent, slow or away, each of which a node waits for side by side
+
+def silent(conn, _):
+    time.sleep(100)
+
+def dripping(conn, ended):
+    while not ended.wait(1):
+        conn.sendall(b'H')
+
+def refusing(conn, _):
+    conn.setsockopt(socket.SOL_SOCKET, socket.SO_LINGER, struct.pack('ii', 1, 0))
+
+# A whole answer after which the connection stays open is no answer.
+def never_ending(conn, _):
+    conn.recv(1 << 16)
+    conn.sendall(b'HTTP/1.1 204 No Content\r\n\r\n')
+    time.sleep(100)
+
+def waits(name, peer, least, most, results):
+    listener = socket.create_server(('127.0.0.1', 0), backlog=0 if peer is None else 5)
+    ended, waiting = threading.Event(), []
+    def serve():
+        conn, _ = listener.accept()
+        try:
+            with conn:
+                peer(conn, ended)
+        except OSError:
+            pass
+    if peer:
+        threading.Thread(target=serve, daemon=True).start()
+    else:
+        for _ in range(4):  # its queue is full, so it takes no further one
+            waiting.append(socket.socket())
+            waiting[-1].setblocking(False)
+            waiting[-1].connect_ex(listener.getsockname())
+    node = Node()
+    node.does('init', AGENT)
+    node.does('meta', text=meta('http://127.0.0.1:%d/PSDSCPullServer.svc' % listener.getsockname()[1]))
+    begun = time.monotonic()
+    got = node.does('register', 'n')
+    took = time.monotonic() - begun
+    ended.set()
+    results.append((name, got, ('refused LinkFault\n', 4)))
+    results.append(('%s, after %.1f s' % (name, took), least <= took <= most, True))
+    results.append((name + ', the node', 'registered no\n' in node.does('get')[0], True))
+
+SILENT = (('a silent server', silent, 29, 45), ('a server that sends a byte a second', dripping, 29, 45), ('a server that never ends', never_ending, 29, 45),
+          ('a server that takes no connection', None, 9, 20), ('a server that resets', refusing, 0, 10))
+SILENT_RESULTS = []
+SILENT_THREADS = [threading.Thread(target=waits, args=(*it, SILENT_RESULTS)) for it in SILENT]
+
+# They are waited for beside all other parts.
+def silent_servers():
+    for thread in SILENT_THREADS:
+        thread.join()
+    check('the servers that were waited for', len(SILENT_RESULTS), 3 * len(SILENT))
+    for result in SILENT_RESULTS:
+        check(*result)
+
+# ---- lists of up to 16 MiB, so many that the store is written anew, into either of its banks
+
+def long_lists():
+    server = Server()
+    for count, rounds in ((3, 12), (8, 6)):
+        names = ['p%d' % it for it in range(count)]
+        node = new_node(meta(server.url(), names=(), partials=[(it, ()) for it in names], reports=False))
+        check('a registration of %d long partials' % count, node.does('register', 'n'), ('ok\n', 0))
+        banks = []
+        for number in range(rounds):
+            for it in names:
+                text = variable(it, str(number)) + HEADER + '//'
+                server.configure(it, text + 'x' * (2097152 - len(text)))
+            got = node.does('pull')
+            check('%d long partials, round %d' % (count, number), got, (said_no(*names) + 'resources %d succeeded %d\ncompliant\nend promoted\n' % (count, count), 0))
+            with open(node.store, 'rb') as file:
+                banks.append(file.read(8)[7:])
+        check('%d long partials, the banks' % count, sorted(set(banks)), [b'1', b'2'])
+        check('%d long partials, a drift' % count, (node.variable('p0', 'x'), node.does('consistency')[1], node.variable('p0')), ('x', 0, str(rounds - 1)))
+        check('%d long partials, restored' % count, (node.does('restore')[1], node.variable('p0')), (0, str(rounds - 2)))
+    server.kill()
+
 # ---- kills
 
 FILES = 120
@@ -565,7 +743,10 @@ def killed_reports():
     check('%d of %d reports were not sent at once, and not all' % (unsent, KILLS), 0 < unsent < KILLS, True)
     server.kill()
 
-for part in (two_programs, a_life, partials, a_name_in_another_case, a_flood, packages, sizes, cut_answers, killed_nodes, killed_registrations, killed_reports):
+for thread in SILENT_THREADS:
+    thread.start()
+for part in (two_programs, a_life, partials, a_name_in_another_case, a_flood, packages, sizes, cut_answers, refused_answers, refused_lists,
+             a_second_package, clocks, long_lists, killed_nodes, killed_registrations, killed_reports, silent_servers):
     begun = time.monotonic()
     try:
         part()

@@ -1,11 +1,15 @@
 """The pull server with real clients, for checks/serve, which says what is run. The argument is the program."""
-import base64, hashlib, hmac, json, os, random, shutil, signal, socket, struct, subprocess, sys, tempfile, threading, time
+import hashlib, json, os, random, shutil, signal, socket, struct, subprocess, sys, tempfile, threading, time
+
+from protocol import (DATE, agent, answer, content, fetch, in_chunks, module, node, query, register, registration, report, request, signature,
+                      statuses)
 
 program = sys.argv[1]
 passed = failed = 0
 counting = threading.Lock()
 scratch = tempfile.mkdtemp()
 LONGEST = 62914560
+BANK = 335544320  # the bytes of each half of a store
 
 def check(name, got, wanted):
     global passed, failed
@@ -16,87 +20,23 @@ def check(name, got, wanted):
         failed += 1
         print('FAILED', name, 'got', repr(got)[:600], 'wanted', repr(wanted)[:600], flush=True)
 
-# ---- what the protocol says
-
-PHRASES = {200: 'OK', 204: 'No Content', 400: 'Bad Request', 401: 'Unauthorized', 404: 'Not Found', 405: 'Method Not Allowed',
-           411: 'Length Required', 413: 'Payload Too Large', 500: 'Internal Server Error', 501: 'Not Implemented'}
-DATE = b'2026-01-02T03:04:05.0000000Z'
-
-def answer(code, body=b'', headers=()):
-    lines = ['HTTP/1.1 %d %s' % (code, PHRASES[code]), 'Connection: close', 'ProtocolVersion: 2.0', *headers]
-    if code != 204:
-        lines.append('Content-Length: %d' % len(body))
-    return '\r\n'.join(lines + ['', '']).encode() + body
-
-def content(body):
-    digest = hashlib.sha256(body).hexdigest().upper()
-    return answer(200, body, ('Content-Type: application/octet-stream', 'Checksum: ' + digest, 'ChecksumAlgorithm: SHA-256'))
-
-# The answer to a query, in its compact text with members in the order of their names.
-def statuses(node, *details):
-    details = ','.join('{"ConfigurationName":%s,"Status":"%s"}' % (json.dumps(name, ensure_ascii=False), status) for name, status in details)
-    body = '{"Details":[%s],"NodeStatus":"%s"}' % (details, node)
-    return answer(200, body.encode(), ('Content-Type: application/json',))
-
-def request(method, target, body=None, headers=()):
-    lines = ['%s /PSDSCPullServer.svc/%s HTTP/1.1' % (method, target), 'Host: s', 'ProtocolVersion: 2.0', *headers]
-    if body is not None:
-        lines.append('Content-Length: %d' % len(body))
-    return '\r\n'.join(lines + ['', '']).encode() + (body or b'')
-
-def agent(number):
-    return '00000000-0000-0000-0000-%012x' % number
-
-def node(number, rest=''):
-    return "Nodes(AgentId='%s')%s" % (agent(number), rest)
-
-def fetch(number, name):
-    return request('GET', node(number, "/Configurations(ConfigurationName='%s')/ConfigurationContent" % name))
-
-def module(name, version):
-    return request('GET', "Modules(ModuleName='%s',ModuleVersion='%s')/ModuleContent" % (name, version))
-
-def registration(names):
-    return json.dumps({'AgentInformation': {'LCMVersion': '2.0', 'NodeName': 'n', 'IPAddress': '::1'}, 'ConfigurationNames': names,
-                       'RegistrationInformation': {'RegistrationMessageType': 'ConfigurationRepository'}}).encode()
-
-def signature(key, body, date=DATE):
-    text = base64.b64encode(hashlib.sha256(body).digest()) + b'\n' + date
-    return base64.b64encode(hmac.new(key, text, hashlib.sha256).digest()).decode()
-
-def register(number, names=('Web',), key=b'k0', body=None):
-    body = registration(list(names)) if body is None else body
-    signed = ('x-ms-date: ' + DATE.decode(), 'Authorization: Shared ' + signature(key, body))
-    return request('PUT', node(number), body, signed)
-
-def query(number, *clients):
-    clients = [{'Checksum': sum_, 'ConfigurationName': name, 'ChecksumAlgorithm': 'SHA-256'} for name, sum_ in clients]
-    return request('POST', node(number, '/GetDscAction'), json.dumps({'ClientStatus': clients}).encode())
-
-def in_chunks(target, body, size):
-    pieces = [body[at:at + size] for at in range(0, len(body), size)]
-    framed = b''.join(b'%04x;a=b\r\n%s\r\n' % (len(piece), piece) for piece in pieces)
-    return request('POST', target, headers=('Transfer-Encoding: Chunked',)) + framed + b'0\r\nTrailer: t\r\n\r\n'
-
-def report(number, job, pad=0):
-    body = json.dumps({'JobId': agent(job), 'OperationType': 'Consistency', 'Status': 'Success', 'Errors': []}) + ' ' * pad
-    return request('POST', node(number, '/SendReport'), body.encode())
-
-# The events of a store: its first bytes, then cells, each an open gate, a length and a body, then a closed gate.
+# The events of a store: its first bytes, of which the last names the live bank, then cells, each an open gate, a length and a body, then a
+# closed gate.
 def events(path):
     with open(path, 'rb') as file:
-        store = file.read()
-    if store[:8] != b'DSCSTOR1':
-        return 'no store'
-    found, at = [], 8
-    while store[at:at + 1] == b'\xa5':
-        size = int.from_bytes(store[at + 1:at + 5], 'big')
-        found.append(store[at + 5:at + 5 + size])
-        at += 5 + size
-    return found if at < len(store) else 'no closed gate'
+        head = file.read(8)
+        if head not in (b'DSCSTOR1', b'DSCSTOR2'):
+            return 'no store'
+        file.seek(8 if head == b'DSCSTOR1' else 8 + BANK)
+        found = []
+        gate = file.read(1)
+        while gate == b'\xa5':
+            found.append(file.read(int.from_bytes(file.read(4), 'big')))
+            gate = file.read(1)
+        return found if gate else 'no closed gate'
 
-def row(number, names=('Web',)):
-    texts = b''.join(len(text).to_bytes(2, 'big') + text for text in (b'2.0', b'n', b'::1'))
+def row(number, names=('Web',), texts=(b'2.0', b'n', b'::1')):
+    texts = b''.join(len(text).to_bytes(2, 'big') + text for text in texts)
     names = [name.encode() for name in names]
     return b'\1' + bytes(12) + number.to_bytes(4, 'big') + texts + bytes([len(names)]) + b''.join(len(name).to_bytes(2, 'big') + name for name in names)
 
@@ -337,6 +277,77 @@ def contents_that_change():
           statuses('GetConfiguration', ('Web', 'GetConfiguration'), ('App', 'GetConfiguration')))
     check('contents that change, the lines', server.end(), served(204, *[200] * (1 + 4 * len(texts) + 8)))
 
+# ---- the second bank of a store, whose first one and most of whose reports are holes in the file
+
+def cell(body):
+    return b'\xa5' + len(body).to_bytes(4, 'big') + body
+
+def a_second_bank():
+    folder = tempfile.mkdtemp(dir=scratch)
+    with open(folder + '/store', 'wb') as file:
+        file.write(b'DSCSTOR2' + cell(row(9)) + b'\0')  # of the dead bank nothing counts
+        file.seek(8 + BANK)
+        file.write(cell(row(1)) + cell(kept_report(1, 7)) + b'\0dead')
+    kept = [row(1), kept_report(1, 7)]
+    server = expect('a second bank', (fetch(1, 'Web'), content(b'abc')), (fetch(9, 'Web'), answer(404)), (report(1, 8), answer(200)),
+                    (register(2), answer(204)), server=Server(4, folder))
+    kept += [kept_report(1, 8), row(2)]
+    check('a second bank, its events', events(server.store), kept)
+    check('a second bank, how long the file is', os.path.getsize(server.store), 8 + BANK + sum(5 + len(it) for it in kept) + 1)
+    expect('a second bank after a restart', (fetch(2, 'Web'), content(b'abc')), server=Server(1, folder))
+
+# A second bank that is full is written anew into the first one: each agent with its newest four reports, in the order of their rows.
+def a_full_second_bank():
+    folder, at, number = tempfile.mkdtemp(dir=scratch), 8 + BANK, 0
+    least = 5 + len(kept_report(1, 0))
+    with open(folder + '/store', 'wb') as file:
+        file.write(b'DSCSTOR2\0')
+        for body in (row(1), row(2), kept_report(2, 5)):
+            file.seek(at)
+            file.write(cell(body))
+            at += 5 + len(body)
+        # reports of zeros, which are holes, until one more byte has no room beside the closed gate
+        while at + 5 + 33 < 8 + 2 * BANK - 1 - least:
+            size = min(131072, 8 + 2 * BANK - 1 - at - 5 - 33)
+            number += 1
+            file.seek(at)
+            file.write(b'\xa5' + (33 + size).to_bytes(4, 'big') + b'\2' + bytes(12) + (1).to_bytes(4, 'big') + bytes(12) + (1000 + number).to_bytes(4, 'big'))
+            at += 5 + 33 + size
+        file.truncate(at + 1)
+    last = 8 + 2 * BANK - 1 - at
+    check('a full second bank: room for a report', last < least, True)
+    server = expect('a full second bank', (report(1, 8), answer(200)), (fetch(2, 'Web'), content(b'abc')), (report(2, 9), answer(200)), server=Server(3, folder))
+    with open(server.store, 'rb') as file:
+        check('a full second bank, the bank that counts', file.read(8), b'DSCSTOR1')
+    kept = events(server.store)
+    jobs = [(body[0], body[16], int.from_bytes(body[29:33], 'big') if body[0] == 2 else 0) for body in kept]
+    check('a full second bank, what is written anew', jobs, [(1, 1, 0)] + [(2, 1, 1000 + it) for it in range(number - 2, number + 1)]
+          + [(2, 1, 8), (1, 2, 0), (2, 2, 5), (2, 2, 9)])
+    check('a full second bank, the bytes of its own rows', [kept[0], *kept[-4:]], [row(1), kept_report(1, 8), row(2), kept_report(2, 5), kept_report(2, 9)])
+    expect('a full second bank after a restart', (fetch(1, 'Web'), content(b'abc')), (report(1, 10), answer(200)), server=Server(2, folder))
+
+# ---- registrations as long as they may be
+
+def long_registrations():
+    def body(version, name, address, names=('Web',)):
+        return json.dumps({'AgentInformation': {'LCMVersion': version, 'NodeName': name, 'IPAddress': address}, 'ConfigurationNames': list(names),
+                           'RegistrationInformation': {}}).encode()
+    long, names = 'n' * 65535, ['%02d' % it + 'x' * 253 for it in range(16)]
+    server = expect('long registrations',
+        (register(1, body=body('2.0', long, '::1')), answer(204)),
+        (register(2, body=body(long, 'n', '::1')), answer(204)),
+        (register(3, body=body('2.0', 'n', long)), answer(204)),
+        (register(4, body=body('2.0', 'n', '::1', names)), answer(204)),
+        (register(5, body=body('2.0', long + 'n', '::1')), answer(400, b'wrong NodeName')),
+        (register(5, body=body('2.0', 'n', '::1', names + ['y'])), answer(400, b'wrong ConfigurationNames')),
+        (register(5, body=body('2.0', 'n', '::1', ['x' * 256])), answer(400, b'wrong ConfigurationNames')),
+        (fetch(5, 'Web'), answer(404)),
+        (fetch(3, 'Web'), content(b'abc')))
+    wanted = [row(1, texts=(b'2.0', long.encode(), b'::1')), row(2, texts=(long.encode(), b'n', b'::1')), row(3, texts=(b'2.0', b'n', long.encode())),
+              row(4, names)]
+    check('long registrations, the store', events(server.store) == wanted, True)
+    expect('long registrations after a restart', (fetch(1, 'Web'), content(b'abc')), (fetch(2, 'Web'), content(b'abc')), server=Server(2, server.folder))
+
 # ---- clients that are slow, and others
 
 # A good client comes right after another one: how long it waits for its answer.
@@ -500,7 +511,7 @@ def a_common_client():
                                          report(1, 5).split(b'\r\n\r\n', 1)[1].decode()), answer(200))
     check('curl, the lines', server.end(), served(204, 200, 200))
 
-todo = [a_node, frames, a_shelf, contents_that_change, many_at_once, addresses, refusals, a_full_output, kills, a_common_client]
+todo = [a_node, frames, a_shelf, contents_that_change, a_second_bank, a_full_second_bank, long_registrations, many_at_once, addresses, refusals, a_full_output, kills, a_common_client]
 slow = [lambda: served_after('a silent client', silent, 9, 14, 'read fault'),
         lambda: served_after('a client that sends a byte a second', dripping, 28, 36, 'read fault'),
         lambda: served_after('a client that never reads', never_reading, 9, 60, 'write fault'),
