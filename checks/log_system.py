@@ -186,6 +186,36 @@ def compared(case):
     shutil.rmtree(folder)
     return calls
 
+# A program that leaves one of its syncs out, which a library before that of the system does for it, makes other calls than those that must come.
+LEAVES_OUT = b"""
+#include <stdlib.h>
+#include <sys/syscall.h>
+#include <unistd.h>
+static int count;
+int fsync(int file) { return ++count == atoi(getenv("LEFT_OUT")) ? 0 : syscall(SYS_fsync, file); }
+"""
+
+def left_out(case, library, number):
+    folder = tempfile.mkdtemp(dir=scratch)
+    log, name = folder + '/log', '%s without its sync %d' % (case.name, number)
+    put_before(case, log)
+    leaving = ['-E', 'LD_PRELOAD=' + library, '-E', 'LEFT_OUT=%d' % number]
+    check(name, run([*traced(folder + '/trace', *leaving), log_calls, log, *case.words]), (0, b'', b''))
+    calls, wanted = changes(calls_of(folder + '/trace', log)), list(case.wanted)
+    del wanted[[at for at, call in enumerate(wanted) if call[0] in ('sync', 'sync folder')][number - 1]]
+    check(name + ', its calls', (calls == case.wanted, calls == wanted), (False, True))
+    shutil.rmtree(folder)
+
+def left_out_jobs():
+    compiler = shutil.which('cc') or shutil.which('gcc') or shutil.which('clang')
+    if not compiler:
+        print('skipped: programs that leave a sync out, since there is no C compiler', flush=True)
+        return []
+    library = scratch + '/leaves_out.so'
+    subprocess.run([compiler, '-shared', '-fPIC', '-w', '-x', 'c', '-', '-o', library], input=LEAVES_OUT, check=True)
+    return [(left_out, case, library, number) for case in cases() if case.name in ('two appends to a new log', 'a rewrite back into the first bank')
+            for number in range(1, 1 + sum(call[0] in ('sync', 'sync folder') for call in case.wanted))]
+
 # Which calls are tried: all but the end, and of a long row of zeros the first, one in its middle and the last.
 def tried(calls):
     rows = [at for at, call in enumerate(calls) if call.what[0] == 'write' and not any(call.what[3])  and call.what[2] > 1000]
@@ -341,7 +371,7 @@ def server_faulted(calls, at, call, fault):
 # ---- all of it, several side by side
 
 def main():
-    jobs = []
+    jobs = left_out_jobs()
     for case in cases():
         calls = compared(case)
         jobs += [(faulted, case, calls, at, call, fault) for at, call in tried(calls) for fault in FAULTS]
@@ -357,7 +387,7 @@ def main():
             try:
                 done.result()
             except Exception as error:  # a part that fails ends that part alone
-                check('%s %s' % (job[0].__name__, job[-2].what), '%s: %s' % (type(error).__name__, error), 'its end')
+                check('%s %s' % (job[0].__name__, job[-2]), '%s: %s' % (type(error).__name__, error), 'its end')
     shutil.rmtree(scratch, ignore_errors=True)
     print(passed, failed)
 
