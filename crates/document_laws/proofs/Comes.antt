@@ -15,7 +15,8 @@ use Rattle.mof_syntax.specs.Strings.{Escape as IsEscape, HexDigits, Quoted, clos
 use Rattle.mof_syntax.specs.Tokens.{AliasName, Identifier, IsToken, Lexeme, Lexes, alias, comma_mark, end, equals_mark, identifier, integer, left_brace_mark, literal, right_brace_mark, semicolon_mark, separator, token, word}
 use Rattle.mof_codec.specs.Machine.{digit_on, is_no_char, quoted, step}
 use Rattle.mof_codec.specs.Walked.{Behind, moved, tally, walk_from}
-use Rattle.mof_codec.proofs.Runs.{bit_digit, short_no_x, test_or}
+use Rattle.mof_syntax.proofs.Scans.{test_or}
+use Rattle.mof_codec.proofs.Runs.{bit_digit, short_no_x}
 use Rattle.mof_codec.proofs.Walking.{none_stays}
 use Rattle.document_laws.proofs.States.{Alias, Block, Escape, EscapeX, Event, Gap, Half, Line, Literal, Place, Slash, Star, State}
 use Rattle.document_laws.proofs.Halves.{InRun, Is, LeadsTo, in_binary, in_bits, in_decimal, in_hexadecimal, in_key, in_name, in_octal, in_prefix, in_sign, in_zero, in_zero_bits, blank_leads, chosen, comma_leads, digit_leads, dollar_leads, either, equals_leads, feed_same, is_other, left_brace_leads, letter_leads, other_chosen, quote_leads, right_brace_leads, semicolon_leads, sign_leads, slash_leads, run_ends, run_on}

@@ -17,7 +17,7 @@ use Rattle.mof_syntax.specs.Limits.{InstanceFits, IsShortName, IsWithinLimits, P
 use Rattle.mof_codec.specs.Counting.{Tells, WereWithin, declarations_in, elements_in, is_excess, properties_in}
 use Rattle.mof_codec.specs.Events.{events_of, items_events, properties_events, value_events}
 use Rattle.mof_codec.specs.Walked.{tally}
-use Rattle.mof_codec.proofs.CountsFit.{are_within, declared, properties_have}
+use Rattle.mof_codec.proofs.CountsFit.{are_within, declarations_counted, properties_have}
 use Rattle.mof_codec.proofs.TokensFit.{TokenFits}
 use Rattle.document_laws.proofs.States.{Counts, Declaration, Element, Event, Property, Quiet}
 
@@ -99,7 +99,7 @@ instances_were [] acc were few fits = were
 instances_were (i ∷ is) acc were few fits =
     let begun : WereWithin (Declaration ∷ acc) = (record { declarations = omega (arith, few); properties = omega arith; elements = omega arith }, were) in
     let count = fits.0.count in
-    let one = declared (i ∷ []) acc in
+    let one = declarations_counted (i ∷ []) acc in
     instances_were is (properties_events i.properties (Declaration ∷ acc)) (properties_were i.properties (Declaration ∷ acc) begun (omega (arith, count)) fits.0.each) (omega (arith, few, one)) fits.1
 
 pub were_within : (is : List Instance) → IsWithinLimits is → WereWithin (events_of is [])

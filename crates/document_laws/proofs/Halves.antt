@@ -9,8 +9,10 @@ use Rattle.mof_values.specs.Ident.{is_first, is_next}
 use Rattle.mof_syntax.specs.Characters.{digit_of, is_b, is_blank, is_sign, is_x}
 use Rattle.mof_codec.specs.Machine.{begin, ended, head_of, key_on, keyed, kind_of, letters, number_begun, opened, step, value_word}
 use Rattle.mof_codec.proofs.Forward.{letter_begins}
-use Rattle.mof_codec.proofs.Runs.{digit_no_first, not_next, sign_no_digit, sign_no_first, test_or}
-use Rattle.mof_codec.proofs.StepsBack.{and_left, and_right, small, small_dropped, small_letters}
+use Rattle.mof_syntax.proofs.Scans.{test_or}
+use Rattle.mof_syntax.proofs.Bodies.{and_left, and_right}
+use Rattle.mof_codec.proofs.Runs.{digit_no_first, not_next, sign_no_digit, sign_no_first}
+use Rattle.mof_codec.proofs.StepsBack.{small, small_dropped, small_letters}
 use Rattle.document_laws.proofs.States.{AfterAlias, AfterAs, AfterBody, AfterClass, AfterComma, AfterElement, AfterElementStrings, AfterEquals, AfterInstance, AfterName, AfterOf, AfterStrings, AfterValue, Alias, Binary, Bits, Body, Decimal, Event, Gap, Half, Hexadecimal, InArray, Keyword, Line, Literal, Name, Octal, Place, Prefix, Sign, Slash, Start, State, Zero, ZeroBits, key_half}
 
 -- the half state that a step leads to, where it leads to one

@@ -46,7 +46,8 @@ use Rattle.dsc_node.specs.declared.command.Task.{Task}
 use Rattle.dsc_node.specs.declared.command.Task.TheVariants.{Init, Meta, Register, Pull, Push, Consistency, Boot, Get, Restore, Remove, Reports}
 use Rattle.dsc_node.specs.Bringing.{Brought, IsPull, events_of, held_among, held_of, registered_by, staged_by, status_of_pull}
 use Rattle.dsc_node.specs.Commands.{IsAllowed, IsTaskOf, boot_of, given_of, is_run}
-use Rattle.dsc_node.specs.Headline.{AddsPackages, IsBrought, IsPullFault, Keeps, KeepsReport, PulledPackages, WasThere}
+use Rattle.dsc_node.specs.Headline.{AddsPackages, IsBrought, IsPullFault, Keeps, KeepsReport, PulledPackages}
+use Rattle.dsc_node.proofs.Found.{WasSlot}
 
 -- ---- which event it is
 
@@ -200,7 +201,7 @@ held_slot None None previous part there = absurd (omega (arith, there.1))
 module _ {D S : Type 0} (d : disks.Ghosts D) (begin : D) (runs_on : resources.Ghosts S) (machine : machines.Ghosts S) (node : Node) (start : ℕ) (asked heard end : LinkView) (later : GoesOn heard end) (before after : S)
     (part : Part) (first : Option Event) (stages : Stages (events_of first) part) where
   held_or_accepted : (server : Server) → node.meta.server ≡ Some server → (agent : ℕ) → node.agent ≡ Some agent → IsHeldOrAccepted server agent (held_of node) asked heard part
-      → WasThere d begin node part ⊎ IsBrought commands.Pull node asked end part
+      → WasSlot d begin node part ⊎ IsBrought commands.Pull node asked end part
   held_or_accepted server is_server agent is_agent (inl held) = inl (inl (held_slot node.pending node.current node.previous part held))
   held_or_accepted server is_server agent is_agent (inr accepted) =
       inr (record {
@@ -213,7 +214,7 @@ module _ {D S : Type 0} (d : disks.Ghosts D) (begin : D) (runs_on : resources.Gh
 
   pull_brings : (answer : Result (Option Staged) PullFault) (server : Server) → node.meta.server ≡ Some server → (agent : ℕ) → node.agent ≡ Some agent
       → Pulled machine.packages runs_on.faults node.meta server agent (held_of node) asked heard before after answer
-      → Ok first ≡ staged_by answer → WasThere d begin node part ⊎ IsBrought commands.Pull node asked end part
+      → Ok first ≡ staged_by answer → WasSlot d begin node part ⊎ IsBrought commands.Pull node asked end part
   pull_brings (Ok None) server is_server agent is_agent pulled is = none_stages part first stages (some_ok first None is)
   pull_brings (Ok (Some staged)) server is_server agent is_agent pulled is =
       held_or_accepted server is_server agent is_agent (All-contains (IsHeldOrAccepted server agent (held_of node) asked heard) (parts_of staged) part (pulled_accepted pulled)
@@ -225,7 +226,7 @@ module _ {D S : Type 0} (d : disks.Ghosts D) (begin : D) (runs_on : resources.Gh
 
   -- each part that is staged was there, or was brought
   pub brings : (command : Command) (task : Task) → IsTaskOf command task → Brought runs_on machine node task start asked heard before after (Ok first)
-      → WasThere d begin node part ⊎ IsBrought command node asked end part
+      → WasSlot d begin node part ⊎ IsBrought command node asked end part
   brings (commands.Init agent) task is b = absurd (some_stages part first stages (events.Init agent) (same_task task (Init agent) is b))
   brings (commands.Meta meta) task is b = absurd (some_stages part first stages (events.SetMeta meta) (same_task task (Meta meta) is b))
   brings (commands.Register name) task is b = absurd (some_stages part first stages events.Registered (same_task task (Register name) is b))

@@ -1,5 +1,5 @@
 -- The headline of a start, row by row of its table.
-use Rattle.std.proofs.Common.{◌≡◌, ◌≢◌, inl, inr, ⊎_elim, ℕ, ◌<◌, ◌^◌, ◌-◌, ◌==◌, ◌&&◌, Bool, true, cond, List, [], ◌∷◌, ◌++◌, Option, Some, None, Result, Ok, Err, is_some, refl, sym, ap, subst, ◌∙◌, arith, eq-eqb, lt-ltb}
+use Rattle.std.proofs.Common.{◌≡◌, ◌≢◌, ◌⊎◌, inl, inr, ⊎_elim, ℕ, ◌<◌, ◌^◌, ◌-◌, ◌==◌, ◌&&◌, Bool, true, cond, List, [], ◌∷◌, ◌++◌, Option, Some, None, Result, Ok, Err, is_some, refl, sym, ap, subst, ◌∙◌, arith, eq-eqb, lt-ltb}
 use Rattle.dsc_outside.specs.declared.disk.Disk as disks
 use Rattle.dsc_outside.specs.declared.host.Host as hosts
 use Rattle.dsc_outside.specs.declared.clock.Clock as clocks
@@ -14,6 +14,7 @@ use Rattle.report_log.specs.declared.report.Report.{Report}
 use Rattle.node_state.specs.declared.node.Node.{Node}
 use Rattle.node_state.specs.declared.event.Event.{Event}
 use Rattle.node_state.specs.declared.event.Event.TheVariants as events
+use Rattle.node_state.specs.Slots.{IsSlot}
 use Rattle.node_state.specs.Sound.{Sound}
 use Rattle.node_state.specs.Table.{Step, Steps, is_next, refusal}
 use Rattle.node_state.specs.Table.{after as after_of}
@@ -27,15 +28,16 @@ use Rattle.dsc_outside.specs.Link.{LinkView}
 use Rattle.dsc_node.specs.Bringing.{events_of}
 use Rattle.dsc_node.specs.Commits.{RefusedAfter, all_of}
 use Rattle.dsc_node.specs.Endings.{Answers}
-use Rattle.dsc_node.specs.Headline.{AreTold, Headline, IsCurrent, IsPrinted, IsPromotable, IsPromoted, IsRun, Keeps}
+use Rattle.dsc_node.specs.Headline.{AreTold, HasHeadline, Headline, IsBrought, IsCurrent, IsPrinted, IsPromotable, IsPromoted, IsRun, Keeps}
 use Rattle.dsc_node.specs.HostHeadline.{HoldTogether, HostHeadline, IsComplete, IsTrueRun, kinds_of, known_on_host}
-use Rattle.dsc_node.specs.Path.{disk_counts}
+use Rattle.dsc_node.specs.Path.{IsOnTheWay, disk_counts}
 use Rattle.dsc_node.specs.Runs.{Reported, Run, end_line, event_of, status_after}
 use Rattle.dsc_node.specs.Sending.{EndsAfterSending, Sends, Tried, tried_text}
 use Rattle.dsc_node.specs.Start.{Opened, Outside}
 use Rattle.dsc_node.specs.Work.{Beside, Finish, Known, StartTable, clock_failed, finished, first_refused, no_run, not_allowed, not_brought, report_kept, report_refused, settled, unended, unready, waiting}
 use Rattle.dsc_node.proofs.Broken.{work_unbroken}
 use Rattle.dsc_node.proofs.Firsts.{brings, first_job, first_keeps, first_meta, is_first}
+use Rattle.dsc_node.proofs.Found.{WasSlot, was_found, was_there}
 use Rattle.dsc_node.proofs.HeadlineRuns.{faultless_compliant, is_true, pending_chosen, repaired, together, shown}
 use Rattle.dsc_node.proofs.Nodes.{are_sound, parts_there, steps_sound}
 use Rattle.dsc_node.proofs.Reports.{first_refused_keeps, noted_keeps, refused_run_keeps, sent_keeps}
@@ -66,14 +68,14 @@ promotion_allowed node report parts sound pending job below =
 
 module _ {D S C : Type 0} (o : Known D S C) (begin now : D) (from : Node) (sound : Sound from) where
   record Facts (ready after : S) (status : Status) (lines : List ℕ) (run : Option Run) (committed : List Event) (broken : Option Event) : Type 0 where
-    h4 : IsRun o.resources run ready after
-    h5 : AreTold from run (o.resources.kept after) (all_of committed broken) status lines
-    h6 : IsPromoted o.disk begin now from run (o.resources.kept after) committed
+    sets_follow_tests : IsRun o.resources run ready after
+    reports_are_true : AreTold from run (o.resources.kept after) (all_of committed broken) status lines
+    compliant_runs_are_promoted : IsPromoted o.disk begin now from run (o.resources.kept after) committed
 
   module _ (status : Status) (lines : List ℕ) where
     idle : (ready after : S) (committed : List Event) (broken : Option Event) → after ≡ ready → ((report : Report) → Keeps (all_of committed broken) report → ⊥)
         → Facts ready after status lines None committed broken
-    idle ready after committed broken same none = record { h4 = same; h5 = none; h6 = tt }
+    idle ready after committed broken same none = record { sets_follow_tests = same; reports_are_true = none; compliant_runs_are_promoted = tt }
 
     module _ (ready after : S) (work : List Event) (node : Node) (stopped : Bool) (readings left : Option (List (Option ℕ))) (start : ℕ) (asked heard : LinkView) (steps : Steps from work node)
         (job : node.next_job ≡ from.next_job) (meta : node.meta ≡ from.meta) (none : (report : Report) → Keeps work report → ⊥) where
@@ -128,34 +130,34 @@ module _ {D S C : Type 0} (o : Known D S C) (begin now : D) (from : Node) (sound
           (λ report k. none report (sends_less (λ w. Keeps w report) (sent_keeps report) from (disk_counts o.disk begin now) work node asked heard tried committed broken sends k))
       finish_facts _ _ _ (unready same taken unasked ends) = idle ready after work None same none
       finish_facts _ _ _ (unended run u taken unasked silent) = record {
-        h4 = u.ran;
-        h5 = record {
+        sets_follow_tests = u.ran;
+        reports_are_true = record {
           report = λ report k. absurd (none report k);
           success = λ report k. absurd (none report k);
           compliant = λ report k. absurd (none report k);
           printed = inl silent;
         };
-        h6 = λ f. absurd (finished_in_memory run.end f.finished u.ended);
+        compliant_runs_are_promoted = λ f. absurd (finished_in_memory run.end f.finished u.ended);
       } where
         finished_in_memory : (end : RunEnd) → end ≡ ends.Finished → end ≡ ends.Memory → ⊥
         finished_in_memory end is memory = cc (is, memory)
       finish_facts _ _ _ (report_refused run report error text committed broken reported took unasked refused memory is_text answers) = record {
-        h4 = reported.ran;
-        h5 = shown o.resources ready after from node job meta stopped readings start run report (all_of committed broken) status lines reported
+        sets_follow_tests = reported.ran;
+        reports_are_true = shown o.resources ready after from node job meta stopped readings start run report (all_of committed broken) status lines reported
             (λ kept k. refused_run_keeps kept from (disk_counts o.disk begin now) work run report error committed broken (none kept) refused k)
             (printed answers);
-        h6 = λ f. absurd (not_refused run report reported f error committed broken refused memory);
+        compliant_runs_are_promoted = λ f. absurd (not_refused run report reported f error committed broken refused memory);
       } where
         printed : {wanted : Status} → Answers wanted text status lines → IsPrinted run (o.resources.kept after) status lines
         printed (inl e) = inr (text, is_text, inl e.1)
         printed (inr e) = inl e
       finish_facts _ _ _ (report_kept run report text noted tried committed broken reported took is_text step sends ended) = record {
-        h4 = reported.ran;
-        h5 = shown o.resources ready after from node job meta stopped readings start run report (all_of committed broken) status lines reported
+        sets_follow_tests = reported.ran;
+        reports_are_true = shown o.resources ready after from node job meta stopped readings start run report (all_of committed broken) status lines reported
             (λ kept k. noted_keeps kept work run report (none kept)
             (sends_less (λ w. Keeps w kept) (sent_keeps kept) from (disk_counts o.disk begin now) (work ++ event_of run.end run.choice.pending report ∷ []) noted asked heard tried committed broken sends k))
             (printed (status_after node.meta.reboot_if_needed run.end report.missed) tried ended);
-        h6 = λ f. is_current run report reported f noted tried committed broken step sends;
+        compliant_runs_are_promoted = λ f. is_current run report reported f noted tried committed broken step sends;
       } where
         alone : (wanted : Status) → Answers wanted text status lines → IsPrinted run (o.resources.kept after) status lines
         alone wanted (inl e) = inr (text, is_text, inl e.1)
@@ -189,36 +191,42 @@ module _ {D S C : Type 0} (o : Known D S C) (begin now : D) (from : Node) (sound
         finish_facts ready after.machine (events_of first) mid _ readings _ start heard after.link steps (first_job from mid first steps task is) (first_meta from mid first steps task other is)
         (λ report k. first_keeps report first from task is k) run committed broken f
 
-pub headline : {D S C : Type 0} (o : Known D S C) (command : Command) (before after : Outside D S C) (status : Status) (lines : List ℕ) (opened : Opened o command before after status lines)
+pub headline : {D S C : Type 0} (o : Known D S C) (command : Command) (before after : Outside D S C) (status : Status) (lines : List ℕ)
+    → ((held : List ℕ) → o.disk.shown before.disk ≡ Some held → o.disk.images before.disk held)
+    → (opened : Opened o command before after status lines)
     → Headline o command before after status lines opened.from opened.ready opened.run opened.ended.committed opened.ended.broken
-headline o command before after status lines opened =
+headline o command before after status lines honest opened =
     let all = all_of opened.ended.committed opened.ended.broken in
     let facts = work_facts o before.disk after.disk opened.from opened.sound status lines opened.task before.beside after.beside opened.ready opened.run opened.ended.committed opened.ended.broken opened.ended.table in
     record {
-      h1 = record {
+      a_prefix_of_the_steps = record {
         moments = opened.ended.passes;
         left = opened.ended.left;
         unbroken =
             work_unbroken o opened.task opened.from (disk_counts o.disk before.disk after.disk) [] opened.from before.beside after.beside status lines opened.ready opened.run opened.ended.committed opened.ended.broken opened.ended.table;
       };
-      h2 = are_sound o.disk before.disk opened.from all opened.sound;
-      h3 = λ node part way slot.
-          ⊎_elim (λ there. inl there)
-          (λ staged.
-          let s = work_stages part o opened.task opened.from (disk_counts o.disk before.disk after.disk) opened.from before.beside after.beside status lines opened.ready opened.run opened.ended.committed opened.ended.broken opened.ended.table staged in
-          brings o.disk before.disk o.resources o.machine opened.from s.start before.beside.link s.heard after.beside.link s.later before.beside.machine s.ready part s.first s.stages command opened.task opened.is_task s.brought)
-          (parts_there o.disk before.disk opened.from all node part way slot);
-      h4 = record {
+      documents_are_whole = are_sound o.disk before.disk opened.from all opened.sound;
+      parts_are_as_brought = λ node part way slot. was_there o.disk before.disk opened.from part (was_found o.disk before.disk opened.from honest opened.reads) (slots node part way slot);
+      sets_follow_tests = record {
         packages = opened.leaves.packages;
         added =
             work_adds o command opened.task opened.is_task opened.from (disk_counts o.disk before.disk after.disk) [] opened.from before.beside after.beside status lines opened.ready opened.run opened.ended.committed opened.ended.broken opened.ended.table;
         untested = opened.leaves.kept;
         later = opened.leaves.later;
-        runs = facts.h4;
+        runs = facts.sets_follow_tests;
       };
-      h5 = facts.h5;
-      h6 = facts.h6;
+      reports_are_true = facts.reports_are_true;
+      compliant_runs_are_promoted = facts.compliant_runs_are_promoted;
     }
+  where
+    slots : (node : Node) (part : Part) → IsOnTheWay o.disk before.disk opened.from (all_of opened.ended.committed opened.ended.broken) node → IsSlot node part
+        → WasSlot o.disk before.disk opened.from part ⊎ IsBrought command opened.from before.beside.link after.beside.link part
+    slots node part way slot =
+        ⊎_elim (λ there. inl there)
+        (λ staged.
+        let s = work_stages part o opened.task opened.from (disk_counts o.disk before.disk after.disk) opened.from before.beside after.beside status lines opened.ready opened.run opened.ended.committed opened.ended.broken opened.ended.table staged in
+        brings o.disk before.disk o.resources o.machine opened.from s.start before.beside.link s.heard after.beside.link s.later before.beside.machine s.ready part s.first s.stages command opened.task opened.is_task s.brought)
+        (parts_there o.disk before.disk opened.from (all_of opened.ended.committed opened.ended.broken) node part way slot)
 
 -- ---- over the kinds of resources of a host
 
@@ -245,13 +253,14 @@ module _ {D H C : Type 0} (d : disks.Ghosts D) (host : hosts.Ghosts H) (clock : 
   all_together None ready after same = tt
   all_together (Some run) ready after ran = together host ready after law run ran
 
-  pub host_headline : (command : Command) (before after : Outside D (Kinds H) C) (status : Status) (lines : List ℕ) (opened : Opened (known_on_host d host clock) command before after status lines)
+  pub host_headline : (command : Command) (before after : Outside D (Kinds H) C) (status : Status) (lines : List ℕ) → HasHeadline (known_on_host d host clock) command before after status lines
+      → (opened : Opened (known_on_host d host clock) command before after status lines)
       → HostHeadline d host clock command before after status lines opened.from opened.ready opened.run opened.ended.committed opened.ended.broken
-  host_headline command before after status lines opened =
-      let any = headline (known_on_host d host clock) command before after status lines opened in
+  host_headline command before after status lines has opened =
+      let any = has opened in
       record {
         any = any;
-        is_true = run_true opened.run opened.ready after.beside.machine any.h4.runs;
-        completes = complete before.disk after.disk opened.from opened.run opened.ready after.beside.machine opened.ended.committed any.h4.runs any.h6;
-        h7 = all_together opened.run opened.ready after.beside.machine any.h4.runs;
+        is_true = run_true opened.run opened.ready after.beside.machine any.sets_follow_tests.runs;
+        completes = complete before.disk after.disk opened.from opened.run opened.ready after.beside.machine opened.ended.committed any.sets_follow_tests.runs any.compliant_runs_are_promoted;
+        resources_hold_together = all_together opened.run opened.ready after.beside.machine any.sets_follow_tests.runs;
       }

@@ -1,62 +1,64 @@
--- The document that a task brings is that of Pending once the task's event is committed, and that of the run of Pending.
-use Rattle.std.proofs.Common.{◌≡◌, ℕ, List, Option, Some, None, Result, Ok, ap, subst, sym, refl, ◌∙◌}
-use Rattle.std.specs.Prelude.{Bool, true, IfSome}
+-- The document that comes with an event is that of the parts which the node holds once the event is committed, and that of its run.
+use Rattle.std.proofs.Common.{◌≡◌, List, Option, Some, None, Ok, refl, ap, subst, sym, ◌∙◌}
+use Rattle.std.specs.Prelude.{Bool, true, false, IfSome, option_map}
 use Rattle.depend_order.specs.declared.ordered.OrderedDocument.{OrderedDocument}
+use Rattle.meta_config.specs.declared.modes.ConfigMode.{ConfigMode}
+use Rattle.meta_config.specs.declared.modes.ConfigMode.TheVariants.{ApplyOnly, ApplyAndMonitor, ApplyAndAutoCorrect}
 use Rattle.partial_merge.specs.declared.part.Part.{Part}
-use Rattle.resource_kinds.specs.declared.machine.Machine as machines
-use Rattle.resource_kinds.specs.declared.resources.Resources as resources
+use Rattle.partial_merge.specs.Merged.{IsDocumentOf}
 use Rattle.node_state.specs.declared.list.Staged.{Staged}
 use Rattle.node_state.specs.declared.node.Node.{Node}
 use Rattle.node_state.specs.declared.event.Event.{Event}
 use Rattle.node_state.specs.declared.event.Event.TheVariants.{Stage}
 use Rattle.node_state.specs.StagedParts.{parts_of}
 use Rattle.node_state.specs.Table.{Steps}
-use Rattle.node_pull.specs.declared.error.PullFault.{PullFault}
-use Rattle.dsc_outside.specs.Link.{LinkView}
-use Rattle.dsc_node.specs.declared.command.Task.{Task}
-use Rattle.dsc_node.specs.declared.command.Task.TheVariants.{Init, Meta, Register, Pull, Push, Consistency, Boot, Get, Restore, Remove, Reports}
-use Rattle.dsc_node.specs.Bringing.{Brought, events_of}
-use Rattle.dsc_node.specs.Documents.{IsDocumentOf, IsOfPending, IsOfTask}
-use Rattle.dsc_node.specs.Runs.{Choice, chosen_of}
-use Rattle.dsc_node.proofs.HeadlineRuns.{pending_chosen}
+use Rattle.node_pull.specs.Pulling.{parts_after}
+use Rattle.dsc_node.specs.Bringing.{events_of, held_among, held_of, staged_by}
+use Rattle.dsc_node.specs.Documents.{IsOfHeld, IsOfHeldAfter}
+use Rattle.dsc_node.specs.Runs.{Choice, chosen_among, chosen_current, chosen_of}
+use Rattle.dsc_node.proofs.HeadlineRuns.{no_choice, some_choice}
 
-same_first : (first given : Option Event) (result : Result (Option Event) PullFault) → result ≡ Ok first → result ≡ Ok given → first ≡ given
-same_first first given result one other = cc (one, other)
+of_held : (node mid : Node) (event : Option Event) (document : OrderedDocument) → IsOfHeldAfter node event document → Steps node (events_of event) mid → IsOfHeld mid document
+of_held node mid (Some (Stage staged)) document is steps =
+    let pending : mid.pending ≡ Some (parts_of staged) = ap (λ (n : Node). n.pending) (steps.2 ∙ steps.1.is) in
+    subst (λ (p : Option (List Part)). IsDocumentOf (held_among p mid.current) document) (sym pending) is
+of_held node mid (Some _) document is steps = absurd is
+of_held node mid None document is steps = subst (λ (n : Node). IsOfHeld n document) (sym steps) is
 
-staged_pending : (node mid : Node) (staged : Staged) (first : Option Event) → first ≡ Some (Stage staged) → Steps node (events_of first) mid → mid.pending ≡ Some (parts_of staged)
-staged_pending node mid staged first is steps =
-    let step = subst (λ (f : Option Event). Steps node (events_of f) mid) is steps in
-    ap (λ (n : Node). n.pending) (step.2 ∙ step.1.is)
+-- the document that comes with the event is that of the parts which the node holds after it
+pub known_held : (node mid : Node) (event : Option Event) (document : Option OrderedDocument) → IfSome document (IsOfHeldAfter node event) → Steps node (events_of event) mid
+    → IfSome document (IsOfHeld mid)
+known_held node mid event None is steps = is
+known_held node mid event (Some document) is steps = of_held node mid event document is steps
 
-module _ {S : Type 0} (resources : resources.Ghosts S) (machine : machines.Ghosts S) (node mid : Node) (start : ℕ) (asked heard : LinkView) (before after : S) (first : Option Event) where
-  of_pending : (task : Task) (document : OrderedDocument) → IsOfTask task document → Brought resources machine node task start asked heard before after (Ok first) → Steps node (events_of first) mid
-      → IsOfPending mid document
-  of_pending (Push staged) document is brought steps =
-      let pending = staged_pending node mid staged first (same_first first _ (Ok first) refl brought.1.1) steps in
-      subst (λ (p : Option (List Part)). IfSome p (λ parts. IsDocumentOf parts document)) (sym pending) is
-  of_pending (Init agent) document is brought steps = absurd is
-  of_pending (Meta meta) document is brought steps = absurd is
-  of_pending (Register name) document is brought steps = absurd is
-  of_pending Pull document is brought steps = absurd is
-  of_pending Consistency document is brought steps = absurd is
-  of_pending Boot document is brought steps = absurd is
-  of_pending Get document is brought steps = absurd is
-  of_pending Restore document is brought steps = absurd is
-  of_pending (Remove stage) document is brought steps = absurd is
-  of_pending Reports document is brought steps = absurd is
+-- that of a pull's list, or of the parts that are held without one
+pub pulled_held : (node : Node) (held : List Part) → held ≡ held_of node → (list : Option Staged) (document : Option OrderedDocument) → IfSome document (IsDocumentOf (parts_after held list))
+    → IfSome document (IsOfHeldAfter node (option_map Stage list))
+pulled_held node held same list None is = is
+pulled_held node held same (Some staged) (Some document) is = is
+pulled_held node held same None (Some document) is = subst (λ (parts : List Part). IsDocumentOf parts document) same is
 
-  pub known_pending : (task : Task) (document : Option OrderedDocument) → IfSome document (IsOfTask task) → Brought resources machine node task start asked heard before after (Ok first)
-      → Steps node (events_of first) mid → IfSome document (IsOfPending mid)
-  known_pending task None is brought steps = is
-  known_pending task (Some document) is brought steps = of_pending task document is brought steps
+-- a list that is brought is staged
+pub staged_event : (list : Option Staged) → Ok (option_map Stage list) ≡ staged_by (Ok list)
+staged_event None = refl
+staged_event (Some staged) = refl
 
-chosen_known : (stopped : Bool) (node : Node) (choice : Choice) → chosen_of stopped node ≡ Some choice → choice.pending ≡ true → (document : OrderedDocument) → IsOfPending node document
-    → IsDocumentOf choice.parts document
-chosen_known stopped node choice chosen pending document is =
-    subst (λ (p : Option (List Part)). IfSome p (λ parts. IsDocumentOf parts document)) (pending_chosen stopped node choice chosen pending).1 is
+held_current : (mode : ConfigMode) (parts : List Part) (choice : Choice) → chosen_current mode parts ≡ Some choice → parts ≡ choice.parts
+held_current ApplyOnly parts choice is = no_choice choice is
+held_current ApplyAndMonitor parts choice is = ap (λ (c : Choice). c.parts) (some_choice _ choice is)
+held_current ApplyAndAutoCorrect parts choice is = ap (λ (c : Choice). c.parts) (some_choice _ choice is)
 
--- the document of Pending, where it is known, is that of the run that was chosen of Pending
-pub known_chosen : (stopped : Bool) (node : Node) (choice : Choice) → chosen_of stopped node ≡ Some choice → choice.pending ≡ true → (document : Option OrderedDocument) → IfSome document (IsOfPending node)
+held_chosen : (mode : ConfigMode) (pending current : Option (List Part)) (choice : Choice) → chosen_among mode pending current ≡ Some choice → held_among pending current ≡ choice.parts
+held_chosen mode (Some parts) current choice is = ap (λ (c : Choice). c.parts) (some_choice _ choice is)
+held_chosen mode None (Some parts) choice is = held_current mode parts choice is
+held_chosen mode None None choice is = no_choice choice is
+
+chosen_held : (stopped : Bool) (node : Node) (choice : Choice) → chosen_of stopped node ≡ Some choice → held_of node ≡ choice.parts
+chosen_held true node choice is = no_choice choice is
+chosen_held false node choice is = held_chosen node.meta.mode node.pending node.current choice is
+
+-- the document of the parts that are held, where it is known, is that of the run that was chosen
+pub known_chosen : (stopped : Bool) (node : Node) (choice : Choice) → chosen_of stopped node ≡ Some choice → (document : Option OrderedDocument) → IfSome document (IsOfHeld node)
     → IfSome document (IsDocumentOf choice.parts)
-known_chosen stopped node choice chosen pending None is = is
-known_chosen stopped node choice chosen pending (Some document) is = chosen_known stopped node choice chosen pending document is
+known_chosen stopped node choice chosen None is = is
+known_chosen stopped node choice chosen (Some document) is = subst (λ (parts : List Part). IsDocumentOf parts document) (chosen_held stopped node choice chosen) is

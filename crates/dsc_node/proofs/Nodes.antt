@@ -11,8 +11,9 @@ use Rattle.node_state.proofs.SlotSteps.{parts_come_from_stages}
 use Rattle.node_state.proofs.SoundSteps.{steps_are_sound}
 use Rattle.node_store.specs.Store.{IsKept, StoreTerm}
 use Rattle.node_store.proofs.Ranges.{leads_sound}
-use Rattle.dsc_node.specs.Headline.{AreSound, WasThere}
+use Rattle.dsc_node.specs.Headline.{AreSound}
 use Rattle.dsc_node.specs.Path.{IsOnTheWay}
+use Rattle.dsc_node.proofs.Found.{WasSlot}
 use Rattle.dsc_node.proofs.WorkEvents.{stages-front}
 
 pub steps_sound : (old new : Node) (work : List Event) → Steps old work new → Sound old → Sound new
@@ -30,7 +31,7 @@ are_sound d begin from work sound node (inr prefix) = steps_sound from node pref
 -- ---- where the parts come from
 
 pub parts_there : {D : Type 0} (d : disks.Ghosts D) (begin : D) (from : Node) (work : List Event) (node : Node) (part : Part) → IsOnTheWay d begin from work node → IsSlot node part
-    → WasThere d begin from part ⊎ Stages work part
+    → WasSlot d begin from part ⊎ Stages work part
 parts_there d begin from work node part (inl stood) slot = inl (inr (node, stood, slot))
 parts_there d begin from work node part (inr prefix) slot =
     ⊎_elim (λ here. inl (inl here)) (λ staged. inr (stages-front part prefix.front prefix.rest work prefix.is staged))

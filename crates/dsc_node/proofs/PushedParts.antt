@@ -14,7 +14,7 @@ use Rattle.node_state.specs.declared.error.StageError.{StageError}
 use Rattle.node_state.specs.declared.error.StageError.TheVariants as stages
 use Rattle.node_state.specs.Lists.{IsMerged}
 use Rattle.node_state.specs.Staging.{AreRefused}
-use Rattle.node_store.proofs.PartsRead.{part_same}
+use Rattle.partial_merge.proofs.SameParts.{part_same}
 
 pub part_is : (part : Part) (bytes : List ℕ) → part.name ≡ [] → part.bytes ≡ bytes → part ≡ unnamed_part bytes
 part_is part bytes name is = part_same part (unnamed_part bytes) name (part.whole ∙ ap sha256 is) is

@@ -56,18 +56,18 @@ chosen_staged false node choice sound is = staged_among node.meta.mode node.pend
 
 -- ---- a run
 
-module _ {S : Type 0} (machine : Ghosts S) (choice : Choice) (document : Document) (order used : List ℕ) (end : RunEnd) (before after : S) where
+module _ {S : Type 0} (machine : Ghosts S) (choice : Choice) (document : Document) (order : List ℕ) (end : RunEnd) (before after : S) where
   abbrev pub the_run : Run
   the_run = record { choice = choice; document = document; order = order; end = end }
 
-  pub ran_of : used ≡ order → Merged choice.parts document → IsOrderOfDocument document order → Legal document choice.mode used (machine.kept after)
-      → IsWholeOrNone document choice.mode used end (machine.kept after) → EndsAs end (machine.kept after) → Chain machine.does machine.still document before (machine.kept after) after
+  pub ran_of : Merged choice.parts document → IsOrderOfDocument document order → Legal document choice.mode order (machine.kept after)
+      → IsWholeOrNone document choice.mode order end (machine.kept after) → EndsAs end (machine.kept after) → Chain machine.does machine.still document before (machine.kept after) after
       → RoseBy (host_failures (machine.kept after)) (machine.faults before) (machine.faults after) → machine.faults before ≤ machine.faults after → Ran machine the_run before after
-  ran_of same merged ordered legal whole ended chain failures later = record {
+  ran_of merged ordered legal whole ended chain failures later = record {
     merged = merged;
     is_order = ordered;
-    legal = subst (λ (o : List ℕ). Legal document choice.mode o (machine.kept after)) same legal;
-    whole = subst (λ (o : List ℕ). IsWholeOrNone document choice.mode o end (machine.kept after)) same whole;
+    legal = legal;
+    whole = whole;
     ended = ended;
     chain = chain;
     failures = failures;

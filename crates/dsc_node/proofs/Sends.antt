@@ -2,6 +2,7 @@
 use Rattle.std.proofs.Common.{◌≡◌, ℕ, ◌<◌, ◌≤◌, ◌+◌, ◌==◌, ◌&&◌, ◌||◌, Bool, true, false, cond, List, [], ◌∷◌, ◌++◌, map, Option, Some, None, Result, Ok, Err, refl, sym, ap, subst, ◌∙◌, arith, append_assoc, eq-eqb}
 use Rattle.std.specs.Prelude.{All}
 use Rattle.std.proofs.lemmas.List.Elements.{All-head, All-tail}
+use Rattle.std.proofs.lemmas.Option.{none-some}
 use Rattle.meta_config.specs.declared.server.Server.{Server}
 use Rattle.report_log.specs.declared.report.Report.{Report}
 use Rattle.report_log.specs.Sizes.{ReportInSize}
@@ -19,25 +20,22 @@ use Rattle.dsc_node.specs.Sending.{PrintsTried, Sends, ToSend, Tried, all_sent, 
 
 -- ---- what is to be sent
 
-some_none : {A : Type 0} {X : Type 0} (x : X) → None ≡ Some x → A
-some_none x is = absurd (cc is)
-
 by_some : (server : Option Server) (agent : Option ℕ) (report : Option Report) (next : ToSend) → to_send_by server agent report ≡ Some next → report ≡ Some next.report
-by_some None agent report next is = some_none next is
-by_some (Some server) None report next is = some_none next is
-by_some (Some server) (Some agent) None next is = some_none next is
+by_some None agent report next is = absurd (none-some next is)
+by_some (Some server) None report next is = absurd (none-some next is)
+by_some (Some server) (Some agent) None next is = absurd (none-some next is)
 by_some (Some server) (Some agent) (Some report) next is = ap (λ (n : ToSend). Some n.report) (let both : record { server = server; agent = agent; report = report } ≡ next = cc is in both)
 
 sends_first : (b : Bool) (node : Node) (next : ToSend) → cond b (to_send_by node.meta.server node.agent (first_unsent node.reports)) None ≡ Some next → first_unsent node.reports ≡ Some next.report
 sends_first true node next is = by_some node.meta.server node.agent (first_unsent node.reports) next is
-sends_first false node next is = some_none next is
+sends_first false node next is = absurd (none-some next is)
 
 -- it is the first report that was not sent
 pub is_first : (node : Node) (next : ToSend) → to_send node ≡ Some next → first_unsent node.reports ≡ Some next.report
 is_first node next is = sends_first (node.meta.reports && node.registered) node next is
 
 unsent_in : (P : Report → Type 0) (reports : List Kept) (report : Report) → All (λ kept. P kept.report) reports → first_unsent reports ≡ Some report → P report
-unsent_in P [] report all is = some_none report is
+unsent_in P [] report all is = absurd (none-some report is)
 unsent_in P (kept ∷ reports) report all is = here kept.sent (λ later. unsent_in P reports report (All-tail (λ k. P k.report) kept reports all) later) is where
   here : (was_sent : Bool) → (first_unsent reports ≡ Some report → P report) → cond was_sent (first_unsent reports) (Some kept.report) ≡ Some report → P report
   here false on same = subst (λ (r : Report). P r) (let it : kept.report ≡ report = cc same in it) (All-head (λ k. P k.report) kept reports all)
@@ -58,7 +56,7 @@ left_le job (kept ∷ reports) = more kept.sent (kept.report.job == job) (left_l
   more false false le = omega (arith, le)
 
 left_falls : (reports : List Kept) (report : Report) → first_unsent reports ≡ Some report → unsent_among (map (marked report.job) reports) < unsent_among reports
-left_falls [] report is = some_none report is
+left_falls [] report is = absurd (none-some report is)
 left_falls (kept ∷ reports) report is = falls kept.sent (λ later. left_falls reports report later) is where
   falls : (was_sent : Bool) → (first_unsent reports ≡ Some report → unsent_among (map (marked report.job) reports) < unsent_among reports)
       → cond was_sent (first_unsent reports) (Some kept.report) ≡ Some report

@@ -13,11 +13,17 @@ use Rattle.node_pull.specs.declared.error.PullFault.TheVariants as pulls
 use Rattle.node_pull.specs.Pulling.{Pulled}
 use Rattle.node_pull.specs.Registering.{Registers}
 use Rattle.dsc_outside.specs.Link.{LinkView}
+use Rattle.dsc_node.specs.declared.bringing.First.{First}
 use Rattle.dsc_node.specs.declared.command.Task.{Task}
 use Rattle.dsc_node.specs.declared.command.Task.TheVariants.{Pull, Register}
 use Rattle.dsc_node.specs.declared.status.Status.{Status}
 use Rattle.dsc_node.specs.declared.status.Status.TheVariants as statuses
 use Rattle.dsc_node.specs.Commands.{given_of}
+
+-- the event that comes first
+abbrev pub event_by : Result First PullFault → Result (Option Event) PullFault
+event_by (Ok first) = Ok first.event
+event_by (Err error) = Err error
 
 abbrev pub events_of : Option Event → List Event
 events_of None = []

@@ -1,26 +1,26 @@
 -- The document that parts are merged to, where a start knows it before it runs it.
-use Rattle.std.specs.Prelude.{List, IfSome}
-use Rattle.depend_order.specs.Ordered.{IsOrdered}
+use Rattle.std.specs.Prelude.{Option, Some, None}
 use Rattle.depend_order.specs.declared.ordered.OrderedDocument.{OrderedDocument}
-use Rattle.dsc_document.specs.Sizes.{DocumentInSize}
-use Rattle.partial_merge.specs.declared.part.Part.{Part}
-use Rattle.partial_merge.specs.Merged.{Merged}
+use Rattle.partial_merge.specs.Merged.{IsDocumentOf}
 use Rattle.node_state.specs.declared.node.Node.{Node}
+use Rattle.node_state.specs.declared.event.Event.{Event}
+use Rattle.node_state.specs.declared.event.Event.TheVariants.{Stage}
 use Rattle.node_state.specs.StagedParts.{parts_of}
 use Rattle.dsc_node.specs.declared.command.Task.{Task}
 use Rattle.dsc_node.specs.declared.command.Task.TheVariants.{Push}
-
--- the document of the parts, with its order
-pub record IsDocumentOf (parts : List Part) (document : OrderedDocument) : Type 0 where
-  pub merged : Merged parts document.document
-  pub ordered : IsOrdered document
-  pub in_size : DocumentInSize document.document
+use Rattle.dsc_node.specs.Bringing.{held_of}
 
 -- the document of the parts that a push brings; no other task has one
 abbrev pub IsOfTask : Task → OrderedDocument → Type 0
 IsOfTask (Push staged) document = IsDocumentOf (parts_of staged) document
 IsOfTask _ document = ⊥
 
--- the document of Pending
-abbrev pub IsOfPending : Node → OrderedDocument → Type 0
-IsOfPending node document = IfSome node.pending (λ parts. IsDocumentOf parts document)
+-- the document of the parts that a node holds, of Pending or else of Current
+abbrev pub IsOfHeld : Node → OrderedDocument → Type 0
+IsOfHeld node document = IsDocumentOf (held_of node) document
+
+-- the document of the parts that the node holds after the event, where it stages some or there is none
+abbrev pub IsOfHeldAfter : Node → Option Event → OrderedDocument → Type 0
+IsOfHeldAfter node (Some (Stage staged)) document = IsDocumentOf (parts_of staged) document
+IsOfHeldAfter node (Some _) document = ⊥
+IsOfHeldAfter node None document = IsOfHeld node document

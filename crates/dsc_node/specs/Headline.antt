@@ -66,9 +66,13 @@ AreSound d begin from work = (node : Node) → IsOnTheWay d begin from work node
 
 -- ---- 3: as announced or pushed
 
--- the part stood in the node that was found, or in one for which an image at the beginning stood
+-- an image at the beginning stood for the node, or, where the disk does not expose what it holds, it is the one that was opened
+abbrev pub WasFound : {D : Type 0} → disks.Ghosts D → D → Node → Node → Type 0
+WasFound d begin from node = StoodFor d begin Stands node ⊎ ((d.shown begin ≡ None) × (node ≡ from))
+
+-- the part stood in such a node
 abbrev pub WasThere : {D : Type 0} → disks.Ghosts D → D → Node → Part → Type 0
-WasThere d begin from part = IsSlot from part ⊎ ((node : Node) × StoodFor d begin Stands node × IsSlot node part)
+WasThere d begin from part = (node : Node) × WasFound d begin from node × IsSlot node part
 
 -- the node's server was asked for the part in this start, and gave it under the digest that was announced for it
 pub record WasPulled (node : Node) (asked heard : LinkView) (part : Part) : Type 0 where
@@ -199,12 +203,12 @@ IsPromoted d begin now from (Some run) trace committed = IsPromotable d begin no
 
 pub record Headline {D S C : Type 0} (o : Known D S C) (command : Command) (before after : Outside D S C)
     (status : Status) (lines : List ℕ) (from : Node) (ready : S) (run : Option Run) (committed : List Event) (broken : Option Event) : Type 0 where
-  pub h1 : IsAfterPrefix o.disk before.disk after.disk from status committed broken
-  pub h2 : AreSound o.disk before.disk from (all_of committed broken)
-  pub h3 : AreAsBrought o.disk before.disk command before.beside.link after.beside.link from (all_of committed broken)
-  pub h4 : RunsAfterPackages o command from before.beside.link after.beside.link status run before.beside.machine ready after.beside.machine
-  pub h5 : AreTold from run (o.resources.kept after.beside.machine) (all_of committed broken) status lines
-  pub h6 : IsPromoted o.disk before.disk after.disk from run (o.resources.kept after.beside.machine) committed
+  pub a_prefix_of_the_steps : IsAfterPrefix o.disk before.disk after.disk from status committed broken
+  pub documents_are_whole : AreSound o.disk before.disk from (all_of committed broken)
+  pub parts_are_as_brought : AreAsBrought o.disk before.disk command before.beside.link after.beside.link from (all_of committed broken)
+  pub sets_follow_tests : RunsAfterPackages o command from before.beside.link after.beside.link status run before.beside.machine ready after.beside.machine
+  pub reports_are_true : AreTold from run (o.resources.kept after.beside.machine) (all_of committed broken) status lines
+  pub compliant_runs_are_promoted : IsPromoted o.disk before.disk after.disk from run (o.resources.kept after.beside.machine) committed
 
 -- of each start that opened its store
 abbrev pub HasHeadline : {D S C : Type 0} → Known D S C → Command → Outside D S C → Outside D S C → Status → List ℕ → Type 0

@@ -101,7 +101,7 @@ pub record HostHeadline {D H C : Type 0} (disk : disks.Ghosts D) (host : hosts.G
   pub any : Headline (known_on_host disk host clock) command before after status lines from ready run committed broken
   pub is_true : IsTrueRun host run ready after.beside.machine
   pub completes : IsComplete host disk before.disk after.disk from run ready after.beside.machine committed
-  pub h7 : HoldTogether host run ready after.beside.machine
+  pub resources_hold_together : HoldTogether host run ready after.beside.machine
 
 -- of each start that opened its store
 abbrev pub HasHostHeadline : {D H C : Type 0} → disks.Ghosts D → hosts.Ghosts H → clocks.Ghosts C → Command → Outside D (Kinds H) C → Outside D (Kinds H) C → Status → List ℕ → Type 0

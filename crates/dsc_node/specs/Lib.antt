@@ -14,6 +14,7 @@ pub mod Runs
 pub mod Sending
 pub mod Shown
 pub mod Start
+pub mod Starts
 pub mod Status
 pub mod Work
 -- for private clauses alone

@@ -6,7 +6,7 @@ ghost use Rattle.lcm_core.specs.RunLaws.{EndsAtYes};
 ghost use Rattle.report_log.specs.Sizes.{ReportInSize};
 ghost use Rattle.node_store.specs.Store.{IsKept};
 ghost use Rattle.dsc_outside.specs.LinkView.{view_of};
-ghost use Rattle.dsc_node.specs.Documents.{IsOfPending};
+ghost use Rattle.dsc_node.specs.Documents.{IsOfHeld};
 ghost use Rattle.dsc_node.specs.Path.{EndsStart, KeepGoes, NothingGoes};
 ghost use Rattle.dsc_node.specs.Runs.{Run, event_of};
 ghost use Rattle.dsc_node.specs.Work.{Finish, known};
@@ -26,7 +26,8 @@ use report_log::Report;
 use resource_kinds::{Entry, Machine};
 use std::alloc::Global;
 
-/// The run, the event that keeps its report, and the sending of reports. The document is that of Pending, where it is known already.
+/// The run, the event that keeps its report, and the sending of reports. The document is that of the parts which the node holds, where it is known
+/// already.
 pub(crate) fn finish<D: Disk, M: Machine, L: Link, C: Clock>(
     alloc: Global,
     start: u64,
@@ -40,7 +41,7 @@ pub(crate) fn finish<D: Disk, M: Machine, L: Link, C: Clock>(
 ) -> StartEnd
     requires kept { IsKept D.Disk disk.old store.old }
     requires fresh { M.kept machine.old ≡ [] }
-    requires document { IfSome document (IsOfPending store.old.node) }
+    requires document { IfSome document (IsOfHeld store.old.node) }
     requires moment { start ≤ last_moment }
     ensures goes { (run : Option Run) × EndsStart D.Disk disk.old disk.new store.old
         (λ from counts work committed broken.

@@ -3,8 +3,8 @@
 //! `start_over` opens the store, asks the server, commits, runs, sends the reports and answers how that ended, on any
 //! machine and over any link; `start` is the same over the kinds of resources of a host, where the trace is true of the
 //! host. A layer above may rely on the table in `specs/Work.antt` and on the headline in `specs/Headline.antt`: what a
-//! crash leaves, and what a report says. `order_of_merged` gives the order of a merged document, `run_merged` runs over
-//! it, on any machine, `run_kinds` on a host; `lines_of` is the text that is printed of a run, and `Status` how a
+//! crash leaves, and what a report says. `ordered_of_merged` gives a merged document with its order, `run_merged` runs
+//! over it, on any machine, `run_kinds` on a host; `lines_of` is the text that is printed of a run, and `Status` how a
 //! command ended.
 //!
 //! Where a thing is:
@@ -12,7 +12,8 @@
 //!   the steps in their order `src/starting.rt`
 //! - where a command is allowed: `specs/Commands.antt`, `src/allowing.rt`
 //! - what a command brings before its run; a registration: `specs/Bringing.antt`, `src/bringing.rt`; `src/settling.rt`
-//! - the document of a push, which its run need not merge again: `specs/Documents.antt`, `proofs/KnownDocuments.antt`
+//! - the document of a push, or of what a pull finds or brings, which its run need not merge again:
+//!   `specs/Documents.antt`, `proofs/KnownDocuments.antt`
 //! - which run is made, and what its report says: `specs/Runs.antt`, `src/choosing.rt`, `src/running.rt`; the event
 //!   that keeps the report `src/finishing.rt`
 //! - a run over a merged document on a machine, or on a host: `src/run.rt`, `specs/Ran.antt`
@@ -21,6 +22,7 @@
 //! - what a crash at any moment of a start leaves, and the headline: `specs/Path.antt`, `specs/Headline.antt`, over a
 //!   host `specs/HostHeadline.antt`; one call after another `proofs/Commits.antt`; the headline row by row
 //!   `proofs/Headline.antt`, of its nodes `proofs/Nodes.antt`, of its run `proofs/HeadlineRuns.antt`
+//! - starts in a row: `specs/Starts.antt`, `src/laws.rt`, `proofs/Joining.antt`
 //! - what is printed of a run; what `get` and `reports` print: `src/lines.rt`, `specs/Lines.antt`; `specs/Shown.antt`,
 //!   `src/showing.rt`
 //! - exit statuses: `src/status.rt`, `specs/Status.antt`
@@ -33,6 +35,7 @@ mod choosing;
 mod command;
 mod committing;
 mod finishing;
+mod laws;
 mod lines;
 mod order;
 mod preparing;
@@ -46,8 +49,9 @@ mod status;
 
 pub use answer::StartEnd;
 pub use command::Command;
+pub use laws::{parts_are_brought, starts_join};
 pub use lines::{id, lines_of, push_resources};
-pub use order::order_of_merged;
+pub use order::ordered_of_merged;
 pub use run::{run_kinds, run_merged};
 pub use starting::{start, start_over};
 pub use status::{InputError, Status};

@@ -4,7 +4,8 @@ ghost use Rattle.node_state.specs.StagedParts.{parts_of};
 ghost use Rattle.partial_merge.specs.Parts.{unnamed_part};
 ghost use Rattle.partial_merge.specs.Refused.{Refused};
 ghost use Rattle.dsc_node.specs.Commands.{IsTaken, IsTakenTask, IsTaskOf, IsUnmerged};
-ghost use Rattle.dsc_node.specs.Documents.{IsDocumentOf, IsOfTask};
+ghost use Rattle.partial_merge.specs.Merged.{IsDocumentOf};
+ghost use Rattle.dsc_node.specs.Documents.{IsOfTask};
 
 use crate::command::{Command, Prepared, Task};
 use meta_config::Meta;

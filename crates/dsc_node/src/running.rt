@@ -3,7 +3,8 @@ ghost use Rattle.std.specs.Prelude.{◌≡◌, ◌≤◌, ℕ, Bool, Option, Som
 ghost use Rattle.dsc_outside.specs.Clock.{last_moment};
 ghost use Rattle.node_state.specs.Lists.{IsStaged};
 ghost use Rattle.node_state.specs.Sound.{Sound};
-ghost use Rattle.dsc_node.specs.Documents.{IsDocumentOf, IsOfPending};
+ghost use Rattle.partial_merge.specs.Merged.{IsDocumentOf};
+ghost use Rattle.dsc_node.specs.Documents.{IsOfHeld};
 ghost use Rattle.dsc_node.specs.Readings.{Gave, Took, end_of};
 ghost use Rattle.dsc_node.specs.Runs.{chosen_of};
 ghost use Rattle.dsc_node.specs.Running.{IsReadyFor, IsRunStep};
@@ -59,7 +60,7 @@ pub(crate) struct Ready {
 }
 
 /// Makes the run that the node is to make, if it is to make one, and its report. All memory is taken before the first Test. The document
-/// is that of Pending, where it is known already.
+/// is that of the parts which the node holds, where it is known already.
 pub(crate) fn run_step<M: Machine, C: Clock>(
     alloc: Global,
     start: u64,
@@ -71,7 +72,7 @@ pub(crate) fn run_step<M: Machine, C: Clock>(
 ) -> RunStep
     requires fresh { M.kept machine.old ≡ [] }
     requires sound { Sound node.now }
-    requires document { IfSome document (IsOfPending node.now) }
+    requires document { IfSome document (IsOfHeld node.now) }
     requires moment { start ≤ last_moment }
     ensures step { IsRunStep M.Resources node.now stopped (C.coming clock.old) (C.coming clock.new)
         start result machine.old machine.new }
@@ -80,8 +81,7 @@ pub(crate) fn run_step<M: Machine, C: Clock>(
     let Some(chosen) = chosen_of(node, stopped) else {
         return RunStep::Nothing;
     };
-    let known = if chosen.pending { document } else { None };
-    match prepared(alloc, chosen.parts, known) {
+    match prepared(alloc, chosen.parts, document) {
         Ok(ready) => run_ready(alloc, start, node, chosen, ready, machine, clock),
         Err(Memory) => RunStep::Memory,
     }
@@ -166,15 +166,11 @@ fn run_ready<M: Machine, C: Clock>(
         room,
         marks,
     } = ready;
-    let OrderedDocument {
-        document,
-        order,
-        depends: _,
-    } = ordered;
-    let end = run_merged(alloc, &document, order.as_slice(), chosen.mode, machine);
+    let end = run_merged(alloc, &ordered, chosen.mode, machine);
     if let RunEnd::Memory = end {
         return RunStep::Memory;
     }
+    let document = ordered.document;
     let frame = Frame {
         job: node.next_job,
         initial: chosen.pending,

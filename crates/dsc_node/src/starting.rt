@@ -18,7 +18,7 @@ ghost use Rattle.dsc_node.specs.Work.{beside, known};
 
 use crate::allowing::{is_run, reads_clock, stops, waits, why_not};
 use crate::answer::{StartEnd, status_of, status_of_input};
-use crate::bringing::{bring, status_of_pull};
+use crate::bringing::{First, bring, status_of_pull};
 use crate::command::{Command, Prepared};
 use crate::committing::commit_first;
 use crate::finishing::finish;
@@ -172,13 +172,12 @@ fn run_task<D: Disk, M: Machine, L: Link, C: Clock>(
     ensures becomes { L.may_become link.old link.new }
     ensures later { C.faults clock.old ≤ C.faults clock.new }
 {
-    let Prepared { task, document } = prepared;
-    let stopped = stops(store.state(), &task);
-    let first = match bring(alloc, task, store.state(), link, machine) {
+    let stopped = stops(store.state(), &prepared.task);
+    let First { event, document } = match bring(alloc, prepared, store.state(), link, machine) {
         Ok(first) => first,
         Err(error) => return StartEnd::silent(alloc, status_of_pull(error)),
     };
-    if let Err(error) = commit_first(first, store, disk) {
+    if let Err(error) = commit_first(event, store, disk) {
         return StartEnd::silent(alloc, status_of(error));
     }
     finish(

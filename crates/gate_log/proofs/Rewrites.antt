@@ -10,7 +10,7 @@ use Rattle.gate_log.specs.Log.{LogTerm, IsOf, HasPut, OldOrNew, begun, left_behi
 use Rattle.gate_log.proofs.Holds.{holds_first, holds_both, torn_holds, torn_end, length-written, written_torn, written_holds}
 use Rattle.gate_log.proofs.Cells.{cells-push, length-behind, text_gives, torn_beside, begin_past}
 use Rattle.gate_log.proofs.Steps.{held_before, if_some, Honest}
-use Rattle.gate_log.proofs.Switch.{IsReady, torn_other, written_whole, torn_selector, written_selector}
+use Rattle.gate_log.proofs.Switch.{IsReadyToSwitch, torn_other, written_whole, torn_selector, written_selector}
 
 -- a fact of what was read, before a write and after it
 pub told_write : (P Q : List ℕ → Type 0) (f : List ℕ → List ℕ) (before after : Option (List ℕ)) → after ≡ option_map f before → ((held : List ℕ) → P held → Q (f held)) → IfSome before P → IfSome after Q
@@ -66,7 +66,7 @@ module _ (shape : Shape) (second : Bool) (closed at long : ℕ) (bodies put : Li
 
   module _ (seen0 seen1 : Option (List ℕ)) (honest0 : Honest seen0 old) (size : IfSome seen0 (λ held. max long at ≡ length held)) (there : IfSome seen0 (Holds (begin shape (not second)) (cells put)))
       (mid : List ℕ → Type 0) (is1 : seen1 ≡ option_map (written at (0 ∷ [])) seen0) (only1 : Only seen1 mid) where
-    pub ready : Each mid (λ c. IsReady shape second closed at c bodies put)
+    pub ready : Each mid (λ c. IsReadyToSwitch shape second closed at c bodies put)
     ready c here =
         let from = held_before (written at (0 ∷ [])) seen0 seen1 c is1 (only1 c here) in
         let long_one = subst (λ (o : Option (List ℕ)). IfSome o (λ held. max long at ≡ length held)) from.1 size in

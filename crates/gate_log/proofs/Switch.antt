@@ -19,16 +19,16 @@ torn_other shape second closed at n bodies d c other t torn =
     torn_beside shape second closed bodies at n d c t torn (omega (arith, other.behind, begin_past shape (not second))) (apart shape second closed at n (omega (arith, t.bank.place, t.bank.cells.within)) other)
 
 -- both banks hold what they should
-pub record IsReady (shape : Shape) (second : Bool) (closed at : ℕ) (image : List ℕ) (bodies put : List (List ℕ)) : Type 0 where
+pub record IsReadyToSwitch (shape : Shape) (second : Bool) (closed at : ℕ) (image : List ℕ) (bodies put : List (List ℕ)) : Type 0 where
   pub live : IsText shape second closed image bodies
   pub other : IsBank shape (not second) at image put
 
 pub written_whole : (shape : Shape) (second : Bool) (closed at : ℕ) (bodies put : List (List ℕ)) (d c : List ℕ) → at ≤ length d → IsWhole shape second at put → Holds (begin shape (not second)) (cells put) d → IsText shape second closed d bodies
-    → c ≡ written at (0 ∷ []) d → IsReady shape second closed at c bodies put
+    → c ≡ written at (0 ∷ []) d → IsReadyToSwitch shape second closed at c bodies put
 written_whole shape second closed at bodies put d c le whole put_there t is =
     let new = written at (0 ∷ []) d in
     let torn = written_torn at (0 ∷ []) d le in
-    subst (λ (l : List ℕ). IsReady shape second closed at l bodies put) (sym is) (record {
+    subst (λ (l : List ℕ). IsReadyToSwitch shape second closed at l bodies put) (sym is) (record {
       live = torn_other shape second closed at 1 bodies d new (record { behind = omega (arith, whole.place); within = omega (arith, whole.place, whole.within) }) t torn;
       other = record {
         cells = record {
@@ -65,7 +65,7 @@ module _ (shape : Shape) (second : Bool) (closed at : ℕ) (bodies put : List (L
       by false (inl is) = inr is
       by false (inr is) = inl is
 
-  pub torn_selector : (d c : List ℕ) → IsReady shape second closed at d bodies put → Torn 7 1 d c → OldOrNew shape bodies put c
+  pub torn_selector : (d c : List ℕ) → IsReadyToSwitch shape second closed at d bodies put → Torn 7 1 d c → OldOrNew shape bodies put c
   torn_selector d c ready torn =
       let here = holds_byte 7 c (omega (arith, torn.no_shorter, holds_long 7 ready.live.head.selector [] d ready.live.head.selected)) in
       elim (which (get_or c 7 0)) [
@@ -73,7 +73,7 @@ module _ (shape : Shape) (second : Bool) (closed at : ℕ) (bodies put : List (L
         | inr other ↦ inr (text_gives shape (not second) at c put (text_by d c _ (not second) at put ready.live ready.other torn here other))
       ]
 
-  pub written_selector : (selector : ℕ) (d c : List ℕ) → Selects selector (not second) → IsReady shape second closed at d bodies put → c ≡ written 7 (selector ∷ []) d → IsText shape (not second) at c put
+  pub written_selector : (selector : ℕ) (d c : List ℕ) → Selects selector (not second) → IsReadyToSwitch shape second closed at d bodies put → c ≡ written 7 (selector ∷ []) d → IsText shape (not second) at c put
   written_selector selector d c selects ready is =
       let le : 7 ≤ length d = omega (arith, holds_long 7 ready.live.head.selector [] d ready.live.head.selected) in
       subst (λ (l : List ℕ). IsText shape (not second) at l put) (sym is)

@@ -50,22 +50,22 @@ abbrev pub TrailerTail : List ℕ → List ℕ → Type 0
 TrailerTail bytes content =
     (line : List ℕ) × (rest : List ℕ) × AllPass is_trailer_byte line × (bytes ≡ line ++ 10 ∷ rest) × Trailer rest × (content ≡ [])
 
-abbrev pub Means : Phase → List ℕ → List ℕ → Type 0
-Means Line bytes content = Chunked bytes content
-Means (Size digits size) bytes content =
+abbrev pub PhaseMeans : Phase → List ℕ → List ℕ → Type 0
+PhaseMeans Line bytes content = Chunked bytes content
+PhaseMeans (Size digits size) bytes content =
     (ds : List ℕ) × (rest : List ℕ) × AllPass is_ascii_hexdigit ds × ((16 < digits) ⊎ (digits + length ds ≤ 16)) × (bytes ≡ ds ++ rest)
     × BehindSize (digits_value_after 16 size ds) rest content
-Means (Pad size) bytes content = BehindSize size bytes content
-Means (Extension size) bytes content =
+PhaseMeans (Pad size) bytes content = BehindSize size bytes content
+PhaseMeans (Extension size) bytes content =
     (text : List ℕ) × (rest : List ℕ) × AllPass is_extension_byte text × (bytes ≡ text ++ (13 ∷ 10 ∷ rest)) × AfterLine size rest content
-Means (SizeReturn size) bytes content = (rest : List ℕ) × (bytes ≡ 10 ∷ rest) × AfterLine size rest content
-Means (Data left) bytes content = DataThen left bytes content
-Means DataEnd bytes content = (rest : List ℕ) × (bytes ≡ 13 ∷ 10 ∷ rest) × Chunked rest content
-Means DataReturn bytes content = (rest : List ℕ) × (bytes ≡ 10 ∷ rest) × Chunked rest content
-Means TrailerStart bytes content = Trailer bytes × (content ≡ [])
-Means TrailerReturn bytes content = ((bytes ≡ 10 ∷ []) × (content ≡ [])) ⊎ ((b : ℕ) × (rest : List ℕ) × (bytes ≡ b ∷ rest) × ((b == 10) ≡ false) × TrailerTail rest content)
-Means TrailerText bytes content = TrailerTail bytes content
-Means Done bytes content = (bytes ≡ []) × (content ≡ [])
+PhaseMeans (SizeReturn size) bytes content = (rest : List ℕ) × (bytes ≡ 10 ∷ rest) × AfterLine size rest content
+PhaseMeans (Data left) bytes content = DataThen left bytes content
+PhaseMeans DataEnd bytes content = (rest : List ℕ) × (bytes ≡ 13 ∷ 10 ∷ rest) × Chunked rest content
+PhaseMeans DataReturn bytes content = (rest : List ℕ) × (bytes ≡ 10 ∷ rest) × Chunked rest content
+PhaseMeans TrailerStart bytes content = Trailer bytes × (content ≡ [])
+PhaseMeans TrailerReturn bytes content = ((bytes ≡ 10 ∷ []) × (content ≡ [])) ⊎ ((b : ℕ) × (rest : List ℕ) × (bytes ≡ b ∷ rest) × ((b == 10) ≡ false) × TrailerTail rest content)
+PhaseMeans TrailerText bytes content = TrailerTail bytes content
+PhaseMeans Done bytes content = (bytes ≡ []) × (content ≡ [])
 
 -- ---- each is read as the grammar has it
 
@@ -78,7 +78,7 @@ same_byte : (b c : ℕ) → (b == c) ≡ true → b ≡ c
 same_byte b c h = elim (eqb_tells b c) [ inl w ↦ w.1 | inr w ↦ absurd (false≢true (sym w.0 ∙ h)) ]
 
 -- a chunk line begins with a digit
-line_of_size : (b : ℕ) (bytes content : List ℕ) → is_ascii_hexdigit b ≡ true → Means (Size 1 (digit_value b)) bytes content
+line_of_size : (b : ℕ) (bytes content : List ℕ) → is_ascii_hexdigit b ≡ true → PhaseMeans (Size 1 (digit_value b)) bytes content
     → Chunked (b ∷ bytes) content
 unfolding print_chunk_line
 line_of_size b bytes content hex m =
@@ -107,13 +107,13 @@ line_of_size b bytes content hex m =
     regroup : (a p e r : List ℕ) → a ++ (p ++ (e ++ (13 ∷ 10 ∷ r))) ≡ (a ++ p ++ e ++ 13 ∷ 10 ∷ []) ++ r
     regroup a p e r = sym (append_assoc (a ++ p ++ e) (13 ∷ 10 ∷ []) r ∙ append_assoc (a ++ p) e (13 ∷ 10 ∷ r) ∙ append_assoc a p (e ++ (13 ∷ 10 ∷ r)))
 
-behind_means : (size b : ℕ) (bytes content : List ℕ) → OnSome (behind_size size b) (λ next. Means next bytes content)
+behind_means : (size b : ℕ) (bytes content : List ℕ) → OnSome (behind_size size b) (λ next. PhaseMeans next bytes content)
     → BehindSize size (b ∷ bytes) content
-behind_means size b bytes content h = elim (if_cases (is_ows b) _ _ (λ next. Means next bytes content) h) [
+behind_means size b bytes content h = elim (if_cases (is_ows b) _ _ (λ next. PhaseMeans next bytes content) h) [
   | inl w ↦
       let m = w.1 in
       (b ∷ m.0, m.1, m.2, All-cons (λ x. is_ows x ≡ true) b m.0 w.0 m.3, m.4, ap (λ (l : List ℕ). b ∷ l) m.5, m.6)
-  | inr w ↦ elim (if_cases (b == 59) _ _ (λ next. Means next bytes content) w.1) [
+  | inr w ↦ elim (if_cases (b == 59) _ _ (λ next. PhaseMeans next bytes content) w.1) [
     | inl v ↦
         let m = v.1 in (
           [],
@@ -124,7 +124,7 @@ behind_means size b bytes content h = elim (if_cases (is_ows b) _ _ (λ next. Me
           ap₂ (λ (x : ℕ) (l : List ℕ). x ∷ l) (same_byte b 59 v.0) m.3,
           m.4,
         )
-    | inr v ↦ elim (if_cases (b == 13) _ _ (λ next. Means next bytes content) v.1) [
+    | inr v ↦ elim (if_cases (b == 13) _ _ (λ next. PhaseMeans next bytes content) v.1) [
       | inl u ↦
           let m = u.1 in
           ([], None, m.0, All-nil (λ x. is_ows x ≡ true), tt, ap₂ (λ (x : ℕ) (l : List ℕ). x ∷ l) (same_byte b 13 u.0) m.1, m.2)
@@ -137,15 +137,15 @@ on_some_map : (o : Option Phase) (P Q : Phase → Type 0) → ((phase : Phase) �
 on_some_map None P Q f h = h
 on_some_map (Some phase) P Q f h = f phase h
 
-if_means : (t : Bool) (x y : Phase) (bytes content : List ℕ) → Means (if t then x else y) bytes content
-    → ((t ≡ true) × Means x bytes content) ⊎ ((t ≡ false) × Means y bytes content)
+if_means : (t : Bool) (x y : Phase) (bytes content : List ℕ) → PhaseMeans (if t then x else y) bytes content
+    → ((t ≡ true) × PhaseMeans x bytes content) ⊎ ((t ≡ false) × PhaseMeans y bytes content)
 if_means true x y bytes content m = inl (refl, m)
 if_means false x y bytes content m = inr (refl, m)
 
-positive : (n : ℕ) → (n == 0) ≡ false → 0 < n
+pub positive : (n : ℕ) → (n == 0) ≡ false → 0 < n
 positive n h = elim (eqb_tells n 0) [ inl w ↦ absurd (false≢true (sym h ∙ w.0)) | inr w ↦ omega (arith, w.1) ]
 
-after_line : (size : ℕ) (bytes content : List ℕ) → Means (behind_line size) bytes content → AfterLine size bytes content
+after_line : (size : ℕ) (bytes content : List ℕ) → PhaseMeans (behind_line size) bytes content → AfterLine size bytes content
 after_line size bytes content m = elim (if_means (size == 0) TrailerStart (Data size) bytes content m) [
   | inl w ↦ inl (same_byte size 0 w.0, w.1.0, w.1.1)
   | inr w ↦ inr (positive size w.0, w.1)
@@ -156,7 +156,7 @@ unfolding next_phase
 no_data_left [] content h = false≢true h.0
 no_data_left (b ∷ bytes) content h = no_data_left bytes h.0 h.2
 
-data_means : (n b : ℕ) (bytes rest : List ℕ) → Means (if suc n == 1 then DataEnd else Data (suc n - 1)) bytes rest
+data_means : (n b : ℕ) (bytes rest : List ℕ) → PhaseMeans (if suc n == 1 then DataEnd else Data (suc n - 1)) bytes rest
     → DataThen (suc n) (b ∷ bytes) (b ∷ rest)
 data_means n b bytes rest m = elim (if_means (suc n == 1) DataEnd (Data (suc n - 1)) bytes rest m) [
   | inl w ↦
@@ -170,7 +170,7 @@ data_means n b bytes rest m = elim (if_means (suc n == 1) DataEnd (Data (suc n -
 trailer_byte : (b : ℕ) → (b == 10) ≡ false → is_trailer_byte b ≡ true
 trailer_byte b h = ap not h
 
-trailer_means : (b : ℕ) (bytes content : List ℕ) → Means (next_in_trailer b) bytes content → Trailer (b ∷ bytes) × (content ≡ [])
+trailer_means : (b : ℕ) (bytes content : List ℕ) → PhaseMeans (next_in_trailer b) bytes content → Trailer (b ∷ bytes) × (content ≡ [])
 trailer_means b bytes content m =
     let P : ℕ → Type 0 = λ x. is_trailer_byte x ≡ true in
     elim (if_means (b == 10) Done _ bytes content m) [
@@ -205,7 +205,7 @@ trailer_means b bytes content m =
     ]
 
 -- what a phase accepts is what it means
-pub sound : (bytes : List ℕ) (phase : Phase) (content : List ℕ) → Accepts phase bytes content → Means phase bytes content
+pub sound : (bytes : List ℕ) (phase : Phase) (content : List ℕ) → Accepts phase bytes content → PhaseMeans phase bytes content
 unfolding next_phase
 sound [] Done content h = (refl, h.1)
 sound [] Line content h = absurd (false≢true h.0)

@@ -10,7 +10,7 @@ use Rattle.http_frames.specs.declared.chunks.Phase.{Phase}
 use Rattle.http_frames.specs.declared.chunks.Phase.TheVariants.{Line, Size, Pad, Extension, SizeReturn, Data, DataEnd, DataReturn, Trailer as TrailerStart, TrailerReturn, TrailerText, Done}
 use Rattle.http_frames.specs.Phases.{next_phase, behind_size, behind_line, next_in_trailer, is_data, is_done, least_rest, least_behind, begun_content}
 use Rattle.http_frames.specs.Walks.{content_byte}
-use Rattle.http_frames.proofs.Accepts.{OnSome, Keeps, Accepts}
+use Rattle.http_frames.proofs.Accepts.{OnSome, Keeps, Accepts, positive}
 use Rattle.http_frames.proofs.Complete.{data_accepted, size_reads, pad_reads, text_behind, end_of_line}
 
 abbrev pub AllSome : Option Phase → (Phase → Type 0) → Type 0
@@ -173,9 +173,6 @@ IsSane TrailerStart = Unit {0}
 IsSane TrailerReturn = Unit {0}
 IsSane TrailerText = Unit {0}
 IsSane Done = Unit {0}
-
-positive : (n : ℕ) → (n == 0) ≡ false → 0 < n
-positive n h = elim (eqb_tells n 0) [ inl w ↦ absurd (false≢true (sym h ∙ w.0)) | inr w ↦ omega (arith, w.1) ]
 
 line_sane : (size : ℕ) (t : Bool) → (size == 0) ≡ t → IsSane (if t then TrailerStart else Data size)
 line_sane size true e = tt

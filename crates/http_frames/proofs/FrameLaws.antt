@@ -29,13 +29,13 @@ use Rattle.http_frames.proofs.Refusals.{body_refused, BodyRefusal, is_wrong_at, 
 -- ---- bodies
 
 -- what a reading says of the bytes
-abbrev pub Means : Limits → ℕ → Framing → List ℕ → Result (Option (List ℕ)) FrameError → Type 0
-Means limits front framing bytes (Ok (Some content)) = FrontBody limits framing bytes content
-Means limits front framing bytes (Ok None) = AwaitsBody limits framing bytes
-Means limits front framing bytes (Err e) = RefusesBody limits front framing bytes e
+abbrev pub BodyMeans : Limits → ℕ → Framing → List ℕ → Result (Option (List ℕ)) FrameError → Type 0
+BodyMeans limits front framing bytes (Ok (Some content)) = FrontBody limits framing bytes content
+BodyMeans limits front framing bytes (Ok None) = AwaitsBody limits framing bytes
+BodyMeans limits front framing bytes (Err e) = RefusesBody limits front framing bytes e
 
 sized_means : (limits : Limits) (front n : ℕ) (bytes : List ℕ) (t : Bool) → nat_le n (length bytes) ≡ t
-    → Means limits front (Sized n) bytes (if t then Ok (Some (take n bytes)) else Ok None)
+    → BodyMeans limits front (Sized n) bytes (if t then Ok (Some (take n bytes)) else Ok None)
 sized_means limits front n bytes true e =
     let fits : n ≤ length bytes = grind (arith, e) in
     record {
@@ -48,7 +48,7 @@ sized_means limits front n bytes true e =
 sized_means limits front n bytes false e = grind (arith, e)
 
 end_means : (limits : Limits) (front : ℕ) (bytes : List ℕ) (t : Bool) → nat_le (length bytes) limits.content ≡ t
-    → Means limits front ToEnd bytes (if t then Ok (Some bytes) else Err BodyTooLong)
+    → BodyMeans limits front ToEnd bytes (if t then Ok (Some bytes) else Err BodyTooLong)
 end_means limits front bytes true e =
     let fits : length bytes ≤ limits.content = grind (arith, e) in
     record { body = bytes; rest = []; split = sym (append-nil bytes); is_body = (fits, refl); to_end = λ h. refl }
@@ -61,19 +61,19 @@ refusal_means limits front bytes _ (is_too_long stops) = stops
 
 done_means : (limits : Limits) (front : ℕ) (bytes : List ℕ) (walk : Walk) (t : Bool) → can_fit limits start ≡ true
     → walk_over limits front start bytes ≡ Ok walk → is_done walk.phase ≡ t
-    → Means limits front Chunked bytes (if t then Ok (Some (content_over limits front start bytes)) else Ok None)
+    → BodyMeans limits front Chunked bytes (if t then Ok (Some (content_over limits front start bytes)) else Ok None)
 done_means limits front bytes walk true fits over done =
     let w = body_whole limits front bytes walk fits over done in
     record { body = w.0; rest = w.1; split = w.2; is_body = w.3; to_end = λ h. absurd (cc) }
 done_means limits front bytes walk false fits over open' = body_open limits front bytes walk fits over open'
 
 chunked_means : (limits : Limits) (front : ℕ) (bytes : List ℕ) (r : Result Walk FrameError) → can_fit limits start ≡ true
-    → walk_over limits front start bytes ≡ r → Means limits front Chunked bytes (chunked_reading r (content_over limits front start bytes))
+    → walk_over limits front start bytes ≡ r → BodyMeans limits front Chunked bytes (chunked_reading r (content_over limits front start bytes))
 chunked_means limits front bytes (Err e) fits over = refusal_means limits front bytes e (body_refused limits front bytes e fits over)
 chunked_means limits front bytes (Ok walk) fits over = done_means limits front bytes walk (is_done walk.phase) fits over refl
 
 pub reading_means : (limits : Limits) (front : ℕ) (framing : Framing) (bytes : List ℕ) → can_fit limits start ≡ true
-    → Means limits front framing bytes (body_reading limits front framing bytes)
+    → BodyMeans limits front framing bytes (body_reading limits front framing bytes)
 unfolding body_reading
 reading_means limits front (Sized n) bytes fits = sized_means limits front n bytes (nat_le n (length bytes)) refl
 reading_means limits front Chunked bytes fits = chunked_means limits front bytes (walk_over limits front start bytes) fits refl
@@ -88,9 +88,9 @@ request_says : (bytes : List ℕ) (s : RequestStart) (at : IsRequestHeadOf bytes
 request_says bytes s at = ap₂ request_framing (sym at.method) (sym at.headers)
 
 read_means : (bytes : List ℕ) (s : RequestStart) (reading : Result (Option (List ℕ)) FrameError) (r : ReadsBody bytes s reading)
-    → Means request_limits s.length r.framing (drop s.length bytes) reading
+    → BodyMeans request_limits s.length r.framing (drop s.length bytes) reading
 read_means bytes s reading r =
-    subst (Means request_limits s.length r.framing (drop s.length bytes)) r.body
+    subst (BodyMeans request_limits s.length r.framing (drop s.length bytes)) r.body
     (reading_means request_limits s.length r.framing (drop s.length bytes) request_starts)
 
 pub request_framed : (bytes : List ℕ) (request : Request) → IsReadRequest bytes request → BeginsWithRequest bytes request
@@ -178,9 +178,9 @@ last_front bytes rest s l = record {
 }
 
 front_of : (bytes : List ℕ) (s : AnswerStart) (reading : Result (Option (List ℕ)) FrameError) (r : AnswersBody bytes s reading)
-    → Means answer_limits (length bytes - length (drop s.length r.rest)) r.framing (drop s.length r.rest) reading
+    → BodyMeans answer_limits (length bytes - length (drop s.length r.rest)) r.framing (drop s.length r.rest) reading
 front_of bytes s reading r =
-    subst (Means answer_limits (length bytes - length (drop s.length r.rest)) r.framing (drop s.length r.rest)) r.body
+    subst (BodyMeans answer_limits (length bytes - length (drop s.length r.rest)) r.framing (drop s.length r.rest)) r.body
     (reading_means answer_limits (length bytes - length (drop s.length r.rest)) r.framing (drop s.length r.rest) answer_starts)
 
 pub answer_framed : (bytes : List ℕ) (reply : Reply) → IsReadAnswer bytes reply → IsAnswerFrame bytes reply

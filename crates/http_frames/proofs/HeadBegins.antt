@@ -148,8 +148,8 @@ started bytes minor line_end few after = record {
     regroup : (x m t v : List ℕ) → (x ++ (m ++ 32 ∷ t)) ++ 32 ∷ v ≡ x ++ ((m ++ 32 ∷ (t ++ 32 ∷ v)) ++ [])
     regroup x m t v = simp (append_assoc, cons-append, append-nil)
 
-version_feed : (bytes : List ℕ) → AreBegun VersionEnd bytes → AreBegun (Line 64) (bytes ++ 10 ∷ [])
-version_feed bytes begun = started (bytes ++ 10 ∷ []) begun.0 lf begun.1 (after_more bytes (print_version begun.0) (10 ∷ []) begun.2)
+feed_after_version : (bytes : List ℕ) → AreBegun VersionEnd bytes → AreBegun (Line 64) (bytes ++ 10 ∷ [])
+feed_after_version bytes begun = started (bytes ++ 10 ∷ []) begun.0 lf begun.1 (after_more bytes (print_version begun.0) (10 ∷ []) begun.2)
 
 start_feed : (bytes : List ℕ) → AreBegun StartReturn bytes → AreBegun (Line 64) (bytes ++ 10 ∷ [])
 start_feed bytes begun =
@@ -312,9 +312,9 @@ in_version n bytes b q begun e = elim (split (nat_lt n 7) _ _ q e) [
       (λ none. absurd (no_place q none)) w.1
 ]
 
-in_line : (left : ℕ) (bytes : List ℕ) (b : ℕ) (q : Place) → AreBegun (Line left) bytes
+line_goes_on : (left : ℕ) (bytes : List ℕ) (b : ℕ) (q : Place) → AreBegun (Line left) bytes
     → (if is_token_byte b then named left else next_at_end LastReturn Whole b) ≡ Some q → After bytes b q
-in_line left bytes b q begun e = elim (split (is_token_byte b) (named left) (next_at_end LastReturn Whole b) q e) [
+line_goes_on left bytes b q begun e = elim (split (is_token_byte b) (named left) (next_at_end LastReturn Whole b) q e) [
   | inl w ↦ elim (split (nat_lt 0 left) _ _ q w.1) [
     | inl v ↦
         let some : 0 < left = grind (arith, v.0) in
@@ -348,9 +348,9 @@ begun_on Target q bytes b begun e text =
     ]) e
 begun_on (Version n) q bytes b begun e text = in_version n bytes b q begun e
 begun_on VersionEnd q bytes b begun e text =
-    by_end bytes b StartReturn (Line 64) q (version_return bytes begun) (version_feed bytes begun) e
+    by_end bytes b StartReturn (Line 64) q (version_return bytes begun) (feed_after_version bytes begun) e
 begun_on StartReturn q bytes b begun e text = by_byte bytes 10 b (Line 64) q (start_feed bytes begun) e
-begun_on (Line left) q bytes b begun e text = in_line left bytes b q begun e
+begun_on (Line left) q bytes b begun e text = line_goes_on left bytes b q begun e
 begun_on LastReturn q bytes b begun e text = by_byte bytes 10 b Whole q tt e
 begun_on (Name left) q bytes b begun e text =
     by_test bytes b (is_token_byte b) (Name left) q (when_byte 58 b (Value left)) (name_token left bytes b begun)
@@ -396,7 +396,7 @@ line_can : (left : ℕ) (bytes : List ℕ) → AreBegun (Line left) bytes → Ca
 line_can left bytes lines = (10 ∷ [], record lines.head { last = lf }, ended left bytes lf lines)
 
 version_end_can : (bytes : List ℕ) → AreBegun VersionEnd bytes → CanBeRequest bytes
-version_end_can bytes begun = goes_back bytes (10 ∷ []) (line_can 64 (bytes ++ 10 ∷ []) (version_feed bytes begun))
+version_end_can bytes begun = goes_back bytes (10 ∷ []) (line_can 64 (bytes ++ 10 ∷ []) (feed_after_version bytes begun))
 
 version_can : (n : ℕ) (bytes : List ℕ) → AreBegun (Version n) bytes → CanBeRequest bytes
 version_can n bytes begun =

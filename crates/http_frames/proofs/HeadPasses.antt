@@ -68,9 +68,9 @@ method_is : (b : ℕ) → is_token_byte b ≡ true → next_place Method b ≡ S
 unfolding next_place
 method_is b is = when_true (is_token_byte b) _ _ is
 
-method_space : next_place Method 32 ≡ Some TargetFront
+place_of_method_end : next_place Method 32 ≡ Some TargetFront
 unfolding next_place is_token_byte
-method_space = refl
+place_of_method_end = refl
 
 target_front_is : (b : ℕ) → is_uri_byte b ≡ true → next_place TargetFront b ≡ Some Target
 unfolding next_place
@@ -80,9 +80,9 @@ target_is : (b : ℕ) → is_uri_byte b ≡ true → next_place Target b ≡ Som
 unfolding next_place
 target_is b is = when_true (is_uri_byte b) _ _ is
 
-target_space : next_place Target 32 ≡ Some (Version 0)
+place_of_target_end : next_place Target 32 ≡ Some (Version 0)
 unfolding next_place
-target_space = refl
+place_of_target_end = refl
 
 over_version : (minor : ℕ) (rest : List ℕ) → minor ≤ 1 → place_after (Version 0) (print_version minor ++ rest) ≡ place_after VersionEnd rest
 unfolding place_after next_place
@@ -115,9 +115,9 @@ name_is : (left b : ℕ) → is_token_byte b ≡ true → next_place (Name left)
 unfolding next_place
 name_is left b is = when_true (is_token_byte b) _ _ is
 
-name_colon : (left : ℕ) → next_place (Name left) 58 ≡ Some (Value left)
+place_of_name_end : (left : ℕ) → next_place (Name left) 58 ≡ Some (Value left)
 unfolding next_place is_token_byte
-name_colon left = refl
+place_of_name_end left = refl
 
 value_is : (left b : ℕ) → is_value_byte b ≡ true → next_place (Value left) b ≡ Some (Value left)
 unfolding next_place
@@ -137,7 +137,7 @@ over_field : (left : ℕ) (f : Field) (rest : List ℕ) → IsField f → place_
 over_field left f rest valid =
     ap (place_after (Line (suc left))) (regroup f.name f.raw (print_end f.end) rest)
     ∙ over_word (Line (suc left)) (Name left) is_token_byte f.name _ refl refl (line_is left) (name_is left) valid.name.0 valid.name.1
-    ∙ after_byte (Name left) (Value left) 58 _ refl (name_colon left)
+    ∙ after_byte (Name left) (Value left) 58 _ refl (place_of_name_end left)
     ∙ over_run (Value left) is_value_byte f.raw _ refl (value_is left) valid.raw
     ∙ over_value_end left f.end rest
   where
@@ -157,9 +157,9 @@ over_start : (h : RequestHead) (rest : List ℕ) → IsRequestHead h → place_a
 over_start h rest valid =
     ap (place_after Front) (regroup h.method h.target (print_version h.minor) (print_end h.line_end) rest)
     ∙ over_word Front Method is_token_byte h.method _ refl refl front_is method_is valid.method.0 valid.method.1
-    ∙ after_byte Method TargetFront 32 _ refl method_space
+    ∙ after_byte Method TargetFront 32 _ refl place_of_method_end
     ∙ over_word TargetFront Target is_uri_byte h.target _ refl refl target_front_is target_is valid.target.0 valid.target.1
-    ∙ after_byte Target (Version 0) 32 _ refl target_space
+    ∙ after_byte Target (Version 0) 32 _ refl place_of_target_end
     ∙ over_version h.minor _ valid.minor
     ∙ over_version_end h.line_end rest
   where

@@ -18,9 +18,9 @@ unfolding print_response
 some_printed h = simp (length-append, cons-append) (omega arith)
 
 -- a head has a byte
-pub some_head : (rest : List ℕ) (start : AnswerStart) → IsAnswerHeadOf rest start
+pub head_length : (rest : List ℕ) (start : AnswerStart) → IsAnswerHeadOf rest start
     → (0 < start.length) × (start.length ≤ length rest)
-some_head rest start at =
+head_length rest start at =
     let len = length-append (print_response at.head) (drop start.length rest) in (
       omega (arith, at.length_is, some_printed at.head),
       omega (arith, at.length_is, ap length at.begins.reads.1, len),

@@ -134,13 +134,13 @@ longer_front (x ∷ a) b (y ∷ c) d e =
 -- ---- a header line too many
 
 -- a start line: skipping a line skips it
-abbrev pub IsStart : List ℕ → Type 0
-IsStart line = (n : ℕ) (rest : List ℕ) → skip_lines (suc n) (line ++ rest) ≡ skip_lines n rest
+abbrev pub IsStartLine : List ℕ → Type 0
+IsStartLine line = (n : ℕ) (rest : List ℕ) → skip_lines (suc n) (line ++ rest) ≡ skip_lines n rest
 
 abbrev pub section_of : List ℕ → List Field → LineEnd → List ℕ → List ℕ
 section_of line fs last rest = line ++ (flat_map print_field fs ++ (print_end last ++ rest))
 
-skip_section : (line : List ℕ) (fs : List Field) (n : ℕ) (z : List ℕ) → IsStart line → All IsField fs
+skip_section : (line : List ℕ) (fs : List Field) (n : ℕ) (z : List ℕ) → IsStartLine line → All IsField fs
     → skip_lines (suc (length fs + n)) (line ++ (flat_map print_field fs ++ z)) ≡ skip_lines n z
 skip_section line fs n z start all = start (length fs + n) _ ∙ skip_fields n fs z all
 
@@ -160,7 +160,7 @@ section_of-append : (line : List ℕ) (fs : List Field) (last : LineEnd) (z more
     → section_of line fs last (z ++ more) ≡ section_of line fs last z ++ more
 section_of-append line fs last z more = simp append_assoc
 
-extra_full : (line : List ℕ) (fs : List Field) (last : LineEnd) (rest more y r : List ℕ) → IsStart line → All IsField fs
+extra_full : (line : List ℕ) (fs : List Field) (last : LineEnd) (rest more y r : List ℕ) → IsStartLine line → All IsField fs
     → length fs ≡ 64 → y ++ more ≡ section_of line fs last rest → skip_lines 65 (y ++ more) ≡ Some (r ++ more)
     → begins_line r ≡ true → ⊥
 unfolding skip_lines
@@ -173,7 +173,7 @@ extra_full line fs last rest more y r start all full is there begins =
     let same : r ++ more ≡ print_end last ++ rest = cc in
     false≢true (sym (end_breaks last rest) ∙ sym (ap begins_line same) ∙ begins_longer r more begins)
 
-extra_fewer : (line : List ℕ) (fs : List Field) (last : LineEnd) (rest more y r : List ℕ) → IsStart line → All IsField fs
+extra_fewer : (line : List ℕ) (fs : List Field) (last : LineEnd) (rest more y r : List ℕ) → IsStartLine line → All IsField fs
     → length fs < 64 → y ++ more ≡ section_of line fs last rest → skip_lines 65 y ≡ Some r
     → (z : List ℕ) × (y ≡ section_of line fs last z)
 extra_fewer line fs last rest more y r start all few is there =
@@ -189,7 +189,7 @@ extra_fewer line fs last rest more y r start all few is there =
     )
 
 -- where one has begun, a head of fewer lines can only be whole already
-pub extra_refuses : (line : List ℕ) (fs : List Field) (last : LineEnd) (rest more y : List ℕ) → IsStart line → All IsField fs
+pub extra_refuses : (line : List ℕ) (fs : List Field) (last : LineEnd) (rest more y : List ℕ) → IsStartLine line → All IsField fs
     → length fs ≤ 64 → y ++ more ≡ section_of line fs last rest → begins_line_there (skip_lines 65 y) ≡ true
     → (z : List ℕ) × (y ≡ section_of line fs last z)
 extra_refuses line fs last rest more y start all few is extra =
@@ -224,10 +224,10 @@ field_begins f rest m more x valid is = go f.name valid.name.0 valid.name.1 refl
         let same : x ≡ b = cc in
         subst (λ (v : ℕ). is_break v ≡ false) (sym same) (token_inside b (All-head P b name all))
 
-all_front : (gs hs : List Field) → All IsField (gs ++ hs) → All IsField gs
-all_front [] hs all = All-nil IsField
-all_front (g ∷ gs) hs all =
-    All-cons IsField g gs (All-head IsField g (gs ++ hs) all) (all_front gs hs (All-tail IsField g (gs ++ hs) all))
+fields_front : (gs hs : List Field) → All IsField (gs ++ hs) → All IsField gs
+fields_front [] hs all = All-nil IsField
+fields_front (g ∷ gs) hs all =
+    All-cons IsField g gs (All-head IsField g (gs ++ hs) all) (fields_front gs hs (All-tail IsField g (gs ++ hs) all))
 
 all_middle : (gs : List Field) (f : Field) (hs : List Field) → All IsField (gs ++ f ∷ hs) → IsField f
 all_middle [] f hs all = All-head IsField f hs all
@@ -242,7 +242,7 @@ split_at (suc n) (f ∷ fs) few =
     (f ∷ rest.0, rest.1, rest.2, ap (λ (l : List Field). f ∷ l) rest.3, omega (arith, rest.4))
 
 no_extra_long : (line : List ℕ) (gs : List Field) (f : Field) (hs : List Field) (last : LineEnd) (more y : List ℕ)
-    → IsStart line → All IsField (gs ++ f ∷ hs) → length gs ≡ 64
+    → IsStartLine line → All IsField (gs ++ f ∷ hs) → length gs ≡ 64
     → y ++ more ≡ section_of line (gs ++ f ∷ hs) last [] → begins_line_there (skip_lines 65 y) ≡ false
     → (next : List ℕ) × (y ++ next ≡ section_of line gs last [])
 no_extra_long line gs f hs last more y start all full is none =
@@ -265,7 +265,7 @@ no_extra_long line gs f hs last more y start all full is none =
           let skipped : skip_lines 65 y ≡ Some (w.0 ∷ w.1) =
           ap (skip_lines 65) (w.2 ∙ append_assoc line (flat_map print_field gs) (w.0 ∷ w.1))
           ∙ ap (λ (k : ℕ). skip_lines k (line ++ (flat_map print_field gs ++ w.0 ∷ w.1))) count
-          ∙ skip_section line gs 0 (w.0 ∷ w.1) start (all_front gs (f ∷ hs) all)
+          ∙ skip_section line gs 0 (w.0 ∷ w.1) start (fields_front gs (f ∷ hs) all)
           ∙ skip_none (w.0 ∷ w.1) in
           absurd (false≢true (sym none ∙ ap begins_line_there skipped ∙ ap not inside))
     ]
@@ -274,7 +274,7 @@ no_extra_long line gs f hs last more y start all full is none =
     regroup a b c d e = simp append_assoc
 
 -- a text that some head continues, and in which no line too many has begun, is continued by a head of 64 lines
-pub no_extra_fits : (line : List ℕ) (fs : List Field) (last : LineEnd) (more y : List ℕ) → IsStart line → All IsField fs
+pub no_extra_fits : (line : List ℕ) (fs : List Field) (last : LineEnd) (more y : List ℕ) → IsStartLine line → All IsField fs
     → y ++ more ≡ section_of line fs last [] → begins_line_there (skip_lines 65 y) ≡ false
     → (gs : List Field) × (next : List ℕ) × All IsField gs × (length gs ≤ 64) × (y ++ next ≡ section_of line gs last [])
 no_extra_fits line fs last more y start all is none = elim (cases_lt 64 (length fs)) [
@@ -283,7 +283,7 @@ no_extra_fits line fs last more y start all is none = elim (cases_lt 64 (length 
       let valid = subst (All IsField) parts.3 all in
       let long = no_extra_long line parts.0 parts.1 parts.2 last more y start valid parts.4
       (is ∙ ap (λ (l : List Field). section_of line l last []) parts.3) none in
-      (parts.0, long.0, all_front parts.0 (parts.1 ∷ parts.2) valid, omega (arith, parts.4), long.1)
+      (parts.0, long.0, fields_front parts.0 (parts.1 ∷ parts.2) valid, omega (arith, parts.4), long.1)
   | inr w ↦ (fs, more, all, w, is)
 ]
 

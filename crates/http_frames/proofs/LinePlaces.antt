@@ -347,20 +347,20 @@ step_inside TrailerReturn b h k = absurd (false≢true h)
 step_inside TrailerText b h k = absurd (false≢true h)
 step_inside Done b h k = absurd (false≢true h)
 
-abbrev Passes : ℕ → Type 0
-Passes b = is_trailer_byte b ≡ true
+abbrev IsTrailerByte : ℕ → Type 0
+IsTrailerByte b = is_trailer_byte b ≡ true
 
-all_front : (xs ys : List ℕ) → AllPass is_trailer_byte (xs ++ ys) → AllPass is_trailer_byte xs
-all_front [] ys all = All-nil Passes
-all_front (b ∷ xs) ys all =
-    All-cons Passes b xs (All-head Passes b (xs ++ ys) all) (all_front xs ys (All-tail Passes b (xs ++ ys) all))
+trailer_front : (xs ys : List ℕ) → AllPass is_trailer_byte (xs ++ ys) → AllPass is_trailer_byte xs
+trailer_front [] ys all = All-nil IsTrailerByte
+trailer_front (b ∷ xs) ys all =
+    All-cons IsTrailerByte b xs (All-head IsTrailerByte b (xs ++ ys) all) (trailer_front xs ys (All-tail IsTrailerByte b (xs ++ ys) all))
 
 leads_inside : (bytes : List ℕ) (phase last : Phase) → IsInside phase → AllPass is_trailer_byte bytes → Leads phase bytes last → IsInside last
 leads_inside [] phase last h all k = subst IsInside k h
 leads_inside (b ∷ bytes) phase last h all k =
     on_all (next_phase phase b) IsInside (λ next. Leads next bytes last) (IsInside last)
-    (λ next i. leads_inside bytes next last i (All-tail Passes b bytes all))
-    (step_inside phase b (or_right (at_start phase) h) (All-head Passes b bytes all)) k
+    (λ next i. leads_inside bytes next last i (All-tail IsTrailerByte b bytes all))
+    (step_inside phase b (or_right (at_start phase) h) (All-head IsTrailerByte b bytes all)) k
   where
     or_right : (t : Bool) → inside phase ≡ true → (t || inside phase) ≡ true
     or_right true h = refl
@@ -370,8 +370,8 @@ starts_inside : (b : ℕ) (bytes : List ℕ) (phase last : Phase) → at_start p
     → Leads phase (b ∷ bytes) last → IsInside last
 starts_inside b bytes phase last h all k =
     on_all (next_phase phase b) IsInside (λ next. Leads next bytes last) (IsInside last)
-    (λ next i. leads_inside bytes next last i (All-tail Passes b bytes all))
-    (step_inside phase b (ap (λ (t : Bool). t || inside phase) h) (All-head Passes b bytes all)) k
+    (λ next i. leads_inside bytes next last i (All-tail IsTrailerByte b bytes all))
+    (step_inside phase b (ap (λ (t : Bool). t || inside phase) h) (All-head IsTrailerByte b bytes all)) k
 
 -- no line begins inside another
 no_later : (front later z begun : List ℕ) → LineBegins front → LineBegins later → later ≡ front ++ z
@@ -381,7 +381,7 @@ no_later front later (b ∷ z) begun h k e all =
     let p = line_leads front h in
     let q = line_leads later k in
     let leads = leads_behind front (b ∷ z) Line p.0 q.0 p.1 (subst (λ (l : List ℕ). Leads Line l q.0) e q.1) in
-    absurd (apart q.0 q.2 (starts_inside b z p.0 q.0 p.2 (all_front (b ∷ z) begun all) leads))
+    absurd (apart q.0 q.2 (starts_inside b z p.0 q.0 p.2 (trailer_front (b ∷ z) begun all) leads))
 
 pub one_place : (bytes : List ℕ) (p q : ℕ) → IsLineStart bytes p → IsLineStart bytes q → p ≡ q
 one_place bytes p q s t =

@@ -45,9 +45,6 @@ all_if_eq : (t : Bool) (x y : Option Phase) (P : Phase → Type 0) → (t ≡ tr
 all_if_eq true x y P h k = h refl
 all_if_eq false x y P h k = k refl
 
-same_byte : (b c : ℕ) → (b == c) ≡ true → b ≡ c
-same_byte b c h = elim (eqb_tells b c) [ inl w ↦ w.1 | inr w ↦ absurd (false≢true (sym w.0 ∙ h)) ]
-
 other_byte : (test : ℕ → Bool) (b : ℕ) → test 10 ≡ false → test b ≡ true → is_trailer_byte b ≡ true
 other_byte test b ten passes = elim (eqb_tells b 10) [
   | inl w ↦ absurd (false≢true (sym (subst (λ (x : ℕ). test x ≡ false) (sym w.1) ten) ∙ passes))

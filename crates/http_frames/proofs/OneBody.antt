@@ -9,7 +9,7 @@ use Rattle.http_frames.specs.declared.frame_error.FrameError.TheVariants as erro
 use Rattle.http_frames.specs.Chunks.{Chunked, IsBodyWithin, CanBeBody, IsLineStart, StopsWrong, StopsLong}
 use Rattle.http_frames.specs.Frames.{FrontBody, RefusesChunked}
 use Rattle.http_frames.proofs.LinePlaces.{two_fronts, one_body, one_place, body_ends}
-use Rattle.http_frames.proofs.FrameLaws.{Means}
+use Rattle.http_frames.proofs.FrameLaws.{BodyMeans}
 
 -- the first byte with which no continuation is a body within the limits
 record Stop (limits : Limits) (bytes : List ℕ) : Type 0 where
@@ -157,8 +157,8 @@ one_content limits bytes c d a b = elim (two_fronts a.body b.body a.rest b.rest 
   | inr w ↦ (one_body b.body w.0 d c b.is_body.chunked (subst (λ (l : List ℕ). Chunked l c) w.1 a.is_body.chunked)).1
 ]
 
-one_chunked : (limits : Limits) (front : ℕ) (bytes : List ℕ) (x y : Reading) → Means limits front InChunks bytes x
-    → Means limits front InChunks bytes y → x ≡ y
+one_chunked : (limits : Limits) (front : ℕ) (bytes : List ℕ) (x y : Reading) → BodyMeans limits front InChunks bytes x
+    → BodyMeans limits front InChunks bytes y → x ≡ y
 one_chunked limits front bytes (Ok (Some c)) (Ok (Some d)) h k = ap (λ (l : List ℕ). Ok (Some l)) (one_content limits bytes c d h k)
 one_chunked limits front bytes (Ok None) (Ok None) h k = refl
 one_chunked limits front bytes (Err e) (Err f) h k = ap (λ (g : FrameError). Err g) (one_refusal limits front bytes e f h k)
@@ -180,8 +180,8 @@ same_front (c ∷ a) (d ∷ b) x y e l =
     let behind : a ++ x ≡ b ++ y = cc in
     ap₂ (λ (h : ℕ) (t : List ℕ). h ∷ t) heads (same_front a b x y behind (omega (arith, l)))
 
-one_sized : (limits : Limits) (front n : ℕ) (bytes : List ℕ) (x y : Reading) → Means limits front (Sized n) bytes x
-    → Means limits front (Sized n) bytes y → x ≡ y
+one_sized : (limits : Limits) (front n : ℕ) (bytes : List ℕ) (x y : Reading) → BodyMeans limits front (Sized n) bytes x
+    → BodyMeans limits front (Sized n) bytes y → x ≡ y
 one_sized limits front n bytes (Ok (Some c)) (Ok (Some d)) h k =
     ap (λ (l : List ℕ). Ok (Some l))
     (h.is_body.1 ∙ same_front h.body k.body h.rest k.rest (sym h.split ∙ k.split) (h.is_body.0 ∙ sym k.is_body.0) ∙ sym k.is_body.1)
@@ -200,8 +200,8 @@ end_is limits bytes c h =
 not_too_long : (limits : Limits) (bytes c : List ℕ) → FrontBody limits ToEnd bytes c → limits.content < length bytes → ⊥
 not_too_long limits bytes c h long = omega (arith, long, h.is_body.0, ap length h.is_body.1, ap length (end_is limits bytes c h))
 
-one_to_end : (limits : Limits) (front : ℕ) (bytes : List ℕ) (x y : Reading) → Means limits front ToEnd bytes x
-    → Means limits front ToEnd bytes y → x ≡ y
+one_to_end : (limits : Limits) (front : ℕ) (bytes : List ℕ) (x y : Reading) → BodyMeans limits front ToEnd bytes x
+    → BodyMeans limits front ToEnd bytes y → x ≡ y
 one_to_end limits front bytes (Ok (Some c)) (Ok (Some d)) h k =
     ap (λ (l : List ℕ). Ok (Some l)) (end_is limits bytes c h ∙ sym (end_is limits bytes d k))
 one_to_end limits front bytes (Err e) (Err f) h k = ap (λ (g : FrameError). Err g) (h.0 ∙ sym k.0)
@@ -211,7 +211,7 @@ one_to_end limits front bytes (Ok None) y h k = absurd h
 one_to_end limits front bytes x (Ok None) h k = absurd k
 
 pub one_reading : (limits : Limits) (front : ℕ) (framing : Framing) (bytes : List ℕ) (x y : Reading)
-    → Means limits front framing bytes x → Means limits front framing bytes y → x ≡ y
+    → BodyMeans limits front framing bytes x → BodyMeans limits front framing bytes y → x ≡ y
 one_reading limits front (Sized n) bytes x y = one_sized limits front n bytes x y
 one_reading limits front InChunks bytes x y = one_chunked limits front bytes x y
 one_reading limits front ToEnd bytes x y = one_to_end limits front bytes x y

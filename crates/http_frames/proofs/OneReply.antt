@@ -13,7 +13,7 @@ use Rattle.http_frames.specs.Heads.{header_of}
 use Rattle.http_frames.specs.Answering.{is_interim}
 use Rattle.http_frames.specs.Frames.{RefusesBody, answer_framing_of, AnswerFront, Interim, no_interim, interim}
 use Rattle.http_frames.specs.OneAnswer.{ReplyAnswer, OneReplyAnswer}
-use Rattle.http_frames.proofs.FrameLaws.{Means}
+use Rattle.http_frames.proofs.FrameLaws.{BodyMeans}
 use Rattle.http_frames.proofs.OneHead.{FoundAnswer, AnswerHeadIs, found_answer, one_answer_head}
 use Rattle.http_frames.proofs.OneBody.{Reading, one_reading}
 
@@ -61,43 +61,43 @@ last_stops bytes (Err e) h last = λ head rest at between. found_answer bytes he
 -- ---- one answer
 
 -- the answer by what is read of the body, in a message of so many bytes
-abbrev carry : ℕ → ResponseHead → Reading → Result Reply FrameError
-carry n head (Ok (Some content)) = Ok (record { code = status_code head; headers = map header_of head.fields; body = content })
-carry n head (Ok None) = Err (Torn n)
-carry n head (Err e) = Err e
+abbrev reply_by : ℕ → ResponseHead → Reading → Result Reply FrameError
+reply_by n head (Ok (Some content)) = Ok (record { code = status_code head; headers = map header_of head.fields; body = content })
+reply_by n head (Ok None) = Err (Torn n)
+reply_by n head (Err e) = Err e
 
-abbrev Framed : ℕ → Result Framing FrameError → ResponseHead → List ℕ → Result Reply FrameError → Type 0
-Framed n (Err e) head rest x = x ≡ Err e
-Framed n (Ok framing) head rest x =
-    (reading : Reading) × Means answer_limits (n - length rest) framing rest reading × (x ≡ carry n head reading)
+abbrev ReplyFramed : ℕ → Result Framing FrameError → ResponseHead → List ℕ → Result Reply FrameError → Type 0
+ReplyFramed n (Err e) head rest x = x ≡ Err e
+ReplyFramed n (Ok framing) head rest x =
+    (reading : Reading) × BodyMeans answer_limits (n - length rest) framing rest reading × (x ≡ reply_by n head reading)
 
-abbrev Follows : ℕ → FoundAnswer → Result Reply FrameError → Type 0
-Follows n (Ok (Some found)) x = Framed n (answer_framing_of found.0) found.0 found.1 x
-Follows n (Ok None) x = x ≡ Err (Torn n)
-Follows n (Err e) x = x ≡ Err e
+abbrev ReplyFollows : ℕ → FoundAnswer → Result Reply FrameError → Type 0
+ReplyFollows n (Ok (Some found)) x = ReplyFramed n (answer_framing_of found.0) found.0 found.1 x
+ReplyFollows n (Ok None) x = x ≡ Err (Torn n)
+ReplyFollows n (Err e) x = x ≡ Err e
 
-record View (bytes : List ℕ) (x : Result Reply FrameError) : Type 0 where
+record ReplyView (bytes : List ℕ) (x : Result Reply FrameError) : Type 0 where
   from : List ℕ
   interims : Interim bytes from
   front : FoundAnswer
   head : AnswerHeadIs from front
   last : IsLast front
-  follows : Follows (length bytes) front x
+  follows : ReplyFollows (length bytes) front x
 
-view : (bytes : List ℕ) (x : Result Reply FrameError) → ReplyAnswer bytes x → View bytes x
-view bytes (Ok reply) f = record {
+reply_view : (bytes : List ℕ) (x : Result Reply FrameError) → ReplyAnswer bytes x → ReplyView bytes x
+reply_view bytes (Ok reply) f = record {
   from = f.front.from;
   interims = f.front.interims;
   front = Ok (Some (f.head, f.rest));
   head = f.front.front;
   last = f.front.last;
-  follows = subst (λ (r : Result Framing FrameError). Framed (length bytes) r f.head f.rest (Ok reply)) (sym f.says) (
+  follows = subst (λ (r : Result Framing FrameError). ReplyFramed (length bytes) r f.head f.rest (Ok reply)) (sym f.says) (
     Ok (Some reply.body),
     f.content,
     λ i. Ok (record { code = f.code i; headers = f.headers i; body = reply.body }),
   );
 }
-view bytes (Err e) h = elim h.1 [
+reply_view bytes (Err e) h = elim h.1 [
   | inl t ↦ elim t.1 [
     | inl w ↦ record { from = w.0; interims = w.1; front = Ok None; head = w.2; last = tt; follows = ap (λ (g : FrameError). Err g) t.0 }
     | inr w ↦ record {
@@ -106,7 +106,7 @@ view bytes (Err e) h = elim h.1 [
       front = Ok (Some (w.head, w.body));
       head = w.front.front;
       last = w.front.last;
-      follows = subst (λ (r : Result Framing FrameError). Framed (length bytes) r w.head w.body (Err e)) (sym w.says)
+      follows = subst (λ (r : Result Framing FrameError). ReplyFramed (length bytes) r w.head w.body (Err e)) (sym w.says)
           (Ok None, w.awaits, ap (λ (g : FrameError). Err g) t.0);
     }
   ]
@@ -119,7 +119,7 @@ view bytes (Err e) h = elim h.1 [
         front = Ok (Some (w.head, w.rest));
         head = w.front.front;
         last = w.front.last;
-        follows = subst (λ (r : Result Framing FrameError). Framed (length bytes) r w.head w.rest (Err e)) (sym w.says) refl;
+        follows = subst (λ (r : Result Framing FrameError). ReplyFramed (length bytes) r w.head w.rest (Err e)) (sym w.says) refl;
       }
       | inr w ↦
           let before : w.before ≡ length bytes - length w.body = omega (arith, w.counts) in
@@ -129,29 +129,29 @@ view bytes (Err e) h = elim h.1 [
             front = Ok (Some (w.head, w.body));
             head = w.front.front;
             last = w.front.last;
-            follows = subst (λ (r : Result Framing FrameError). Framed (length bytes) r w.head w.body (Err e)) (sym w.says)
+            follows = subst (λ (r : Result Framing FrameError). ReplyFramed (length bytes) r w.head w.body (Err e)) (sym w.says)
                 (Err e, subst (λ (n : ℕ). RefusesBody answer_limits n w.framing w.body e) before w.refuses, refl);
           }
     ]
   ]
 ]
 
-one_framed : (n : ℕ) (r : Result Framing FrameError) (head : ResponseHead) (rest : List ℕ) (x y : Result Reply FrameError)
-    → Framed n r head rest x → Framed n r head rest y → x ≡ y
-one_framed n (Err e) head rest x y h k = h ∙ sym k
-one_framed n (Ok framing) head rest x y h k =
-    h.2 ∙ ap (carry n head) (one_reading answer_limits (n - length rest) framing rest h.0 k.0 h.1 k.1) ∙ sym k.2
+one_framed_reply : (n : ℕ) (r : Result Framing FrameError) (head : ResponseHead) (rest : List ℕ) (x y : Result Reply FrameError)
+    → ReplyFramed n r head rest x → ReplyFramed n r head rest y → x ≡ y
+one_framed_reply n (Err e) head rest x y h k = h ∙ sym k
+one_framed_reply n (Ok framing) head rest x y h k =
+    h.2 ∙ ap (reply_by n head) (one_reading answer_limits (n - length rest) framing rest h.0 k.0 h.1 k.1) ∙ sym k.2
 
-one_follows : (n : ℕ) (front : FoundAnswer) (x y : Result Reply FrameError) → Follows n front x → Follows n front y → x ≡ y
-one_follows n (Ok (Some found)) x y h k = one_framed n (answer_framing_of found.0) found.0 found.1 x y h k
-one_follows n (Ok None) x y h k = h ∙ sym k
-one_follows n (Err e) x y h k = h ∙ sym k
+one_reply_follows : (n : ℕ) (front : FoundAnswer) (x y : Result Reply FrameError) → ReplyFollows n front x → ReplyFollows n front y → x ≡ y
+one_reply_follows n (Ok (Some found)) x y h k = one_framed_reply n (answer_framing_of found.0) found.0 found.1 x y h k
+one_reply_follows n (Ok None) x y h k = h ∙ sym k
+one_reply_follows n (Err e) x y h k = h ∙ sym k
 
 pub one_reply : OneReplyAnswer
 one_reply bytes x y h k =
-    let v = view bytes x h in
-    let w = view bytes y k in
+    let v = reply_view bytes x h in
+    let w = reply_view bytes y k in
     let from = one_run bytes v.from w.from v.interims w.interims (last_stops v.from v.front v.head v.last)
     (last_stops w.from w.front w.head w.last) in
     let front = one_answer_head w.from v.front w.front (subst (λ (l : List ℕ). AnswerHeadIs l v.front) from v.head) w.head in
-    one_follows (length bytes) w.front x y (subst (λ (f : FoundAnswer). Follows (length bytes) f x) front v.follows) w.follows
+    one_reply_follows (length bytes) w.front x y (subst (λ (f : FoundAnswer). ReplyFollows (length bytes) f x) front v.follows) w.follows

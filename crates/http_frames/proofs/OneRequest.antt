@@ -10,7 +10,7 @@ use Rattle.http_frames.specs.declared.message.Request.{Request}
 use Rattle.http_frames.specs.Heads.{header_of}
 use Rattle.http_frames.specs.Frames.{framing_of}
 use Rattle.http_frames.specs.OneAnswer.{RequestAnswer, OneRequestAnswer, left_open, HeadOrOpen}
-use Rattle.http_frames.proofs.FrameLaws.{Means}
+use Rattle.http_frames.proofs.FrameLaws.{BodyMeans}
 use Rattle.http_frames.proofs.OneHead.{FoundRequest, RequestHeadIs, one_request_head}
 use Rattle.http_frames.proofs.OneBody.{Reading, one_reading}
 use Rattle.http_frames.proofs.RequestFramings.{never_to_end}
@@ -19,33 +19,33 @@ use Rattle.http_frames.proofs.InTarget.{whole_not_in_target}
 -- ---- one answer
 
 -- the answer by what is read of the body
-abbrev carry : RequestHead → Reading → Result (Option Request) FrameError
-carry head (Ok (Some content)) = Ok (Some (record {
+abbrev request_by : RequestHead → Reading → Result (Option Request) FrameError
+request_by head (Ok (Some content)) = Ok (Some (record {
   method = head.method;
   target = head.target;
   headers = map header_of head.fields;
   body = content;
 }))
-carry head (Ok None) = Ok None
-carry head (Err e) = Err e
+request_by head (Ok None) = Ok None
+request_by head (Err e) = Err e
 
-abbrev Framed : Result Framing FrameError → RequestHead → List ℕ → Result (Option Request) FrameError → Type 0
-Framed (Err e) head rest x = x ≡ Err e
-Framed (Ok framing) head rest x =
-    (reading : Reading) × Means request_limits (length (print_request head)) framing rest reading × (x ≡ carry head reading)
+abbrev RequestFramed : Result Framing FrameError → RequestHead → List ℕ → Result (Option Request) FrameError → Type 0
+RequestFramed (Err e) head rest x = x ≡ Err e
+RequestFramed (Ok framing) head rest x =
+    (reading : Reading) × BodyMeans request_limits (length (print_request head)) framing rest reading × (x ≡ request_by head reading)
 
-abbrev Follows : FoundRequest → Result (Option Request) FrameError → Type 0
-Follows (Ok (Some found)) x = Framed (framing_of found.0) found.0 found.1 x
-Follows (Ok None) x = x ≡ Ok None
-Follows (Err e) x = x ≡ Err e
+abbrev RequestFollows : FoundRequest → Result (Option Request) FrameError → Type 0
+RequestFollows (Ok (Some found)) x = RequestFramed (framing_of found.0) found.0 found.1 x
+RequestFollows (Ok None) x = x ≡ Ok None
+RequestFollows (Err e) x = x ≡ Err e
 
-record View (bytes : List ℕ) (x : Result (Option Request) FrameError) : Type 0 where
+record RequestView (bytes : List ℕ) (x : Result (Option Request) FrameError) : Type 0 where
   front : FoundRequest
   head : RequestHeadIs bytes front
-  follows : Follows front x
+  follows : RequestFollows front x
 
-view : (bytes : List ℕ) (x : Result (Option Request) FrameError) → RequestAnswer bytes x → View bytes x
-view bytes (Ok (Some request)) h =
+request_view : (bytes : List ℕ) (x : Result (Option Request) FrameError) → RequestAnswer bytes x → RequestView bytes x
+request_view bytes (Ok (Some request)) h =
     let rest = h.1 in
     let f = h.3 in
     let reads = f.front.begins.reads in
@@ -58,7 +58,7 @@ view bytes (Ok (Some request)) h =
         };
         short = f.front.short;
       };
-      follows = subst (λ (r : Result Framing FrameError). Framed r f.head (f.body ++ rest) (Ok (Some request))) (sym f.says) (
+      follows = subst (λ (r : Result Framing FrameError). RequestFramed r f.head (f.body ++ rest) (Ok (Some request))) (sym f.says) (
         Ok (Some request.body),
         record {
           body = f.body;
@@ -70,45 +70,45 @@ view bytes (Ok (Some request)) h =
         λ i. Ok (Some (record { method = f.method i; target = f.target i; headers = f.headers i; body = request.body })),
       );
     }
-view bytes (Ok None) (inl w) = record { front = Ok None; head = w; follows = refl }
-view bytes (Ok None) (inr w) = record {
+request_view bytes (Ok None) (inl w) = record { front = Ok None; head = w; follows = refl }
+request_view bytes (Ok None) (inr w) = record {
   front = Ok (Some (w.head, w.body));
   head = w.front;
-  follows = subst (λ (r : Result Framing FrameError). Framed r w.head w.body (Ok None)) (sym w.says) (Ok None, w.awaits, refl);
+  follows = subst (λ (r : Result Framing FrameError). RequestFramed r w.head w.body (Ok None)) (sym w.says) (Ok None, w.awaits, refl);
 }
-view bytes (Err e) h = elim h.1 [
+request_view bytes (Err e) h = elim h.1 [
   | inl w ↦ record { front = Err e; head = (h.0, w); follows = refl }
   | inr u ↦ elim u [
     | inl w ↦ record {
       front = Ok (Some (w.head, w.rest));
       head = w.front;
-      follows = subst (λ (r : Result Framing FrameError). Framed r w.head w.rest (Err e)) (sym w.says) refl;
+      follows = subst (λ (r : Result Framing FrameError). RequestFramed r w.head w.rest (Err e)) (sym w.says) refl;
     }
     | inr w ↦ record {
       front = Ok (Some (w.head, w.body));
       head = w.front;
-      follows = subst (λ (r : Result Framing FrameError). Framed r w.head w.body (Err e)) (sym w.says) (Err e, w.refuses, refl);
+      follows = subst (λ (r : Result Framing FrameError). RequestFramed r w.head w.body (Err e)) (sym w.says) (Err e, w.refuses, refl);
     }
   ]
 ]
 
-one_framed : (r : Result Framing FrameError) (head : RequestHead) (rest : List ℕ) (x y : Result (Option Request) FrameError)
-    → Framed r head rest x → Framed r head rest y → x ≡ y
-one_framed (Err e) head rest x y h k = h ∙ sym k
-one_framed (Ok framing) head rest x y h k =
-    h.2 ∙ ap (carry head) (one_reading request_limits (length (print_request head)) framing rest h.0 k.0 h.1 k.1) ∙ sym k.2
+one_framed_request : (r : Result Framing FrameError) (head : RequestHead) (rest : List ℕ) (x y : Result (Option Request) FrameError)
+    → RequestFramed r head rest x → RequestFramed r head rest y → x ≡ y
+one_framed_request (Err e) head rest x y h k = h ∙ sym k
+one_framed_request (Ok framing) head rest x y h k =
+    h.2 ∙ ap (request_by head) (one_reading request_limits (length (print_request head)) framing rest h.0 k.0 h.1 k.1) ∙ sym k.2
 
-one_follows : (front : FoundRequest) (x y : Result (Option Request) FrameError) → Follows front x → Follows front y → x ≡ y
-one_follows (Ok (Some found)) x y h k = one_framed (framing_of found.0) found.0 found.1 x y h k
-one_follows (Ok None) x y h k = h ∙ sym k
-one_follows (Err e) x y h k = h ∙ sym k
+one_request_follows : (front : FoundRequest) (x y : Result (Option Request) FrameError) → RequestFollows front x → RequestFollows front y → x ≡ y
+one_request_follows (Ok (Some found)) x y h k = one_framed_request (framing_of found.0) found.0 found.1 x y h k
+one_request_follows (Ok None) x y h k = h ∙ sym k
+one_request_follows (Err e) x y h k = h ∙ sym k
 
 pub one_request : OneRequestAnswer
 one_request bytes x y target h k =
-    let v = view bytes x h in
-    let w = view bytes y k in
-    one_follows w.front x y
-    (subst (λ (f : FoundRequest). Follows f x) (one_request_head bytes v.front w.front target v.head w.head) v.follows) w.follows
+    let v = request_view bytes x h in
+    let w = request_view bytes y k in
+    one_request_follows w.front x y
+    (subst (λ (f : FoundRequest). RequestFollows f x) (one_request_head bytes v.front w.front target v.head w.head) v.follows) w.follows
 
 -- ---- inside a target
 
@@ -122,7 +122,7 @@ open_by : (bytes : List ℕ) (t : Bool) → nat_lt (length bytes) 16384 ≡ t �
 open_by bytes t e = ap (λ (b : Bool). if b then Ok None else Err HeadTooLong) (sym e)
 
 follows_in_target : (bytes : List ℕ) (front : FoundRequest) (x : Result (Option Request) FrameError) → EndsInTarget (take 16384 bytes)
-    → RequestHeadIs bytes front → Follows front x → (x ≡ left_open bytes) ⊎ (x ≡ Err Head)
+    → RequestHeadIs bytes front → RequestFollows front x → (x ≡ left_open bytes) ⊎ (x ≡ Err Head)
 follows_in_target bytes (Ok (Some found)) x ends h k = absurd (whole_not_in_target bytes found.0 found.1 h ends)
 follows_in_target bytes (Ok None) x ends h k =
     inl (k ∙ open_by bytes true (less (length bytes) 16384 h.short))
@@ -133,4 +133,4 @@ follows_in_target bytes (Err Memory) x ends h k = absurd (h.0 refl)
 follows_in_target bytes (Err e) x ends h k = absurd h.1
 
 pub head_or_open : HeadOrOpen
-head_or_open bytes x ends h = (let v = view bytes x h in follows_in_target bytes v.front x ends v.head v.follows)
+head_or_open bytes x ends h = (let v = request_view bytes x h in follows_in_target bytes v.front x ends v.head v.follows)

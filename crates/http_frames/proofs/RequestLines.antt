@@ -9,7 +9,7 @@ use Rattle.httparse.proofs.GrammarLemmas.{print_request-append}
 use Rattle.http_frames.specs.Lines.{skip_lines, begins_line_there, begins_extra_line}
 use Rattle.http_frames.specs.HeadWalks.{start_line}
 use Rattle.http_frames.specs.Heads.{CanBeRequest, IsNoRequest, IsOpenRequest}
-use Rattle.http_frames.proofs.LineCounts.{NoFeed, no_feed, token_feed, token_inside, skip_over, skip_byte, skip_end, IsStart, section_of, extra_refuses, no_extra_fits, BeginsInside, blank_breaks, blank_cases, not_extra}
+use Rattle.http_frames.proofs.LineCounts.{NoFeed, no_feed, token_feed, token_inside, skip_over, skip_byte, skip_end, IsStartLine, section_of, extra_refuses, no_extra_fits, BeginsInside, blank_breaks, blank_cases, not_extra}
 
 pub request_parts : (h : RequestHead) (rest : List ℕ) → print_request h ++ rest
     ≡ print_blank h.blank ++ section_of (start_line h) h.fields h.last rest
@@ -29,8 +29,8 @@ minor_feed minor = elim (eqb_tells (48 + minor) 10) [ inl w ↦ absurd (omega (a
 pub version_feed : (minor : ℕ) → NoFeed (print_version minor)
 version_feed minor = (refl, (refl, (refl, (refl, (refl, (refl, (refl, (minor_feed minor, tt))))))))
 
-request_starts : (h : RequestHead) → IsRequestHead h → IsStart (start_line h)
-request_starts h valid = λ n rest.
+request_line_starts : (h : RequestHead) → IsRequestHead h → IsStartLine (start_line h)
+request_line_starts h valid = λ n rest.
     ap (skip_lines (suc n)) (regroup h.method h.target (print_version h.minor) (print_end h.line_end) rest)
     ∙ skip_over n h.method _ (no_feed is_token_byte token_feed h.method valid.method.1)
     ∙ skip_byte n 32 _ refl
@@ -63,16 +63,16 @@ extra_is_no_request buf none extra = λ more h rest x.
     elim (blank_cases (print_blank h.blank) _ buf more (blank_breaks h.blank) (request_inside h _ valid) parts) [
       | inl w ↦ not_extra buf w.2 extra
       | inr w ↦
-          let z = extra_refuses (start_line h) h.fields h.last rest more w.0 (request_starts h valid) valid.fields x.lines w.2
+          let z = extra_refuses (start_line h) h.fields h.last rest more w.0 (request_line_starts h valid) valid.fields x.lines w.2
           (sym (ap (λ (l : List ℕ). begins_line_there (skip_lines 65 l)) w.3) ∙ extra) in
           none h z.0 (valid, w.1 ∙ ap (λ (l : List ℕ). print_blank h.blank ++ l) z.1 ∙ sym (request_parts h z.0))
     ]
 
 -- some head of at most 64 lines continues the text
-fits : (buf : List ℕ) (more : List ℕ) (h : RequestHead) → ReadsRequest (buf ++ more) h [] → begins_extra_line buf ≡ false
+request_fits : (buf : List ℕ) (more : List ℕ) (h : RequestHead) → ReadsRequest (buf ++ more) h [] → begins_extra_line buf ≡ false
     → CanBeRequest buf
 unfolding begins_extra_line
-fits buf more h x none =
+request_fits buf more h x none =
     let valid = x.0 in
     let parts : buf ++ more ≡ print_blank h.blank ++ section_of (start_line h) h.fields h.last [] = x.1 ∙ request_parts h [] in
     elim (blank_cases (print_blank h.blank) _ buf more (blank_breaks h.blank) (request_inside h _ valid) parts) [
@@ -96,7 +96,7 @@ fits buf more h x none =
             },
           )
       | inr w ↦
-          let found = no_extra_fits (start_line h) h.fields h.last more w.0 (request_starts h valid) valid.fields w.2
+          let found = no_extra_fits (start_line h) h.fields h.last more w.0 (request_line_starts h valid) valid.fields w.2
           (sym (ap (λ (l : List ℕ). begins_line_there (skip_lines 65 l)) w.3) ∙ none) in
           let k : RequestHead = record h { fields = found.0 } in (
             found.1,
@@ -122,7 +122,7 @@ pub open_request : (buf : List ℕ) → HasNoRequest buf → MayBecomeRequest bu
 open_request buf none may not_extra = record {
   lacks = λ h rest x. none h rest x.reads;
   can_be = elim may [
-    | inl w ↦ inl (fits buf w.0 w.1 w.2 not_extra)
+    | inl w ↦ inl (request_fits buf w.0 w.1 w.2 not_extra)
     | inr w ↦ inr w
   ];
 }

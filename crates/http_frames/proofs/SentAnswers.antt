@@ -70,16 +70,16 @@ abbrev by_code : Bool → Result Framing FrameError → Result Framing FrameErro
 by_code bodiless stated = if bodiless then Ok (Sized 0) else stated
 
 -- the body is as long as the lines say
-framed : (code : ℕ) (lines : List Header) (bare : Bool) (n : ℕ) → (code == 204) ≡ bare → n ≤ answer_limits.content → (has_no_body code ≡ true → n ≡ 0)
+answer_is_framed : (code : ℕ) (lines : List Header) (bare : Bool) (n : ℕ) → (code == 204) ≡ bare → n ≤ answer_limits.content → (has_no_body code ≡ true → n ≡ 0)
     → IsSilent lines → answer_framing code (lines ++ unless_204 bare n) ≡ Ok (Sized n)
 unfolding answer_framing
-framed code lines true n is few none silent =
+answer_is_framed code lines true n is few none silent =
     let small : n < 10 ^ 10 = omega (arith, few) in
     let bodiless : has_no_body code ≡ true = ap (λ (b : Bool). b || code == 304) is in
     sound_sent lines false n _ silent small
     ∙ ap (λ (b : Bool). by_code b (stated_framing answer_limits.content (Ok ToEnd) (lines ++ []))) bodiless
     ∙ ap (λ (m : ℕ). Ok (Sized m)) (sym (none bodiless))
-framed code lines false n is few none silent =
+answer_is_framed code lines false n is few none silent =
     let small : n < 10 ^ 10 = omega (arith, few) in
     sound_sent lines true n _ silent small
     ∙ ap (by_code (has_no_body code)) (stated_sent answer_limits.content (Ok ToEnd) lines true n silent few small)
@@ -108,9 +108,9 @@ unless_plain : (bare : Bool) (n : ℕ) → n < 10 ^ 10 → All IsPlainHeader (un
 unless_plain true n few = added_plain false n few
 unless_plain false n few = added_plain true n few
 
-sent_plain : (headers : List Header) (bare : Bool) (n : ℕ) → All IsPlainHeader headers → n < 10 ^ 10
+sent_answer_plain : (headers : List Header) (bare : Bool) (n : ℕ) → All IsPlainHeader headers → n < 10 ^ 10
     → All IsPlainHeader (close_header ∷ version_header ∷ (headers ++ unless_204 bare n))
-sent_plain headers bare n all few =
+sent_answer_plain headers bare n all few =
     All-cons IsPlainHeader close_header (version_header ∷ (headers ++ unless_204 bare n)) close_is_plain
     (All-cons IsPlainHeader version_header (headers ++ unless_204 bare n) version_is_plain
     (All-append IsPlainHeader headers (unless_204 bare n) all (unless_plain bare n few)))
@@ -121,12 +121,12 @@ unless_text : (bare : Bool) (n : ℕ) → flat_map header_text (unless_204 bare 
 unless_text true n = added_text false n
 unless_text false n = added_text true n
 
-join : (v d p c w f l b : List ℕ) → (v ++ (32 ∷ (d ++ (32 ∷ (p ++ 13 ∷ 10 ∷ []))))) ++ c ++ w ++ f ++ l ++ (13 ∷ 10 ∷ b)
+answer_joined : (v d p c w f l b : List ℕ) → (v ++ (32 ∷ (d ++ (32 ∷ (p ++ 13 ∷ 10 ∷ []))))) ++ c ++ w ++ f ++ l ++ (13 ∷ 10 ∷ b)
     ≡ v ++ 32 ∷ (d ++ ((32 ∷ p) ++ ((13 ∷ 10 ∷ []) ++ (((c ++ (w ++ (f ++ l))) ++ 13 ∷ 10 ∷ []) ++ b))))
-join v d p c w f l b = simp (append_assoc, cons-append)
+answer_joined v d p c w f l b = simp (append_assoc, cons-append)
 
-abbrev pub sent_head : Reply → ResponseHead
-sent_head reply = record {
+abbrev pub sent_answer_head : Reply → ResponseHead
+sent_answer_head reply = record {
   blank = [];
   minor = 1;
   digits = decimal reply.code;
@@ -136,36 +136,36 @@ sent_head reply = record {
   last = crlf;
 }
 
-sent_fields : (reply : Reply) → flat_map print_field (map field_of (reply_headers reply))
+sent_answer_fields : (reply : Reply) → flat_map print_field (map field_of (reply_headers reply))
     ≡ header_line (codes "Connection") (codes "close") ++ (header_line (codes "ProtocolVersion") (codes "2.0")
     ++ (flat_map header_text reply.headers ++ answer_length reply))
-sent_fields reply =
+sent_answer_fields reply =
     fields_print (reply_headers reply)
     ∙ ap (λ (l : List ℕ). header_line (codes "Connection") (codes "close") ++ (header_line (codes "ProtocolVersion") (codes "2.0") ++ l))
     (flat_map-append header_text reply.headers (reply_length_headers reply)
     ∙ ap (λ (l : List ℕ). flat_map header_text reply.headers ++ l) (unless_text (reply.code == 204) (length reply.body)))
 
-sent_text : (reply : Reply) → answer_text reply ≡ print_response (sent_head reply) ++ reply.body
+sent_answer_text : (reply : Reply) → answer_text reply ≡ print_response (sent_answer_head reply) ++ reply.body
 unfolding answer_text
-sent_text reply =
-    join (codes "HTTP/1.1") (decimal reply.code) (phrase_of reply.code) (header_line (codes "Connection") (codes "close"))
+sent_answer_text reply =
+    answer_joined (codes "HTTP/1.1") (decimal reply.code) (phrase_of reply.code) (header_line (codes "Connection") (codes "close"))
     (header_line (codes "ProtocolVersion") (codes "2.0")) (flat_map header_text reply.headers) (answer_length reply) reply.body
     ∙ ap (λ (l : List ℕ). codes "HTTP/1.1" ++ 32 ∷ (decimal reply.code ++ ((32 ∷ phrase_of reply.code) ++ ((13 ∷ 10 ∷ []) ++ ((l ++ 13 ∷ 10 ∷ []) ++ reply.body)))))
-    (sym (sent_fields reply))
-    ∙ sym (print_response-append (sent_head reply) reply.body)
+    (sym (sent_answer_fields reply))
+    ∙ sym (print_response-append (sent_answer_head reply) reply.body)
 
 final : (code : ℕ) → 200 ≤ code → is_interim code ≡ false
 final code low = grind (arith, low)
 
-pub sent_reads : (reply : Reply) → IsSendableReply reply → IsAnswerFrame (answer_text reply) (sent_reply reply)
-sent_reads reply can =
+pub sent_answer_reads : (reply : Reply) → IsSendableReply reply → IsAnswerFrame (answer_text reply) (sent_reply reply)
+sent_answer_reads reply can =
     let n = length reply.body in
     let small : n < 10 ^ 10 = omega (arith, can.body) in
     let word : reply.code < 2 ^ 64 = omega (arith, can.code.1) in
-    let head = sent_head reply in
-    let plain = sent_plain reply.headers (reply.code == 204) n can.headers_plain small in
+    let head = sent_answer_head reply in
+    let plain = sent_answer_plain reply.headers (reply.code == 204) n can.headers_plain small in
     let back = fields_back (reply_headers reply) plain in
-    let text = sent_text reply in
+    let text = sent_answer_text reply in
     let value = digits_value-decimal own reply.code word in
     record {
       head = head;
@@ -194,7 +194,7 @@ sent_reads reply can =
       headers = sym back;
       framing = Sized n;
       says = ap₂ answer_framing value back
-          ∙ framed reply.code (close_header ∷ version_header ∷ reply.headers) (reply.code == 204) n refl can.body
+          ∙ answer_is_framed reply.code (close_header ∷ version_header ∷ reply.headers) (reply.code == 204) n refl can.body
           (λ no. ap length (can.bodiless no))
           (record { no_length = can.no_length; no_transfer = can.no_transfer; no_content = can.no_content });
       content = record {
@@ -206,7 +206,7 @@ sent_reads reply can =
       };
     }
 
-pub sent_if : (reply : Reply) (r : Result (Vec ℕ Global) MemoryUnit) → IfOk r (λ bytes. bytes.items ≡ answer_text reply)
+pub sent_answer_if : (reply : Reply) (r : Result (Vec ℕ Global) MemoryUnit) → IfOk r (λ bytes. bytes.items ≡ answer_text reply)
     → IfOk r (λ bytes. ReplyReadsBack reply bytes.items)
-sent_if reply (Ok bytes) is = λ can. subst (λ (l : List ℕ). IsAnswerFrame l (sent_reply reply)) (sym is) (sent_reads reply can)
-sent_if reply (Err e) is = tt
+sent_answer_if reply (Ok bytes) is = λ can. subst (λ (l : List ℕ). IsAnswerFrame l (sent_reply reply)) (sym is) (sent_answer_reads reply can)
+sent_answer_if reply (Err e) is = tt

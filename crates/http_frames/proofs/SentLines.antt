@@ -97,12 +97,12 @@ any_front p (x ∷ xs) ys h =
     let parts = neither (p x) (list_any p xs) h in
     ap (λ (t : Bool). t || list_any p (xs ++ ys)) parts.0 ∙ any_front p xs ys parts.1
 
-all_front : (p q : Header → Bool) (xs ys : List Header) → list_any p xs ≡ false
+unnamed_front : (p q : Header → Bool) (xs ys : List Header) → list_any p xs ≡ false
     → list_all (λ h. not (p h) || q h) (xs ++ ys) ≡ list_all (λ h. not (p h) || q h) ys
-all_front p q [] ys h = refl
-all_front p q (x ∷ xs) ys h =
+unnamed_front p q [] ys h = refl
+unnamed_front p q (x ∷ xs) ys h =
     let parts = neither (p x) (list_any p xs) h in
-    ap (λ (t : Bool). (not t || q x) && list_all (λ h. not (p h) || q h) (xs ++ ys)) parts.0 ∙ all_front p q xs ys parts.1
+    ap (λ (t : Bool). (not t || q x) && list_all (λ h. not (p h) || q h) (xs ++ ys)) parts.0 ∙ unnamed_front p q xs ys parts.1
 
 -- the line that gives the length, where it is written
 abbrev pub added_length : Bool → ℕ → List Header
@@ -123,12 +123,12 @@ codings_sent lines told n silent = three _ _ _ (ap (λ (k : ℕ). nat_le k 1) (c
     counted false = count_front (is_named (codes "transfer-encoding")) lines (added_length false n) silent.no_transfer
 
     first : (t : Bool) → all_named (codes "transfer-encoding") (λ v. is_same v (codes "chunked")) (lines ++ added_length t n) ≡ true
-    first true = all_front (is_named (codes "transfer-encoding")) _ lines (added_length true n) silent.no_transfer
-    first false = all_front (is_named (codes "transfer-encoding")) _ lines (added_length false n) silent.no_transfer
+    first true = unnamed_front (is_named (codes "transfer-encoding")) _ lines (added_length true n) silent.no_transfer
+    first false = unnamed_front (is_named (codes "transfer-encoding")) _ lines (added_length false n) silent.no_transfer
 
     second : (t : Bool) → all_named (codes "content-encoding") (λ v. is_same v (codes "identity")) (lines ++ added_length t n) ≡ true
-    second true = all_front (is_named (codes "content-encoding")) _ lines (added_length true n) silent.no_content
-    second false = all_front (is_named (codes "content-encoding")) _ lines (added_length false n) silent.no_content
+    second true = unnamed_front (is_named (codes "content-encoding")) _ lines (added_length true n) silent.no_content
+    second false = unnamed_front (is_named (codes "content-encoding")) _ lines (added_length false n) silent.no_content
 
 lengths_sent : (lines : List Header) (told : Bool) (n : ℕ) → IsSilent lines → n < 10 ^ 10
     → are_lengths_sound (lines ++ added_length told n) ≡ true
@@ -152,9 +152,9 @@ lengths_sent lines told n silent few = three _ _ _ (counted told) (both told) (l
 
     lengths : (t : Bool) → all_named (codes "content-length") is_length (lines ++ added_length t n) ≡ true
     lengths true =
-        all_front (is_named (codes "content-length")) (λ h. is_length h.value) lines (added_length true n) silent.no_length
+        unnamed_front (is_named (codes "content-length")) (λ h. is_length h.value) lines (added_length true n) silent.no_length
         ∙ ap (λ (b : Bool). b && true) (decimal_length n few)
-    lengths false = all_front (is_named (codes "content-length")) (λ h. is_length h.value) lines (added_length false n) silent.no_length
+    lengths false = unnamed_front (is_named (codes "content-length")) (λ h. is_length h.value) lines (added_length false n) silent.no_length
 
 -- no rule is broken
 pub sound_sent : (lines : List Header) (told : Bool) (n : ℕ) (framing : Result Framing FrameError) → IsSilent lines → n < 10 ^ 10

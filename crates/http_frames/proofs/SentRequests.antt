@@ -27,10 +27,10 @@ abbrev host_header : List ℕ → Header
 host_header host = record { name = codes "Host"; value = host }
 
 -- the body is as long as the lines say
-framed : (method : List ℕ) (lines : List Header) (told : Bool) (n : ℕ) → needs_length method ≡ told → n ≤ request_limits.content → (told ≡ false → n ≡ 0)
+request_is_framed : (method : List ℕ) (lines : List Header) (told : Bool) (n : ℕ) → needs_length method ≡ told → n ≤ request_limits.content → (told ≡ false → n ≡ 0)
     → IsSilent lines → request_framing method (lines ++ added_length told n) ≡ Ok (Sized n)
 unfolding request_framing
-framed method lines told n needs few none silent =
+request_is_framed method lines told n needs few none silent =
     let small : n < 10 ^ 10 = omega (arith, few) in
     let without = if needs_length method then Err NoLength else Ok (Sized 0) in
     sound_sent lines told n _ silent small ∙ stated_sent request_limits.content without lines told n silent few small ∙ last told needs none
@@ -41,21 +41,21 @@ framed method lines told n needs few none silent =
     last false needs none =
         ap (λ (b : Bool). if b then Err NoLength else Ok (Sized 0)) needs ∙ ap (λ (m : ℕ). Ok (Sized m)) (sym (none refl))
 
-sent_plain : (host : List ℕ) (headers : List Header) (told : Bool) (n : ℕ) → IsPlainValue host → All IsPlainHeader headers → n < 10 ^ 10
+sent_request_plain : (host : List ℕ) (headers : List Header) (told : Bool) (n : ℕ) → IsPlainValue host → All IsPlainHeader headers → n < 10 ^ 10
     → All IsPlainHeader (host_header host ∷ close_header ∷ (headers ++ added_length told n))
-sent_plain host headers told n plain all few =
+sent_request_plain host headers told n plain all few =
     All-cons IsPlainHeader (host_header host) (close_header ∷ (headers ++ added_length told n)) (record { name = host_token; value = plain })
     (All-cons IsPlainHeader close_header (headers ++ added_length told n) close_is_plain
     (All-append IsPlainHeader headers (added_length told n) all (added_plain told n few)))
 
 -- ---- the text
 
-join : (m t v h c f l b : List ℕ) → (m ++ (32 ∷ (t ++ v))) ++ h ++ c ++ f ++ l ++ (13 ∷ 10 ∷ b)
+request_joined : (m t v h c f l b : List ℕ) → (m ++ (32 ∷ (t ++ v))) ++ h ++ c ++ f ++ l ++ (13 ∷ 10 ∷ b)
     ≡ m ++ (32 ∷ (t ++ (v ++ (((h ++ (c ++ (f ++ l))) ++ 13 ∷ 10 ∷ []) ++ b))))
-join m t v h c f l b = simp (append_assoc, cons-append)
+request_joined m t v h c f l b = simp (append_assoc, cons-append)
 
-abbrev pub sent_head : Request → List ℕ → RequestHead
-sent_head request host = record {
+abbrev pub sent_request_head : Request → List ℕ → RequestHead
+sent_request_head request host = record {
   blank = [];
   method = request.method;
   target = request.target;
@@ -65,32 +65,32 @@ sent_head request host = record {
   last = crlf;
 }
 
-sent_fields : (request : Request) (host : List ℕ) → flat_map print_field (map field_of (sent_headers request host))
+sent_request_fields : (request : Request) (host : List ℕ) → flat_map print_field (map field_of (sent_headers request host))
     ≡ header_line (codes "Host") (host_value host) ++ (header_line (codes "Connection") (codes "close")
     ++ (flat_map header_text request.headers ++ request_length request))
-sent_fields request host =
+sent_request_fields request host =
     fields_print (sent_headers request host)
     ∙ ap (λ (l : List ℕ). header_line (codes "Host") (host_value host) ++ (header_line (codes "Connection") (codes "close") ++ l))
     (flat_map-append header_text request.headers (length_headers request)
     ∙ ap (λ (l : List ℕ). flat_map header_text request.headers ++ l) (added_text (needs_length request.method) (length request.body)))
 
-sent_text : (request : Request) (host : List ℕ) → request_text request host ≡ print_request (sent_head request host) ++ request.body
+sent_request_text : (request : Request) (host : List ℕ) → request_text request host ≡ print_request (sent_request_head request host) ++ request.body
 unfolding request_text
-sent_text request host =
-    join request.method request.target (codes " HTTP/1.1" ++ (13 ∷ 10 ∷ [])) (header_line (codes "Host") (host_value host))
+sent_request_text request host =
+    request_joined request.method request.target (codes " HTTP/1.1" ++ (13 ∷ 10 ∷ [])) (header_line (codes "Host") (host_value host))
     (header_line (codes "Connection") (codes "close")) (flat_map header_text request.headers) (request_length request) request.body
     ∙ ap (λ (l : List ℕ). request.method ++ (32 ∷ (request.target ++ ((codes " HTTP/1.1" ++ (13 ∷ 10 ∷ [])) ++ ((l ++ 13 ∷ 10 ∷ []) ++ request.body)))))
-    (sym (sent_fields request host))
-    ∙ sym (print_request-append (sent_head request host) request.body)
+    (sym (sent_request_fields request host))
+    ∙ sym (print_request-append (sent_request_head request host) request.body)
 
-pub sent_reads : (request : Request) (host : List ℕ) → IsSendable request host → IsRequestFrame (request_text request host) (sent request host)
-sent_reads request host can =
+pub sent_request_reads : (request : Request) (host : List ℕ) → IsSendable request host → IsRequestFrame (request_text request host) (sent request host)
+sent_request_reads request host can =
     let n = length request.body in
     let small : n < 10 ^ 10 = omega (arith, can.body) in
-    let head = sent_head request host in
-    let plain = sent_plain (host_value host) request.headers (needs_length request.method) n can.host_plain can.headers_plain small in
+    let head = sent_request_head request host in
+    let plain = sent_request_plain (host_value host) request.headers (needs_length request.method) n can.host_plain can.headers_plain small in
     let back = fields_back (sent_headers request host) plain in
-    let text = sent_text request host in
+    let text = sent_request_text request host in
     record {
       head = head;
       body = request.body;
@@ -115,13 +115,13 @@ sent_reads request host can =
       headers = sym back;
       framing = Sized n;
       says = ap (request_framing request.method) back
-          ∙ framed request.method (host_header (host_value host) ∷ close_header ∷ request.headers) (needs_length request.method) n refl can.body
+          ∙ request_is_framed request.method (host_header (host_value host) ∷ close_header ∷ request.headers) (needs_length request.method) n refl can.body
           (λ no. ap length (can.bodied no))
           (record { no_length = can.no_length; no_transfer = can.no_transfer; no_content = can.no_content });
       content = (refl, refl);
     }
 
-pub sent_if : (request : Request) (host : List ℕ) (r : Result (Vec ℕ Global) MemoryUnit) → IfOk r (λ bytes. bytes.items ≡ request_text request host)
+pub sent_request_if : (request : Request) (host : List ℕ) (r : Result (Vec ℕ Global) MemoryUnit) → IfOk r (λ bytes. bytes.items ≡ request_text request host)
     → IfOk r (λ bytes. ReadsBack request host bytes.items)
-sent_if request host (Ok bytes) is = λ can. subst (λ (l : List ℕ). IsRequestFrame l (sent request host)) (sym is) (sent_reads request host can)
-sent_if request host (Err e) is = tt
+sent_request_if request host (Ok bytes) is = λ can. subst (λ (l : List ℕ). IsRequestFrame l (sent request host)) (sym is) (sent_request_reads request host can)
+sent_request_if request host (Err e) is = tt

@@ -4,6 +4,10 @@ use Rattle.std.specs.List.{list_all, list_any}
 use Rattle.std.specs.Str.{str_to_ascii_lowercase}
 use Rattle.http_frames.specs.declared.message.Header.{Header}
 
+-- a name and a value
+abbrev pub header : List ℕ → List ℕ → Header
+header name value = record { name = name; value = value }
+
 -- the two are the same but for the case of ASCII letters
 abbrev pub is_same : List ℕ → List ℕ → Bool
 is_same a b = bytes_eq (str_to_ascii_lowercase a) (str_to_ascii_lowercase b)

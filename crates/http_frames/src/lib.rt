@@ -35,6 +35,7 @@ pub use answer::read_answer;
 pub use frame_error::FrameError;
 pub use headers::{count_named, first_named};
 pub use laws::{answers_stay, one_answer};
+pub use limits::MAX_MESSAGE_BODY;
 pub use message::{Header, Reply, Request};
 pub use reader::RequestReader;
 pub use writing::{write_answer, write_answer_head, write_request};

@@ -6,6 +6,10 @@ pub(crate) const HEADER_LINES: usize = 64;
 /// The bytes of a head.
 pub(crate) const HEAD_BYTES: usize = 16_384;
 
+/// The most bytes of a body that is read as a message: that of a request, and of the answer that is read as one. Other answers
+/// hand over files.
+pub const MAX_MESSAGE_BODY: usize = 131_072;
+
 /// The limits of a body.
 #[derive(Clone, Copy, Debug)]
 pub(crate) struct Limits {
@@ -18,7 +22,7 @@ pub(crate) struct Limits {
 
 /// The limits of a request's body.
 pub(crate) const REQUEST_LIMITS: Limits = Limits {
-    content: 131_072,
+    content: MAX_MESSAGE_BODY as u64,
     chunked: 1_048_576,
 };
 

@@ -25,4 +25,4 @@ mod turns;
 pub use last_entries::{count_succeeded, succeeded};
 pub use laws::{repair_laws, report_laws, trace_laws};
 pub use modes::{RunEnd, RunMode};
-pub use runs::run;
+pub use runs::{run, run_ordered};

@@ -3,6 +3,7 @@ ghost use Rattle.std.specs.Prelude.{◌≡◌, ◌⊎◌, ◌<◌, ◌≤◌, �
 ghost use Rattle.dsc_terms.specs.Counts.{RoseBy};
 ghost use Rattle.dsc_document.specs.Dependencies.{HasDistinctIds, NamesResources};
 ghost use Rattle.depend_order.specs.Documents.{AreDependencies, IsOrderOfDocument};
+ghost use Rattle.depend_order.specs.Ordered.{IsOrdered};
 ghost use Rattle.resource_kinds.specs.Trace.{Chain, host_failures};
 ghost use Rattle.lcm_core.specs.Bounds.{sets_of, tests_of};
 ghost use Rattle.lcm_core.specs.Ends.{IsEnd, IsUnbegun};
@@ -12,7 +13,7 @@ ghost use Rattle.lcm_core.specs.Whole.{Whole};
 
 use crate::modes::{RunEnd, RunMode};
 use crate::turns::{Stop, take_turn};
-use depend_order::dependencies;
+use depend_order::{OrderedDocument, dependencies};
 use dsc_document::Document;
 use resource_kinds::{Resources, TestAnswer};
 use std::alloc::{AllocError, Global};
@@ -51,7 +52,45 @@ pub fn run<R: Resources>(
 {
     match mode {
         RunMode::Monitor => monitor(document, order, resources),
-        RunMode::Repair => repair(alloc, document, order, resources),
+        RunMode::Repair => repair_by_names(alloc, document, order, resources),
+    }
+}
+
+/// The run of a document with its order, as [`run`] makes it. What its resources depend on is known, and no name is looked up again.
+pub fn run_ordered<R: Resources>(
+    alloc: Global,
+    ordered: &OrderedDocument,
+    mode: RunMode,
+    resources: &mut R,
+) -> RunEnd
+    requires ordered { IsOrdered ordered.now }
+    requires fresh { R.kept resources.old ≡ [] }
+    requires room { 3 * length ordered.now.document.resources ≤ R.spare resources.old }
+
+    ensures legal { Legal ordered.now.document mode ordered.now.order (R.kept resources.new) }
+    ensures whole { Whole ordered.now.document mode ordered.now.order (R.kept resources.new)
+        ⊎ IsUnbegun mode result (R.kept resources.new) }
+    ensures end { IsEnd mode result (R.kept resources.new) }
+    ensures chain { Chain R.does R.still ordered.now.document resources.old
+        (R.kept resources.new) resources.new }
+    ensures faults { RoseBy (host_failures (R.kept resources.new)) (R.faults resources.old)
+        (R.faults resources.new) }
+    ensures later { R.faults resources.old ≤ R.faults resources.new }
+    ensures room { R.spare resources.old ≤ R.spare resources.new + length (R.kept resources.new) }
+    ensures bound { (r : ℕ) → (tests_of (R.kept resources.new) r ≤ 2)
+        × (sets_of (R.kept resources.new) r ≤ 1) }
+{
+    let OrderedDocument {
+        document,
+        order,
+        depends,
+    } = ordered;
+    match mode {
+        RunMode::Monitor => monitor(document, order.as_slice(), resources),
+        RunMode::Repair => {
+            let depends = depends.as_slice();
+            repair(alloc, document, order.as_slice(), depends, resources)
+        }
     }
 }
 
@@ -79,8 +118,8 @@ fn monitor<R: Resources>(document: &Document, order: &[u32], resources: &mut R) 
     RunEnd::Finished
 }
 
-// Lets each resource whose dependencies succeeded take its turn.
-fn repair<R: Resources>(
+// Finds what each resource depends on, and repairs.
+fn repair_by_names<R: Resources>(
     alloc: Global,
     document: &Document,
     order: &[u32],
@@ -104,15 +143,41 @@ fn repair<R: Resources>(
     ensures later { R.faults resources.old ≤ R.faults resources.new }
     ensures room { R.spare resources.old ≤ R.spare resources.new + length (R.kept resources.new) }
 {
-    let depends = match dependencies(alloc, document) {
-        Ok(depends) => depends,
-        Err(AllocError) => return RunEnd::Memory,
-    };
+    match dependencies(alloc, document) {
+        Ok(depends) => repair(alloc, document, order, &depends, resources),
+        Err(AllocError) => RunEnd::Memory,
+    }
+}
+
+// Lets each resource whose dependencies succeeded take its turn.
+fn repair<R: Resources>(
+    alloc: Global,
+    document: &Document,
+    order: &[u32],
+    depends: &[Vec<u32>],
+    resources: &mut R,
+) -> RunEnd
+    requires order { IsOrderOfDocument document.now order.now }
+    requires depends { AreDependencies document.now depends.now }
+    requires fresh { R.kept resources.old ≡ [] }
+    requires room { 3 * length document.now.resources ≤ R.spare resources.old }
+
+    ensures legal { Legal document.now RunMode.Repair order.now (R.kept resources.new) }
+    ensures whole { Whole document.now RunMode.Repair order.now (R.kept resources.new)
+        ⊎ IsUnbegun RunMode.Repair result (R.kept resources.new) }
+    ensures end { IsEnd RunMode.Repair result (R.kept resources.new) }
+    ensures chain { Chain R.does R.still document.now resources.old
+        (R.kept resources.new) resources.new }
+    ensures faults { RoseBy (host_failures (R.kept resources.new)) (R.faults resources.old)
+        (R.faults resources.new) }
+    ensures later { R.faults resources.old ≤ R.faults resources.new }
+    ensures room { R.spare resources.old ≤ R.spare resources.new + length (R.kept resources.new) }
+{
     let mut held = match vec![in alloc; false; depends.len()] {
         Ok(held) => held,
         Err(AllocError) => return RunEnd::Memory,
     };
-    match take_turns(document, order, &depends, &mut held, resources) {
+    match take_turns(document, order, depends, &mut held, resources) {
         Ok(()) => RunEnd::Finished,
         Err(Stop::RebootAsked(place)) => RunEnd::RebootAsked(place),
         Err(Stop::Memory) => RunEnd::Memory,

@@ -4,7 +4,8 @@ use Rattle.std.specs.Fmt.{decimal}
 use Rattle.std.specs.Str.Parse.{AllDigits, ParsesUnsigned, digits_value}
 use Rattle.std.proofs.lemmas.Str.Parse.{numerals_by_value, tells_digits, digit_at, parse_plain}
 use Rattle.std.proofs.lemmas.Fmt.{decimal_digit, decimal_nonempty, digits_decimal, decimal-digits_value, first_decimal, parse-decimal}
-use Rattle.lcm_program.specs.Words.{IsCount, generated_limit}
+use Rattle.dsc_document.specs.declared.limits.TheConstants.{MAX_RESOURCES}
+use Rattle.lcm_program.specs.Words.{IsCount}
 
 ok_value : {E : Type 0} → Result ℕ E → ℕ
 ok_value (Ok value) = value
@@ -29,7 +30,7 @@ module _ {E : Type 0} (word : List ℕ) (result : Result ℕ E) (parses : Parses
       let same = decimal-digits_value (numerals_by_value _ tells_digits) word read.0.0 read.0.1 (λ zero. absurd (omega (arith, zero, first))) (omega (arith, read.0.2)) in
       sym same ∙ ap decimal (sym read.1)
 
-  pub read_is : (count : ℕ) → result ≡ Ok count → 48 < get_or word 0 0 → count ≤ generated_limit → IsCount word count
+  pub read_is : (count : ℕ) → result ≡ Ok count → 48 < get_or word 0 0 → count ≤ MAX_RESOURCES → IsCount word count
   read_is count is first within = (written count is first, omega (arith, some), within)
     where
       some : count ≡ 0 → ⊥
@@ -39,7 +40,7 @@ module _ {E : Type 0} (word : List ℕ) (result : Result ℕ E) (parses : Parses
   count_read : (count : ℕ) → IsCount word count → result ≡ Ok count
   count_read count counted = parse-decimal 32 count word result (omega (arith, counted.2)) (omega (arith, counted.2)) counted.0 parses
 
-  pub above_is_none : (read : ℕ) → result ≡ Ok read → generated_limit < read → (count : ℕ) → IsCount word count → ⊥
+  pub above_is_none : (read : ℕ) → result ≡ Ok read → MAX_RESOURCES < read → (count : ℕ) → IsCount word count → ⊥
   unfolding ok_value
   above_is_none read is above count counted = omega (arith, above, counted.2, ap (λ r. ok_value r) (sym is ∙ count_read count counted))
 

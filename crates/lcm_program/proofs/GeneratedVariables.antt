@@ -49,10 +49,10 @@ ask_variables count document has k lt =
 
 -- ---- no fault of its own
 
-known : (resource : Option Resource) → IsSomeAnd resource AsksVariable
+wanted_variable : (resource : Option Resource) → IsSomeAnd resource AsksVariable
     → (wanted : Wanted) × (option_and_then (λ r. result_ok (wanted_of r)) resource ≡ Some wanted)
-known None asks = absurd asks
-known (Some resource) asks = (Variable asks.0 asks.1, ap (λ (w : Result Wanted Failure). result_ok w) asks.2)
+wanted_variable None asks = absurd asks
+wanted_variable (Some resource) asks = (Variable asks.0 asks.1, ap (λ (w : Result Wanted Failure). result_ok w) asks.2)
 
 pub some_within : {A : Type 0} (P : A → Type 0) (xs : List A) (k : ℕ) → IsSomeAnd (slice_get xs k) P → k < length xs
 some_within P [] k is = absurd is
@@ -74,4 +74,4 @@ comes_within document r s lt (through p q t depends comes) =
     comes_within document q t (named document.resources depends.0 q (slice_get document.resources p) depends.1) comes
 
 pub each_sound : (document : Document) (r : ℕ) → AskVariables document → r < length document.resources → IsSound document r
-each_sound document r ask lt q comes = known (slice_get document.resources q) (ask q (comes_within document r q lt comes))
+each_sound document r ask lt q comes = wanted_variable (slice_get document.resources q) (ask q (comes_within document r q lt comes))

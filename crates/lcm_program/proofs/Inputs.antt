@@ -22,10 +22,8 @@ use Rattle.dsc_node.specs.declared.status.InputError.{InputError}
 use Rattle.dsc_node.specs.declared.status.InputError.TheVariants.{TooLong, Mof, Merge, Meta, Parts}
 use Rattle.lcm_program.specs.declared.input.Unread.{Unread}
 use Rattle.lcm_program.specs.declared.input.Unread.TheVariants as unread
-use Rattle.lcm_program.specs.declared.refusal.Refusal.{Refusal}
-use Rattle.lcm_program.specs.declared.refusal.Refusal.TheVariants as refusals
 use Rattle.lcm_program.specs.Checksum.{AnswersChecksum, checksum_limit}
-use Rattle.lcm_program.specs.Input.{IsInput, IsLonger, IsRefused, IsUnread, Reading, ReadsBytes, ReadsDocument, ReadsInstances, ReadsMeta, input_limit, meta_limit}
+use Rattle.lcm_program.specs.Input.{IsInput, IsLonger, IsUnread, Reading, ReadsBytes, ReadsDocument, ReadsInstances, ReadsMeta, input_limit, meta_limit}
 
 -- ---- inputs that are too long
 
@@ -47,36 +45,34 @@ longer left now taken p above =
 -- ---- one reading in place of another
 
 weaker : {A B : Type 0} (P : Reading A) (Q : Reading B) → ((all : List ℕ) (error : InputError) → P all (Err error) → Q all (Err error))
-    → (refusal : Refusal) (left : Option (List ℕ)) (before now : ℕ) → IsRefused P refusal left before now → IsRefused Q refusal left before now
-weaker P Q f (refusals.Input error) left before now cause =
+    → (e : Unread) (left : Option (List ℕ)) (before now : ℕ) → IsUnread P e left before now → IsUnread Q e left before now
+weaker P Q f (unread.Refused error) left before now cause =
     record { all = cause.all; input_is = cause.input_is; is_answer = f cause.all error cause.is_answer }
-weaker P Q f _ left before now cause = cause
+weaker P Q f unread.ReadFault left before now cause = cause
+weaker P Q f unread.Memory left before now cause = cause
 
 module _ (left : Option (List ℕ)) (before now : ℕ) where
   -- what is too long is no document, and spells no instances
   pub too_long_unread : (e : Unread) → IsUnread (ReadsBytes input_limit) e left before now → IsUnread ReadsDocument e left before now
-  too_long_unread (unread.Refused refusal) cause =
+  too_long_unread e cause =
       weaker (ReadsBytes input_limit) ReadsDocument (λ all error long. subst (λ (x : InputError). ReadsDocument all (Err x)) (sym long.0) long.1)
-      refusal left before now cause
-  too_long_unread unread.Memory cause = tt
+      e left before now cause
 
   pub too_long_unspelled : (e : Unread) → IsUnread (ReadsBytes input_limit) e left before now → IsUnread ReadsInstances e left before now
-  too_long_unspelled (unread.Refused refusal) cause =
+  too_long_unspelled e cause =
       weaker (ReadsBytes input_limit) ReadsInstances (λ all error long. subst (λ (x : InputError). ReadsInstances all (Err x)) (sym long.0) long.1)
-      refusal left before now cause
-  too_long_unspelled unread.Memory cause = tt
+      e left before now cause
 
   -- and declares no meta-configuration
   pub too_long_undeclared : (e : Unread) → IsUnread (ReadsBytes meta_limit) e left before now → IsUnread ReadsMeta e left before now
-  too_long_undeclared (unread.Refused refusal) cause =
+  too_long_undeclared e cause =
       weaker (ReadsBytes meta_limit) ReadsMeta (λ all error long. subst (λ (x : InputError). ReadsMeta all (Err x)) (sym long.0) long.1)
-      refusal left before now cause
-  too_long_undeclared unread.Memory cause = tt
+      e left before now cause
 
   -- bytes that are not merged, as a part without a name, are refused so
   pub unmerged_unread : (bytes : List ℕ) (part : Part) (error : MergeError) (e : Unread) → IsInput (ReadsBytes input_limit) left (Ok bytes)
       → part.name ≡ [] → part.bytes ≡ bytes → Refused (part ∷ []) error
-      → ((error ≡ merge.Memory) × (e ≡ unread.Memory)) ⊎ ((error ≢ merge.Memory) × (e ≡ unread.Refused (refusals.Input (Merge error))))
+      → ((error ≡ merge.Memory) × (e ≡ unread.Memory)) ⊎ ((error ≢ merge.Memory) × (e ≡ unread.Refused (Merge error)))
       → IsUnread ReadsDocument e left before now
   unmerged_unread bytes part error e input unnamed of wins (inl memory) =
       subst (λ (u : Unread). IsUnread ReadsDocument u left before now) (sym memory.1) tt
@@ -94,7 +90,7 @@ module _ (left : Option (List ℕ)) (before now : ℕ) where
   -- bytes that spell no instances are refused so
   pub unspelled_unread : (bytes taken : List ℕ) (error : MofError) (e : Unread) → IsInput (ReadsBytes input_limit) left (Ok bytes) → taken ≡ bytes
       → (error ≢ faults.Memory → (instances : List Instance) → syntax.Reads taken instances → ⊥) → syntax.Refuses taken error
-      → ((error ≡ faults.Memory) × (e ≡ unread.Memory)) ⊎ ((error ≢ faults.Memory) × (e ≡ unread.Refused (refusals.Input (Mof error))))
+      → ((error ≡ faults.Memory) × (e ≡ unread.Memory)) ⊎ ((error ≢ faults.Memory) × (e ≡ unread.Refused (Mof error)))
       → IsUnread ReadsInstances e left before now
   unspelled_unread bytes taken error e input same none wins (inl memory) =
       subst (λ (u : Unread). IsUnread ReadsInstances u left before now) (sym memory.1) tt
@@ -109,7 +105,7 @@ module _ (left : Option (List ℕ)) (before now : ℕ) where
   -- bytes that declare no meta-configuration are refused so
   pub undeclared_unread : (bytes taken : List ℕ) (error : MetaError) (e : Unread) → IsInput (ReadsBytes meta_limit) left (Ok bytes) → taken ≡ bytes
       → (error ≢ meta_errors.Memory → (meta : declared.Meta) → metas.Means taken meta → ⊥) → metas.Refuses taken error
-      → ((error ≡ meta_errors.Memory) × (e ≡ unread.Memory)) ⊎ ((error ≢ meta_errors.Memory) × (e ≡ unread.Refused (refusals.Input (Meta error))))
+      → ((error ≡ meta_errors.Memory) × (e ≡ unread.Memory)) ⊎ ((error ≢ meta_errors.Memory) × (e ≡ unread.Refused (Meta error)))
       → IsUnread ReadsMeta e left before now
   undeclared_unread bytes taken error e input same none wins (inl memory) =
       subst (λ (u : Unread). IsUnread ReadsMeta u left before now) (sym memory.1) tt
@@ -123,7 +119,7 @@ module _ (left : Option (List ℕ)) (before now : ℕ) where
 
   -- so are bytes that declare one whose partial configurations have no order
   pub unordered_unread : (bytes taken walk : List ℕ) (meta : declared.Meta) → IsInput (ReadsBytes meta_limit) left (Ok bytes) → taken ≡ bytes → metas.Means taken meta
-      → IsCycleOfParts meta walk → ((order : List ℕ) → IsOrderOfParts meta order → ⊥) → IsUnread ReadsMeta (unread.Refused (refusals.Input (Parts walk))) left before now
+      → IsCycleOfParts meta walk → ((order : List ℕ) → IsOrderOfParts meta order → ⊥) → IsUnread ReadsMeta (unread.Refused (Parts walk)) left before now
   unordered_unread bytes taken walk meta input same means cycle none = record {
     all = input.all;
     input_is = input.input_is;

@@ -13,7 +13,6 @@ use Rattle.dsc_node.specs.declared.status.Status.TheVariants.{Done, NotCompliant
 use Rattle.dsc_node.specs.Lines.{IsRunText, overlap_line, run_lines}
 use Rattle.lcm_program.specs.declared.input.Unread.{Unread}
 use Rattle.lcm_program.specs.declared.input.Unread.TheVariants as unread
-use Rattle.lcm_program.specs.declared.refusal.Refusal.TheVariants as refusals
 use Rattle.lcm_program.specs.Answers.{EachAllows}
 use Rattle.lcm_program.specs.Endings.{UnreadEnds}
 use Rattle.lcm_program.specs.Input.{ReadsDocument}
@@ -53,15 +52,14 @@ module _ {S K D M L C : Type 0} (o : Known S K D M L C) (before after : Objects 
       → IsUntested o.outside.resources nothing_further_of_runs e (o.source.left before.input) (o.source.faults before.input) (o.source.faults after.input) before.machine after.machine
       → UnreadEnds o.sink e status before.output after.output → TestEnds o nothing_further_of_runs status before after
   untested_ends unread.Memory status stops silent = subst (λ (s : Status). TestEnds o nothing_further_of_runs s before after) (sym silent.0) (stops, silent.1)
-  untested_ends (unread.Refused (refusals.Input error)) status cause (inl printed) =
+  untested_ends (unread.Refused error) status cause (inl printed) =
       subst (λ (s : Status). TestEnds o nothing_further_of_runs s before after) (sym printed.0) (cause.0, printed.1, cause.1)
-  untested_ends (unread.Refused (refusals.Input error)) status cause (inr silent) =
+  untested_ends (unread.Refused error) status cause (inr silent) =
       subst (λ (s : Status). TestEnds o nothing_further_of_runs s before after) (sym silent.0) (inl cause.1, silent.1)
-  untested_ends (unread.Refused refusals.ReadFault) status cause (inl printed) =
+  untested_ends unread.ReadFault status cause (inl printed) =
       subst (λ (s : Status). TestEnds o nothing_further_of_runs s before after) (sym printed.0) (cause.0, printed.1, cause.1)
-  untested_ends (unread.Refused refusals.ReadFault) status cause (inr silent) =
+  untested_ends unread.ReadFault status cause (inr silent) =
       subst (λ (s : Status). TestEnds o nothing_further_of_runs s before after) (sym silent.0) (inl cause.1, silent.1)
-  untested_ends (unread.Refused _) status cause ends = absurd cause.0
 
   each_test : (status : Status) → TestEnds o nothing_further_of_runs status before after
       → EachAllows ReadsDocument (o.source.left before.input) status (o.source.faults before.input) (o.source.faults after.input)

@@ -85,7 +85,7 @@ module _ {S K D H L C : Type 0} (source : ends.Ghosts S) (sink : ends.Ghosts K) 
     lines = s.lines;
     start = s.start;
     headline = s.headline;
-    more = host_headline disk host clock succeeds contained together command before after s.ended s.lines;
+    more = host_headline disk host clock succeeds contained together command before after s.ended s.lines s.headline;
     again = s.again;
     later = s.later;
     prints = s.prints;

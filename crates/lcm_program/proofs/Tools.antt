@@ -2,11 +2,9 @@
 use Rattle.std.proofs.Common.{◌≡◌, inl, inr, ℕ, List, Option, Result, Ok, Err, sym, subst}
 use Rattle.std.specs.Prelude.{IfErr, IfOk}
 use Rattle.dsc_node.specs.declared.status.Status.{Status}
-use Rattle.dsc_node.specs.declared.status.Status.TheVariants.{Done, InputRefused, ReadFault, WriteFault, Memory}
+use Rattle.dsc_node.specs.declared.status.Status.TheVariants.{Done, Usage, InputRefused, ReadFault, WriteFault, Memory}
 use Rattle.lcm_program.specs.declared.input.Unread.{Unread}
 use Rattle.lcm_program.specs.declared.input.Unread.TheVariants as unread
-use Rattle.lcm_program.specs.declared.refusal.Refusal.{Refusal}
-use Rattle.lcm_program.specs.declared.refusal.Refusal.TheVariants as refusals
 use Rattle.lcm_program.specs.Answers.{EachAllows}
 use Rattle.lcm_program.specs.Checksum.{AnswersChecksum, Checksummed, HasRefusal}
 use Rattle.lcm_program.specs.Did.{DidNothing, UsageEnds}
@@ -28,17 +26,13 @@ module _ {S K D M L C : Type 0} (o : Known S K D M L C) (before after : Objects 
     text_ends text WriteFault input prints = (text, input, prints)
     text_ends text _ input prints = absurd prints
 
-    -- the input was refused
-    refused_ends : (refusal : Refusal) (status : Status) → IsRefused answers refusal (o.source.left before.input) (o.source.faults before.input) (o.source.faults after.input)
-        → RefusalEnds o.sink refusal status before.output after.output → ToolEnds answers o status before after
-    refused_ends refusal status cause (inr silent) = subst (λ (s : Status). ToolEnds answers o s before after) (sym silent.0) silent.1
-    refused_ends (refusals.Input error) status cause (inl printed) = subst (λ (s : Status). ToolEnds answers o s before after) (sym printed.0) (cause, printed.1)
-    refused_ends refusals.ReadFault status cause (inl printed) = subst (λ (s : Status). ToolEnds answers o s before after) (sym printed.0) (cause, printed.1)
-    refused_ends _ status cause (inl printed) = absurd cause
-
+    -- the input was not read
     unread_ends : (e : Unread) (status : Status) → IsUnread answers e (o.source.left before.input) (o.source.faults before.input) (o.source.faults after.input)
         → UnreadEnds o.sink e status before.output after.output → ToolEnds answers o status before after
-    unread_ends (unread.Refused refusal) status cause ends = refused_ends refusal status cause ends
+    unread_ends (unread.Refused error) status cause (inl printed) = subst (λ (s : Status). ToolEnds answers o s before after) (sym printed.0) (cause, printed.1)
+    unread_ends (unread.Refused error) status cause (inr silent) = subst (λ (s : Status). ToolEnds answers o s before after) (sym silent.0) silent.1
+    unread_ends unread.ReadFault status cause (inl printed) = subst (λ (s : Status). ToolEnds answers o s before after) (sym printed.0) (cause, printed.1)
+    unread_ends unread.ReadFault status cause (inr silent) = subst (λ (s : Status). ToolEnds answers o s before after) (sym silent.0) silent.1
     unread_ends unread.Memory status cause silent = subst (λ (s : Status). ToolEnds answers o s before after) (sym silent.0) silent.1
 
     each_tool : Decides answers → (status : Status) → ToolEnds answers o status before after
@@ -72,17 +66,22 @@ module _ {S K D M L C : Type 0} (o : Known S K D M L C) (before after : Objects 
     memory = λ is. absurd (subst (λ (s : Status). Prints o.sink line s before.output after.output) is prints);
   }
 
-  refusal_found : (refusal : Refusal) (left : Option (List ℕ)) (b n : ℕ) → IsRefused AnswersChecksum refusal left b n → HasRefusal left b n
-  refusal_found (refusals.Input error) left b n cause = inl (error, cause)
-  refusal_found refusals.ReadFault left b n cause = inr cause
-  refusal_found _ left b n cause = absurd cause
+  refusal_found : (e : Unread) (left : Option (List ℕ)) (b n : ℕ) → IsRefused AnswersChecksum e left b n → HasRefusal left b n
+  refusal_found (unread.Refused error) left b n cause = inl (error, cause)
+  refusal_found unread.ReadFault left b n cause = inr cause
+  refusal_found unread.Memory left b n cause = absurd cause
 
-  pub not_summed : Decides AnswersChecksum → (refusal : Refusal) (status : Status) → IsUntouched before after
-      → IsRefused AnswersChecksum refusal (o.source.left before.input) (o.source.faults before.input) (o.source.faults after.input)
-      → RefusalEnds o.sink refusal status before.output after.output → Checksummed o status before after
-  not_summed decides refusal status untouched cause ends = record {
-    tool = tool AnswersChecksum decides status untouched (refused_ends AnswersChecksum refusal status cause ends);
-    memory = λ is. refusal_found refusal _ _ _ cause;
+  is_unread : (e : Unread) (left : Option (List ℕ)) (b n : ℕ) → IsRefused AnswersChecksum e left b n → IsUnread AnswersChecksum e left b n
+  is_unread (unread.Refused error) left b n cause = cause
+  is_unread unread.ReadFault left b n cause = cause
+  is_unread unread.Memory left b n cause = tt
+
+  pub not_summed : Decides AnswersChecksum → (e : Unread) (status : Status) → IsUntouched before after
+      → IsRefused AnswersChecksum e (o.source.left before.input) (o.source.faults before.input) (o.source.faults after.input)
+      → UnreadEnds o.sink e status before.output after.output → Checksummed o status before after
+  not_summed decides e status untouched cause ends = record {
+    tool = tool AnswersChecksum decides status untouched (unread_ends AnswersChecksum e status (is_unread e _ _ _ cause) ends);
+    memory = λ is. refusal_found e _ _ _ cause;
   }
 
   -- `generate`
@@ -99,11 +98,11 @@ module _ {S K D M L C : Type 0} (o : Known S K D M L C) (before after : Objects 
       record { input = input; untouched = untouched; ends = generated_ends count text status made prints }
 
   nothing_ends : (words : List (List ℕ)) (place : ℕ) (status : Status) → IsUsage words place
-      → RefusalEnds o.sink (refusals.Usage place) status before.output after.output → UsageEnds o words status before after
+      → RefusalEnds o.sink (Usage place) status before.output after.output → UsageEnds o words status before after
   nothing_ends words place status usage (inl printed) = subst (λ (s : Status). UsageEnds o words s before after) (sym printed.0) (usage, printed.1)
   nothing_ends words place status usage (inr silent) = subst (λ (s : Status). UsageEnds o words s before after) (sym silent.0) silent.1
 
   pub did_nothing : (words : List (List ℕ)) (place : ℕ) (status : Status) → after.input ≡ before.input → IsUntouched before after → IsUsage words place
-      → RefusalEnds o.sink (refusals.Usage place) status before.output after.output → DidNothing o words status before after
+      → RefusalEnds o.sink (Usage place) status before.output after.output → DidNothing o words status before after
   did_nothing words place status input untouched usage ends =
       record { input = input; untouched = untouched; ends = nothing_ends words place status usage ends }

@@ -3,7 +3,6 @@ use Rattle.std.specs.Prelude.{◌≡◌, ℕ, List}
 use Rattle.dsc_node.specs.declared.command.Command.TheVariants as commands
 use Rattle.dsc_node.specs.declared.status.Status.{Status}
 use Rattle.dsc_node.specs.declared.status.Status.TheVariants.{Usage, Memory}
-use Rattle.lcm_program.specs.declared.refusal.Refusal.TheVariants as refusals
 use Rattle.lcm_program.specs.declared.words.Command.{Command}
 use Rattle.lcm_program.specs.declared.words.Command.TheVariants.{Test, Check, Order, Canon, Checksum, Generate, Init, Meta, Register, Pull, Push, Consistency, Boot, Get, Restore, Remove, Reports}
 use Rattle.lcm_program.specs.Canon.{AnswersCanon}
@@ -41,7 +40,7 @@ Did o further Reports status before after = Started commands.Reports o further s
 
 -- arguments in no form are refused with the place of the first argument that does not fit; or memory ran out and nothing is printed
 abbrev pub UsageEnds : {S K D M L C : Type 0} → Known S K D M L C → List (List ℕ) → Status → Objects S K D M L C → Objects S K D M L C → Type 0
-UsageEnds o words (Usage place) before after = IsUsage words place × PrintsRefusal o.sink (refusals.Usage place) before.output after.output
+UsageEnds o words (Usage place) before after = IsUsage words place × PrintsRefusal o.sink (Usage place) before.output after.output
 UsageEnds o words Memory before after = after.output ≡ before.output
 UsageEnds o words _ before after = ⊥
 

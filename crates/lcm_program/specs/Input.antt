@@ -21,8 +21,6 @@ use Rattle.dsc_node.specs.declared.status.InputError.{InputError}
 use Rattle.dsc_node.specs.declared.status.InputError.TheVariants.{TooLong, Mof, Merge, Meta, Parts}
 use Rattle.lcm_program.specs.declared.input.Unread.{Unread}
 use Rattle.lcm_program.specs.declared.input.Unread.TheVariants as unread
-use Rattle.lcm_program.specs.declared.refusal.Refusal.{Refusal}
-use Rattle.lcm_program.specs.declared.refusal.Refusal.TheVariants as refusals
 
 -- the most bytes of an input: those of a document
 abbrev pub input_limit : ℕ
@@ -111,13 +109,13 @@ pub record IsInput {A : Type 0} (reads : List ℕ → A → Type 0) (input : Opt
 abbrev pub IsLonger : List ℕ → ℕ → Type 0
 IsLonger all most = most < length all
 
--- why an input is refused: for the error that it is read as, or because a read failed
-abbrev pub IsRefused : {A : Type 0} → Reading A → Refusal → Option (List ℕ) → ℕ → ℕ → Type 0
-IsRefused reads (refusals.Input error) input before now = IsInput reads input (Err error)
-IsRefused reads refusals.ReadFault input before now = Rose before now
-IsRefused reads _ input before now = ⊥
-
--- why an input was not read
+-- why an input was not read: it is refused for the error that it is read as, a read failed, or memory ran out
 abbrev pub IsUnread : {A : Type 0} → Reading A → Unread → Option (List ℕ) → ℕ → ℕ → Type 0
-IsUnread reads (unread.Refused refusal) input before now = IsRefused reads refusal input before now
+IsUnread reads (unread.Refused error) input before now = IsInput reads input (Err error)
+IsUnread reads unread.ReadFault input before now = Rose before now
 IsUnread reads unread.Memory input before now = ⊤
+
+-- why, where no memory is taken to read it
+abbrev pub IsRefused : {A : Type 0} → Reading A → Unread → Option (List ℕ) → ℕ → ℕ → Type 0
+IsRefused reads unread.Memory input before now = ⊥
+IsRefused reads cause input before now = IsUnread reads cause input before now

@@ -16,9 +16,8 @@ use Rattle.dsc_node.specs.Lines.{IsRunText}
 use Rattle.dsc_node.specs.Ran.{EndsAs, IsWholeOrNone}
 use Rattle.lcm_program.specs.declared.input.Unread.{Unread}
 use Rattle.lcm_program.specs.declared.input.Unread.TheVariants as unread
-use Rattle.lcm_program.specs.declared.refusal.Refusal.TheVariants as refusals
 use Rattle.lcm_program.specs.Answers.{EachAllows}
-use Rattle.lcm_program.specs.Input.{IsInput, IsRefused, ReadsDocument}
+use Rattle.lcm_program.specs.Input.{IsInput, IsUnread, ReadsDocument}
 use Rattle.lcm_program.specs.Objects.{IsOffline, Known, Objects}
 use Rattle.lcm_program.specs.Printed.{Holds, IsCutShort, PrintsRefusal}
 use Rattle.lcm_program.specs.Further.{Further, FurtherOfRuns}
@@ -71,8 +70,8 @@ TestedAll o further status before after =
 
 -- why there was no run to the last resource: the input is refused and nothing was tested, or memory ran out
 abbrev pub IsUntested : {M : Type 0} → resources.Ghosts M → FurtherOfRuns M → Unread → Option (List ℕ) → ℕ → ℕ → M → M → Type 0
-IsUntested machine further (unread.Refused refusal) input faults_before faults_now before after = IsRefused ReadsDocument refusal input faults_before faults_now × (after ≡ before)
 IsUntested machine further unread.Memory input faults_before faults_now before after = StopsEarly machine further input before after
+IsUntested machine further cause input faults_before faults_now before after = IsUnread ReadsDocument cause input faults_before faults_now × (after ≡ before)
 
 -- the run is printed whole; or the input is refused for its error, or a read failed, and nothing was tested; or memory ran out,
 -- nothing is printed, and what was tested is the front of a run
@@ -81,10 +80,10 @@ TestEnds o further Done before after = TestedAll o further Done before after
 TestEnds o further (NotCompliant count) before after = TestedAll o further (NotCompliant count) before after
 TestEnds o further WriteFault before after = TestedAll o further WriteFault before after
 TestEnds o further (InputRefused error) before after =
-    IsInput ReadsDocument (o.source.left before.input) (Err error) × PrintsRefusal o.sink (refusals.Input error) before.output after.output
+    IsInput ReadsDocument (o.source.left before.input) (Err error) × PrintsRefusal o.sink (InputRefused error) before.output after.output
     × (after.machine ≡ before.machine)
 TestEnds o further ReadFault before after =
-    Rose (o.source.faults before.input) (o.source.faults after.input) × PrintsRefusal o.sink refusals.ReadFault before.output after.output
+    Rose (o.source.faults before.input) (o.source.faults after.input) × PrintsRefusal o.sink ReadFault before.output after.output
     × (after.machine ≡ before.machine)
 TestEnds o further Memory before after =
     StopsEarly o.outside.resources further (o.source.left before.input) before.machine after.machine × (after.output ≡ before.output)

@@ -3,7 +3,6 @@ use Rattle.std.specs.Prelude.{◌≡◌, ℕ, List, Ok, Err}
 use Rattle.dsc_terms.specs.Counts.{Rose}
 use Rattle.dsc_node.specs.declared.status.Status.{Status}
 use Rattle.dsc_node.specs.declared.status.Status.TheVariants.{Done, InputRefused, ReadFault, WriteFault, Memory}
-use Rattle.lcm_program.specs.declared.refusal.Refusal.TheVariants as refusals
 use Rattle.lcm_program.specs.Answers.{EachAllows}
 use Rattle.lcm_program.specs.Input.{IsInput, Reading}
 use Rattle.lcm_program.specs.Objects.{IsUntouched, Known, Objects}
@@ -22,9 +21,9 @@ ToolEnds answers o Done before after =
 ToolEnds answers o WriteFault before after =
     (text : List ℕ) × IsInput answers (o.source.left before.input) (Ok text) × IsCutShort o.sink text before.output after.output
 ToolEnds answers o (InputRefused error) before after =
-    IsInput answers (o.source.left before.input) (Err error) × PrintsRefusal o.sink (refusals.Input error) before.output after.output
+    IsInput answers (o.source.left before.input) (Err error) × PrintsRefusal o.sink (InputRefused error) before.output after.output
 ToolEnds answers o ReadFault before after =
-    Rose (o.source.faults before.input) (o.source.faults after.input) × PrintsRefusal o.sink refusals.ReadFault before.output after.output
+    Rose (o.source.faults before.input) (o.source.faults after.input) × PrintsRefusal o.sink ReadFault before.output after.output
 ToolEnds answers o Memory before after = after.output ≡ before.output
 ToolEnds answers o _ before after = ⊥
 

@@ -3,20 +3,16 @@ use Rattle.std.specs.Prelude.{◌≡◌, ℕ, ◌+◌, ◌<◌, ◌≤◌, List,
 use Rattle.std.specs.Fmt.{decimal}
 use Rattle.std.specs.Int.{w128, from_be_bytes}
 use Rattle.uuid.specs.Text.{parsed}
+use Rattle.dsc_document.specs.declared.limits.TheConstants.{MAX_RESOURCES}
 use Rattle.mof_values.specs.declared.limits.TheConstants.{MAX_NAME_BYTES}
 use Rattle.node_state.specs.declared.event.Stage.{Stage}
 use Rattle.node_state.specs.declared.event.Stage.TheVariants.{Pending, Current, Previous}
-use Rattle.lcm_program.specs.declared.words.TheConstants.{GENERATED_LIMIT}
 use Rattle.lcm_program.specs.declared.words.Command.{Command}
 use Rattle.lcm_program.specs.declared.words.Command.TheVariants.{Test, Check, Order, Canon, Checksum, Generate, Init, Meta, Register, Pull, Push, Consistency, Boot, Get, Restore, Remove, Reports}
 
--- the most resources of a generated document
-abbrev pub generated_limit : ℕ
-generated_limit = GENERATED_LIMIT
-
 -- the argument is this number of resources, in decimal
 abbrev pub IsCount : List ℕ → ℕ → Type 0
-IsCount word count = (word ≡ decimal count) × (0 < count) × (count ≤ generated_limit)
+IsCount word count = (word ≡ decimal count) × (0 < count) × (count ≤ MAX_RESOURCES)
 
 -- the number of an agent's identifier, in any form of RFC 9562 that `uuid` reads
 unfoldable pub agent_of : List ℕ → Option ℕ
@@ -60,7 +56,7 @@ IsForm Reports words = words ≡ codes "reports" ∷ []
 
 -- the number of a command is one that its arguments can give
 abbrev pub IsInRange : Command → Type 0
-IsInRange (Generate count) = (0 < count) × (count ≤ generated_limit)
+IsInRange (Generate count) = (0 < count) × (count ≤ MAX_RESOURCES)
 IsInRange _ = ⊤
 
 -- some form begins with these arguments

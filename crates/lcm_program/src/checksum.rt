@@ -3,7 +3,7 @@ ghost use Rattle.std.specs.Prelude.{◌≡◌, IfErr, IfOk, Ok};
 ghost use Rattle.lcm_program.specs.Checksum.{AnswersChecksum, checksum_line};
 ghost use Rattle.lcm_program.specs.Input.{IsInput, IsRefused};
 
-use crate::refusal::Refusal;
+use crate::input::Unread;
 use dsc_node::InputError;
 use dsc_outside::{Failed, Source};
 use sha2::{Digest, Sha256};
@@ -13,24 +13,24 @@ use shared_key::checksum_text;
 const LIMIT: usize = 67_108_864;
 
 /// The checksum of the input, and a line end. The input is read to its end piece by piece and not kept.
-pub fn read_checksum<S: Source>(input: &mut S) -> Result<[u8; 65], Refusal>
+pub fn read_checksum<S: Source>(input: &mut S) -> Result<[u8; 65], Unread>
     ensures ok { IfOk result (λ line. IsInput AnswersChecksum (S.left input.old) (Ok line)) }
-    ensures err { IfErr result (λ refusal.
-        IsRefused AnswersChecksum refusal (S.left input.old) (S.faults input.old)
+    ensures err { IfErr result (λ cause.
+        IsRefused AnswersChecksum cause (S.left input.old) (S.faults input.old)
         (S.faults input.new)) }
 {
     match read_digest(input) {
         Ok(digest) => Ok(checksum_line(&digest)),
-        Err(refusal) => Err(refusal),
+        Err(unread) => Err(unread),
     }
 }
 
 // The digest of the input.
-fn read_digest<S: Source>(input: &mut S) -> Result<[u8; 32], Refusal>
+fn read_digest<S: Source>(input: &mut S) -> Result<[u8; 32], Unread>
     ensures ok { IfOk result (λ digest. IsInput AnswersChecksum (S.left input.old)
         (Ok (checksum_line digest))) }
-    ensures err { IfErr result (λ refusal.
-        IsRefused AnswersChecksum refusal (S.left input.old) (S.faults input.old)
+    ensures err { IfErr result (λ cause.
+        IsRefused AnswersChecksum cause (S.left input.old) (S.faults input.old)
         (S.faults input.new)) }
 {
     let mut hash = Sha256::new();
@@ -38,13 +38,13 @@ fn read_digest<S: Source>(input: &mut S) -> Result<[u8; 32], Refusal>
     let mut buffer = [0u8; 65_536];
     loop {
         match input.read(&mut buffer) {
-            Err(Failed) => return Err(Refusal::ReadFault),
+            Err(Failed) => return Err(Unread::ReadFault),
             Ok(0) => return Ok(hash.finalize()),
             Ok(count) => {
                 hash.update(&buffer[..count]);
                 total += count;
                 if total > LIMIT {
-                    return Err(Refusal::Input(InputError::TooLong));
+                    return Err(Unread::Refused(InputError::TooLong));
                 }
             }
         }

@@ -2,10 +2,6 @@
 ghost use Rattle.std.specs.Prelude.{map, string_bytes};
 ghost use Rattle.lcm_program.specs.CommandLine.{IsCommandLine};
 
-use std::alloc::AllocError;
-use std::env::{self, Env};
-use std::io::ErrorKind;
-
 /// What `node` is called with.
 #[derive(Debug, Drop)]
 pub struct CommandLine<'a> {
@@ -39,14 +35,5 @@ impl<'a> CommandLine<'a> {
                 words: &[],
             },
         }
-    }
-}
-
-/// The arguments, or none where one of them is not in UTF-8.
-pub fn arguments<R: AllocGlobal + Env>(rt: &R) -> Result<Vec<String>, AllocError> {
-    match env::args(rt) {
-        Ok(arguments) => Ok(arguments.collect(rt.alloc())?),
-        Err(e) if e.kind() == ErrorKind::OutOfMemory => Err(AllocError),
-        Err(_) => Ok(Vec::new(rt.alloc())),
     }
 }

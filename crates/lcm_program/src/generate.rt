@@ -6,7 +6,7 @@ ghost use Rattle.lcm_core.specs.RunLaws.{EndsAtYes};
 ghost use Rattle.lcm_program.specs.Generate.{IsGeneratedText, calls_line, ends_line, generated_lines, is_set, is_test};
 
 use dsc_document::Document;
-use dsc_node::{id, order_of_merged, push_resources, run_kinds};
+use dsc_node::{id, ordered_of_merged, push_resources, run_kinds};
 use generated_document::generated_document;
 use lcm_core::{RunEnd, RunMode, count_succeeded, repair_laws};
 use memory_outside::{HostContents, ReliableHost};
@@ -22,13 +22,13 @@ pub fn repair_generated(alloc: Global, count: u32) -> Result<String, Memory>
     requires few { count ≤ MAX_RESOURCES }
     ensures { IfOk result (λ text. IsGeneratedText count (string_bytes text)) }
 {
-    let document = generated_document(alloc, count)?;
+    let ordered = ordered_of_merged(alloc, generated_document(alloc, count)?)?;
     let mut kinds = Kinds::new(alloc, ReliableHost::of(HostContents::empty(alloc)));
-    let order = order_of_merged(alloc, &document)?;
-    match run_kinds(alloc, &document, &order, RunMode::Repair, &mut kinds) {
+    match run_kinds(alloc, &ordered, RunMode::Repair, &mut kinds) {
         RunEnd::Finished | RunEnd::RebootAsked(_) => {
             repair_laws();
-            Ok(lines(alloc, count, &document, &order, kinds.calls())?)
+            let order = ordered.order.as_slice();
+            Ok(lines(alloc, count, &ordered.document, order, kinds.calls())?)
         }
         RunEnd::Memory => Err(Memory),
     }

@@ -3,13 +3,13 @@ ghost use Rattle.std.specs.Prelude.{◌≡◌, ◌≢◌, ◌≤◌, ◌⊎◌, 
 ghost use Rattle.depend_order.specs.Ordered.{IsOrdered};
 ghost use Rattle.node_state.specs.Metas.{IsNodeMeta};
 ghost use Rattle.lcm_program.specs.declared.input.Unread.TheVariants.{Memory};
+ghost use Rattle.lcm_program.specs.Endings.{unread_status};
 ghost use Rattle.lcm_program.specs.Input.{IsInput, IsUnread, ReadsBytes, ReadsDocument, ReadsInstances, ReadsMeta, input_limit};
 
-use crate::refusal::Refusal;
 use crate::streams::{ReadError, read_all};
 use depend_order::OrderError;
 use dsc_document::Document;
-use dsc_node::InputError;
+use dsc_node::{InputError, Status};
 use dsc_outside::Source;
 use meta_config::{MAX_META_TEXT, Meta, MetaError, parts_order};
 use mof_codec::{MofError, read};
@@ -19,11 +19,30 @@ use partial_merge::{MergeError, OrderedDocument, merge_text};
 use std::alloc::{AllocError, AllocFailed, Global};
 use std::mem::forget;
 
-/// Why there is no document, or why there are no instances.
+/// Why an input was not read.
 #[derive(Debug, Drop, PartialEq)]
 pub enum Unread {
-    Refused(Refusal),
+    /// It is refused for this error.
+    Refused(InputError),
+
+    /// A read failed.
+    ReadFault,
+
+    /// Memory ran out.
     Memory,
+}
+
+impl Unread {
+    /// The status of a command whose input was not read.
+    pub fn status(self) -> Status
+        ensures { result ≡ unread_status self }
+    {
+        match self {
+            Unread::Refused(error) => Status::InputRefused(error),
+            Unread::ReadFault => Status::ReadFault,
+            Unread::Memory => Status::Memory,
+        }
+    }
 }
 
 impl From<AllocError> for Unread {
@@ -83,11 +102,11 @@ pub fn read_document<S: Source>(alloc: Global, input: &mut S) -> Result<Document
 fn unmerged(error: MergeError) -> Unread
     ensures { ((error ≡ MergeError.Memory) × (result ≡ Unread.Memory))
         ⊎ ((error ≢ MergeError.Memory) × (result ≡ Unread.Refused
-        (Refusal.Input (InputError.Merge error)))) }
+        (InputError.Merge error))) }
 {
     match error {
         MergeError::Memory => Unread::Memory,
-        _ => Unread::Refused(Refusal::Input(InputError::Merge(error))),
+        _ => Unread::Refused(InputError::Merge(error)),
     }
 }
 
@@ -125,10 +144,7 @@ pub fn read_meta<S: Source>(alloc: Global, input: &mut S) -> Result<Meta, Unread
     };
     match parts_order(alloc, &meta) {
         Ok(_) => Ok(meta),
-        Err(OrderError::Cycle(walk)) => {
-            let error = InputError::Parts(walk);
-            Err(Unread::Refused(Refusal::Input(error)))
-        }
+        Err(OrderError::Cycle(walk)) => Err(Unread::Refused(InputError::Parts(walk))),
         Err(OrderError::Memory) => Err(Unread::Memory),
     }
 }
@@ -153,8 +169,8 @@ fn read_within<S: Source>(alloc: Global, input: &mut S, limit: usize) -> Result<
 {
     match read_all(alloc, input, limit) {
         Ok(bytes) => Ok(bytes),
-        Err(ReadError::Failed) => Err(Unread::Refused(Refusal::ReadFault)),
-        Err(ReadError::TooLong) => Err(Unread::Refused(Refusal::Input(InputError::TooLong))),
+        Err(ReadError::Failed) => Err(Unread::ReadFault),
+        Err(ReadError::TooLong) => Err(Unread::Refused(InputError::TooLong)),
         Err(ReadError::Memory) => Err(Unread::Memory),
     }
 }
@@ -163,11 +179,11 @@ fn read_within<S: Source>(alloc: Global, input: &mut S, limit: usize) -> Result<
 fn undeclared(error: MetaError) -> Unread
     ensures { ((error ≡ MetaError.Memory) × (result ≡ Unread.Memory))
         ⊎ ((error ≢ MetaError.Memory) × (result ≡ Unread.Refused
-        (Refusal.Input (InputError.Meta error)))) }
+        (InputError.Meta error))) }
 {
     match error {
         MetaError::Memory => Unread::Memory,
-        _ => Unread::Refused(Refusal::Input(InputError::Meta(error))),
+        _ => Unread::Refused(InputError::Meta(error)),
     }
 }
 
@@ -175,10 +191,10 @@ fn undeclared(error: MetaError) -> Unread
 fn unspelled(error: MofError) -> Unread
     ensures { ((error ≡ MofError.Memory) × (result ≡ Unread.Memory))
         ⊎ ((error ≢ MofError.Memory) × (result ≡ Unread.Refused
-        (Refusal.Input (InputError.Mof error)))) }
+        (InputError.Mof error))) }
 {
     match error {
         MofError::Memory => Unread::Memory,
-        _ => Unread::Refused(Refusal::Input(InputError::Mof(error))),
+        _ => Unread::Refused(InputError::Mof(error)),
     }
 }

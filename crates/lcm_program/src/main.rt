@@ -46,7 +46,7 @@ mod words;
 pub use canon::read_canonical;
 pub use check::read_count;
 pub use checksum::read_checksum;
-use command_line::{CommandLine, arguments};
+use command_line::CommandLine;
 use dsc_network::TcpLink;
 use dsc_node::Status;
 pub use generate::repair_generated;
@@ -54,9 +54,9 @@ pub use input::{Unread, read_bytes, read_document, read_instances, read_meta, re
 pub use order::read_order;
 pub use program::{node, node_over};
 use real_outside::{
-    FileDisk, FolderHost, InSource, OutSink, SystemClock, hold_standard_descriptors,
+    FileDisk, FolderHost, InSource, OutSink, SystemClock, arguments, hold_standard_descriptors,
 };
-pub use refusal::Refusal;
+pub use refusal::{is_refusal, refusal_line};
 pub use resource_kinds::{Entry, Failure, Kinds, Resources, SetAnswer, TestAnswer};
 pub use starts::{push, register, set_meta, start_node};
 use std::alloc::AllocError;

@@ -1,11 +1,12 @@
 //! Answers, printed.
-ghost use Rattle.std.specs.Prelude.{◌≡◌, IfErr, IfOk, string_bytes};
-ghost use Rattle.lcm_program.specs.Endings.{OtherStartEnds, RefusalEnds, RefusedStartEnds, StartEnds, UnreadEnds};
+ghost use Rattle.std.specs.Prelude.{◌≡◌, ℕ, List, Some, IfErr, IfOk, string_bytes};
+ghost use Rattle.lcm_program.specs.Endings.{OtherEnds, RefusalEnds, RefusedEnds, StartEnds, UnreadEnds};
 ghost use Rattle.lcm_program.specs.Printed.{Prints};
+ghost use Rattle.lcm_program.specs.Refusal.{reason_of};
 ghost use Rattle.lcm_program.specs.Test.{PrintsRun};
 
 use crate::input::Unread;
-use crate::refusal::Refusal;
+use crate::refusal::{is_refusal, refusal_line};
 use crate::test::Outcome;
 use dsc_node::{StartEnd, Status};
 use dsc_outside::{Failed, Sink, write_all};
@@ -62,18 +63,20 @@ pub fn print_start<K: Sink>(alloc: Global, output: &mut K, end: StartEnd) -> Sta
     ensures { StartEnds K.Ends end.status (string_bytes end.lines) result output.old output.new }
 {
     let StartEnd { status, lines } = end;
-    match Refusal::of(status) {
-        Ok(refusal) => print_refused(alloc, output, lines, refusal),
-        Err(other) => print_other(output, &lines, other),
+    if is_refusal(&status) {
+        print_refused(alloc, output, lines, status)
+    } else {
+        print_other(output, &lines, status)
     }
 }
 
-// Prints these lines, and after them that of a refusal; its status stays where that fails.
-fn print_refused<K: Sink>(alloc: Global, output: &mut K, lines: String, refusal: Refusal) -> Status
-    ensures { RefusedStartEnds K.Ends (string_bytes lines) refusal result output.old output.new }
+// Prints these lines, and after them that of the refusal; its status stays where that fails.
+fn print_refused<K: Sink>(alloc: Global, output: &mut K, lines: String, refusal: Status) -> Status
+    ensures { (reason : List ℕ) → reason_of refusal ≡ Some reason
+        → RefusedEnds K.Ends refusal (string_bytes lines) reason result output.old output.new }
 {
     let mut text = lines;
-    let line = match refusal.line(alloc) {
+    let line = match refusal_line(alloc, &refusal) {
         Ok(line) => line,
         Err(AllocError) => return Status::Memory,
     };
@@ -81,12 +84,12 @@ fn print_refused<K: Sink>(alloc: Global, output: &mut K, lines: String, refusal:
         return Status::Memory;
     }
     let _ = write_all(output, text.as_bytes());
-    refusal.status()
+    refusal
 }
 
 // Prints the lines of a start that was not refused. Where memory ran out nothing is printed.
 fn print_other<K: Sink>(output: &mut K, lines: &str, status: Status) -> Status
-    ensures { OtherStartEnds K.Ends status lines.now result output.old output.new }
+    ensures { OtherEnds K.Ends status lines.now result output.old output.new }
 {
     if let Status::Memory = status {
         return Status::Memory;
@@ -101,15 +104,13 @@ fn print_other<K: Sink>(output: &mut K, lines: &str, status: Status) -> Status
 pub fn print_unread<K: Sink>(alloc: Global, output: &mut K, unread: Unread) -> Status
     ensures { UnreadEnds K.Ends unread result output.old output.new }
 {
-    match unread {
-        Unread::Refused(refusal) => refuse(alloc, output, refusal),
-        Unread::Memory => Status::Memory,
-    }
+    print_status(alloc, output, unread.status())
 }
 
-/// Prints the line of a refusal; its status stays where that fails.
-pub fn refuse<K: Sink>(alloc: Global, output: &mut K, refusal: Refusal) -> Status
-    ensures { RefusalEnds K.Ends refusal result output.old output.new }
+/// Prints the line of a refusal that comes before anything is done; its status stays where that fails.
+pub fn print_status<K: Sink>(alloc: Global, output: &mut K, status: Status) -> Status
+    ensures { RefusalEnds K.Ends status result output.old output.new }
 {
-    print_refused(alloc, output, String::new(alloc), refusal)
+    let lines = String::new(alloc);
+    print_start(alloc, output, StartEnd { status, lines })
 }

@@ -15,8 +15,7 @@ use crate::check::read_count;
 use crate::checksum::read_checksum;
 use crate::generate::repair_generated;
 use crate::order::read_order;
-use crate::printing::{print_answer, print_run, print_text, refuse};
-use crate::refusal::Refusal;
+use crate::printing::{print_answer, print_run, print_status, print_text, print_unread};
 use crate::starts::{push, register, set_meta, start_node};
 use crate::test::read_and_monitor;
 use crate::words::{Command, UsageError, read_words};
@@ -105,7 +104,7 @@ pub fn node_over<S: Source, K: Sink, D: Disk, M: Machine, L: Link, C: Clock>(
 {
     match read_words(words) {
         Ok(command) => do_command(alloc, command, input, output, disk, machine, link, clock),
-        Err(UsageError { word }) => refuse(alloc, output, Refusal::Usage { word }),
+        Err(UsageError { word }) => print_status(alloc, output, Status::Usage { word }),
     }
 }
 
@@ -137,7 +136,7 @@ fn do_command<S: Source, K: Sink, D: Disk, M: Machine, L: Link, C: Clock>(
         Command::Canon => print_answer(alloc, output, read_canonical(alloc, input)),
         Command::Checksum => match read_checksum(input) {
             Ok(line) => print_text(output, &line),
-            Err(refusal) => refuse(alloc, output, refusal),
+            Err(unread) => print_unread(alloc, output, unread),
         },
         Command::Generate { count } => match repair_generated(alloc, count) {
             Ok(text) => print_text(output, text.as_bytes()),

@@ -75,13 +75,7 @@ fn monitor_document<M: Machine>(
 {
     let document = &ordered.document;
     let overlap = overlaps(alloc, document)?;
-    match run_merged(
-        alloc,
-        document,
-        ordered.order.as_slice(),
-        RunMode::Monitor,
-        machine,
-    ) {
+    match run_merged(alloc, ordered, RunMode::Monitor, machine) {
         RunEnd::Finished | RunEnd::RebootAsked(_) => {
             Ok(outcome_of(alloc, document, machine.calls(), overlap)?)
         }

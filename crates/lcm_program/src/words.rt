@@ -2,12 +2,10 @@
 ghost use Rattle.std.specs.Prelude.{◌↔◌, ℕ, [], ◌∷◌, IfOk, IfErr, IfSome, IfNone, IsTrue, codes, map, string_bytes};
 ghost use Rattle.lcm_program.specs.Words.{IsAgent, IsCount, IsForm, IsName, IsStage, IsUsage};
 
+use dsc_document::MAX_RESOURCES;
 use mof_values::MAX_NAME_BYTES;
 use node_state::Stage;
 use uuid::Uuid;
-
-/// The most resources of a generated document.
-const GENERATED_LIMIT: u32 = 4096;
 
 /// What the program is asked to do.
 #[derive(Clone, Copy, Debug, PartialEq, Eq)]
@@ -229,7 +227,7 @@ fn parsed_count(word: &str) -> Option<u32>
         _ => return None,
     }
     match word.parse::<u32>() {
-        Ok(count) if count <= GENERATED_LIMIT => Some(count),
+        Ok(count) if count as usize <= MAX_RESOURCES => Some(count),
         _ => None,
     }
 }

@@ -7,12 +7,14 @@
 #![tactic(auto)]
 
 ghost use Rattle.std.specs.Prelude.{◌≡◌};
+ghost use Rattle.node_store.specs.Stands.{node_shape};
 
 mod changes;
 mod passing;
 
 use changes::{append_all, rewrite_all};
 use gate_log::{Bodies, LogError, Shape, replay_log};
+use node_store::{BANK, MAX_BODY};
 use passing::Passing;
 use real_outside::{FileDisk, hold_standard_descriptors};
 use std::cmp::min;
@@ -60,16 +62,13 @@ fn read_arguments(rt: &HostRuntime) -> Option<(String, Ask)> {
     }
 }
 
-// The longest body of a node's store.
-const LARGEST: u32 = 16_842_752;
-
 // The size of a node's store.
 fn shape() -> Shape
-    ensures { result ≡ record { bank = 67108864; largest = 16842752 } }
+    ensures { result ≡ node_shape }
 {
     Shape {
-        bank: 67_108_864,
-        largest: LARGEST,
+        bank: BANK,
+        largest: MAX_BODY as u32,
     }
 }
 
@@ -83,11 +82,11 @@ fn run(rt: &HostRuntime, file: String, ask: &Ask) -> Result<(), LogError> {
     match ask {
         Ask::Open | Ask::Keep => {}
         Ask::Append { count, size } => {
-            let body = vec![in rt.alloc(); 7u8; min(*size, LARGEST) as usize]?;
+            let body = vec![in rt.alloc(); 7u8; min(*size as usize, MAX_BODY)]?;
             append_all(&mut log, &mut disk, *count, &body)?;
         }
         Ask::Rewrite { count, size } => {
-            let body = vec![in rt.alloc(); 7u8; min(*size, LARGEST) as usize]?;
+            let body = vec![in rt.alloc(); 7u8; min(*size as usize, MAX_BODY)]?;
             rewrite_all(&mut log, &mut disk, *count, &body)?;
         }
     }

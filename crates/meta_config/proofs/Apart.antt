@@ -1,5 +1,6 @@
 -- Partial configurations whose names differ by fold.
 use Rattle.std.proofs.Common.{◌≡◌, ℕ, ◌+◌, Bool, true, false, cond, ◌&&◌, ◌||◌, List, [], ◌∷◌, ◌++◌, length, take, None, option_map, map, filter, refl, sym, ap, subst, ◌∙◌, append_assoc, append-nil, length-append}
+use Rattle.std.proofs.Math.Seq.{take-append_seam}
 use Rattle.std.specs.List.{AllByRecursion, list_any, position_from}
 use Rattle.std.specs.Option.{option_or}
 use Rattle.mof_values.specs.declared.instance.Instance.{Instance}
@@ -62,10 +63,6 @@ parts_join (i ∷ is) js = at (is_of classes.Partial i) (parts_join is js)
     at true more = ap (λ l. partial_of i ∷ l) more
     at false more = more
 
-take_front : (xs ys : List Instance) → take (length xs) (xs ++ ys) ≡ xs
-take_front [] ys = refl
-take_front (x ∷ xs) ys = ap (λ l. x ∷ l) (take_front xs ys)
-
 -- a partial configuration that is no duplicate
 once_at : (earlier : List Instance) (i : Instance) (b : Bool) → is_of classes.Partial i ≡ b
     → cond b (position_from (is_partial_named (partial_name i.properties)) 0 earlier) None ≡ None
@@ -94,7 +91,7 @@ pub apart_from : (earlier rest all : List Instance) (n : ℕ) → all ≡ earlie
 apart_from earlier [] all n is at none = tt
 apart_from earlier (i ∷ rest) all n is at none =
     let o = or_none (option_map (before n) (earlier_of (take n all) i)) (duplicate_from all (n + 1) rest) none in
-    let front : take n all ≡ earlier = (λ k. take (at k) (is k)) ∙ take_front earlier (i ∷ rest) in
+    let front : take n all ≡ earlier = (λ k. take (at k) (is k)) ∙ take-append_seam earlier (i ∷ rest) in
     let here = map_none (before n) (earlier_of (take n all) i) o.0 in
     next_at earlier rest i (is_of classes.Partial i) refl
     (once_at earlier i (is_of classes.Partial i) refl (ap (λ l. earlier_of l i) (sym front) ∙ here))
@@ -116,7 +113,7 @@ before_at earlier rest i false e all = (
 pub no_duplicate : (earlier rest all : List Instance) (n : ℕ) → all ≡ earlier ++ rest → n ≡ length earlier → AreApart (parts_of earlier) (parts_of rest) → duplicate_from all n rest ≡ None
 no_duplicate earlier [] all n is at apart = refl
 no_duplicate earlier (i ∷ rest) all n is at apart =
-    let front : take n all ≡ earlier = (λ k. take (at k) (is k)) ∙ take_front earlier (i ∷ rest) in
+    let front : take n all ≡ earlier = (λ k. take (at k) (is k)) ∙ take-append_seam earlier (i ∷ rest) in
     let h = before_at earlier rest i (is_of classes.Partial i) refl apart in
     ap (λ o. option_or (option_map (before n) o) (duplicate_from all (n + 1) rest)) (ap (λ l. earlier_of l i) front ∙ h.0)
     ∙ no_duplicate (earlier ++ i ∷ []) rest all (n + 1) (is ∙ behind earlier rest i) (ap (λ k. k + 1) at ∙ place earlier i) h.1

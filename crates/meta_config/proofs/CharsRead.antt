@@ -39,15 +39,15 @@ chars_end cs rest e all = chars_behind e.0 rest (subst AreChars e.1 all)
 
 -- ---- escapes
 
-short_at : (b : Bool) (v value : ℕ) (rest : Option ℕ) → v < 128 → cond b (Some v) rest ≡ Some value → (rest ≡ Some value → value < 128) → value < 128
-short_at true v value rest less e more = subst (λ n. n < 128) (same_Some v value e) less
-short_at false v value rest less e more = more e
+short_escape_at : (b : Bool) (v value : ℕ) (rest : Option ℕ) → v < 128 → cond b (Some v) rest ≡ Some value → (rest ≡ Some value → value < 128) → value < 128
+short_escape_at true v value rest less e more = subst (λ n. n < 128) (same_Some v value e) less
+short_escape_at false v value rest less e more = more e
 
 short_is_small : (c value : ℕ) → short_escape c ≡ Some value → value < 128
 short_is_small c value e =
-    short_at (c == 98) 8 value _ (omega arith) e (λ e. short_at (c == 116) 9 value _ (omega arith) e (λ e. short_at (c == 110) 10 value _ (omega arith) e
-    (λ e. short_at (c == 102) 12 value _ (omega arith) e (λ e. short_at (c == 114) 13 value _ (omega arith) e (λ e. short_at (c == 34) 34 value _ (omega arith) e
-    (λ e. short_at (c == 39) 39 value _ (omega arith) e (λ e. short_at (c == 92) 92 value None (omega arith) e (λ e. cc))))))))
+    short_escape_at (c == 98) 8 value _ (omega arith) e (λ e. short_escape_at (c == 116) 9 value _ (omega arith) e (λ e. short_escape_at (c == 110) 10 value _ (omega arith) e
+    (λ e. short_escape_at (c == 102) 12 value _ (omega arith) e (λ e. short_escape_at (c == 114) 13 value _ (omega arith) e (λ e. short_escape_at (c == 34) 34 value _ (omega arith) e
+    (λ e. short_escape_at (c == 39) 39 value _ (omega arith) e (λ e. short_escape_at (c == 92) 92 value None (omega arith) e (λ e. cc))))))))
 
 digit_small : (d : ℕ) → digit_of 16 d ≡ true → digit_value d < 16
 digit_small d e = grind (arith, nat_tests)

@@ -21,14 +21,6 @@ prefix_all p (x ∷ xs) ys all stops =
     ∙ ap (λ n. 1 + n) (prefix_all p xs ys b.1 stops)
     ∙ one_more (length xs)
 
-pub take_front : (xs ys : List ℕ) → take (length xs) (xs ++ ys) ≡ xs
-take_front [] ys = refl
-take_front (x ∷ xs) ys = ap (λ l. x ∷ l) (take_front xs ys)
-
-pub drop_front : (xs ys : List ℕ) → drop (length xs) (xs ++ ys) ≡ ys
-drop_front [] ys = refl
-drop_front (x ∷ xs) ys = drop_front xs ys
-
 pub all_front : (p : ℕ → Bool) (xs ys : List ℕ) → list_all p (xs ++ ys) ≡ true → list_all p xs ≡ true
 all_front p [] ys all = refl
 all_front p (x ∷ xs) ys all =

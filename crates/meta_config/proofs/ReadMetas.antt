@@ -71,9 +71,9 @@ short_text : (meta : Meta) → too_long meta ≡ None → nat_le (length (text_o
 unfolding too_long
 short_text meta e = test_none _ _ e
 
-parts_apart : (is : List Instance) → duplicate_partial is ≡ None → AreApart [] (parts_of is)
+no_duplicate_apart : (is : List Instance) → duplicate_partial is ≡ None → AreApart [] (parts_of is)
 unfolding duplicate_partial
-parts_apart is e = apart_from [] is is 0 refl refl (map_none _ _ e)
+no_duplicate_apart is e = apart_from [] is is 0 refl refl (map_none _ _ e)
 
 depends_known : (is : List Instance) → depends_unknown is ≡ None → AllByRecursion (λ i. unknown_in is i ≡ None) is
 unfolding depends_unknown
@@ -180,17 +180,17 @@ names_push : (kept xs : List (List ℕ)) (x : List ℕ) → with_names kept (xs 
 names_push kept [] x = refl
 names_push kept (y ∷ ys) x = names_push (with_name kept y) ys x
 
-once_at : (kept : List (List ℕ)) (name : List ℕ) (b : Bool) → list_any (same_name name) kept ≡ b → with_names [] kept ≡ kept
+pushed_once_at : (kept : List (List ℕ)) (name : List ℕ) (b : Bool) → list_any (same_name name) kept ≡ b → with_names [] kept ≡ kept
     → with_names [] (cond b kept (kept ++ name ∷ [])) ≡ cond b kept (kept ++ name ∷ [])
-once_at kept name true e so_far = so_far
-once_at kept name false e so_far =
+pushed_once_at kept name true e so_far = so_far
+pushed_once_at kept name false e so_far =
     names_push [] kept name
     ∙ ap (λ l. with_name l name) so_far
     ∙ ap (λ b. cond b kept (kept ++ name ∷ [])) e
 
 once : (kept names : List (List ℕ)) → with_names [] kept ≡ kept → with_names [] (with_names kept names) ≡ with_names kept names
 once kept [] so_far = so_far
-once kept (name ∷ names) so_far = once (with_name kept name) names (once_at kept name (list_any (same_name name) kept) refl so_far)
+once kept (name ∷ names) so_far = once (with_name kept name) names (pushed_once_at kept name (list_any (same_name name) kept) refl so_far)
 
 push_each : (P : List ℕ → Type 0) (kept : List (List ℕ)) (name : List ℕ) → AllByRecursion P kept → P name → AllByRecursion P (kept ++ name ∷ [])
 push_each P [] name all one = (one, tt)
@@ -310,12 +310,12 @@ not_false : (b : Bool) → not b ≡ false → b ≡ true
 not_false true e = refl
 not_false false e = cc
 
-known_at : (is : List Instance) (i : Instance) (b : Bool) → b ≡ true → cond b (find (λ name. not (list_any (is_partial_named name) is)) (depends_of i.properties)) None ≡ None
+depends_known_at : (is : List Instance) (i : Instance) (b : Bool) → b ≡ true → cond b (find (λ name. not (list_any (is_partial_named name) is)) (depends_of i.properties)) None ≡ None
     → AllByRecursion (λ name. is_known (parts_of is) name ≡ true) (depends_of i.properties)
-known_at is i true e none =
+depends_known_at is i true e none =
     each_weaker _ _ (λ name h. sym (known_in name is) ∙ not_false (list_any (is_partial_named name) is) h) (depends_of i.properties)
     (find_none (λ name. not (list_any (is_partial_named name) is)) (depends_of i.properties) none)
-known_at is i false e none = cc
+depends_known_at is i false e none = cc
 
 pub record AreAccepted (is : List Instance) : Type 0 where
   pub urls : AllByRecursion (λ i. has_bad_url i ≡ false) is
@@ -342,7 +342,7 @@ accepted bytes meta m =
       few_partials = ap (λ n. nat_le n MAX_PARTIALS) (sym (parts_count is)) ∙ few_partials is values.1.0;
       few_names = few_names is values.1.1.0;
       short = short_text (meta_of is) values.1.1.1.0;
-      apart = parts_apart is values.1.1.1.1.0;
+      apart = no_duplicate_apart is values.1.1.1.1.0;
       known = depends_known is values.1.1.1.1.1.0;
     }
 
@@ -358,7 +358,7 @@ made_well is a = record {
   few_partials = a.few_partials;
   apart = a.apart;
   known = parts_each (λ (p : Partial). AllByRecursion (λ name. is_known (parts_of is) name ≡ true) p.depends) (λ i. unknown_in is i ≡ None)
-      (λ i e none. known_at is i (is_of classes.Partial i) e none) is a.known;
+      (λ i e none. depends_known_at is i (is_of classes.Partial i) e none) is a.known;
   short = a.short;
 }
 

@@ -1,5 +1,6 @@
 -- A text spells a site by the grammar of URLs exactly where it is the site of the text.
 use Rattle.std.proofs.Common.{◌≡◌, ◌≢◌, ℕ, ◌+◌, ◌<◌, Bool, true, false, cond, not, ◌&&◌, List, [], ◌∷◌, ◌++◌, length, take, drop, Option, Some, None, option_map, refl, sym, ap, subst, append_assoc, ◌∙◌, arith, codes}
+use Rattle.std.proofs.Math.Seq.{take-append_seam, drop-append_seam}
 use Rattle.std.specs.List.{list_all, prefix_len}
 use Rattle.std.specs.Char.{digit_value, to_ascii_lowercase}
 use Rattle.std.specs.Fmt.{decimal}
@@ -13,7 +14,7 @@ use Rattle.mof_values.specs.Fold.{fold_case, SameName, same_name}
 use Rattle.meta_config.specs.declared.server.Site.{Site}
 use Rattle.meta_config.specs.Urls.{SpellsPort, SpellsUrl, is_empty_text, is_host_char, is_in_name, is_path_char, is_slash, port_behind, scheme_of, site_at, site_behind, site_in, site_of, without_slashes}
 use Rattle.meta_config.specs.Urls.SpellsPort.{default, written}
-use Rattle.meta_config.proofs.Pieces.{all_front, all_taken, both, drop_front, prefix_all, stops_behind, take_front}
+use Rattle.meta_config.proofs.Pieces.{all_front, all_taken, both, prefix_all, stops_behind}
 use Rattle.meta_config.proofs.Slashes.{cut, ends_in_no_slash, slash, slashes_dropped}
 use Rattle.meta_config.proofs.Ports.{behind_read, behind_spelled}
 
@@ -32,15 +33,15 @@ record MadeOf (empty rooted : Bool) (found : Option ℕ) (make : ℕ → Site) (
 no_site : (site : Site) → ◌≡◌ {A = Option Site} None (Some site) → ⊥
 no_site site h = cc
 
-same_site : (a b : Site) → Some a ≡ Some b → b ≡ a
-same_site a b h = cc
+site_of_some : (a b : Site) → Some a ≡ Some b → b ≡ a
+site_of_some a b h = cc
 
 made_of : (empty rooted : Bool) (found : Option ℕ) (make : ℕ → Site) (site : Site)
     → cond empty None (cond rooted (option_map make found) None) ≡ Some site → MadeOf empty rooted found make site
 made_of true rooted found make site h = absurd (no_site site h)
 made_of false false found make site h = absurd (no_site site h)
 made_of false true None make site h = absurd (no_site site h)
-made_of false true (Some p) make site h = record { filled = refl; path = refl; port = p; is = refl; made = same_site (make p) site h }
+made_of false true (Some p) make site h = record { filled = refl; path = refl; port = p; is = refl; made = site_of_some (make p) site h }
 
 no_to_yes : (b : Bool) → not b ≡ false → b ≡ true
 no_to_yes true h = refl
@@ -148,13 +149,13 @@ behind_joined : (https : Bool) (authority path : List ℕ) → list_all is_in_na
     → site_behind https (authority ++ path) ≡ site_in https authority path
 behind_joined https authority path all stops =
     ap (λ n. site_in https (take n (authority ++ path)) (drop n (authority ++ path))) (prefix_all is_in_name authority path all stops)
-    ∙ (λ i. site_in https (take_front authority path i) (drop_front authority path i))
+    ∙ (λ i. site_in https (take-append_seam authority path i) (drop-append_seam authority path i))
 
 in_joined : (https : Bool) (host port path : List ℕ) → list_all is_host_char host ≡ true → prefix_len is_host_char port ≡ 0
     → site_in https (host ++ port) path ≡ site_at https host port path
 in_joined https host port path all stops =
     ap (λ n. site_at https (take n (host ++ port)) (drop n (host ++ port)) path) (prefix_all is_host_char host port all stops)
-    ∙ (λ i. site_at https (take_front host port i) (drop_front host port i) path)
+    ∙ (λ i. site_at https (take-append_seam host port i) (drop-append_seam host port i) path)
 
 filled : (host : List ℕ) → host ≢ [] → is_empty_text host ≡ false
 filled [] some = absurd (some refl)
@@ -189,10 +190,10 @@ length_of_scheme : (a b : List ℕ) → SameName a b → length a ≡ length b
 length_of_scheme a b same = sym (length-map a to_ascii_lowercase) ∙ ap length same ∙ length-map b to_ascii_lowercase
 
 taken : (n : ℕ) (scheme rest : List ℕ) → length scheme ≡ n → take n (scheme ++ rest) ≡ scheme
-taken n scheme rest e = ap (λ k. take k (scheme ++ rest)) (sym e) ∙ take_front scheme rest
+taken n scheme rest e = ap (λ k. take k (scheme ++ rest)) (sym e) ∙ take-append_seam scheme rest
 
 dropped : (n : ℕ) (scheme rest : List ℕ) → length scheme ≡ n → drop n (scheme ++ rest) ≡ rest
-dropped n scheme rest e = ap (λ k. drop k (scheme ++ rest)) (sym e) ∙ drop_front scheme rest
+dropped n scheme rest e = ap (λ k. drop k (scheme ++ rest)) (sym e) ∙ drop-append_seam scheme rest
 
 by_scheme : (https : Bool) (scheme rest : List ℕ) → SameName scheme (scheme_of https) → site_of (scheme ++ rest) ≡ site_behind https rest
 by_scheme false scheme rest same =

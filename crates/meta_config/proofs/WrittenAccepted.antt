@@ -33,7 +33,7 @@ use Rattle.meta_config.proofs.Apart.{AreApart, known_in, no_duplicate, parts_of}
 use Rattle.meta_config.proofs.ReadMetas.{parts_count}
 use Rattle.meta_config.proofs.Searches.{each_map, each_of, each_weaker, no_find, no_position, nothing_found}
 use Rattle.meta_config.proofs.WellFormed.{HasManagers, IsNameText, IsPart, IsServer, IsWellFormed, is_known}
-use Rattle.meta_config.proofs.WrittenMetas.{depends_back, managers_each, parts_each, written, written_declare, written_names, written_parts}
+use Rattle.meta_config.proofs.WrittenMetas.{depends_back, managers_each, instances_each, written, written_declare, written_names, written_parts}
 use Rattle.meta_config.specs.declared.limits.TheConstants.{MAX_META_TEXT, MAX_NAMES, MAX_PARTIALS}
 
 -- ---- what holds of each instance that is written
@@ -63,7 +63,7 @@ unfolding pair
 one_two t is n e f = ap (option_and_then (second_from t is)) e ∙ ap (option_map (pair n)) f
 
 no_parts : (t : Instance → Bool) → ((p : Partial) → t (partial_instance p) ≡ false) → (n : ℕ) (ps : List Partial) → position_from t n (map partial_instance ps) ≡ None
-no_parts t differs n ps = no_position t n (map partial_instance ps) (parts_each (λ i. t i ≡ false) differs ps)
+no_parts t differs n ps = no_position t n (map partial_instance ps) (instances_each (λ i. t i ≡ false) differs ps)
 
 one_settings : (settings : Meta) (o : Option Server) (pulls reports : Bool) (names : List (List ℕ)) (ps : List Partial) → first_two (is_of classes.Settings) (written settings o pulls reports names ps) ≡ None
 one_settings settings o pulls reports names ps =
@@ -124,7 +124,7 @@ one_server : (settings : Meta) (o : Option Server) (pulls reports : Bool) (names
 unfolding two_servers second_found at_first
 one_server settings None pulls reports names ps h =
     ap (option_and_then (at_first (written settings None pulls reports names ps)))
-    (nothing_found manager_site 1 (map partial_instance ps) (parts_each (λ i. manager_site i ≡ None) (λ p. refl) ps))
+    (nothing_found manager_site 1 (map partial_instance ps) (instances_each (λ i. manager_site i ≡ None) (λ p. refl) ps))
 one_server settings (Some server) true true names ps h =
     servers_at (written settings (Some server) true true names ps) (site_at_server server) 1 (first_server server h.0 _)
     (ap (λ b. cond b (Some 2) (position_from (has_other_site (site_at_server server)) 3 (map partial_instance ps))) (not_other server h.0)
@@ -189,9 +189,9 @@ names_fit : (names : List (List ℕ)) → AllByRecursion IsNameText names → li
 names_fit [] all = refl
 names_fit (n ∷ ns) all = ap (λ b. b && list_all (is_text_that is_name) (map text_scalar ns)) all.0.sized ∙ names_fit ns all.1
 
-texts_fit : (texts : List (List ℕ)) → list_all is_text (map text_scalar texts) ≡ true
-texts_fit [] = refl
-texts_fit (t ∷ ts) = texts_fit ts
+are_texts : (texts : List (List ℕ)) → list_all is_text (map text_scalar texts) ≡ true
+are_texts [] = refl
+are_texts (t ∷ ts) = are_texts ts
 
 references_fit : (names : List (List ℕ)) → AllByRecursion IsNameText names → list_all (is_text_that is_reference) (map text_scalar (map reference_to names)) ≡ true
 references_fit [] all = refl
@@ -216,10 +216,10 @@ part_right : (name : List ℕ) (depends exclusive : List (List ℕ)) (refresh : 
     → wrong_in (partial_instance (record { name = name; depends = depends; exclusive = exclusive; refresh = refresh })) ≡ None
 part_right name depends exclusive None named all =
     let ps = (partial_instance (record { name = name; depends = depends; exclusive = exclusive; refresh = None })).properties in
-    rows_right None partial_rows ps refl (row_right _ ps _ _ refl named refl, (row_right _ ps _ _ refl (references_fit depends all) refl, (row_right _ ps _ _ refl (texts_fit exclusive) refl, (row_absent _ ps refl, tt))))
+    rows_right None partial_rows ps refl (row_right _ ps _ _ refl named refl, (row_right _ ps _ _ refl (references_fit depends all) refl, (row_right _ ps _ _ refl (are_texts exclusive) refl, (row_absent _ ps refl, tt))))
 part_right name depends exclusive (Some mode) named all =
     let ps = (partial_instance (record { name = name; depends = depends; exclusive = exclusive; refresh = Some mode })).properties in
-    rows_right None partial_rows ps refl (row_right _ ps _ _ refl named refl, (row_right _ ps _ _ refl (references_fit depends all) refl, (row_right _ ps _ _ refl (texts_fit exclusive) refl, (row_right _ ps _ _ refl (refresh_fits mode) refl, tt))))
+    rows_right None partial_rows ps refl (row_right _ ps _ _ refl named refl, (row_right _ ps _ _ refl (references_fit depends all) refl, (row_right _ ps _ _ refl (are_texts exclusive) refl, (row_right _ ps _ _ refl (refresh_fits mode) refl, tt))))
 
 -- ---- the refusals, one by one
 
@@ -280,12 +280,12 @@ not_too_many_names meta w =
     ap (λ l. cond (nat_le (length l) MAX_NAMES) None (Some (TooMany limits.Names))) (written_names meta meta.server meta.pulls meta.reports meta.names meta.partials w.managers w.names_once)
     ∙ ap (λ b. cond b None (Some (TooMany limits.Names))) w.few_names
 
-is_short : (meta : Meta) → nat_le (length (text_of_meta meta)) MAX_META_TEXT ≡ true → too_long meta ≡ None
+short_is_not_too_long : (meta : Meta) → nat_le (length (text_of_meta meta)) MAX_META_TEXT ≡ true → too_long meta ≡ None
 unfolding too_long
-is_short meta e = ap (λ b. cond b None (Some (TooMany limits.Text))) e
+short_is_not_too_long meta e = ap (λ b. cond b None (Some (TooMany limits.Text))) e
 
 not_too_long : (meta : Meta) → IsWellFormed meta → too_long (meta_of (instances_of meta)) ≡ None
-not_too_long meta w = ap too_long (written_declare meta w) ∙ is_short meta w.short
+not_too_long meta w = ap too_long (written_declare meta w) ∙ short_is_not_too_long meta w.short
 
 no_duplicates : (meta : Meta) → IsWellFormed meta → duplicate_partial (instances_of meta) ≡ None
 unfolding duplicate_partial

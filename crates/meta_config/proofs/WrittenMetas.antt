@@ -44,19 +44,19 @@ managers_each P true false names server d p r rest all = (d, all)
 managers_each P false true names server d p r rest all = (p, all)
 managers_each P false false names server d p r rest all = (r, all)
 
-pub parts_each : (P : Instance → Type 0) → ((p : Partial) → P (partial_instance p)) → (ps : List Partial) → AllByRecursion P (map partial_instance ps)
-parts_each P each ps = each_map P partial_instance ps (each_of (λ p. P (partial_instance p)) each ps)
+pub instances_each : (P : Instance → Type 0) → ((p : Partial) → P (partial_instance p)) → (ps : List Partial) → AllByRecursion P (map partial_instance ps)
+instances_each P each ps = each_map P partial_instance ps (each_of (λ p. P (partial_instance p)) each ps)
 
 -- no partial configuration is of another class
 no_class : (class : Class) → same_name (class_name classes.Partial) (class_name class) ≡ false → (ps : List Partial) → find (is_of class) (map partial_instance ps) ≡ None
-no_class class differs ps = no_find (is_of class) (map partial_instance ps) (parts_each (λ i. is_of class i ≡ false) (λ p. differs) ps)
+no_class class differs ps = no_find (is_of class) (map partial_instance ps) (instances_each (λ i. is_of class i ≡ false) (λ p. differs) ps)
 
-no_properties : (class : Class) → same_name (class_name classes.Partial) (class_name class) ≡ false → (ps : List Partial)
+partials_no_properties : (class : Class) → same_name (class_name classes.Partial) (class_name class) ≡ false → (ps : List Partial)
     → option_map_or (λ (i : Instance). i.properties) (find (is_of class) (map partial_instance ps)) [] ≡ []
-no_properties class differs ps = ap (λ o. option_map_or (λ (i : Instance). i.properties) o []) (no_class class differs ps)
+partials_no_properties class differs ps = ap (λ o. option_map_or (λ (i : Instance). i.properties) o []) (no_class class differs ps)
 
 none_of : (class : Class) → same_name (class_name classes.Partial) (class_name class) ≡ false → (ps : List Partial) → list_any (is_of class) (map partial_instance ps) ≡ false
-none_of class differs ps = no_any (is_of class) (map partial_instance ps) (parts_each (λ i. is_of class i ≡ false) (λ p. differs) ps)
+none_of class differs ps = no_any (is_of class) (map partial_instance ps) (instances_each (λ i. is_of class i ≡ false) (λ p. differs) ps)
 
 abbrev names_in : List Property → List (List ℕ)
 names_in ps = with_names [] (texts_of (given (codes "ConfigurationNames") ps))
@@ -107,7 +107,7 @@ parts_map (p ∷ ps) = λ k. part_back p.name p.depends p.exclusive p.refresh k 
 
 parts_back : (ps : List Partial) → parts_of (map partial_instance ps) ≡ ps
 parts_back ps =
-    ap (map partial_of) (all_filter (is_of classes.Partial) (map partial_instance ps) (parts_each (λ i. is_of classes.Partial i ≡ true) (λ p. refl) ps)) ∙ parts_map ps
+    ap (map partial_of) (all_filter (is_of classes.Partial) (map partial_instance ps) (instances_each (λ i. is_of classes.Partial i ≡ true) (λ p. refl) ps)) ∙ parts_map ps
 
 -- ---- what is declared, field by field
 
@@ -140,11 +140,11 @@ names_back names once = ap (with_names []) (texts_back names) ∙ once
 
 pub written_names : (settings : Meta) (server : Option Server) (pulls reports : Bool) (names : List (List ℕ)) (ps : List Partial) → HasManagers server pulls reports names
     → with_names [] names ≡ names → names_of (written settings server pulls reports names ps) ≡ names
-written_names settings None pulls reports names ps h once = ap names_in (no_properties classes.Download refl ps) ∙ sym h.2
+written_names settings None pulls reports names ps h once = ap names_in (partials_no_properties classes.Download refl ps) ∙ sym h.2
 written_names settings (Some server) true true names ps h once = names_back names once
 written_names settings (Some server) true false names ps h once = names_back names once
-written_names settings (Some server) false true names ps h once = ap names_in (no_properties classes.Download refl ps) ∙ sym (h.1 refl)
-written_names settings (Some server) false false names ps h once = ap names_in (no_properties classes.Download refl ps) ∙ sym (h.1 refl)
+written_names settings (Some server) false true names ps h once = ap names_in (partials_no_properties classes.Download refl ps) ∙ sym (h.1 refl)
+written_names settings (Some server) false false names ps h once = ap names_in (partials_no_properties classes.Download refl ps) ∙ sym (h.1 refl)
 
 same_filled : (key : List ℕ) → first_filled key key ≡ key
 same_filled [] = refl
@@ -162,18 +162,18 @@ written_server : (settings : Meta) (server : Option Server) (pulls reports : Boo
     → option_map (server_at (key_of (written settings server pulls reports names ps))) (first_site (written settings server pulls reports names ps)) ≡ server
 written_server settings None pulls reports names ps h =
     ap (λ o. option_map (server_at (key_of (written settings None pulls reports names ps))) (option_and_then (λ (i : Instance). site_given i.properties) o))
-    (no_find is_manager (map partial_instance ps) (parts_each (λ i. is_manager i ≡ false) (λ p. refl) ps))
+    (no_find is_manager (map partial_instance ps) (instances_each (λ i. is_manager i ≡ false) (λ p. refl) ps))
 written_server settings (Some server) true true names ps h =
     server_back (key_of (written settings (Some server) true true names ps)) server h.0.site.named (same_filled server.key)
 written_server settings (Some server) true false names ps h =
     server_back (key_of (written settings (Some server) true false names ps)) server h.0.site.named
-    (ap (λ qs. first_filled server.key (key_given qs)) (no_properties classes.Report refl ps) ∙ filled_alone server.key)
+    (ap (λ qs. first_filled server.key (key_given qs)) (partials_no_properties classes.Report refl ps) ∙ filled_alone server.key)
 written_server settings (Some server) false true names ps h =
     server_back (key_of (written settings (Some server) false true names ps)) server h.0.site.named
-    (ap (λ qs. first_filled (key_given qs) server.key) (no_properties classes.Download refl ps))
+    (ap (λ qs. first_filled (key_given qs) server.key) (partials_no_properties classes.Download refl ps))
 written_server settings (Some server) false false names ps h =
     server_back (key_of (written settings (Some server) false false names ps)) server h.0.site.named
-    ((λ k. first_filled (key_given (no_properties classes.Download refl ps k)) (key_given (no_properties classes.Report refl ps k))) ∙ sym (h.2 refl refl))
+    ((λ k. first_filled (key_given (partials_no_properties classes.Download refl ps k)) (key_given (partials_no_properties classes.Report refl ps k))) ∙ sym (h.2 refl refl))
 
 -- the instances that are written declare the meta-configuration
 pub written_declare : (meta : Meta) → IsWellFormed meta → meta_of (instances_of meta) ≡ meta

@@ -79,12 +79,12 @@ texts_valid : (texts : List (List ℕ)) → AllByRecursion AreChars texts → Al
 texts_valid [] all = tt
 texts_valid (t ∷ ts) all = (all.0, texts_valid ts all.1)
 
-texts_fit : (texts : List (List ℕ)) → AllByRecursion ScalarFits (map text_scalar texts)
-texts_fit [] = tt
-texts_fit (t ∷ ts) = (tt, texts_fit ts)
+scalars_fit : (texts : List (List ℕ)) → AllByRecursion ScalarFits (map text_scalar texts)
+scalars_fit [] = tt
+scalars_fit (t ∷ ts) = (tt, scalars_fit ts)
 
 list_fits : (texts : List (List ℕ)) → length texts ≤ 4096 → (length (map text_scalar texts) ≤ 4096) × AllByRecursion ScalarFits (map text_scalar texts)
-list_fits texts few = (omega (arith, length-map texts text_scalar), texts_fit texts)
+list_fits texts few = (omega (arith, length-map texts text_scalar), scalars_fit texts)
 
 name_chars : (names : List (List ℕ)) → AllByRecursion IsNameText names → AllByRecursion AreChars names
 name_chars [] all = tt
@@ -196,16 +196,16 @@ managers_few (Some server) true false names ps = omega (arith, length-map ps par
 managers_few (Some server) false true names ps = omega (arith, length-map ps partial_instance)
 managers_few (Some server) false false names ps = omega (arith, length-map ps partial_instance)
 
-few : (meta : Meta) → IsWellFormed meta → length (instances_of meta) ≤ 4097
-few meta w = omega (arith, managers_few meta.server meta.pulls meta.reports meta.names meta.partials, at_most (length meta.partials) MAX_PARTIALS w.few_partials)
+few_instances : (meta : Meta) → IsWellFormed meta → length (instances_of meta) ≤ 4097
+few_instances meta w = omega (arith, managers_few meta.server meta.pulls meta.reports meta.names meta.partials, at_most (length meta.partials) MAX_PARTIALS w.few_partials)
 
-below : (n : ℕ) → nat_le n MAX_META_TEXT ≡ true → n ≤ document_limit
-below n e = omega (arith, at_most n MAX_META_TEXT e)
+within_document : (n : ℕ) → nat_le n MAX_META_TEXT ≡ true → n ≤ document_limit
+within_document n e = omega (arith, at_most n MAX_META_TEXT e)
 
 -- the instances are those that the text spells
 pub written_reads : (meta : Meta) → IsWellFormed meta → Reads (text_of_meta meta) (instances_of meta)
 written_reads meta w =
     let all = all_good meta w in
     canonical_reads (instances_of meta) (text_of_meta meta) refl (all_valid (instances_of meta) all)
-    (record { count = few meta w; each = all_fit (instances_of meta) all })
-    (below (length (text_of_meta meta)) w.short)
+    (record { count = few_instances meta w; each = all_fit (instances_of meta) all })
+    (within_document (length (text_of_meta meta)) w.short)

@@ -12,7 +12,8 @@ use Rattle.mof_codec.specs.Reading.{Begins, BeginsNo, Only, BeginsWith, Lacks}
 use Rattle.mof_codec.specs.Values.{IsMark, IsArray, ArrayFits}
 use Rattle.mof_codec.specs.declared.values.marks.Mark.TheVariants as marks
 use Rattle.mof_codec.proofs.TokenFronts.{begins_as, Joined, begins_join}
-use Rattle.mof_codec.proofs.Parts.{same_behind, all_push, all_at, more_than}
+use Rattle.mof_syntax.proofs.Lists.{tail_same}
+use Rattle.mof_codec.proofs.Parts.{all_push, all_at, more_than}
 
 -- the array goes on with further elements
 pub record ElementsOn (us : List Lexeme) (done : List Scalar) (ts : List Lexeme) : Type 0 where
@@ -57,15 +58,15 @@ elements_case vs more rest (element ws behind r s ss c e) = is_element ws s ss b
 apart_marks : (ts us : List Lexeme) → Comma ∷ ts ≡ RightBrace ∷ us → ⊥
 apart_marks ts us e = cc
 
-behind_comma : (vs ws : List Lexeme) (more : List Scalar) (rest : List Lexeme) → vs ≡ Comma ∷ ws → ElementsCase vs more rest
+elements_behind_comma : (vs ws : List Lexeme) (more : List Scalar) (rest : List Lexeme) → vs ≡ Comma ∷ ws → ElementsCase vs more rest
     → (s : Scalar) × (others : List Scalar) × (behind : List Lexeme) × ConstantValue ws s behind × Elements behind others rest × (more ≡ s ∷ others)
-behind_comma vs ws more rest e (is_closing f g) = absurd (apart_marks ws rest (sym e ∙ f))
-behind_comma vs ws more rest e (is_element xs s others behind f c r g) =
-    (s, others, behind, subst (λ (ys : List Lexeme). ConstantValue ys s behind) (same_behind Comma Comma xs ws (sym f ∙ e)) c, r, g)
+elements_behind_comma vs ws more rest e (is_closing f g) = absurd (apart_marks ws rest (sym e ∙ f))
+elements_behind_comma vs ws more rest e (is_element xs s others behind f c r g) =
+    (s, others, behind, subst (λ (ys : List Lexeme). ConstantValue ys s behind) (tail_same Comma Comma xs ws (sym f ∙ e)) c, r, g)
 
-behind_closing : (vs ts : List Lexeme) (more : List Scalar) (rest : List Lexeme) → vs ≡ RightBrace ∷ ts → ElementsCase vs more rest → (more ≡ []) × (rest ≡ ts)
-behind_closing vs ts more rest e (is_closing f g) = (g, same_behind RightBrace RightBrace rest ts (sym f ∙ e))
-behind_closing vs ts more rest e (is_element xs s others behind f c r g) = absurd (apart_marks xs ts (sym f ∙ e))
+elements_behind_closing : (vs ts : List Lexeme) (more : List Scalar) (rest : List Lexeme) → vs ≡ RightBrace ∷ ts → ElementsCase vs more rest → (more ≡ []) × (rest ≡ ts)
+elements_behind_closing vs ts more rest e (is_closing f g) = (g, tail_same RightBrace RightBrace rest ts (sym f ∙ e))
+elements_behind_closing vs ts more rest e (is_element xs s others behind f c r g) = absurd (apart_marks xs ts (sym f ∙ e))
 
 elements_next : (us : List Lexeme) (done : List Scalar) (vs ws : List Lexeme) (s : Scalar) (ts : List Lexeme) → ElementsOn us done vs → vs ≡ Comma ∷ ws → Only ConstantValue ws s ts
     → ElementsOn us (done ++ s ∷ []) ts
@@ -75,7 +76,7 @@ elements_next us done vs ws s ts x e o = record {
       (x.on (s ∷ more) rest (subst (λ (ys : List Lexeme). Elements ys (s ∷ more) rest) (sym e) (element ws ts rest s more o.holds h)));
   only = λ all rest i.
       let y = x.only all rest i in
-      let z = behind_comma vs ws y.0 rest e (elements_case vs y.0 rest y.2) in
+      let z = elements_behind_comma vs ws y.0 rest e (elements_case vs y.0 rest y.2) in
       let same = o.only z.0 z.2 (elements_first z.2 z.1 rest z.4) z.3 in (
         z.1,
         y.1 ∙ ap (λ (ss : List Scalar). done ++ ss) (z.5 ∙ ap (λ (q : Scalar). q ∷ z.1) same.0) ∙ sym (append_assoc done (s ∷ []) z.1),
@@ -88,7 +89,7 @@ elements_end us done vs ts x e = record {
   holds = subst (λ (ss : List Scalar). IsArray us ss ts) (append-nil done) (x.on [] ts (subst (λ (ys : List Lexeme). Elements ys [] ts) (sym e) (closing ts)));
   only = λ all rest n i.
       let y = x.only all rest i in
-      let z = behind_closing vs ts y.0 rest e (elements_case vs y.0 rest y.2) in
+      let z = elements_behind_closing vs ts y.0 rest e (elements_case vs y.0 rest y.2) in
       (y.1 ∙ ap (λ (ss : List Scalar). done ++ ss) z.0 ∙ append-nil done, z.1);
 }
 
@@ -108,7 +109,7 @@ only_empty us ts e = record {
 }
   where
     goes : (all : List Scalar) (rest : List Lexeme) → ArrayCase us all rest → (all ≡ []) × (rest ≡ ts)
-    goes all rest (at_closing f g) = (g, same_behind RightBrace RightBrace rest ts (sym f ∙ e))
+    goes all rest (at_closing f g) = (g, tail_same RightBrace RightBrace rest ts (sym f ∙ e))
     goes all rest (at_element s more behind c f g) = absurd (no_closing_constant ts s behind (subst (λ (xs : List Lexeme). ConstantValue xs s behind) e c))
 
 pub reads_empty : (cs rest : List ℕ) → Begins (IsMark marks.RightBrace) cs rest → BeginsWith IsArray ArrayFits cs [] rest
@@ -166,7 +167,7 @@ module _ (cs : List ℕ) (done : List Scalar) (left : List ℕ) (so_far : ArrayS
         let x = so_far.begins.only us l in
         let y = x.2.only all ts i in
         let w = b.only x.0 x.1 in
-        let z = behind_comma x.0 w.0 y.0 ts w.2 (elements_case x.0 y.0 ts y.2) in
+        let z = elements_behind_comma x.0 w.0 y.0 ts w.2 (elements_case x.0 y.0 ts y.2) in
         (w.0, z.0, z.1, z.2, w.1, z.3, elements_first z.2 z.1 ts z.4, y.1 ∙ ap (λ (ss : List Scalar). done ++ ss) z.5)
 
     pub lacks_room : length done ≡ elements_limit → Lacks IsArray ArrayFits cs

@@ -1,7 +1,7 @@
 -- Where the machine begins a declaration, a property or an element.
 use Rattle.std.proofs.Common.{◌≡◌, ◌⊎◌, inl, inr, ℕ, zero, suc, ◌+◌, ◌*◌, Bool, true, false, cond, Option, Some, None, is_some, drop, refl, sym, ◌∙◌, ap, subst, arith}
 use Rattle.std.specs.Prelude.{◌==◌, ◌||◌}
-use Rattle.std.proofs.lemmas.Bool.{eqb-true}
+use Rattle.std.proofs.lemmas.Bool.{eqb-true, false≢true}
 use Rattle.std.proofs.lemmas.Bool.Decides.{nat_tests}
 use Rattle.std.specs.Char.{digit_value, to_ascii_lowercase}
 use Rattle.mof_values.specs.Ident.{is_first, is_next}
@@ -41,19 +41,19 @@ abbrev pub is_element : ℕ → Bool
 is_element c = is_blank c || c == slash || c == right_brace
 
 -- what the event says of the place and the character, where no token is half read
-abbrev Tells : Place → ℕ → Event → Type 0
-Tells p c events.Quiet = Unit {0}
-Tells p c events.Declaration = (start_place p ≡ true) × (to_ascii_lowercase c ≡ 105)
-Tells p c events.Property = (body_place p ≡ true) × (is_first c ≡ true)
-Tells p c events.Element = (element_place p ≡ true) × (is_element c ≡ false)
+abbrev TellsAt : Place → ℕ → Event → Type 0
+TellsAt p c events.Quiet = Unit {0}
+TellsAt p c events.Declaration = (start_place p ≡ true) × (to_ascii_lowercase c ≡ 105)
+TellsAt p c events.Property = (body_place p ≡ true) × (is_first c ≡ true)
+TellsAt p c events.Element = (element_place p ≡ true) × (is_element c ≡ false)
 
 abbrev Each : (Event → Type 0) → Option State → Type 0
 Each P None = Unit {0}
 Each P (Some s) = P s.begun
 
-either : (P : Event → Type 0) (b : Bool) (x y : Option State) → (b ≡ true → Each P x) → Each P y → Each P (cond b x y)
-either P true x y f g = f refl
-either P false x y f g = g
+either_each : (P : Event → Type 0) (b : Bool) (x y : Option State) → (b ≡ true → Each P x) → Each P y → Each P (cond b x y)
+either_each P true x y f g = f refl
+either_each P false x y f g = g
 
 first_element : (c : ℕ) → is_first c ≡ true → is_element c ≡ false
 first_element c h = grind (arith, nat_tests)
@@ -73,13 +73,13 @@ dollar_element c h = ap is_element h
 module _ (P : Event → Type 0) (b : Event) (wanted : P b) (p : Place) (c : ℕ) where
   keyed_each : (o : Option ℕ) (k : Keyword) (n : ℕ) → Each P (keyed o b k n p c)
   keyed_each None k n = tt
-  keyed_each (Some l) k n = either P (to_ascii_lowercase c == l) _ _ (λ e. wanted) tt
+  keyed_each (Some l) k n = either_each P (to_ascii_lowercase c == l) _ _ (λ e. wanted) tt
 
   number_each : Each P (number_begun b p c)
-  number_each = either P (c == 48) _ _ (λ e. wanted) (either P (c == 49) _ _ (λ e. wanted) (either P (digit_of 10 c) _ _ (λ e. wanted) tt))
+  number_each = either_each P (c == 48) _ _ (λ e. wanted) (either_each P (c == 49) _ _ (λ e. wanted) (either_each P (digit_of 10 c) _ _ (λ e. wanted) tt))
 
   value_each : Each P (value_word b p c)
-  value_each = either P (to_ascii_lowercase c == 116) _ _ (λ e. wanted) (either P (to_ascii_lowercase c == 102) _ _ (λ e. wanted) (either P (to_ascii_lowercase c == 110) _ _ (λ e. wanted) tt))
+  value_each = either_each P (to_ascii_lowercase c == 116) _ _ (λ e. wanted) (either_each P (to_ascii_lowercase c == 102) _ _ (λ e. wanted) (either_each P (to_ascii_lowercase c == 110) _ _ (λ e. wanted) tt))
 
 scalar_each : (P : Event → Type 0) (b : Event) (s p : Place) (k : Kind) (c : ℕ) → Says k c → (is_element c ≡ false → P b) → Each P (scalar_begun b s p k c)
 scalar_each P b s p kinds.Letter c is f = value_each P b (f (first_element c is)) p c
@@ -89,12 +89,12 @@ scalar_each P b s p kinds.Quote c is f = f (quote_element c is)
 scalar_each P b s p kinds.Dollar c is f = f (dollar_element c is)
 scalar_each P b s p k c is f = tt
 
-opened_each : (p : Place) (k : Kind) (c : ℕ) → Says k c → Each (Tells p c) (opened p k c)
-opened_each Start kinds.Letter c is = either (Tells Start c) (to_ascii_lowercase c == 105) _ _ (λ e. (refl, eqb-true (to_ascii_lowercase c) 105 e)) tt
-opened_each AfterInstance kinds.Letter c is = keyed_each (Tells AfterInstance c) events.Quiet tt AfterOf c (head_of (letters keywords.Of)) keywords.Of 0
+opened_each : (p : Place) (k : Kind) (c : ℕ) → Says k c → Each (TellsAt p c) (opened p k c)
+opened_each Start kinds.Letter c is = either_each (TellsAt Start c) (to_ascii_lowercase c == 105) _ _ (λ e. (refl, eqb-true (to_ascii_lowercase c) 105 e)) tt
+opened_each AfterInstance kinds.Letter c is = keyed_each (TellsAt AfterInstance c) events.Quiet tt AfterOf c (head_of (letters keywords.Of)) keywords.Of 0
 opened_each AfterOf kinds.Letter c is = tt
 opened_each AfterClass kinds.LeftBrace c is = tt
-opened_each AfterClass kinds.Letter c is = keyed_each (Tells AfterClass c) events.Quiet tt AfterAs c (head_of (letters keywords.As)) keywords.As 0
+opened_each AfterClass kinds.Letter c is = keyed_each (TellsAt AfterClass c) events.Quiet tt AfterAs c (head_of (letters keywords.As)) keywords.As 0
 opened_each AfterAs kinds.Dollar c is = tt
 opened_each AfterAlias kinds.LeftBrace c is = tt
 opened_each Body kinds.RightBrace c is = tt
@@ -102,13 +102,13 @@ opened_each Body kinds.Letter c is = (refl, is)
 opened_each AfterBody kinds.Semicolon c is = tt
 opened_each AfterName kinds.EqualsSign c is = tt
 opened_each AfterEquals kinds.LeftBrace c is = tt
-opened_each AfterEquals k c is = scalar_each (Tells AfterEquals c) events.Quiet AfterStrings AfterValue k c is (λ e. tt)
+opened_each AfterEquals k c is = scalar_each (TellsAt AfterEquals c) events.Quiet AfterStrings AfterValue k c is (λ e. tt)
 opened_each AfterStrings kinds.Quote c is = tt
 opened_each AfterStrings kinds.Semicolon c is = tt
 opened_each AfterValue kinds.Semicolon c is = tt
 opened_each InArray kinds.RightBrace c is = tt
-opened_each InArray k c is = scalar_each (Tells InArray c) events.Element AfterElementStrings AfterElement k c is (λ e. (refl, e))
-opened_each AfterComma k c is = scalar_each (Tells AfterComma c) events.Element AfterElementStrings AfterElement k c is (λ e. (refl, e))
+opened_each InArray k c is = scalar_each (TellsAt InArray c) events.Element AfterElementStrings AfterElement k c is (λ e. (refl, e))
+opened_each AfterComma k c is = scalar_each (TellsAt AfterComma c) events.Element AfterElementStrings AfterElement k c is (λ e. (refl, e))
 opened_each AfterElementStrings kinds.Quote c is = tt
 opened_each AfterElementStrings kinds.Comma c is = tt
 opened_each AfterElementStrings kinds.RightBrace c is = tt
@@ -116,19 +116,19 @@ opened_each AfterElement kinds.Comma c is = tt
 opened_each AfterElement kinds.RightBrace c is = tt
 opened_each p k c is = tt
 
-gapped_each : (p : Place) (k : Kind) (c : ℕ) → Says k c → Each (Tells p c) (gapped p k c)
+gapped_each : (p : Place) (k : Kind) (c : ℕ) → Says k c → Each (TellsAt p c) (gapped p k c)
 gapped_each p kinds.Blank c is = tt
 gapped_each p kinds.Slash c is = tt
 gapped_each p k c is = opened_each p k c is
 
-begin_each : (p : Place) (c : ℕ) → Each (Tells p c) (begin p c)
+begin_each : (p : Place) (c : ℕ) → Each (TellsAt p c) (begin p c)
 unfolding begin
 begin_each p c = gapped_each p (kind_of c) c (kind_says c)
 
 -- what the event says of any state
 abbrev pub TellsOf : Half → Place → ℕ → Event → Type 0
 TellsOf h p c events.Quiet = Unit {0}
-TellsOf h p c e = (h ≡ halves.Gap) × Tells p c e
+TellsOf h p c e = (h ≡ halves.Gap) × TellsAt p c e
 
 start_marked : (p : Place) → start_place p ≡ true → marked_place p ≡ true
 start_marked Start e = refl
@@ -143,18 +143,15 @@ element_marked InArray e = refl
 element_marked AfterComma e = refl
 element_marked p e = absurd cc
 
-clash : false ≡ true → ⊥
-clash e = cc
-
 -- where a token is half read nothing begins
 module _ (h : Half) (p : Place) (c : ℕ) (sane : marked_place p ≡ true → ⊥) where
-  never : (e : Event) → Tells p c e → TellsOf h p c e
+  never : (e : Event) → TellsAt p c e → TellsOf h p c e
   never events.Quiet t = tt
   never events.Declaration t = absurd (sane (start_marked p t.0))
   never events.Property t = absurd (sane (body_marked p t.0))
   never events.Element t = absurd (sane (element_marked p t.0))
 
-  never_each : (o : Option State) → Each (Tells p c) o → Each (TellsOf h p c) o
+  never_each : (o : Option State) → Each (TellsAt p c) o → Each (TellsOf h p c) o
   never_each None t = tt
   never_each (Some s) t = never s.begun t
 
@@ -162,7 +159,7 @@ module _ (h : Half) (p : Place) (c : ℕ) (sane : marked_place p ≡ true → �
   begin_never = never_each (begin p c) (begin_each p c)
 
   ended_never : Each (TellsOf h p c) (ended p c)
-  ended_never = either (TellsOf h p c) (is_next c) _ _ (λ e. tt) begin_never
+  ended_never = either_each (TellsOf h p c) (is_next c) _ _ (λ e. tt) begin_never
 
   key_never : (o : Option ℕ) (k : Keyword) (n : ℕ) → Each (TellsOf h p c) (key_on o k n p c)
   key_never None k n = ended_never
@@ -170,45 +167,45 @@ module _ (h : Half) (p : Place) (c : ℕ) (sane : marked_place p ≡ true → �
 
   numbered_never : (f : Numeral) → Each (TellsOf h p c) (numbered f p c)
   numbered_never numerals.Sign = number_each (TellsOf h p c) events.Quiet tt p c
-  numbered_never numerals.Zero = either (TellsOf h p c) (is_x c) _ _ (λ e. tt) (either (TellsOf h p c) (digit_of 2 c) _ _ (λ e. tt) (either (TellsOf h p c) (digit_of 8 c) _ _ (λ e. tt) (either (TellsOf h p c) (is_b c) _ _ (λ e. tt) ended_never)))
-  numbered_never numerals.ZeroBits = either (TellsOf h p c) (digit_of 2 c) _ _ (λ e. tt) (either (TellsOf h p c) (digit_of 8 c) _ _ (λ e. tt) (either (TellsOf h p c) (is_b c) _ _ (λ e. tt) ended_never))
-  numbered_never numerals.Octal = either (TellsOf h p c) (digit_of 8 c) _ _ (λ e. tt) ended_never
-  numbered_never numerals.Bits = either (TellsOf h p c) (digit_of 2 c) _ _ (λ e. tt) (either (TellsOf h p c) (digit_of 10 c) _ _ (λ e. tt) (either (TellsOf h p c) (is_b c) _ _ (λ e. tt) ended_never))
-  numbered_never numerals.Decimal = either (TellsOf h p c) (digit_of 10 c) _ _ (λ e. tt) ended_never
-  numbered_never numerals.Prefix = either (TellsOf h p c) (digit_of 16 c) _ _ (λ e. tt) tt
-  numbered_never numerals.Hexadecimal = either (TellsOf h p c) (digit_of 16 c) _ _ (λ e. tt) ended_never
+  numbered_never numerals.Zero = either_each (TellsOf h p c) (is_x c) _ _ (λ e. tt) (either_each (TellsOf h p c) (digit_of 2 c) _ _ (λ e. tt) (either_each (TellsOf h p c) (digit_of 8 c) _ _ (λ e. tt) (either_each (TellsOf h p c) (is_b c) _ _ (λ e. tt) ended_never)))
+  numbered_never numerals.ZeroBits = either_each (TellsOf h p c) (digit_of 2 c) _ _ (λ e. tt) (either_each (TellsOf h p c) (digit_of 8 c) _ _ (λ e. tt) (either_each (TellsOf h p c) (is_b c) _ _ (λ e. tt) ended_never))
+  numbered_never numerals.Octal = either_each (TellsOf h p c) (digit_of 8 c) _ _ (λ e. tt) ended_never
+  numbered_never numerals.Bits = either_each (TellsOf h p c) (digit_of 2 c) _ _ (λ e. tt) (either_each (TellsOf h p c) (digit_of 10 c) _ _ (λ e. tt) (either_each (TellsOf h p c) (is_b c) _ _ (λ e. tt) ended_never))
+  numbered_never numerals.Decimal = either_each (TellsOf h p c) (digit_of 10 c) _ _ (λ e. tt) ended_never
+  numbered_never numerals.Prefix = either_each (TellsOf h p c) (digit_of 16 c) _ _ (λ e. tt) tt
+  numbered_never numerals.Hexadecimal = either_each (TellsOf h p c) (digit_of 16 c) _ _ (λ e. tt) ended_never
   numbered_never numerals.Binary = ended_never
 
-gap_each : (p : Place) (c : ℕ) (o : Option State) → Each (Tells p c) o → Each (TellsOf halves.Gap p c) o
+gap_each : (p : Place) (c : ℕ) (o : Option State) → Each (TellsAt p c) o → Each (TellsOf halves.Gap p c) o
 gap_each p c None t = tt
 gap_each p c (Some s) t = told s.begun t
   where
-    told : (e : Event) → Tells p c e → TellsOf halves.Gap p c e
+    told : (e : Event) → TellsAt p c e → TellsOf halves.Gap p c e
     told events.Quiet t = tt
     told events.Declaration t = (refl, t)
     told events.Property t = (refl, t)
     told events.Element t = (refl, t)
 
 quoted_each : (h : Half) (p : Place) (c : ℕ) → Each (TellsOf h p c) (quoted p c)
-quoted_each h p c = either (TellsOf h p c) (c == 34) _ _ (λ e. tt) (either (TellsOf h p c) (c == 92) _ _ (λ e. tt) tt)
+quoted_each h p c = either_each (TellsOf h p c) (c == 34) _ _ (λ e. tt) (either_each (TellsOf h p c) (c == 92) _ _ (λ e. tt) tt)
 
 step_each : (h : Half) (p : Place) (c : ℕ) → Sane h p → Each (TellsOf h p c) (step h p c)
 step_each halves.Gap p c s = gap_each p c (begin p c) (begin_each p c)
-step_each halves.Slash p c s = either (TellsOf halves.Slash p c) (c == 47) _ _ (λ e. tt) (either (TellsOf halves.Slash p c) (c == 42) _ _ (λ e. tt) tt)
-step_each halves.Line p c s = either (TellsOf halves.Line p c) (c == 10) _ _ (λ e. tt) tt
-step_each halves.Block p c s = either (TellsOf halves.Block p c) (c == 42) _ _ (λ e. tt) tt
-step_each halves.Star p c s = either (TellsOf halves.Star p c) (c == 47) _ _ (λ e. tt) (either (TellsOf halves.Star p c) (c == 42) _ _ (λ e. tt) tt)
-step_each halves.Name p c s = either (TellsOf halves.Name p c) (is_next c) _ _ (λ e. tt) (begin_never halves.Name p c (λ m. clash (s m)))
-step_each halves.Alias p c s = either (TellsOf halves.Alias p c) (is_first c) _ _ (λ e. tt) tt
-step_each (halves.Key k n) p c s = key_never (halves.Key k n) p c (λ m. clash (s m)) (head_of (drop n (letters k))) k n
-step_each (halves.Integer f) p c s = numbered_never (halves.Integer f) p c (λ m. clash (s m)) f
+step_each halves.Slash p c s = either_each (TellsOf halves.Slash p c) (c == 47) _ _ (λ e. tt) (either_each (TellsOf halves.Slash p c) (c == 42) _ _ (λ e. tt) tt)
+step_each halves.Line p c s = either_each (TellsOf halves.Line p c) (c == 10) _ _ (λ e. tt) tt
+step_each halves.Block p c s = either_each (TellsOf halves.Block p c) (c == 42) _ _ (λ e. tt) tt
+step_each halves.Star p c s = either_each (TellsOf halves.Star p c) (c == 47) _ _ (λ e. tt) (either_each (TellsOf halves.Star p c) (c == 42) _ _ (λ e. tt) tt)
+step_each halves.Name p c s = either_each (TellsOf halves.Name p c) (is_next c) _ _ (λ e. tt) (begin_never halves.Name p c (λ m. false≢true (s m)))
+step_each halves.Alias p c s = either_each (TellsOf halves.Alias p c) (is_first c) _ _ (λ e. tt) tt
+step_each (halves.Key k n) p c s = key_never (halves.Key k n) p c (λ m. false≢true (s m)) (head_of (drop n (letters k))) k n
+step_each (halves.Integer f) p c s = numbered_never (halves.Integer f) p c (λ m. false≢true (s m)) f
 step_each halves.Literal p c s = quoted_each halves.Literal p c
-step_each halves.Escape p c s = either (TellsOf halves.Escape p c) (is_some (short_escape c)) _ _ (λ e. tt) (either (TellsOf halves.Escape p c) (is_x c) _ _ (λ e. tt) tt)
-step_each halves.EscapeX p c s = either (TellsOf halves.EscapeX p c) (digit_of 16 c) _ _ (λ e. tt) tt
+step_each halves.Escape p c s = either_each (TellsOf halves.Escape p c) (is_some (short_escape c)) _ _ (λ e. tt) (either_each (TellsOf halves.Escape p c) (is_x c) _ _ (λ e. tt) tt)
+step_each halves.EscapeX p c s = either_each (TellsOf halves.EscapeX p c) (digit_of 16 c) _ _ (λ e. tt) tt
 step_each (halves.Digits zero v) p c s = quoted_each (halves.Digits zero v) p c
 step_each (halves.Digits (suc n) v) p c s =
-    either (TellsOf (halves.Digits (suc n) v) p c) (digit_of 16 c) _ _
-    (λ e. either (TellsOf (halves.Digits (suc n) v) p c) (is_no_char (v * 16 + digit_value c)) None (go p (halves.Digits n (v * 16 + digit_value c))) (λ e. tt) tt)
+    either_each (TellsOf (halves.Digits (suc n) v) p c) (digit_of 16 c) _ _
+    (λ e. either_each (TellsOf (halves.Digits (suc n) v) p c) (is_no_char (v * 16 + digit_value c)) None (go p (halves.Digits n (v * 16 + digit_value c))) (λ e. tt) tt)
     (quoted_each (halves.Digits (suc n) v) p c)
 
 -- what is begun says where
@@ -243,20 +240,20 @@ abbrev IsElement : Event → Type 0
 IsElement e = e ≡ events.Element
 
 array_each : (p : Place) (k : Kind) (c : ℕ) → element_place p ≡ true → Says k c → is_element c ≡ false → Each IsElement (gapped p k c)
-array_each InArray kinds.RightBrace c a is e = absurd (clash (sym e ∙ ap is_element is))
+array_each InArray kinds.RightBrace c a is e = absurd (false≢true (sym e ∙ ap is_element is))
 array_each InArray kinds.Blank c a is e = absurd (blank_clash c is e)
   where
     blank_clash : (c : ℕ) → is_blank c ≡ true → is_element c ≡ false → ⊥
     blank_clash c b e = grind (arith, nat_tests)
-array_each InArray kinds.Slash c a is e = absurd (clash (sym e ∙ ap is_element is))
+array_each InArray kinds.Slash c a is e = absurd (false≢true (sym e ∙ ap is_element is))
 array_each InArray k c a is e = scalar_each IsElement events.Element AfterElementStrings AfterElement k c is (λ n. refl)
 array_each AfterComma kinds.Blank c a is e = absurd (blank_clash c is e)
   where
     blank_clash : (c : ℕ) → is_blank c ≡ true → is_element c ≡ false → ⊥
     blank_clash c b e = grind (arith, nat_tests)
-array_each AfterComma kinds.Slash c a is e = absurd (clash (sym e ∙ ap is_element is))
+array_each AfterComma kinds.Slash c a is e = absurd (false≢true (sym e ∙ ap is_element is))
 array_each AfterComma k c a is e = scalar_each IsElement events.Element AfterElementStrings AfterElement k c is (λ n. refl)
-array_each p k c a is e = absurd (clash a)
+array_each p k c a is e = absurd (false≢true a)
 
 pub element_begun : (p : Place) (c : ℕ) (t : State) → element_place p ≡ true → is_element c ≡ false → step halves.Gap p c ≡ Some t → t.begun ≡ events.Element
 unfolding begin

@@ -18,7 +18,7 @@ use Rattle.mof_values.specs.declared.value.Scalar.TheVariants as scalars
 use Rattle.mof_values.specs.declared.value.Value.{Value}
 use Rattle.mof_values.specs.declared.value.Value.TheVariants.{One, Many}
 use Rattle.mof_syntax.specs.Encodings.{Chars}
-use Rattle.mof_syntax.proofs.Bodies.{Chars-nothing, Chars-from_i}
+use Rattle.mof_syntax.proofs.Bodies.{and_both, Chars-nothing, Chars-from_i}
 use Rattle.mof_syntax.specs.Canonical.{hex_glyph, control_escape, literal_char, canonical_scalar, canonical_elements, canonical_value, canonical_property, canonical_alias, canonical_instance, canonical_text, canonical_bytes}
 use Rattle.mof_syntax.specs.Limits.{IsInRange, ScalarFits, ValueFits, PropertyFits, InstanceFits, IsWithinLimits, document_limit}
 use Rattle.mof_syntax.specs.Refusals.{Reads}
@@ -29,13 +29,9 @@ use Rattle.mof_codec.proofs.CanonicalRules.{instances_spelled}
 
 -- characters
 
-both : (a b : Bool) → a ≡ true → b ≡ true → (a && b) ≡ true
-both true b e f = f
-both false b e f = e
-
 chars_join : (a b : List ℕ) → AreChars a → AreChars b → AreChars (a ++ b)
 chars_join [] b e f = f
-chars_join (c ∷ a) b e f = let p = and_parts (scalar c) (all_scalars a) e in both (scalar c) (all_scalars (a ++ b)) p.0 (chars_join a b p.1 f)
+chars_join (c ∷ a) b e f = let p = and_parts (scalar c) (all_scalars a) e in and_both (scalar c) (all_scalars (a ++ b)) p.0 (chars_join a b p.1 f)
 
 literal_char_chars : (c : ℕ) → scalar c ≡ true → AreChars (literal_char c)
 literal_char_chars c e =
@@ -62,7 +58,7 @@ literal_char_chars c e =
                                           | inr n92 ↦
                                               elim (test_or (nat_lt c 32)) [
                                                 | inl low ↦ rw (n8, n9, n10, n12, n13, n34, n92, low) (at_control (below c low))
-                                                | inr high ↦ rw (n8, n9, n10, n12, n13, n34, n92, high) (both (scalar c) true e refl)
+                                                | inr high ↦ rw (n8, n9, n10, n12, n13, n34, n92, high) (and_both (scalar c) true e refl)
                                               ]
                                         ]
                                   ]
@@ -82,8 +78,8 @@ literal_char_chars c e =
     glyph d h = grind (arith, nat_tests)
 
     at_control : c < 32 → AreChars (control_escape c)
-    at_control h = both (scalar (hex_glyph (c / 16))) (scalar (hex_glyph (c % 16)) && true) (glyph (c / 16) (omega arith))
-        (both (scalar (hex_glyph (c % 16))) true (glyph (c % 16) (omega arith)) refl)
+    at_control h = and_both (scalar (hex_glyph (c / 16))) (scalar (hex_glyph (c % 16)) && true) (glyph (c / 16) (omega arith))
+        (and_both (scalar (hex_glyph (c % 16))) true (glyph (c % 16) (omega arith)) refl)
 
 literal_chars : (text : List ℕ) → AreChars text → AreChars (flat_map literal_char text)
 literal_chars [] e = refl
@@ -92,7 +88,7 @@ literal_chars (c ∷ text) e =
 
 digits_chars : (ds : List ℕ) → AllDigits 10 ds → AreChars ds
 digits_chars [] all = refl
-digits_chars (d ∷ ds) all = both (scalar d) (all_scalars ds) (low d all.0) (digits_chars ds all.1)
+digits_chars (d ∷ ds) all = and_both (scalar d) (all_scalars ds) (low d all.0) (digits_chars ds all.1)
   where
     low : (x : ℕ) → digit_value x < 10 → scalar x ≡ true
     low x h = grind (arith, nat_tests)

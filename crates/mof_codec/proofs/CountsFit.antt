@@ -32,10 +32,10 @@ properties_declare : (ps : List Property) (acc : List Event) → declarations_in
 properties_declare [] acc = refl
 properties_declare (p ∷ ps) acc = properties_declare ps (value_events p.value (events.Property ∷ acc)) ∙ value_declares p.value (events.Property ∷ acc)
 
-pub declared : (is : List Instance) (acc : List Event) → declarations_in (events_of is acc) ≡ length is + declarations_in acc
-declared [] acc = omega arith
-declared (i ∷ is) acc =
-    let rest = declared is (properties_events i.properties (events.Declaration ∷ acc)) in
+pub declarations_counted : (is : List Instance) (acc : List Event) → declarations_in (events_of is acc) ≡ length is + declarations_in acc
+declarations_counted [] acc = omega arith
+declarations_counted (i ∷ is) acc =
+    let rest = declarations_counted is (properties_events i.properties (events.Declaration ∷ acc)) in
     let here = properties_declare i.properties (events.Declaration ∷ acc) in
     omega (arith, rest, here)
 

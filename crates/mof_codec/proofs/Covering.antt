@@ -13,6 +13,7 @@ use Rattle.mof_syntax.specs.Profile.{OutOfProfile}
 use Rattle.mof_syntax.specs.Refusals.{Applies, refusal_place, rank_of, WinsOver, Wins}
 use Rattle.mof_codec.specs.Searching.{IsFirstExcess, HasNoExcess, IsFirstForm, HasNoForm}
 use Rattle.mof_codec.specs.Winning.{end_of, sooner, out_of_profile, too_many, syntax_fault}
+use Rattle.mof_codec.proofs.Truths.{le_of}
 use Rattle.mof_codec.proofs.ExcessSearch.{goes_within, goes_past}
 
 -- one refusal of these ranks applies, and wins over each other of them; or none applies
@@ -45,9 +46,6 @@ le_or a b = from (nat_le a b)
     from : (b : Bool) → (b ≡ true) ⊎ (b ≡ false)
     from true = inl refl
     from false = inr refl
-
-le_of : (a b : ℕ) → nat_le a b ≡ true → a ≤ b
-le_of a b h = grind (arith, nat_tests)
 
 lt_of : (a b : ℕ) → nat_le a b ≡ false → b < a
 lt_of a b h = grind (arith, nat_tests)

@@ -15,7 +15,8 @@ use Rattle.mof_codec.specs.Values.{IsMark, IsHead, IsNaming, NamingFits, Propert
 use Rattle.mof_codec.specs.declared.values.marks.Mark.TheVariants as marks
 use Rattle.mof_codec.proofs.TokenFronts.{skip_on, skip_only, begins_as, Joined, begins_join}
 use Rattle.mof_codec.proofs.PropertiesRead.{body_first}
-use Rattle.mof_codec.proofs.Parts.{same_behind, all_push, all_at, more_than}
+use Rattle.mof_syntax.proofs.Lists.{tail_same}
+use Rattle.mof_codec.proofs.Parts.{all_push, all_at, more_than}
 
 abbrev declared : List ℕ → Option (List ℕ) → List Property → Instance
 declared class alias ps = record { class = class; alias = alias; properties = ps }
@@ -40,7 +41,7 @@ only_declaration us class vs alias ws ps xs ts h n v e = record {
         let bodies = v.only i.properties (Semicolon ∷ rest) tt (subst (λ (ys : List Lexeme). ValueInitializers ys i.properties (Semicolon ∷ rest)) names.1 d.4) in (
           ap (λ (c : List ℕ). declared c i.alias i.properties) heads.0 ∙ ap (λ (a : Option (List ℕ)). declared class a i.properties) names.0
               ∙ ap (λ (qs : List Property). declared class alias qs) bodies.0,
-          same_behind Semicolon Semicolon rest ts (bodies.1 ∙ e),
+          tail_same Semicolon Semicolon rest ts (bodies.1 ∙ e),
         )
 
 abbrev Named : List ℕ → Option (List ℕ) → List Lexeme → List Lexeme → Type 0
@@ -157,9 +158,9 @@ declarations_next us read vs i ts x o = record {
       (z.0, y.1 ∙ ap (λ (is : List Instance). read ++ is) z.1 ∙ sym (append_assoc read (i ∷ []) z.0), z.2);
 }
 
-no_tokens : (cs : List ℕ) → NoSeparator cs → Lexes cs [] → length cs ≡ 0
-no_tokens cs n end = refl
-no_tokens cs n (separator ds r vs s l) = absurd (n r s)
+nothing_left : (cs : List ℕ) → NoSeparator cs → Lexes cs [] → length cs ≡ 0
+nothing_left cs n end = refl
+nothing_left cs n (separator ds r vs s l) = absurd (n r s)
 
 module _ (cs : List ℕ) (read : List Instance) (left : List ℕ) (so_far : TextSoFar cs read left) where
   pub text_next : (i : Instance) (rest behind : List ℕ) → (length read ≡ instances_limit → ⊥) → BeginsWith IsDeclaration InstanceFits left i rest → Separators rest behind
@@ -199,7 +200,7 @@ module _ (cs : List ℕ) (read : List Instance) (left : List ℕ) (so_far : Text
 
     further_by : (vs : List Lexeme) (more all : List Instance) → Lexes left vs → TextCase vs more → all ≡ read ++ more → Further all
     further_by vs more all l (at_end e f) same =
-        absurd (some (no_tokens left (no_separator left so_far.stops) (subst (λ (ys : List Lexeme). Lexes left ys) e l)))
+        absurd (some (nothing_left left (no_separator left so_far.stops) (subst (λ (ys : List Lexeme). Lexes left ys) e l)))
     further_by vs more all l (at_declaration i others behind d h f) same =
         (vs, i, others, behind, l, d, text_first behind others h, same ∙ ap (λ (is : List Instance). read ++ is) f)
 

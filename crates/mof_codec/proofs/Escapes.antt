@@ -1,12 +1,14 @@
 -- Escapes and the characters of literals.
 use Rattle.std.proofs.Common.{◌≡◌, ◌<◌, ◌≤◌, ◌+◌, ◌*◌, ℕ, zero, suc, true, false, List, ◌∷◌, length, Some, None, refl, sym, ap, subst, ◌∙◌, arith}
 use Rattle.std.specs.Prelude.{◌==◌}
+use Rattle.std.proofs.lemmas.Bool.{true≢false}
 use Rattle.std.proofs.lemmas.Bool.Decides.{nat_tests}
+use Rattle.std.proofs.lemmas.Option.{none-some}
 use Rattle.std.specs.Char.{digit_value, IsScalar}
 use Rattle.mof_syntax.specs.Characters.{quote, backslash, digit_of, is_x}
 use Rattle.mof_syntax.specs.Strings.{short_escape, is_surrogate, HexDigits, full, ended, digit, Escape, short, hexadecimal, plain, escaped}
 use Rattle.mof_syntax.specs.Scanning.{hex_tail, BeginsWithDigit}
-use Rattle.mof_syntax.proofs.Scans.{clash, hex-read, read-hex, escape-read}
+use Rattle.mof_syntax.proofs.Scans.{hex-read, read-hex, escape-read}
 use Rattle.mof_syntax.proofs.Literals.{SameLiteral-start, goes_on_plain, goes_on_escaped}
 use Rattle.mof_syntax.proofs.Suffixes.{EndsWithin-length, escape_ends}
 use Rattle.mof_codec.specs.Values.{HexEscape, NoHexEscape, NoEscape, GoesOnByOne}
@@ -89,11 +91,8 @@ escape_case : (c : ℕ) (others : List ℕ) (value : ℕ) (rest : List ℕ) → 
 escape_case c others value rest (short d v r is) = at_short is
 escape_case c others value rest (hexadecimal x d v us r isx isd h ok) = at_hex isx (record { digit = d; behind = us; split = refl; is_digit = isd; digits = h; scalar = ok })
 
-none_some : (v : ℕ) → None ≡ Some v → ⊥
-none_some v e = cc
-
 absent_case : (c : ℕ) (others : List ℕ) (value : ℕ) (rest : List ℕ) → short_escape c ≡ None → (is_x c ≡ true → NoHexEscape others) → EscapeCase c others value rest → ⊥
-absent_case c others value rest e absent (at_short is) = none_some value (sym e ∙ is)
+absent_case c others value rest e absent (at_short is) = none-some value (sym e ∙ is)
 absent_case c others value rest e absent (at_hex is h) = absent is value rest h
 
 pub escape_absent : (cs others : List ℕ) (c : ℕ) → cs ≡ c ∷ others → short_escape c ≡ None → (is_x c ≡ true → NoHexEscape others) → NoEscape cs
@@ -101,7 +100,7 @@ escape_absent cs others c e no_short absent value rest i =
     absent_case c others value rest no_short absent (escape_case c others value rest (subst (λ (xs : List ℕ). Escape xs value rest) e i))
 
 pub x_absent : (c : ℕ) (others : List ℕ) → is_x c ≡ false → is_x c ≡ true → NoHexEscape others
-x_absent c others e h = absurd (clash (sym h ∙ e))
+x_absent c others e h = absurd (true≢false (sym h ∙ e))
 
 -- the characters of a literal
 

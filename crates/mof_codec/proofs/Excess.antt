@@ -1,7 +1,7 @@
 -- What is begun past its limit, by the state and the counts.
 use Rattle.std.proofs.Common.{◌≡◌, ◌⊎◌, inl, inr, ℕ, ◌+◌, ◌<◌, true, false, List, [], ◌∷◌, ◌++◌, Option, Some, length, drop, take, refl, sym, ◌∙◌, ap, subst, arith, append-nil}
 use Rattle.std.specs.Prelude.{◌==◌, slice_index, codes}
-use Rattle.std.proofs.lemmas.Bool.{eq-eqb, eqb-true}
+use Rattle.std.proofs.lemmas.Bool.{eq-eqb, eqb-true, false≢true}
 use Rattle.mof_values.specs.declared.instance.Instance.{Instance}
 use Rattle.mof_syntax.specs.Tokens.{Identifier}
 use Rattle.mof_syntax.specs.Grammar.{WideSpells, Wide}
@@ -24,8 +24,8 @@ use Rattle.mof_codec.specs.Counting.{declarations_in, properties_in, elements_in
 use Rattle.mof_codec.proofs.Walking.{walk-append}
 use Rattle.mof_codec.proofs.Fronts.{events_here, whole_here}
 use Rattle.mof_codec.proofs.Sane.{walked_sane}
-use Rattle.mof_codec.proofs.CountsFit.{declared, last_has, last_holds}
-use Rattle.mof_codec.proofs.Standing.{Takes, may_takes, declaration_begins, begins_there, scalar_begins, scalar_there, identifier_begins, identifier_there}
+use Rattle.mof_codec.proofs.CountsFit.{declarations_counted, last_has, last_holds}
+use Rattle.mof_codec.proofs.Standing.{Takes, may_takes, declaration_parts, declaration_begins, begins_there, scalar_begins, scalar_there, identifier_begins, identifier_there}
 use Rattle.mof_codec.proofs.Begun.{element_place, body_place, TellsOf, begun_tells, declaration_begun, property_begun, element_begun}
 
 last_count : (is : List Instance) → properties_in (events_of is []) ≡ length (last_properties is)
@@ -77,7 +77,7 @@ module _ (text : List ℕ) (at : ℕ) (b : Behind) (is : walked (take at text) �
         let begins = declaration_begins text at b is starts in
         let spelled = begins.whole in
         let same = events_here (take at text) b is spelled.0 spelled.1 in
-        let sum : length spelled.0 ≡ instances_limit = omega (arith, declared spelled.0 [], ap declarations_in same, tells.declarations, eqb-true n.declarations instances_limit full) in
+        let sum : length spelled.0 ≡ instances_limit = omega (arith, declarations_counted spelled.0 [], ap declarations_in same, tells.declarations, eqb-true n.declarations instances_limit full) in
         declaration before (record { before = spelled.0; spelled = spelled.1; full = sum; begins = begins; letter = here.1.1 })
 
     excess_property : TellsOf b.half b.place (slice_index text at) events.Property → (n.properties == properties_limit) ≡ true → TooMany text end at
@@ -120,21 +120,13 @@ module _ (text : List ℕ) (at : ℕ) (b : Behind) (is : walked (take at text) �
 
 -- and what is too many the counts show
 
-declaration_parts : (h : Half) (p : Place) → begins_declaration h p ≡ true → (h ≡ halves.Gap) × (p ≡ Start)
-declaration_parts halves.Gap Start e = (refl, refl)
-declaration_parts halves.Gap p e = absurd cc
-declaration_parts h p e = absurd cc
-
-clash : false ≡ true → ⊥
-clash e = cc
-
 body_only : (h : Half) (p : Place) → begins_identifier h p ≡ true → Takes (codes "};") h p → (h ≡ halves.Gap) × (p ≡ Body)
 unfolding begin
 body_only halves.Gap AfterOf e t = absurd t
 body_only halves.Gap Body e t = (refl, refl)
 body_only halves.Gap p e t = absurd cc
 body_only halves.Alias p e t = absurd t
-body_only h p e t = absurd (clash e)
+body_only h p e t = absurd (false≢true e)
 
 array_only : (h : Half) (p : Place) → begins_scalar h p ≡ true → Takes (codes "$A};};") h p → (h ≡ halves.Gap) × (element_place p ≡ true)
 unfolding begin
@@ -142,7 +134,7 @@ array_only halves.Gap AfterEquals e t = absurd t
 array_only halves.Gap InArray e t = (refl, refl)
 array_only halves.Gap AfterComma e t = (refl, refl)
 array_only halves.Gap p e t = absurd cc
-array_only h p e t = absurd (clash e)
+array_only h p e t = absurd (false≢true e)
 
 front_of : (front : List ℕ) (is : List Instance) → WideSpells front is → IsFront front
 front_of front is w = ([], subst (λ (x : List ℕ). Wide x) (sym (append-nil front)) (is, w))
@@ -164,7 +156,7 @@ module _ (text : List ℕ) (at : ℕ) (b : Behind) (is : walked (take at text) �
       let parts = declaration_parts b.half b.place (begins_there text at b is d.begins) in
       let begun = declaration_begun (slice_index text at) t d.letter (step_there halves.Gap Start parts.0 parts.1) in
       let same = events_here (take at text) b is d.before d.spelled in
-      let sum : n.declarations ≡ instances_limit = omega (arith, declared d.before [], ap declarations_in same, tells.declarations, d.full) in
+      let sum : n.declarations ≡ instances_limit = omega (arith, declarations_counted d.before [], ap declarations_in same, tells.declarations, d.full) in
       ap (λ (e : Event). is_excess e n) begun ∙ eq-eqb n.declarations instances_limit sum
 
   told_property : BeginsExcessProperty text at → is_excess t.begun n ≡ true

@@ -26,7 +26,7 @@ use Rattle.mof_codec.specs.Counting.{Tells, WereWithin, counted, is_excess, name
 use Rattle.mof_codec.specs.Searching.{BeginsLongName, IsFirstExcess, HasNoExcess, HasFewParts}
 use Rattle.mof_codec.proofs.Walking.{walked-more}
 use Rattle.mof_codec.proofs.Fronts.{is_front, events_here}
-use Rattle.mof_codec.proofs.CountsFit.{declared, are_within, have_few_parts, tells-counted, within-counted}
+use Rattle.mof_codec.proofs.CountsFit.{declarations_counted, are_within, have_few_parts, tells-counted, within-counted}
 use Rattle.mof_codec.proofs.Excess.{counts_excess, long_excess, too_many_told, LongName}
 use Rattle.mof_codec.proofs.Stepping.{Stepped, stepped_none, stepped_more, behind_of, place_is, place_within, left_is, walked_there, char_is, stuck_fault, end_behind}
 use Rattle.mof_values.specs.declared.limits.TheConstants.{MAX_IDENTIFIER}
@@ -197,7 +197,7 @@ module _ (chars : List ℕ) (state : State) (counts : Counts) (s : Searched char
   pub end_count : (is : List Instance) → WideSpells chars is → length is ≤ instances_limit
   end_count is w =
       let all = are_within (events_of is []) (subst (λ (es : List Event). WereWithin es) (begun_is is w) s.within) in
-      omega (arith, all.declarations, declared is [])
+      omega (arith, all.declarations, declarations_counted is [])
 
   pub end_parts : (is : List Instance) → WideSpells chars is → AllByRecursion HasFewParts is
   end_parts is w = (have_few_parts is [] (subst (λ (es : List Event). WereWithin es) (begun_is is w) s.within)).0

@@ -2,7 +2,7 @@
 use Rattle.std.proofs.Common.{◌≡◌, inl, inr, ℕ, zero, suc, ◌+◌, ◌-◌, ◌<◌, ◌≤◌, true, List, [], ◌∷◌, ◌++◌, length, take, drop, refl, sym, ◌∙◌, ap, subst, arith}
 use Rattle.std.specs.Prelude.{slice_index, slice_range, codes}
 use Rattle.std.proofs.lemmas.Bool.{eq-eqb, eqb-true}
-use Rattle.std.proofs.lemmas.List.{drop-drop}
+use Rattle.std.proofs.lemmas.List.{drop-drop, length-take-le}
 use Rattle.std.specs.Char.{to_ascii_lowercase}
 use Rattle.mof_values.specs.Ident.{is_next}
 use Rattle.mof_values.specs.Fold.{SameName, fold_case}
@@ -47,11 +47,6 @@ drop_take (suc m) (suc n) (x ∷ xs) = drop_take m n xs ∙ ap (λ (k : ℕ). ta
   where
     same : (n m : ℕ) → n - m ≡ suc n - suc m
     same n m = omega arith
-
-pub length_front : (n : ℕ) (xs : List ℕ) → n ≤ length xs → length (take n xs) ≡ n
-length_front zero xs le = refl
-length_front (suc n) [] le = absurd (omega (arith, le))
-length_front (suc n) (x ∷ xs) le = ap suc (length_front n xs (omega (arith, le)))
 
 pub begins_in_front : (text : List ℕ) (at end : ℕ) → at ≤ end → BeginsScalar (take end text) at → BeginsScalar text at
 begins_in_front text at end le b =
@@ -162,7 +157,7 @@ module _ (text : List ℕ) (fault : ℕ) (within : fault ≤ length text) where
 
   real_stands : (at : ℕ) → at ≤ fault → BeginsScalar text at → BeginsReal (slice_range text at fault) → ScalarStands Real (take fault text) at
   real_stands at le begins real = record {
-    within = omega (arith, le, length_front fault text within);
+    within = omega (arith, le, length-take-le fault text within);
     begins = begins_of_front text at fault le begins;
     stands = subst (λ (cs : List ℕ). BeginsReal cs) (sym (drop_take at fault text)) real;
   }
@@ -172,7 +167,7 @@ module _ (text : List ℕ) (fault : ℕ) (within : fault ≤ length text) where
 
   pub real_found : (at : ℕ) → begins_with (drop fault text) 46 ≡ true → FirstOf (ScalarStands Real (take fault text)) at → IsFirstForm text fault at forms.Real
   real_found at e f =
-      let le : at ≤ fault = omega (arith, f.found.within, length_front fault text within) in
+      let le : at ≤ fault = omega (arith, f.found.within, length-take-le fault text within) in
       record {
         found = profile.real at le (begins_in_front text at fault le f.found.begins) (subst (λ (cs : List ℕ). BeginsReal cs) (drop_take at fault text) f.found.stands) (index_of fault text 46 e);
         first = λ other what o. f.first other (stands_there other what o e);

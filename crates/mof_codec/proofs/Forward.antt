@@ -24,10 +24,11 @@ use Rattle.mof_codec.specs.declared.machine.state.State.{State}
 use Rattle.mof_codec.specs.declared.machine.state.Event.{Event}
 use Rattle.mof_codec.specs.declared.machine.state.Event.TheVariants as events
 use Rattle.mof_codec.specs.Machine.{letters, is_no_char, go, begin, keyed, number_begun, value_word, is_whole, opened}
+use Rattle.mof_syntax.proofs.Scans.{test_or}
 use Rattle.mof_codec.proofs.Goes.{IsKey, IsWordValue}
 use Rattle.mof_codec.proofs.Walks.{Walks}
 use Rattle.mof_codec.specs.Walked.{tally}
-use Rattle.mof_codec.proofs.Runs.{Next, RunsTo, Ends, Runs, After, test_or, not_next, octal_no_x, bit_no_x, b_no_x, b_no_bit, b_no_octal, b_no_digit, bit_digit, digit_no_first, sign_no_first, sign_no_digit, short_no_x}
+use Rattle.mof_codec.proofs.Runs.{Next, RunsTo, Ends, Runs, After, not_next, octal_no_x, bit_no_x, b_no_x, b_no_bit, b_no_octal, b_no_digit, bit_digit, digit_no_first, sign_no_first, sign_no_digit, short_no_x}
 
 module _ (E : List Event → Type 0) (p : Place) (acc : List Event) where
   -- words
@@ -219,7 +220,7 @@ module _ (F : Half → Place → List Event → Type 0) (p : Place) (acc : List 
 
 -- keywords
 
-drop_one : (k : Keyword) (n l : ℕ) (ls : List ℕ) → drop n (letters k) ≡ l ∷ ls → drop (n + 1) (letters k) ≡ ls
+pub drop_one : (k : Keyword) (n l : ℕ) (ls : List ℕ) → drop n (letters k) ≡ l ∷ ls → drop (n + 1) (letters k) ≡ ls
 drop_one k n l ls e = sym (drop-drop 1 n (letters k)) ∙ ap (λ (x : List ℕ). drop 1 x) e
 
 module _ (E : List Event → Type 0) where

@@ -17,6 +17,7 @@ use Rattle.mof_codec.specs.declared.machine.state.State.{State}
 use Rattle.mof_codec.specs.declared.machine.state.Event.{Event}
 use Rattle.mof_codec.specs.declared.machine.state.Event.TheVariants as events
 use Rattle.std.proofs.lemmas.List.{take_more, take_all}
+use Rattle.mof_syntax.proofs.Bodies.{and_left, and_right}
 use Rattle.mof_syntax.proofs.FrontLaws.{IsSyntaxFault-from_next}
 use Rattle.mof_codec.specs.Machine.{letters, begin, step}
 use Rattle.mof_codec.specs.Walked.{tally, Behind, walked}
@@ -24,9 +25,9 @@ use Rattle.mof_codec.specs.Events.{events_of}
 use Rattle.mof_codec.proofs.Goes.{goes_left}
 use Rattle.mof_codec.proofs.Walks.{declarations_on}
 use Rattle.mof_codec.proofs.Runs.{Next, Whole, Ends, Runs, After, Any}
-use Rattle.mof_codec.proofs.Forward.{runs_from, key_step}
+use Rattle.mof_codec.proofs.Forward.{runs_from, key_step, drop_one}
 use Rattle.mof_codec.proofs.Left.{Common, Admits, Along}
-use Rattle.mof_codec.proofs.StepsBack.{left_runs, small, small_letters, small_dropped, and_left, and_right, drop_one}
+use Rattle.mof_codec.proofs.StepsBack.{left_runs, small, small_letters, small_dropped}
 use Rattle.mof_codec.proofs.Walking.{goes_on, only_so}
 
 -- the grammar's texts are those that the machine takes

@@ -8,7 +8,7 @@ use Rattle.mof_codec.specs.Reading.{Begins, BeginsNo, Only, BeginsWith, Lacks}
 use Rattle.mof_codec.specs.Values.{IsMark, IsKeyword, IsWord, IsAlias, IsHead, IsNaming, NamingFits}
 use Rattle.mof_codec.specs.declared.values.marks.Mark.TheVariants as marks
 use Rattle.mof_codec.proofs.TokenFronts.{begins_as, Joined, begins_join}
-use Rattle.mof_codec.proofs.Parts.{same_behind}
+use Rattle.mof_syntax.proofs.Lists.{tail_same}
 
 -- instance of a class
 
@@ -35,7 +35,7 @@ module _ (cs : List ℕ) where
     behind_instance : (us ts : List Lexeme) (class : List ℕ) → Lexes cs us → IsHead us class ts → (o : List ℕ) × Lexes mid (Word o ∷ Word class ∷ ts) × SameName o (codes "of")
     behind_instance us ts class l h =
         let x = a.only us l in
-        (h.1, subst (λ (xs : List Lexeme). Lexes mid xs) (same_behind _ _ x.0 (Word h.1 ∷ Word class ∷ ts) (sym x.2.1 ∙ h.2)) x.1, h.4)
+        (h.1, subst (λ (xs : List Lexeme). Lexes mid xs) (tail_same _ _ x.0 (Word h.1 ∷ Word class ∷ ts) (sym x.2.1 ∙ h.2)) x.1, h.4)
 
     pub lacks_of : BeginsNo (IsKeyword (codes "of")) mid → Lacks IsHead IsShortName cs
     lacks_of absent us ts class n l h f = let x = behind_instance us ts class l h in absent (Word x.0 ∷ Word class ∷ ts) (Word class ∷ ts) x.1 (x.0, refl, x.2)
@@ -45,7 +45,7 @@ module _ (cs : List ℕ) where
       lacks_class lacks us ts class n l h f =
           let x = behind_instance us ts class l h in
           let y = b.only (Word x.0 ∷ Word class ∷ ts) x.1 in
-          lacks y.0 ts class n y.1 (sym (same_behind _ _ (Word class ∷ ts) y.0 y.2.1)) f
+          lacks y.0 ts class n y.1 (sym (tail_same _ _ (Word class ∷ ts) y.0 y.2.1)) f
 
       pub reads_head : (class rest : List ℕ) → BeginsWith IsWord IsShortName last class rest → BeginsWith IsHead IsShortName cs class rest
       reads_head class rest r = record {
@@ -75,7 +75,7 @@ only_unnamed us ts e = record {
 }
   where
     goes : (alias : Option (List ℕ)) (rest : List Lexeme) → NamingCase us alias rest → (alias ≡ None) × (rest ≡ ts)
-    goes alias rest (at_brace f g) = (g, same_behind LeftBrace LeftBrace rest ts (sym f ∙ e))
+    goes alias rest (at_brace f g) = (g, tail_same LeftBrace LeftBrace rest ts (sym f ∙ e))
     goes alias rest (at_as w name f same g) = absurd (apart_naming w _ ts (sym f ∙ e))
 
 pub reads_unnamed : (cs rest : List ℕ) → Begins (IsMark marks.LeftBrace) cs rest → BeginsWith IsNaming NamingFits cs None rest
@@ -120,7 +120,7 @@ module _ (cs : List ℕ) (no_brace : BeginsNo (IsMark marks.LeftBrace) cs) where
     behind_as us ts alias l h =
         let x = behind_brace us ts alias l (naming_case us alias ts h) in
         let y = a.only us l in
-        (x.1, subst (λ (xs : List Lexeme). Lexes mid xs) (same_behind _ _ y.0 (AliasName x.1 ∷ LeftBrace ∷ ts) (sym y.2.1 ∙ x.2)) y.1, x.4)
+        (x.1, subst (λ (xs : List Lexeme). Lexes mid xs) (tail_same _ _ y.0 (AliasName x.1 ∷ LeftBrace ∷ ts) (sym y.2.1 ∙ x.2)) y.1, x.4)
 
     pub lacks_alias_name : Lacks IsAlias IsShortName mid → Lacks IsNaming NamingFits cs
     lacks_alias_name lacks us ts alias n l h f =

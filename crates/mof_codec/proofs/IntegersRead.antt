@@ -24,11 +24,11 @@ use Rattle.mof_codec.proofs.TokenFronts.{begins_token, begins_as, first_of}
 abbrev SignedMagnitude : List ℕ → ℤ → List ℕ → Type 0
 SignedMagnitude cs z rest = (n : ℕ) × Magnitude (sign_rest cs) n rest × Stops is_next rest × (z ≡ signed (is_negative cs) n)
 
-no_magnitude : (n : ℕ) (rest : List ℕ) → Magnitude [] n rest → Stops is_next rest → ⊥
-no_magnitude n rest m s = nothing_within rest (token_ends [] (Number (pos n)) rest (integer [] (pos n) rest (unsigned [] n rest m) s))
+empty_magnitude : (n : ℕ) (rest : List ℕ) → Magnitude [] n rest → Stops is_next rest → ⊥
+empty_magnitude n rest m s = nothing_within rest (token_ends [] (Number (pos n)) rest (integer [] (pos n) rest (unsigned [] n rest m) s))
 
 unsigned_number : (cs : List ℕ) (n : ℕ) (rest : List ℕ) → Magnitude cs n rest → Stops is_next rest → SignedMagnitude cs (pos n) rest
-unsigned_number [] n rest m s = absurd (no_magnitude n rest m s)
+unsigned_number [] n rest m s = absurd (empty_magnitude n rest m s)
 unsigned_number (c ∷ cs) n rest m s =
     let first : digit_of 10 c ≡ true = magnitude_first c cs n rest m in
     let no_minus : (c == minus_sign) ≡ false = grind (arith, nat_tests) in
@@ -41,7 +41,7 @@ number_signed cs z rest (integer us x r (plus vs n q m) s) = (n, m, s, refl)
 number_signed cs z rest (integer us x r (minus vs n q m) s) = (n, m, s, refl)
 
 pub signed_number : (cs : List ℕ) (n : ℕ) (rest : List ℕ) → Magnitude (sign_rest cs) n rest → Stops is_next rest → IsToken cs (Number (signed (is_negative cs) n)) rest
-signed_number [] n rest m s = absurd (no_magnitude n rest m s)
+signed_number [] n rest m s = absurd (empty_magnitude n rest m s)
 signed_number (c ∷ cs) n rest m s = elim (test_or (c == minus_sign)) [
   | inl is_minus ↦ at_minus (equal c minus_sign is_minus) m
   | inr no_minus ↦ elim (test_or (c == plus_sign)) [

@@ -1,3 +1,4 @@
+pub mod Truths
 pub mod Goes
 pub mod Walks
 pub mod Runs

@@ -2,8 +2,8 @@
 use Rattle.std.proofs.Common.{◌≡◌, ◌⊎◌, inl, inr, ℕ, zero, suc, ◌+◌, ◌-◌, ◌<◌, ◌≤◌, Bool, true, false, List, [], ◌∷◌, ◌++◌, Option, Some, None, length, take, drop, refl, sym, ◌∙◌, ap, subst, arith, append_assoc, take-append-drop}
 use Rattle.std.specs.Prelude.{slice_range, ℤ, IfSome, IfNone}
 use Rattle.std.specs.List.{AllByRecursion}
-use Rattle.std.proofs.lemmas.Bool.{cases_lt}
-use Rattle.std.proofs.lemmas.List.{drop-drop, length-drop}
+use Rattle.std.proofs.lemmas.Bool.{cases_lt, false≢true}
+use Rattle.std.proofs.lemmas.List.{drop-drop, length-drop, length-append, length-take-le}
 use Rattle.mof_values.specs.Ident.{is_next}
 use Rattle.mof_values.specs.declared.instance.Instance.{Instance}
 use Rattle.mof_syntax.specs.declared.mof_error.MofError.{MofError}
@@ -34,11 +34,11 @@ use Rattle.mof_codec.proofs.StepsBack.{left_runs}
 use Rattle.mof_codec.proofs.Walking.{walked-more}
 use Rattle.mof_codec.proofs.Fronts.{wide_runs}
 use Rattle.mof_codec.proofs.Sane.{Sane, marked_place, walked_sane}
-use Rattle.mof_codec.proofs.Standing.{scalar_begins}
-use Rattle.mof_codec.proofs.Stepping.{take_front, drop_front, length_front}
+use Rattle.mof_codec.proofs.Standing.{scalar_begins, scalar_marked}
+use Rattle.mof_codec.proofs.Stepping.{take_front, drop_front}
 use Rattle.mof_codec.proofs.Excess.{long_excess}
 use Rattle.mof_codec.proofs.TokensFit.{TokenFits, fits_common, are_within_limits}
-use Rattle.mof_codec.proofs.FormSearch.{take_take, drop_take, length_front as front_length, begins_in_front, begins_of_front}
+use Rattle.mof_codec.proofs.FormSearch.{take_take, drop_take, begins_in_front, begins_of_front}
 use Rattle.mof_codec.proofs.Covering.{Covers, only_end}
 use Rattle.mof_codec.proofs.IntegerFronts.{excess_first, in_or_out}
 
@@ -90,7 +90,7 @@ module _ (text : List ℕ) (end : ℕ) (within : end ≤ length text) where
       let cut : take (n.to - at) (drop at (take end text)) ≡ slice_range text at n.to =
       ap (λ (xs : List ℕ). take (n.to - at) xs) left ∙ take_take (n.to - at) (end - at) (drop at text) size in
       record {
-        within = omega (arith, rises, n.before, front_length end text within);
+        within = omega (arith, rises, n.before, length-take-le end text within);
         begins = begins_of_front text at end (omega (arith, rises, n.before)) n.begins;
         stands = record {
           literal = slice_range text at n.to;
@@ -124,10 +124,10 @@ module _ (text : List ℕ) (end : ℕ) (within : end ≤ length text) where
   number_stands : (at : ℕ) → ScalarStands ExcessInteger (take end text) at → BeginsExcessNumber text end at
   number_stands at s =
       let e = s.stands in
-      let le : at ≤ end = omega (arith, s.within, front_length end text within) in
+      let le : at ≤ end = omega (arith, s.within, length-take-le end text within) in
       let left : take (end - at) (drop at text) ≡ e.literal ++ e.rest = sym (drop_take at end text) ∙ e.split in
       let size : length e.literal + length e.rest ≡ end - at =
-      sym (length_front e.literal e.rest) ∙ ap (λ (xs : List ℕ). length xs) (sym left) ∙ front_length (end - at) (drop at text) (left_size at le) in
+      sym (length-append e.literal e.rest) ∙ ap (λ (xs : List ℕ). length xs) (sym left) ∙ length-take-le (end - at) (drop at text) (left_size at le) in
       let literal : slice_range text at (at + length e.literal) ≡ e.literal =
       ap (λ (k : ℕ). take k (drop at text)) (less at (length e.literal)) ∙ sym (take_take (length e.literal) (end - at) (drop at text) (omega (arith, size)))
       ∙ ap (λ (xs : List ℕ). take (length e.literal) xs) left ∙ take_front e.literal e.rest in
@@ -179,15 +179,6 @@ module _ (text : List ℕ) (end : ℕ) (within : end ≤ length text) where
 
 -- a text in which nothing is past a limit
 
-scalar_marked : (p : Place) → scalar_place p ≡ true → marked_place p ≡ true
-scalar_marked AfterEquals e = refl
-scalar_marked InArray e = refl
-scalar_marked AfterComma e = refl
-scalar_marked p e = absurd cc
-
-clash : false ≡ true → ⊥
-clash e = cc
-
 front_end : (text left front : List ℕ) → text ≡ front ++ left → take (length front) text ≡ front
 front_end text left front e = ap (λ (xs : List ℕ). take (length front) xs) e ∙ take_front front left
 
@@ -200,7 +191,7 @@ module _ (text : List ℕ) (wide : Wide text) (no_number : (at : ℕ) → Scalar
     left_there = ap (λ (xs : List ℕ). drop (length front) xs) split ∙ drop_front front left
 
     size : length front + length left ≡ length text
-    size = omega (arith, ap (λ (xs : List ℕ). length xs) split, length_front front left)
+    size = omega (arith, ap (λ (xs : List ℕ). length xs) split, length-append front left)
 
     fitting_integer : h ≡ halves.Gap → AdmitsInteger TokenFits p left
     fitting_integer gap scalar z rest v s = in_range (λ out. no_number (length front) (record {
@@ -227,15 +218,15 @@ module _ (text : List ℕ) (wide : Wide text) (no_number : (at : ℕ) → Scalar
 
     admits : (k : Half) → h ≡ k → Admits TokenFits k p left
     admits halves.Gap e = (fitting_integer e, λ n name rest i. fitting_name (ap (λ (x : Half). begins_identifier x p) e ∙ n) name rest i)
-    admits halves.Name e = never_integer (λ m. clash (sane_at halves.Name e m))
+    admits halves.Name e = never_integer (λ m. false≢true (sane_at halves.Name e m))
       where
         sane_at : (k : Half) → h ≡ k → Sane k p
         sane_at k e = subst (λ (x : Half). Sane x p) e (walked_sane front _ is)
-    admits (halves.Key k n) e = never_integer (λ m. clash (sane_at (halves.Key k n) e m))
+    admits (halves.Key k n) e = never_integer (λ m. false≢true (sane_at (halves.Key k n) e m))
       where
         sane_at : (k : Half) → h ≡ k → Sane k p
         sane_at k e = subst (λ (x : Half). Sane x p) e (walked_sane front _ is)
-    admits (halves.Integer f) e = never_integer (λ m. clash (sane_at (halves.Integer f) e m))
+    admits (halves.Integer f) e = never_integer (λ m. false≢true (sane_at (halves.Integer f) e m))
       where
         sane_at : (k : Half) → h ≡ k → Sane k p
         sane_at k e = subst (λ (x : Half). Sane x p) e (walked_sane front _ is)

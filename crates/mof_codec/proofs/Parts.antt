@@ -22,10 +22,6 @@ pub lacks_behind : {A : Type 0} (Rule : List Lexeme → A → List Lexeme → Ty
     → Separators cs left → Lacks Rule Fits left → Lacks Rule Fits cs
 lacks_behind Rule Fits cs left s lacks us ts a n l r f = lacks us ts a n (skip_only cs left us s l) r f
 
--- the tokens after the first
-pub same_behind : (t u : Lexeme) (ts us : List Lexeme) → t ∷ ts ≡ u ∷ us → ts ≡ us
-same_behind t u ts us e = cc
-
 -- each part of a list
 
 pub all_push : {A : Type 0} (P : A → Type 0) (xs : List A) (x : A) → AllByRecursion P xs → P x → AllByRecursion P (xs ++ x ∷ [])

@@ -10,7 +10,8 @@ use Rattle.mof_codec.specs.Reading.{Begins, BeginsNo, Only, BeginsWith, Lacks}
 use Rattle.mof_codec.specs.Values.{IsMark, IsWord, IsProperty, PropertiesFit}
 use Rattle.mof_codec.specs.declared.values.marks.Mark.TheVariants as marks
 use Rattle.mof_codec.proofs.TokenFronts.{begins_as, Joined, begins_join}
-use Rattle.mof_codec.proofs.Parts.{same_behind, all_push, all_at, more_than}
+use Rattle.mof_syntax.proofs.Lists.{tail_same}
+use Rattle.mof_codec.proofs.Parts.{all_push, all_at, more_than}
 
 -- one property
 
@@ -24,7 +25,7 @@ only_property us name vs ws value xs ts e f o g = record {
   only = λ p rest n i.
       let same = front p.name name i.0 ws (sym i.1 ∙ e ∙ ap (λ (ys : List Lexeme). Word name ∷ ys) f) in
       let one = o.only p.value (Semicolon ∷ rest) tt (subst (λ (ys : List Lexeme). Initializer ys p.value (Semicolon ∷ rest)) same.1 i.2) in
-      (ap (λ (x : List ℕ). named x p.value) same.0 ∙ ap (λ (v : Value). named name v) one.0, same_behind Semicolon Semicolon rest ts (one.1 ∙ g));
+      (ap (λ (x : List ℕ). named x p.value) same.0 ∙ ap (λ (v : Value). named name v) one.0, tail_same Semicolon Semicolon rest ts (one.1 ∙ g));
 }
   where
     front : (x y : List ℕ) (ys zs : List Lexeme) → Word x ∷ EqualsSign ∷ ys ≡ Word y ∷ EqualsSign ∷ zs → (x ≡ y) × (ys ≡ zs)
@@ -36,8 +37,8 @@ Opened name = Joined (λ us ts. Only IsWord us name ts) (IsMark marks.EqualsSign
 abbrev Valued : List ℕ → Value → List Lexeme → List Lexeme → Type 0
 Valued name value = Joined (Opened name) (λ us ts. Only Initializer us value ts)
 
-abbrev Whole : List ℕ → Value → List Lexeme → List Lexeme → Type 0
-Whole name value = Joined (Valued name value) (IsMark marks.Semicolon)
+abbrev WholeProperty : List ℕ → Value → List Lexeme → List Lexeme → Type 0
+WholeProperty name value = Joined (Valued name value) (IsMark marks.Semicolon)
 
 module _ (cs : List ℕ) where
   pub lacks_property_name : Lacks IsWord IsShortName cs → Lacks IsProperty PropertyFits cs
@@ -58,7 +59,7 @@ module _ (cs : List ℕ) where
       behind_equals us ts p l i =
           let x = behind_name us ts p l i in
           let y = b.only (EqualsSign ∷ x.0) x.1 in
-          (y.0, y.1, subst (λ (ys : List Lexeme). Initializer ys p.value (Semicolon ∷ ts)) (same_behind EqualsSign EqualsSign x.0 y.0 y.2) x.2)
+          (y.0, y.1, subst (λ (ys : List Lexeme). Initializer ys p.value (Semicolon ∷ ts)) (tail_same EqualsSign EqualsSign x.0 y.0 y.2) x.2)
 
       pub lacks_value : Lacks Initializer ValueFits given → Lacks IsProperty PropertyFits cs
       lacks_value lacks us ts p n l i f = let x = behind_equals us ts p l i in lacks x.0 (Semicolon ∷ ts) p.value tt x.1 x.2 f.value
@@ -74,7 +75,7 @@ module _ (cs : List ℕ) where
         pub reads_property : (rest : List ℕ) → Begins (IsMark marks.Semicolon) end rest → BeginsWith IsProperty PropertyFits cs (named name value) rest
         reads_property rest s = record {
           fits = record { name = r.fits; value = v.fits };
-          begins = begins_as (Whole name value) (λ us ts. Only IsProperty us (named name value) ts) cs rest
+          begins = begins_as (WholeProperty name value) (λ us ts. Only IsProperty us (named name value) ts) cs rest
               (λ us ts j. only_property us name j.1.1.0 j.1.0 value j.0 ts j.1.1.1.holds j.1.1.2 j.1.2 j.2)
               (begins_join (Valued name value) (IsMark marks.Semicolon) cs end rest
               (begins_join (Opened name) (λ us ts. Only Initializer us value ts) cs given end
@@ -125,9 +126,9 @@ behind_property vs p ts more rest o (at_property q others behind i h f) =
     let same = o.only q behind (body_first behind others rest h) i in
     (others, f ∙ ap (λ (x : Property). x ∷ others) same.0, subst (λ (ys : List Lexeme). ValueInitializers ys others rest) same.1 h)
 
-behind_closing : (vs ts : List Lexeme) (more : List Property) (rest : List Lexeme) → vs ≡ RightBrace ∷ ts → BodyCase vs more rest → (more ≡ []) × (rest ≡ ts)
-behind_closing vs ts more rest e (at_closing f g) = (g, same_behind RightBrace RightBrace rest ts (sym f ∙ e))
-behind_closing vs ts more rest e (at_property p others behind i h f) = absurd (apart_closing p.name _ ts (sym i.1 ∙ e))
+body_behind_closing : (vs ts : List Lexeme) (more : List Property) (rest : List Lexeme) → vs ≡ RightBrace ∷ ts → BodyCase vs more rest → (more ≡ []) × (rest ≡ ts)
+body_behind_closing vs ts more rest e (at_closing f g) = (g, tail_same RightBrace RightBrace rest ts (sym f ∙ e))
+body_behind_closing vs ts more rest e (at_property p others behind i h f) = absurd (apart_closing p.name _ ts (sym i.1 ∙ e))
 
 properties_next : (us : List Lexeme) (ps : List Property) (vs : List Lexeme) (p : Property) (ts : List Lexeme) → PropertiesOn us ps vs → Only IsProperty vs p ts → PropertiesOn us (ps ++ p ∷ []) ts
 properties_next us ps vs p ts x o = record {
@@ -145,7 +146,7 @@ properties_end us ps vs ts x e = record {
   holds = subst (λ (qs : List Property). ValueInitializers us qs ts) (append-nil ps) (x.on [] ts (subst (λ (ys : List Lexeme). ValueInitializers ys [] ts) (sym e) (done ts)));
   only = λ all rest n i.
       let y = x.only all rest i in
-      let z = behind_closing vs ts y.0 rest e (body_case vs y.0 rest y.2) in
+      let z = body_behind_closing vs ts y.0 rest e (body_case vs y.0 rest y.2) in
       (y.1 ∙ ap (λ (qs : List Property). ps ++ qs) z.0 ∙ append-nil ps, z.1);
 }
 

@@ -130,14 +130,14 @@ module _ (parts : ℕ → List ℕ) (one : (n : ℕ) → parts (suc n) ≡ codes
 
 -- elements, of which the first is in the head
 
-abbrev behind_comma : State
-behind_comma = record { place = AfterComma; half = halves.Gap; begun = events.Quiet }
+abbrev after_comma : State
+after_comma = record { place = AfterComma; half = halves.Gap; begun = events.Quiet }
 
 abbrev with_elements : ℕ → Counts
 with_elements k = record { declarations = 1; properties = 1; elements = k + 1 }
 
-module _ (tail : List ℕ) (count : ℕ) (few : count ≤ 4095) (fault : (text : List ℕ) → fault_in text tail behind_comma ≡ None) (integer : (text : List ℕ) → integer_in text tail behind_comma ≡ None) where
-  many_elements : Repeats (codes "instance of A{P={1,") (codes "1,") tail behind_comma with_elements count
+module _ (tail : List ℕ) (count : ℕ) (few : count ≤ 4095) (fault : (text : List ℕ) → fault_in text tail after_comma ≡ None) (integer : (text : List ℕ) → integer_in text tail after_comma ≡ None) where
+  many_elements : Repeats (codes "instance of A{P={1,") (codes "1,") tail after_comma with_elements count
   unfolding begin
   many_elements = record {
     head_fault = λ text rest. refl;
@@ -153,11 +153,11 @@ module _ (tail : List ℕ) (count : ℕ) (few : count ≤ 4095) (fault : (text :
 module _ (parts : ℕ → List ℕ) (one : (n : ℕ) → parts (suc n) ≡ codes "1," ++ parts n) (none : parts 0 ≡ codes "1};};") where
   pub elements_refused : refusal_in (codes "instance of A{P={1," ++ parts 4095) ≡ Some (TooMany 8209)
   unfolding begin
-  elements_refused = past_refused (codes "instance of A{P={1,") (codes "1,") (codes "1};};") behind_comma with_elements 4095 (many_elements (codes "1};};") 4095 (omega arith) (λ text. refl) (λ text. refl)) parts none one refl
+  elements_refused = past_refused (codes "instance of A{P={1,") (codes "1,") (codes "1};};") after_comma with_elements 4095 (many_elements (codes "1};};") 4095 (omega arith) (λ text. refl) (λ text. refl)) parts none one refl
 
   pub elements_taken : refusal_in (codes "instance of A{P={1," ++ parts 4094) ≡ None
   unfolding begin
-  elements_taken = within_taken (codes "instance of A{P={1,") (codes "1,") (codes "1};};") behind_comma with_elements 4094 (many_elements (codes "1};};") 4094 (omega arith) (λ text. refl) (λ text. refl)) parts none one refl
+  elements_taken = within_taken (codes "instance of A{P={1,") (codes "1,") (codes "1};};") after_comma with_elements 4094 (many_elements (codes "1};};") 4094 (omega arith) (λ text. refl) (λ text. refl)) parts none one refl
 
 -- declarations
 

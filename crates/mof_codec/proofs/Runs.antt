@@ -45,10 +45,6 @@ pub split : (b : Bool) (x y : Option State) (P : Half → Place → Event → Ty
 split true x y P h = inl (refl, h)
 split false x y P h = inr (refl, h)
 
-pub test_or : (b : Bool) → (b ≡ true) ⊎ (b ≡ false)
-test_or true = inl refl
-test_or false = inr refl
-
 pub record NotNext (c : ℕ) : Type 0 where
   pub no_x : is_x c ≡ false
   pub no_b : is_b c ≡ false

@@ -4,6 +4,7 @@ use Rattle.std.specs.Prelude.{◌&&◌}
 use Rattle.std.specs.List.{list_all}
 use Rattle.std.proofs.lemmas.Bool.{cases_lt}
 use Rattle.std.proofs.lemmas.Bool.Decides.{nat_tests}
+use Rattle.std.proofs.lemmas.Option.{none-some}
 use Rattle.mof_syntax.specs.Characters.{digit_of, is_sign}
 use Rattle.mof_syntax.specs.Fronts.{IsFront}
 use Rattle.mof_syntax.specs.Profile.{AreDigits, BeginsReal, unsigned, signed}
@@ -16,6 +17,7 @@ use Rattle.mof_codec.specs.Machine.{step}
 use Rattle.mof_codec.specs.Walked.{Behind, walked}
 use Rattle.mof_codec.specs.Beginnings.{begins_scalar}
 use Rattle.mof_codec.specs.Searching.{FirstOf, IsWanted, ScalarStands, is_real}
+use Rattle.mof_syntax.proofs.Scans.{test_or}
 use Rattle.mof_codec.proofs.Standing.{scalar_begins, scalar_there, front_walked}
 use Rattle.mof_codec.proofs.Stepping.{Stepped, stepped_none, stepped_more, behind_of, place_is, place_within, left_is, walked_there, stuck_behind}
 
@@ -36,10 +38,6 @@ digits_are (c ∷ cs) e = (and_left (digit_of 10 c) (list_all (digit_of 10) cs) 
 are_digits : (cs : List ℕ) → AreDigits cs → list_all (digit_of 10) cs ≡ true
 are_digits [] d = refl
 are_digits (c ∷ cs) d = rw d.0 (are_digits cs d.1)
-
-test_or : (b : Bool) → (b ≡ true) ⊎ (b ≡ false)
-test_or true = inl refl
-test_or false = inr refl
 
 digit_sign : (c : ℕ) → digit_of 10 c ≡ true → is_sign c ≡ true → ⊥
 digit_sign c d s = grind (arith, nat_tests)
@@ -113,12 +111,9 @@ scalar_more front x rest state next wanted s not_here e = record {
   before = λ n lt stands. scalar_up_to front (x ∷ rest) state wanted s not_here n (omega (arith, lt, place_within front (x ∷ rest) state s.stepped)) stands;
 }
 
-none_some : (b : Behind) → None ≡ Some b → ⊥
-none_some b e = cc
-
 -- in a front the machine is never stuck
 pub never_stuck : (front : List ℕ) → IsFront front → walked front ≡ None → ⊥
-never_stuck front f e = let w = front_walked front f in none_some w.0 (sym e ∙ w.1)
+never_stuck front f e = let w = front_walked front f in none-some w.0 (sym e ∙ w.1)
 
 -- the same, where the next character is told by an equation
 

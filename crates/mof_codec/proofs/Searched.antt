@@ -30,9 +30,11 @@ use Rattle.mof_codec.specs.Counting.{counted, is_excess, name_length}
 use Rattle.mof_codec.specs.Searching.{FirstOf, StandsAfter, IsWanted, ScalarStands, BeginsExcessInteger, BeginsLongName, IsFirstExcess, HasNoExcess, HasFewParts, IsFirstForm, HasNoForm, BeginsWord, BeginsForm, pragma, qualifiers, class, qualifier, StandsForm, character, declared, begins_with, is_real}
 use Rattle.mof_codec.specs.Values.{signed, is_negative, sign_rest}
 use Rattle.mof_codec.specs.Winning.{end_of}
+use Rattle.mof_codec.proofs.Truths.{clash, le_of}
 use Rattle.mof_codec.proofs.Runs.{Whole}
 use Rattle.mof_codec.proofs.Options.{of_some, of_none}
 use Rattle.mof_codec.proofs.Fronts.{is_front}
+use Rattle.mof_codec.proofs.Standing.{start_is}
 use Rattle.mof_codec.proofs.Stepping.{behind_of, Stepped, stepped_none, stepped_more, stuck_fault, stuck_walk, end_wide, end_fault, end_behind}
 use Rattle.mof_codec.proofs.ExcessSearch.{Searched, searched_none, searched_more, first_found, IsPast, long_name, name_is_long, no_name_empty, stuck_none, stuck_wide, end_none, end_count, end_parts}
 use Rattle.mof_codec.proofs.ScalarSearch.{ScalarSearched, scalar_none, scalar_more, scalar_found, scalar_end, scalar_last, StandsHere, real_begins, begins_real, never_stuck}
@@ -41,9 +43,6 @@ use Rattle.mof_codec.proofs.IntegerFronts.{told_within, told_excess, told_none}
 use Rattle.mof_codec.proofs.RefusalFound.{Found, found_wins, none_spells, front_there}
 use Rattle.mof_codec.proofs.Searches.{first_state, no_counts, when, next, both, is_end, fault_in, state_in, is_long, is_past, excess_in, in_range, out_of, is_excess_integer, stands, scalar_in, same, stops, begins_word, declared_in, here_in, as_form, as_real, form_in, left_out, number_in, refusal_at, refusal_in, is_taken}
 use Rattle.mof_values.specs.declared.limits.TheConstants.{MAX_IDENTIFIER}
-
-clash : {b : Bool} → b ≡ true → b ≡ false → ⊥
-clash e f = cc
 
 -- the choices
 
@@ -68,10 +67,6 @@ both_is true other e f = f
 both_is false other e f = e
 
 -- where a text goes wrong
-
-start_is : (p : Place) → start_place p ≡ true → p ≡ Start
-start_is Start e = refl
-start_is p e = absurd cc
 
 end_whole : (s : State) → is_end s ≡ true → Whole s.half s.place
 end_whole s e = (start_is s.place (both_one (start_place s.place) _ e), both_other (start_place s.place) (λ _. is_whole s.half) e)
@@ -101,15 +96,12 @@ state_told text (c ∷ cs) state s = next_is (ToldState text) (step state.half s
 
 -- the first part past its limit
 
-le_of : (n : ℕ) → nat_le MAX_IDENTIFIER n ≡ true → MAX_IDENTIFIER ≤ n
-le_of n h = grind (arith, nat_tests)
-
 of_le : (n : ℕ) → MAX_IDENTIFIER ≤ n → nat_le MAX_IDENTIFIER n ≡ true
 of_le n h = grind (arith, nat_tests)
 
 long_is : (cs : List ℕ) → is_long cs ≡ true → BeginsLongName cs
 long_is [] e = absurd cc
-long_is (c ∷ cs) e = long_name c cs (both_one (is_first c) _ e) (le_of (name_length cs) (both_other (is_first c) (λ _. nat_le MAX_IDENTIFIER (name_length cs)) e))
+long_is (c ∷ cs) e = long_name c cs (both_one (is_first c) _ e) (le_of MAX_IDENTIFIER (name_length cs) (both_other (is_first c) (λ _. nat_le MAX_IDENTIFIER (name_length cs)) e))
 
 is_long_is : (cs : List ℕ) → BeginsLongName cs → is_long cs ≡ true
 is_long_is [] l = absurd (no_name_empty l)
@@ -232,11 +224,11 @@ word_told cs word = (
 abbrev ToldDeclared : List ℕ → Option Form → Type 0
 ToldDeclared cs o = IfSome o (λ form. BeginsForm cs form) × IfNone o ((form : Form) → BeginsForm cs form → ⊥)
 
-none_begins : (cs : List ℕ) → begins_with cs 35 ≡ false → begins_with cs 91 ≡ false → begins_word cs (codes "class") ≡ false → begins_word cs (codes "qualifier") ≡ false → (form : Form) → BeginsForm cs form → ⊥
-none_begins cs p q c k form (pragma e) = clash e p
-none_begins cs p q c k form (qualifiers e) = clash e q
-none_begins cs p q c k form (class w) = clash ((word_told cs (codes "class")).1 w) c
-none_begins cs p q c k form (qualifier w) = clash ((word_told cs (codes "qualifier")).1 w) k
+no_form_begins : (cs : List ℕ) → begins_with cs 35 ≡ false → begins_with cs 91 ≡ false → begins_word cs (codes "class") ≡ false → begins_word cs (codes "qualifier") ≡ false → (form : Form) → BeginsForm cs form → ⊥
+no_form_begins cs p q c k form (pragma e) = clash e p
+no_form_begins cs p q c k form (qualifiers e) = clash e q
+no_form_begins cs p q c k form (class w) = clash ((word_told cs (codes "class")).1 w) c
+no_form_begins cs p q c k form (qualifier w) = clash ((word_told cs (codes "qualifier")).1 w) k
 
 declared_told : (cs : List ℕ) → ToldDeclared cs (declared_in cs)
 declared_told cs =
@@ -244,7 +236,7 @@ declared_told cs =
     when_is (ToldDeclared cs) (begins_with cs 91) _ _ (λ e. (qualifiers e, tt)) (λ q.
     when_is (ToldDeclared cs) (begins_word cs (codes "class")) _ _ (λ e. (class ((word_told cs (codes "class")).0 e), tt)) (λ c.
     when_is (ToldDeclared cs) (begins_word cs (codes "qualifier")) _ _ (λ e. (qualifier ((word_told cs (codes "qualifier")).0 e), tt)) (λ k.
-    (tt, none_begins cs p q c k)))))
+    (tt, no_form_begins cs p q c k)))))
 
 abbrev ToldHere : State → List ℕ → Option Form → Type 0
 ToldHere state cs o = IfSome o (λ form. StandsForm state cs form) × IfNone o ((form : Form) → StandsForm state cs form → ⊥)

@@ -1,6 +1,7 @@
 -- What may stand at a place is what the machine takes there.
 use Rattle.std.proofs.Common.{◌≡◌, ◌⊎◌, inl, inr, ℕ, zero, suc, Bool, true, false, List, [], ◌∷◌, ◌++◌, Option, Some, None, drop, take, refl, sym, ◌∙◌, ap, subst, arith, append_assoc}
 use Rattle.std.specs.Prelude.{nat_le, ◌==◌, ◌&&◌}
+use Rattle.std.proofs.lemmas.Bool.{false≢true}
 use Rattle.std.proofs.lemmas.Bool.Decides.{nat_tests}
 use Rattle.mof_syntax.specs.Fronts.{IsFront, MayStand, BeginsDeclaration, BeginsScalar, BeginsIdentifier}
 use Rattle.mof_codec.specs.declared.machine.state.Keyword.{Keyword}
@@ -15,9 +16,10 @@ use Rattle.mof_codec.specs.declared.machine.state.Event.{Event}
 use Rattle.mof_codec.specs.Machine.{letters, begin, step, is_whole}
 use Rattle.mof_codec.specs.Walked.{tally, Behind, moved, walk_from, start, walked}
 use Rattle.mof_codec.specs.Beginnings.{scalar_place, name_place, start_place, begins_declaration, begins_scalar, begins_identifier}
+use Rattle.mof_syntax.proofs.Bodies.{and_left, and_right}
 use Rattle.mof_codec.proofs.Runs.{Next, Ends, Runs, Any}
 use Rattle.mof_codec.proofs.Walking.{walk-append, only_so}
-use Rattle.mof_codec.proofs.StepsBack.{small, small_letters, small_dropped, and_left}
+use Rattle.mof_codec.proofs.StepsBack.{small, small_letters, small_dropped}
 use Rattle.mof_codec.proofs.Fronts.{is_front, wide_runs, whole_here, whole_there}
 use Rattle.mof_codec.proofs.Sane.{Sane, is_separator, marked_place, walked_sane}
 
@@ -74,11 +76,11 @@ gap_of halves.Gap s w n = refl
 gap_of halves.Line s w n = absurd (n refl)
 gap_of h s w n = absurd cc
 
-start_is : (p : Place) → start_place p ≡ true → p ≡ Start
+pub start_is : (p : Place) → start_place p ≡ true → p ≡ Start
 start_is Start e = refl
 start_is p e = absurd cc
 
-declaration_parts : (h : Half) (p : Place) → begins_declaration h p ≡ true → (h ≡ halves.Gap) × (p ≡ Start)
+pub declaration_parts : (h : Half) (p : Place) → begins_declaration h p ≡ true → (h ≡ halves.Gap) × (p ≡ Start)
 declaration_parts halves.Gap p e = (refl, start_is p e)
 declaration_parts h p e = absurd cc
 
@@ -112,16 +114,16 @@ gap_takes InArray e = (inr tt, λ x. x)
 gap_takes AfterComma e = (inr tt, λ x. x)
 gap_takes p e = absurd cc
 
-both : {A : Type 0} → A ⊎ A → A
-both (inl a) = a
-both (inr a) = a
+either_way : {A : Type 0} → A ⊎ A → A
+either_way (inl a) = a
+either_way (inr a) = a
 
 takes_gap : (p : Place) → TakesScalar halves.Gap p → scalar_place p ≡ true
 unfolding begin
 takes_gap AfterEquals t = refl
 takes_gap InArray t = refl
 takes_gap AfterComma t = refl
-takes_gap p t = absurd (both t.0)
+takes_gap p t = absurd (either_way t.0)
 
 abbrev at_scalar : Half → Place → Bool
 at_scalar halves.Line p = false
@@ -140,7 +142,7 @@ at_takes (halves.Key k n) p t = from (drop n (letters k)) refl t
     from (l ∷ ls) e t =
         let small_here = subst (λ (x : List ℕ). small x ≡ true) e (small_dropped n (letters k) (small_letters k)) in
         let other = no_dollar l (and_left (nat_le 97 l) (nat_le l 122 && small ls) small_here) in
-        absurd (both (rw (e, other) at t.0))
+        absurd (either_way (rw (e, other) at t.0))
 at_takes (halves.Integer numerals.Zero) p t = takes_gap p t
 at_takes (halves.Integer numerals.ZeroBits) p t = takes_gap p t
 at_takes (halves.Integer numerals.Octal) p t = takes_gap p t
@@ -148,40 +150,33 @@ at_takes (halves.Integer numerals.Bits) p t = takes_gap p t
 at_takes (halves.Integer numerals.Decimal) p t = takes_gap p t
 at_takes (halves.Integer numerals.Hexadecimal) p t = takes_gap p t
 at_takes (halves.Integer numerals.Binary) p t = takes_gap p t
-at_takes (halves.Integer f) p t = absurd (both t.0)
-at_takes halves.Slash p t = absurd (both t.0)
-at_takes halves.Alias p t = absurd (both t.0)
-at_takes halves.Escape p t = absurd (both t.0)
-at_takes halves.EscapeX p t = absurd (both t.0)
+at_takes (halves.Integer f) p t = absurd (either_way t.0)
+at_takes halves.Slash p t = absurd (either_way t.0)
+at_takes halves.Alias p t = absurd (either_way t.0)
+at_takes halves.Escape p t = absurd (either_way t.0)
+at_takes halves.EscapeX p t = absurd (either_way t.0)
 at_takes (halves.Digits zero v) p t = absurd (t.1 tt)
 at_takes (halves.Digits (suc n) v) p t = absurd (t.1 tt)
 at_takes h p t = absurd (t.1 tt)
 
-scalar_marked : (p : Place) → scalar_place p ≡ true → marked_place p ≡ true
+pub scalar_marked : (p : Place) → scalar_place p ≡ true → marked_place p ≡ true
 scalar_marked AfterEquals e = refl
 scalar_marked InArray e = refl
 scalar_marked AfterComma e = refl
 scalar_marked p e = absurd cc
 
-and_right : (a b : Bool) → (a && b) ≡ true → b ≡ true
-and_right true b e = e
-and_right false b e = absurd cc
-
-clash : false ≡ true → ⊥
-clash e = cc
-
 -- where no token is half read it is the gap
 gap_scalar : (h : Half) (p : Place) → Sane h p → at_scalar h p ≡ true → begins_scalar h p ≡ true
 gap_scalar halves.Gap p s e = e
-gap_scalar halves.Line p s e = absurd (clash e)
-gap_scalar halves.Name p s e = absurd (clash (s (scalar_marked p e)))
-gap_scalar (halves.Key k n) p s e = absurd (clash (s (scalar_marked p (and_right (is_whole (halves.Key k n)) (scalar_place p) e))))
-gap_scalar (halves.Integer f) p s e = absurd (clash (s (scalar_marked p (and_right (is_whole (halves.Integer f)) (scalar_place p) e))))
-gap_scalar h p s e = absurd (clash e)
+gap_scalar halves.Line p s e = absurd (false≢true e)
+gap_scalar halves.Name p s e = absurd (false≢true (s (scalar_marked p e)))
+gap_scalar (halves.Key k n) p s e = absurd (false≢true (s (scalar_marked p (and_right (is_whole (halves.Key k n)) (scalar_place p) e))))
+gap_scalar (halves.Integer f) p s e = absurd (false≢true (s (scalar_marked p (and_right (is_whole (halves.Integer f)) (scalar_place p) e))))
+gap_scalar h p s e = absurd (false≢true e)
 
 scalar_parts : (h : Half) (p : Place) → begins_scalar h p ≡ true → (h ≡ halves.Gap) × (scalar_place p ≡ true)
 scalar_parts halves.Gap p e = (refl, e)
-scalar_parts h p e = absurd (clash e)
+scalar_parts h p e = absurd (false≢true e)
 
 module _ (text : List ℕ) (at : ℕ) (b : Behind) (is : walked (take at text) ≡ Some b) where
   pub scalar_begins : begins_scalar b.half b.place ≡ true → BeginsScalar text at
@@ -221,7 +216,7 @@ gap_names p e = absurd cc
 names_take : (h : Half) (p : Place) → begins_identifier h p ≡ true → TakesName h p
 names_take halves.Gap p e = gap_names p e
 names_take halves.Alias p e = record { letter = tt; first = λ x. x; outside = λ x. x }
-names_take h p e = absurd (clash e)
+names_take h p e = absurd (false≢true e)
 
 names_gap : (p : Place) → TakesName halves.Gap p → name_place p ≡ true
 unfolding begin

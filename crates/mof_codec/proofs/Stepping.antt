@@ -1,5 +1,5 @@
 -- A loop that steps over the characters of a text.
-use Rattle.std.proofs.Common.{◌≡◌, ℕ, ◌+◌, ◌-◌, List, [], ◌∷◌, ◌++◌, Some, None, length, take, drop, refl, sym, ◌∙◌, ap, subst, arith, append_assoc, append-nil}
+use Rattle.std.proofs.Common.{◌≡◌, ℕ, ◌+◌, ◌-◌, List, [], ◌∷◌, ◌++◌, Some, None, length, take, drop, refl, sym, ◌∙◌, ap, subst, arith, append_assoc, append-nil, length-append}
 use Rattle.std.specs.Prelude.{slice_index}
 use Rattle.mof_syntax.specs.Characters.{EndsWith}
 use Rattle.mof_syntax.specs.Grammar.{Wide}
@@ -50,16 +50,12 @@ index_front : (front : List ℕ) (c : ℕ) (rest : List ℕ) → slice_index (fr
 index_front [] c rest = refl
 index_front (d ∷ front) c rest = index_front front c rest
 
-pub length_front : (front left : List ℕ) → length (front ++ left) ≡ length front + length left
-length_front [] left = omega arith
-length_front (c ∷ front) left = omega (arith, length_front front left)
-
 module _ (chars left : List ℕ) (state : State) (s : Stepped chars left state) where
   pub place_is : length chars - length left ≡ length s.front
-  place_is = omega (arith, ap (λ (x : List ℕ). length x) s.split, length_front s.front left)
+  place_is = omega (arith, ap (λ (x : List ℕ). length x) s.split, length-append s.front left)
 
   pub place_within : length s.front + length left ≡ length chars
-  place_within = omega (arith, ap (λ (x : List ℕ). length x) s.split, length_front s.front left)
+  place_within = omega (arith, ap (λ (x : List ℕ). length x) s.split, length-append s.front left)
 
   pub front_is : take (length s.front) chars ≡ s.front
   front_is = ap (λ (x : List ℕ). take (length s.front) x) s.split ∙ take_front s.front left

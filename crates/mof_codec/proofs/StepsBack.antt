@@ -26,7 +26,9 @@ use Rattle.mof_codec.specs.declared.machine.state.Event.TheVariants as events
 use Rattle.mof_codec.specs.Machine.{letters, is_no_char, go, begin, gapped, keyed, first_letter, number_begun, value_word, scalar_begun, numbered, step, is_whole, kind_of, opened, quoted, digit_on, key_on, key_read, head_of}
 use Rattle.mof_codec.specs.Machine as machine
 use Rattle.mof_codec.specs.Walked.{tally}
+use Rattle.mof_syntax.proofs.Bodies.{and_left, and_right}
 use Rattle.mof_codec.proofs.Runs.{Next, Whole, Runs, After, split, bit_digit, bit_octal}
+use Rattle.mof_codec.proofs.Forward.{drop_one}
 use Rattle.mof_codec.proofs.Left.{Common, From, AdmitsInteger, Admits, Along, BitsLeft, Numbered, NumberLeft, TextLeft, DigitsLeft, Left, NextLeft}
 use Rattle.mof_codec.proofs.TokensBack.{number_begun_back, keyed_back, begin_back, no_name, ended_back}
 
@@ -53,14 +55,6 @@ small_letters keywords.True = refl
 small_letters keywords.False = refl
 small_letters keywords.Null = refl
 
-pub and_right : (a b : Bool) → (a && b) ≡ true → b ≡ true
-and_right true b e = e
-and_right false b e = absurd cc
-
-pub and_left : (a b : Bool) → (a && b) ≡ true → a ≡ true
-and_left true b e = refl
-and_left false b e = e
-
 pub small_dropped : (n : ℕ) (xs : List ℕ) → small xs ≡ true → small (drop n xs) ≡ true
 small_dropped zero xs h = h
 small_dropped (suc n) [] h = refl
@@ -76,9 +70,6 @@ small_next c l ls e h =
   where
     lower_next : (c : ℕ) → nat_le 97 (to_ascii_lowercase c) ≡ true → nat_le (to_ascii_lowercase c) 122 ≡ true → is_next c ≡ true
     lower_next c a b = grind (arith, nat_tests)
-
-pub drop_one : (k : Keyword) (n l : ℕ) (ls : List ℕ) → drop n (letters k) ≡ l ∷ ls → drop (n + 1) (letters k) ≡ ls
-drop_one k n l ls e = sym (drop-drop 1 n (letters k)) ∙ ap (λ (x : List ℕ). drop 1 x) e
 
 nil_read : (xs : List ℕ) → key_read (head_of xs) ≡ true → [] ≡ xs
 nil_read [] e = refl

@@ -23,7 +23,8 @@ use Rattle.mof_codec.specs.declared.machine.state.Event.TheVariants as events
 use Rattle.mof_codec.specs.Machine.{letters, is_no_char, go, begin, gapped, keyed, first_letter, number_begun, value_word, scalar_begun, numbered, step, is_whole, kind_of, opened, quoted, digit_on, key_on, key_read, head_of}
 use Rattle.mof_codec.specs.Machine as machine
 use Rattle.mof_codec.proofs.Goes.{Goes, IsKey, IsWordValue, ScalarGoes}
-use Rattle.mof_codec.proofs.Runs.{split, test_or, first_next, Says, kind_says}
+use Rattle.mof_syntax.proofs.Scans.{test_or}
+use Rattle.mof_codec.proofs.Runs.{split, first_next, Says, kind_says}
 use Rattle.mof_codec.specs.Beginnings.{scalar_place, name_place}
 use Rattle.mof_codec.proofs.Left.{Common, From, AdmitsInteger, AdmitsName, WordLeft, NumberLeft, TextLeft, Left, NextLeft}
 

@@ -43,14 +43,14 @@ keyword_short k w e =
 pub fits_common : Common TokenFits
 fits_common = record { left_brace = tt; right_brace = tt; equals_sign = tt; semicolon = tt; comma = tt; literal = λ t. tt; keyword = keyword_short }
 
-abbrev Each : List Lexeme → Type 0
-Each ts = AllByRecursion TokenFits ts
+abbrev EachFits : List Lexeme → Type 0
+EachFits ts = AllByRecursion TokenFits ts
 
-string_fits : (ts : List Lexeme) (text : List ℕ) (rest : List Lexeme) → StringValue ts text rest → Each ts → Each rest
+string_fits : (ts : List Lexeme) (text : List ℕ) (rest : List Lexeme) → StringValue ts text rest → EachFits ts → EachFits rest
 string_fits ts text rest (last t r) e = e.1
 string_fits ts text rest (joined t more us r s) e = string_fits us more r s e.1
 
-constant_fits : (ts : List Lexeme) (s : Scalar) (rest : List Lexeme) → ConstantValue ts s rest → Each ts → ScalarFits s × Each rest
+constant_fits : (ts : List Lexeme) (s : Scalar) (rest : List Lexeme) → ConstantValue ts s rest → EachFits ts → ScalarFits s × EachFits rest
 constant_fits ts s rest (string_value us r text v) e = (tt, string_fits us text r v e)
 constant_fits ts s rest (integer_value z r) e = (e.0, e.1)
 constant_fits ts s rest (true_value w r k) e = (tt, e.1)
@@ -58,7 +58,7 @@ constant_fits ts s rest (false_value w r k) e = (tt, e.1)
 constant_fits ts s rest (null_value w r k) e = (tt, e.1)
 constant_fits ts s rest (alias_identifier name r) e = (e.0, e.1)
 
-elements_fit : (ts : List Lexeme) (ss : List Scalar) (rest : List Lexeme) → Elements ts ss rest → Each ts → AllByRecursion ScalarFits ss × Each rest
+elements_fit : (ts : List Lexeme) (ss : List Scalar) (rest : List Lexeme) → Elements ts ss rest → EachFits ts → AllByRecursion ScalarFits ss × EachFits rest
 elements_fit ts ss rest (closing r) e = (tt, e.1)
 elements_fit ts ss rest (element us behind r s others is more) e =
     let here = constant_fits us s behind is e.1 in
@@ -70,7 +70,7 @@ abbrev ValueParts : Value → Type 0
 ValueParts (One s) = ScalarFits s
 ValueParts (Many ss) = AllByRecursion ScalarFits ss
 
-initializer_fits : (ts : List Lexeme) (v : Value) (rest : List Lexeme) → Initializer ts v rest → Each ts → ValueParts v × Each rest
+initializer_fits : (ts : List Lexeme) (v : Value) (rest : List Lexeme) → Initializer ts v rest → EachFits ts → ValueParts v × EachFits rest
 initializer_fits ts v rest (constant us r s is) e = constant_fits us s r is e
 initializer_fits ts v rest (empty_array r) e = (tt, e.1.1)
 initializer_fits ts v rest (array us behind r s ss is more) e =
@@ -82,18 +82,18 @@ value_fits : (v : Value) → ValueParts v → elements_of v ≤ MAX_ELEMENTS →
 value_fits (One s) parts few = parts
 value_fits (Many ss) parts few = (few, parts)
 
-properties_fit : (ts : List Lexeme) (ps : List Property) (rest : List Lexeme) → ValueInitializers ts ps rest → Each ts → AllByRecursion HasFewElements ps → AllByRecursion PropertyFits ps × Each rest
+properties_fit : (ts : List Lexeme) (ps : List Property) (rest : List Lexeme) → ValueInitializers ts ps rest → EachFits ts → AllByRecursion HasFewElements ps → AllByRecursion PropertyFits ps × EachFits rest
 properties_fit ts ps rest (done r) e few = (tt, e.1)
 properties_fit ts ps rest (value_initializer name us behind r v qs is more) e few =
     let here = initializer_fits us v (Semicolon ∷ behind) is e.1.1 in
     let there = properties_fit behind qs r more here.1.1 few.1 in
     ((record { name = e.0; value = value_fits v here.0 few.0 }, there.0), there.1)
 
-alias_fits : (ts : List Lexeme) (a : Option (List ℕ)) (rest : List Lexeme) → AliasClause ts a rest → Each ts → IfSome a IsShortName × Each rest
+alias_fits : (ts : List Lexeme) (a : Option (List ℕ)) (rest : List Lexeme) → AliasClause ts a rest → EachFits ts → IfSome a IsShortName × EachFits rest
 alias_fits ts a rest (unnamed r) e = (tt, e)
 alias_fits ts a rest (named w name r k) e = (e.1.0, e.1.1)
 
-instances_fit : (ts : List Lexeme) (is : List Instance) → InstanceDeclarations ts is → Each ts → AllByRecursion HasFewParts is → AllByRecursion InstanceFits is
+instances_fit : (ts : List Lexeme) (is : List Instance) → InstanceDeclarations ts is → EachFits ts → AllByRecursion HasFewParts is → AllByRecursion InstanceFits is
 instances_fit ts is nothing e few = tt
 instances_fit ts is (instance_declaration i o class a us body behind ps js ki ko al pr more) e few =
     let alias = alias_fits us a (LeftBrace ∷ body) al e.1.1.1 in

@@ -107,8 +107,8 @@ class_stands : (text : List ℕ) (fault at : ℕ) → profile.OutOfProfile text 
 class_stands text fault at (class b w) = (refl, w)
 
 -- the word does not stand where a letter goes on
-pub no_class : Applies (codes "classes A {};") (OutOfProfile 0 forms.Class) → ⊥
-no_class a = letter_clash (class_stands (codes "classes A {};") a.0 0 a.2).1.stops
+pub no_longer_word : Applies (codes "classes A {};") (OutOfProfile 0 forms.Class) → ⊥
+no_longer_word a = letter_clash (class_stands (codes "classes A {};") a.0 0 a.2).1.stops
   where
     letter_clash : true ≡ false → ⊥
     letter_clash e = cc

@@ -4,23 +4,23 @@ use Rattle.mof_syntax.specs.Tokens.{IsToken, Number}
 use Rattle.mof_syntax.specs.Walk.{NoToken}
 
 -- the characters are this integer and nothing else
-abbrev pub Spells : List ℕ → ℤ → Type 0
-Spells cs z = IsToken cs (Number z) []
+abbrev pub SpellsInteger : List ℕ → ℤ → Type 0
+SpellsInteger cs z = IsToken cs (Number z) []
 
 pub record IntegerExamples : Type 0 where
-  pub zero : Spells (codes "0") (pos 0)
-  pub zeros : Spells (codes "00") (pos 0)
-  pub minus_zero : Spells (codes "-0") (pos 0)
-  pub decimal : Spells (codes "120") (pos 120)
-  pub plus : Spells (codes "+7") (pos 7)
-  pub minus : Spells (codes "-10") (negsuc 9)
-  pub octal : Spells (codes "017") (pos 15)
-  pub hex : Spells (codes "0x1F") (pos 31)
-  pub hex_capitals : Spells (codes "-0Xa") (negsuc 9)
-  pub binary : Spells (codes "101b") (pos 5)
-  pub binary_capital : Spells (codes "1B") (pos 1)
-  pub binary_zero : Spells (codes "0b") (pos 0)
-  pub past_64_bits : Spells (codes "18446744073709551616") (pos 18446744073709551616)
+  pub zero : SpellsInteger (codes "0") (pos 0)
+  pub zeros : SpellsInteger (codes "00") (pos 0)
+  pub minus_zero : SpellsInteger (codes "-0") (pos 0)
+  pub decimal : SpellsInteger (codes "120") (pos 120)
+  pub plus : SpellsInteger (codes "+7") (pos 7)
+  pub minus : SpellsInteger (codes "-10") (negsuc 9)
+  pub octal : SpellsInteger (codes "017") (pos 15)
+  pub hex : SpellsInteger (codes "0x1F") (pos 31)
+  pub hex_capitals : SpellsInteger (codes "-0Xa") (negsuc 9)
+  pub binary : SpellsInteger (codes "101b") (pos 5)
+  pub binary_capital : SpellsInteger (codes "1B") (pos 1)
+  pub binary_zero : SpellsInteger (codes "0b") (pos 0)
+  pub past_64_bits : SpellsInteger (codes "18446744073709551616") (pos 18446744073709551616)
   pub no_sign_alone : NoToken (codes "-")
   pub no_octal_8 : NoToken (codes "08")
   pub no_hex_alone : NoToken (codes "0x")

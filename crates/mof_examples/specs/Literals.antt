@@ -4,18 +4,18 @@ use Rattle.mof_syntax.specs.Strings.{Escape}
 use Rattle.mof_syntax.specs.Tokens.{IsToken, Literal}
 
 -- the characters are a literal of this text and nothing else
-abbrev pub Spells : List ℕ → List ℕ → Type 0
-Spells cs text = IsToken cs (Literal text) []
+abbrev pub SpellsText : List ℕ → List ℕ → Type 0
+SpellsText cs text = IsToken cs (Literal text) []
 
 -- no escape begins the characters, of which the backslash was read
 abbrev pub NoEscape : List ℕ → Type 0
 NoEscape cs = (value : ℕ) (rest : List ℕ) → Escape cs value rest → ⊥
 
 pub record LiteralExamples : Type 0 where
-  pub empty : Spells (codes "\"\"") []
-  pub letters : Spells (codes "\"ab\"") (codes "ab")
-  pub line_end : Spells (codes "\"a\nb\"") (codes "a\nb")
-  pub quote_inside : Spells (codes "\"a\\\"b\"") (codes "a\"b")
+  pub empty : SpellsText (codes "\"\"") []
+  pub letters : SpellsText (codes "\"ab\"") (codes "ab")
+  pub line_end : SpellsText (codes "\"a\nb\"") (codes "a\nb")
+  pub quote_inside : SpellsText (codes "\"a\\\"b\"") (codes "a\"b")
   pub two_beside : IsToken (codes "\"a\"\"b\"") (Literal (codes "a")) (codes "\"b\"")
   pub backspace : Escape (codes "b") 8 []
   pub tab : Escape (codes "t") 9 []

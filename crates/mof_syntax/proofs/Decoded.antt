@@ -14,15 +14,13 @@ use Rattle.mof_syntax.specs.declared.encoding.ByteOrder.TheVariants.{LittleEndia
 use Rattle.mof_syntax.specs.Encodings.{unit_bytes, char_bytes, body_bytes, mark_of, encoding_of, Chars, IsTextFault, StartsNoChar, RefusesBytes}
 use Rattle.mof_syntax.specs.declared.text_error.TextError.{TextError}
 use Rattle.mof_syntax.specs.declared.text_error.TextError.TheVariants.{TextFault, Memory}
+use Rattle.mof_syntax.proofs.Lists.{tail_same}
 use Rattle.mof_syntax.proofs.Bodies.{some_units, and_left, and_right}
 
 -- units of UTF-16
 
 head_same : (u v : ℕ) (r s : List ℕ) → (u ∷ r) ≡ (v ∷ s) → u ≡ v
 head_same u v r s e = cc
-
-tail_same : (u v : ℕ) (r s : List ℕ) → (u ∷ r) ≡ (v ∷ s) → r ≡ s
-tail_same u v r s e = cc
 
 two_parts : (u v : ℕ) → u % 256 ≡ v % 256 → u / 256 ≡ v / 256 → u ≡ v
 two_parts u v e f = omega arith

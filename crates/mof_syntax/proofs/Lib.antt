@@ -1,3 +1,4 @@
+pub mod Lists
 pub mod Bodies
 pub mod Scans
 pub mod Texts

@@ -1,6 +1,7 @@
 -- What the scanner computes is what stands after the constructs of the definitions, and after no other.
 use Rattle.std.proofs.Common.{◌≡◌, ◌⊎◌, inl, inr, ◌≤◌, ◌+◌, ◌*◌, ℕ, zero, suc, Bool, true, false, cond, List, [], ◌∷◌, Option, Some, None, is_some, refl, sym, ap, subst, ◌∙◌, arith}
 use Rattle.std.specs.Prelude.{◌==◌, ◌&&◌, if◌then◌else◌}
+use Rattle.std.proofs.lemmas.Bool.{true≢false}
 use Rattle.std.proofs.lemmas.Bool.Decides.{nat_tests}
 use Rattle.std.specs.Char.{digit_value}
 use Rattle.mof_values.specs.Ident.{is_first, is_next}
@@ -24,9 +25,6 @@ test_or false = inr refl
 
 pub some_same : (a b : List ℕ) → Some a ≡ Some b → a ≡ b
 some_same a b e = cc
-
-pub clash : true ≡ false → ⊥
-clash e = cc
 
 pub none_some : (a : List ℕ) → None ≡ Some a → ⊥
 none_some a e = cc
@@ -68,7 +66,7 @@ digit_wider a b c small h = grind (arith, nat_tests)
 
 pub stops_digit : (b : ℕ) (cs : List ℕ) → b ≤ 16 → Stops is_next cs → Stops (digit_of b) cs
 stops_digit b [] small s = tt
-stops_digit b (c ∷ cs) small s = elim (test_or (digit_of b c)) [ inl is ↦ absurd (clash (sym (digit_next b c small is) ∙ s)) | inr not_one ↦ not_one ]
+stops_digit b (c ∷ cs) small s = elim (test_or (digit_of b c)) [ inl is ↦ absurd (true≢false (sym (digit_next b c small is) ∙ s)) | inr not_one ↦ not_one ]
 
 pub b_next : (c : ℕ) → is_b c ≡ true → is_next c ≡ true
 b_next c h = grind (arith, nat_tests)
@@ -205,14 +203,14 @@ no_b base cs ds (c ∷ cs') small (stop r) s = rw (two, none_b) refl
     two = stops_digit 2 (c ∷ cs') (omega arith) s
 
     none_b : is_b c ≡ false
-    none_b = elim (test_or (is_b c)) [ inl is ↦ absurd (clash (sym (b_next c is) ∙ s)) | inr not_b ↦ not_b ]
+    none_b = elim (test_or (is_b c)) [ inl is ↦ absurd (true≢false (sym (b_next c is) ∙ s)) | inr not_b ↦ not_b ]
 no_b base cs ds rest small (more c us v r e run) s = elim (test_or (digit_of 2 c)) [
   | inl is ↦ rw is (no_b base us v r small run s)
   | inr not_two ↦ rw (not_two, none_b) refl
 ]
   where
     none_b : is_b c ≡ false
-    none_b = elim (test_or (is_b c)) [ inl is ↦ absurd (clash (sym (digit_wider base 10 c small e) ∙ b_no_decimal c is)) | inr not_b ↦ not_b ]
+    none_b = elim (test_or (is_b c)) [ inl is ↦ absurd (true≢false (sym (digit_wider base 10 c small e) ∙ b_no_decimal c is)) | inr not_b ↦ not_b ]
 
 pub no_binary : (base d : ℕ) (cs ds rest : List ℕ) → base ≤ 10 → Run (digit_of base) cs ds rest → Stops is_next rest → binary_rest (d ∷ cs) ≡ None
 no_binary base d cs ds rest small run s = elim (test_or (digit_of 2 d)) [
@@ -231,10 +229,10 @@ some_either None b rest e = inr e
 some_either (Some r) b rest e = inl e
 
 pub no_x : (c : ℕ) → is_next c ≡ false → is_x c ≡ false
-no_x c s = elim (test_or (is_x c)) [ inl is ↦ absurd (clash (sym (x_next c is) ∙ s)) | inr not_x ↦ not_x ]
+no_x c s = elim (test_or (is_x c)) [ inl is ↦ absurd (true≢false (sym (x_next c is) ∙ s)) | inr not_x ↦ not_x ]
 
 pub digit_no_x : (base c : ℕ) → base ≤ 16 → digit_of base c ≡ true → is_x c ≡ false
-digit_no_x base c small e = elim (test_or (is_x c)) [ inl is ↦ absurd (clash (sym (digit_wider base 16 c small e) ∙ x_no_digit c is)) | inr not_x ↦ not_x ]
+digit_no_x base c small e = elim (test_or (is_x c)) [ inl is ↦ absurd (true≢false (sym (digit_wider base 16 c small e) ∙ x_no_digit c is)) | inr not_x ↦ not_x ]
 
 zero-read : (cs ds rest : List ℕ) → Run (digit_of 8) cs ds rest → Stops is_next rest → zero_rest cs ≡ Some rest
 zero-read cs ds [] (stop r) s = refl
@@ -245,7 +243,7 @@ pub no_binary_x : (x : ℕ) (cs : List ℕ) → is_x x ≡ true → suffix_rest 
 no_binary_x x cs is = rw (two, x_no_b x is) refl
   where
     two : digit_of 2 x ≡ false
-    two = elim (test_or (digit_of 2 x)) [ inl d ↦ absurd (clash (sym (digit_wider 2 16 x (omega arith) d) ∙ x_no_digit x is)) | inr not_two ↦ not_two ]
+    two = elim (test_or (digit_of 2 x)) [ inl d ↦ absurd (true≢false (sym (digit_wider 2 16 x (omega arith) d) ∙ x_no_digit x is)) | inr not_two ↦ not_two ]
 
 hex_rest-read : (cs rest : List ℕ) (d : ℕ) (ds : List ℕ) → Run (digit_of 16) cs (d ∷ ds) rest → Stops is_next rest → hex_rest cs ≡ Some rest
 hex_rest-read cs rest d ds (more c us v r e run) s = rw e (stopped-run 16 us r (omega arith) (v, run, s))
@@ -254,7 +252,7 @@ pub binary-read : (cs rest : List ℕ) (d b : ℕ) (ds : List ℕ) → Run (digi
 binary-read cs rest d b ds (more c us v r e run) is s = rw (e, after-run (digit_of 2) us v (b ∷ rest) run two, is) (stopped-stops rest s)
   where
     two : digit_of 2 b ≡ false
-    two = elim (test_or (digit_of 2 b)) [ inl f ↦ absurd (clash (sym (digit_wider 2 10 b (omega arith) f) ∙ b_no_decimal b is)) | inr not_two ↦ not_two ]
+    two = elim (test_or (digit_of 2 b)) [ inl f ↦ absurd (true≢false (sym (digit_wider 2 10 b (omega arith) f) ∙ b_no_decimal b is)) | inr not_two ↦ not_two ]
 
 pub magnitude-read : (cs : List ℕ) (n : ℕ) (rest : List ℕ) → Magnitude cs n rest → Stops is_next rest → magnitude_rest cs ≡ Some rest
 magnitude-read cs n rest (decimal_value d us ds r nz is run) s =

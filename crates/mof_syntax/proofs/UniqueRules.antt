@@ -9,6 +9,7 @@ use Rattle.mof_values.specs.declared.value.Value.{Value}
 use Rattle.mof_values.specs.declared.value.Value.TheVariants.{One, Many}
 use Rattle.mof_syntax.specs.Tokens.{Lexeme, Word, AliasName, Literal, Number, LeftBrace, RightBrace, Semicolon}
 use Rattle.mof_syntax.specs.Grammar.{NoLiteral, StringValue, last, joined, ConstantValue, string_value, integer_value, true_value, false_value, null_value, alias_identifier, Elements, closing, element, Initializer, constant, empty_array, array, ValueInitializers, done, value_initializer, AliasClause, unnamed, named, InstanceDeclarations, nothing, instance_declaration, WideSpells}
+use Rattle.mof_syntax.proofs.Lists.{tail_same}
 use Rattle.mof_syntax.proofs.UniqueTokens.{lexes_same}
 
 pub string_first : (ts : List Lexeme) (text : List ℕ) (rest : List Lexeme) → StringValue ts text rest → NoLiteral ts → ⊥
@@ -106,9 +107,6 @@ initializer_same ts v r u q n m (array xs behind x s more c e) (array ys other y
     (ap (λ (z : Scalar). Many (z ∷ more)) first.0 ∙ ap (λ (zs : List Scalar). Many (t ∷ zs)) rest.0, rest.1)
 
 -- declarations
-
-tail_same : (t u : Lexeme) (ts us : List Lexeme) → (t ∷ ts) ≡ (u ∷ us) → ts ≡ us
-tail_same t u ts us e = cc
 
 properties_same : (ts : List Lexeme) (ps : List Property) (r : List Lexeme) (qs : List Property) (q : List Lexeme) → ValueInitializers ts ps r → ValueInitializers ts qs q → (ps ≡ qs) × (r ≡ q)
 properties_same ts ps r qs q (done x) (done y) = (refl, refl)

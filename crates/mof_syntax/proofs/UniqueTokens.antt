@@ -1,6 +1,7 @@
 -- Characters divide into tokens in one way, and each token stands for one thing.
 use Rattle.std.proofs.Common.{◌≡◌, inl, inr, ℕ, Bool, true, false, cond, List, [], ◌∷◌, Option, Some, None, is_some, refl, sym, ap, subst, ◌∙◌, arith}
 use Rattle.std.specs.Prelude.{◌==◌, ◌||◌, if◌then◌else◌, unwrap_or, ℤ, pos, neg_ℤ}
+use Rattle.std.proofs.lemmas.Bool.{true≢false}
 use Rattle.std.proofs.lemmas.Bool.Decides.{nat_tests}
 use Rattle.std.specs.Char.{digit_value}
 use Rattle.std.specs.Str.Parse.{digits_value}
@@ -14,7 +15,7 @@ use Rattle.mof_syntax.specs.Scanning.{binary_rest, hex_tail, run_of, zero_value,
 use Rattle.mof_syntax.specs.declared.lead.Lead.{Lead}
 use Rattle.mof_syntax.specs.declared.lead.Lead.TheVariants as leads
 use Rattle.mof_syntax.specs.Leads.{lead_of}
-use Rattle.mof_syntax.proofs.Scans.{some_same, test_or, clash, digit_wider, stops_digit, b_no_decimal, no_binary, no_b, no_binary_x, binary-read, no_x, digit_no_x, hex-read, x_no_short, identifier-read, magnitude-read, escape-read, separator-read}
+use Rattle.mof_syntax.proofs.Scans.{some_same, test_or, digit_wider, stops_digit, b_no_decimal, no_binary, no_b, no_binary_x, binary-read, no_x, digit_no_x, hex-read, x_no_short, identifier-read, magnitude-read, escape-read, separator-read}
 use Rattle.mof_syntax.proofs.FirstTokens.{word_lead, digit_lead, identifier_first, magnitude_first}
 use Rattle.mof_syntax.proofs.Suffixes.{EndsWithin, separator_ends, token_ends}
 
@@ -70,7 +71,7 @@ magnitude_is cs n rest (binary_value d b us ds r run is) s =
     when_true (is_some (binary_rest us)) _ _ _ (some_is _ r (binary-read us r d b ds run is s)) (digits_are 2 us (d ∷ ds) (b ∷ r) run two)
   where
     two : digit_of 2 b ≡ false
-    two = elim (test_or (digit_of 2 b)) [ inl f ↦ absurd (clash (sym (digit_wider 2 10 b (omega arith) f) ∙ b_no_decimal b is)) | inr not_two ↦ not_two ]
+    two = elim (test_or (digit_of 2 b)) [ inl f ↦ absurd (true≢false (sym (digit_wider 2 10 b (omega arith) f) ∙ b_no_decimal b is)) | inr not_two ↦ not_two ]
 
 -- escapes and literals
 
@@ -196,7 +197,7 @@ blank_lead c h =
     rw (m, q, d, s, n) refl
 
 blank_no_first : (c : ℕ) → is_blank c ≡ true → is_first c ≡ true → ⊥
-blank_no_first c h f = absurd (clash (sym f ∙ no_first))
+blank_no_first c h f = absurd (true≢false (sym f ∙ no_first))
   where
     no_first : is_first c ≡ false
     no_first = grind (arith, nat_tests)
@@ -207,7 +208,7 @@ no_token_blank c cs t rest h i =
     blank_no_first c h (identifier_first c cs n.0 rest n.1)
 
 no_token_slash : (cs : List ℕ) (t : Lexeme) (rest : List ℕ) → IsToken (47 ∷ cs) t rest → ⊥
-no_token_slash cs t rest i = let n = token_named 47 cs t rest i in clash (sym (identifier_first 47 cs n.0 rest n.1))
+no_token_slash cs t rest i = let n = token_named 47 cs t rest i in true≢false (sym (identifier_first 47 cs n.0 rest n.1))
 
 pub no_both : (cs : List ℕ) (t : Lexeme) (r q : List ℕ) → Separator cs r → IsToken cs t q → ⊥
 no_both cs t r q (blank c x h) i = no_token_blank c x t q h i

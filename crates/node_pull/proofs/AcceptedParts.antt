@@ -80,10 +80,10 @@ abbrev pub AllAccepted : Server → ℕ → List Part → LinkView → LinkView 
 AllAccepted server agent held before after (Ok parts) = AllByRecursion (IsHeldOrAccepted server agent held before after) parts
 AllAccepted server agent held before after (Err error) = ⊤
 
-with_others : (server : Server) (agent : ℕ) (held : List Part) (before after : LinkView) (part : Part) (others : Result (List Part) PeerError) → IsHeldOrAccepted server agent held before after part
+accepted_with_others : (server : Server) (agent : ℕ) (held : List Part) (before after : LinkView) (part : Part) (others : Result (List Part) PeerError) → IsHeldOrAccepted server agent held before after part
     → AllAccepted server agent held before after others → AllAccepted server agent held before after (before_others part others)
-with_others server agent held before after part (Ok others) is all = (is, all)
-with_others server agent held before after part (Err error) is all = tt
+accepted_with_others server agent held before after part (Ok others) is all = (is, all)
+accepted_with_others server agent held before after part (Err error) is all = tt
 
 others_from : (server : Server) (agent : ℕ) (held : List Part) (before mid after : LinkView) (others : Result (List Part) PeerError) → GoesOn before mid → AllAccepted server agent held mid after others
     → AllAccepted server agent held before after others
@@ -94,7 +94,7 @@ contents_accepted : {server : Server} {agent : ℕ} {held : List Part} {names : 
     → Contents server agent held names fetches before after result → AllAccepted server agent held before after result
 contents_accepted (contents.no_more fetches view) = tt
 contents_accepted {server = server} {agent = agent} {held = held} (contents.one_more name names fetches part before mid after others for rest) =
-    with_others server agent held before after part others (accepted_on server agent held before mid after part (contents_go_on rest) (part_accepted for))
+    accepted_with_others server agent held before after part others (accepted_on server agent held before mid after part (contents_go_on rest) (part_accepted for))
     (others_from server agent held before mid after others (part_goes_on for) (contents_accepted rest))
 contents_accepted (contents.ended name names fetches error before after for) = tt
 contents_accepted (contents.no_memory names fetches view) = tt

@@ -55,15 +55,15 @@ abbrev pub HaveNames : List (List ℕ) → Result (List Part) PeerError → Type
 HaveNames names (Ok parts) = SameNames parts names
 HaveNames names (Err error) = ⊤
 
-with_others : (name : List ℕ) (names : List (List ℕ)) (part : Part) (others : Result (List Part) PeerError) → SameName part.name name → HaveNames names others
+names_with_others : (name : List ℕ) (names : List (List ℕ)) (part : Part) (others : Result (List Part) PeerError) → SameName part.name name → HaveNames names others
     → HaveNames (name ∷ names) (before_others part others)
-with_others name names part (Ok others) is have = (is, have)
-with_others name names part (Err error) is have = tt
+names_with_others name names part (Ok others) is have = (is, have)
+names_with_others name names part (Err error) is have = tt
 
 contents_names : {server : Server} {agent : ℕ} {held : List Part} {names : List (List ℕ)} {fetches : List Bool} {before after : LinkView} {result : Result (List Part) PeerError}
     → Contents server agent held names fetches before after result → HaveNames names result
 contents_names (no_more fetches view) = tt
-contents_names (one_more name names fetches part before mid after others for rest) = with_others name names part others (part_name for) (contents_names rest)
+contents_names (one_more name names fetches part before mid after others for rest) = names_with_others name names part others (part_name for) (contents_names rest)
 contents_names (ended name names fetches error before after for) = tt
 contents_names (no_memory names fetches view) = tt
 

@@ -12,6 +12,7 @@ use Rattle.node_state.specs.StagedParts.{parts_of}
 use Rattle.node_state.specs.Staging.{AreFitting, AreRefused}
 use Rattle.pull_client.specs.declared.error.PeerError.{PeerError}
 use Rattle.node_pull.specs.declared.error.PullFault.{PullFault}
+use Rattle.node_pull.specs.declared.pulling.PullOutcome.{PullOutcome}
 use Rattle.node_pull.specs.Errors.{error_of, staging_error}
 use Rattle.node_pull.specs.Listing.{Listed}
 use Rattle.node_pull.specs.Marks.{same_marks}
@@ -21,6 +22,16 @@ use Rattle.dsc_outside.specs.Link.{LinkView}
 -- the list, where its names and digests are not those of the parts that are held
 abbrev pub brought_of : List Part → Staged → Option Staged
 brought_of held staged = if same_marks held (parts_of staged) then None else Some staged
+
+-- the parts of the new list, or those that are held where none is brought
+abbrev pub parts_after : List Part → Option Staged → List Part
+parts_after held (Some staged) = parts_of staged
+parts_after held None = held
+
+-- the list that comes of a pull
+abbrev pub list_of : Result PullOutcome PullFault → Result (Option Staged) PullFault
+list_of (Ok brought) = Ok brought.list
+list_of (Err error) = Err error
 
 -- the list of parts comes first, then it is staged, then the packages come that its document names
 pub data Pulled {S : Type 0} (packages : S → Option (List Package)) (faults : S → ℕ) (meta : Meta) (server : Server) (agent : ℕ) (held : List Part) :

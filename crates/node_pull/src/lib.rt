@@ -28,6 +28,6 @@ pub use error::{PeerFault, PullFault};
 pub use laws::package_laws;
 pub use marks::marks_of;
 pub use modules::Module;
-pub use pulling::pull;
+pub use pulling::{PullOutcome, pull};
 pub use registering::register_node;
 pub use reporting::send_report;

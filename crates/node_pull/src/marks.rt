@@ -1,6 +1,6 @@
-//! Marks of parts.
+//! Marks of parts, and comparisons of lists of them.
 ghost use Rattle.std.specs.Prelude.{◌≡◌, IfOk, map};
-ghost use Rattle.node_pull.specs.Marks.{mark_of, same_marks};
+ghost use Rattle.node_pull.specs.Marks.{mark_of, same_marks, same_parts};
 
 use partial_merge::Part;
 use report_log::PartMark;
@@ -30,6 +30,23 @@ pub(crate) fn same_marks(others: &[Part], parts: &[Part]) -> bool
             return false;
         };
         if other.name != part.name || other.digest != part.digest {
+            return false;
+        }
+        (left, right) = (rest, later);
+    }
+    right.is_empty()
+}
+
+/// Returns whether two lists of parts are the same: they have the same names and bytes, in the same order.
+pub(crate) fn same_parts(others: &[Part], parts: &[Part]) -> bool
+    ensures { result ≡ same_parts others.now parts.now }
+{
+    let (mut left, mut right) = (others, parts);
+    while let [other, rest @ ..] = left {
+        let [part, later @ ..] = right else {
+            return false;
+        };
+        if other.name != part.name || other.bytes != part.bytes {
             return false;
         }
         (left, right) = (rest, later);

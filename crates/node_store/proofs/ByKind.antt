@@ -101,40 +101,40 @@ others_are : (k j : ℕ) (rest more : List ℕ) → k ∷ rest ≡ j ∷ more �
 unfolding others_of
 others_are k j rest more e = ap others_of e
 
-moved : (P : ℕ → List ℕ → Type 0) (k j : ℕ) (rest more : List ℕ) → k ∷ rest ≡ j ∷ more → P j more → P k rest
-moved P k j rest more e p =
+kind_moved : (P : ℕ → List ℕ → Type 0) (k j : ℕ) (rest more : List ℕ) → k ∷ rest ≡ j ∷ more → P j more → P k rest
+kind_moved P k j rest more e p =
     subst (λ (n : ℕ). P n rest) (sym (first_is k j rest more e)) (subst (λ (l : List ℕ). P j l) (sym (others_are k j rest more e)) p)
 
 -- what the rest of a body is, by its first byte
 pub of_kind : (kind : ℕ) (rest : List ℕ) (body : Body) → IsBody (kind ∷ rest) body → IsOfKind kind rest body
 of_kind kind rest (bodies.Event (events.Init agent)) is =
-    moved (λ k l. IsOfKind k l (bodies.Event (events.Init agent))) kind 1 rest _ is.0 (agent, (record { in_range = is.1; is = refl }, refl))
+    kind_moved (λ k l. IsOfKind k l (bodies.Event (events.Init agent))) kind 1 rest _ is.0 (agent, (record { in_range = is.1; is = refl }, refl))
 of_kind kind rest (bodies.Event (events.SetMeta meta)) is =
-    moved (λ k l. IsOfKind k l (bodies.Event (events.SetMeta meta))) kind 2 rest _ is.0 (meta, (record { is = is.1; spelled = refl }, refl))
+    kind_moved (λ k l. IsOfKind k l (bodies.Event (events.SetMeta meta))) kind 2 rest _ is.0 (meta, (record { is = is.1; spelled = refl }, refl))
 of_kind kind rest (bodies.Event events.Registered) is =
-    moved (λ k l. IsOfKind k l (bodies.Event events.Registered)) kind 3 rest _ is.0 (refl, refl)
+    kind_moved (λ k l. IsOfKind k l (bodies.Event events.Registered)) kind 3 rest _ is.0 (refl, refl)
 of_kind kind rest (bodies.Event (events.Stage staged)) is =
-    moved (λ k l. IsOfKind k l (bodies.Event (events.Stage staged))) kind 4 rest _ is.0 (staged, (record { in_range = is.1; is = refl }, refl))
+    kind_moved (λ k l. IsOfKind k l (bodies.Event (events.Stage staged))) kind 4 rest _ is.0 (staged, (record { in_range = is.1; is = refl }, refl))
 of_kind kind rest (bodies.Event (events.Promote report)) is =
-    moved (λ k l. IsOfKind k l (bodies.Event (events.Promote report))) kind 5 rest _ is.0 (report, (record { in_range = is.1; is = refl }, refl))
+    kind_moved (λ k l. IsOfKind k l (bodies.Event (events.Promote report))) kind 5 rest _ is.0 (report, (record { in_range = is.1; is = refl }, refl))
 of_kind kind rest (bodies.Event (events.Note report)) is =
-    moved (λ k l. IsOfKind k l (bodies.Event (events.Note report))) kind 6 rest _ is.0 (report, (record { in_range = is.1; is = refl }, refl))
+    kind_moved (λ k l. IsOfKind k l (bodies.Event (events.Note report))) kind 6 rest _ is.0 (report, (record { in_range = is.1; is = refl }, refl))
 of_kind kind rest (bodies.Event (events.AskReboot report)) is =
-    moved (λ k l. IsOfKind k l (bodies.Event (events.AskReboot report))) kind 7 rest _ is.0 (report, (record { in_range = is.1; is = refl }, refl))
+    kind_moved (λ k l. IsOfKind k l (bodies.Event (events.AskReboot report))) kind 7 rest _ is.0 (report, (record { in_range = is.1; is = refl }, refl))
 of_kind kind rest (bodies.Event events.Boot) is =
-    moved (λ k l. IsOfKind k l (bodies.Event events.Boot)) kind 8 rest _ is.0 (refl, refl)
+    kind_moved (λ k l. IsOfKind k l (bodies.Event events.Boot)) kind 8 rest _ is.0 (refl, refl)
 of_kind kind rest (bodies.Event (events.Sent job)) is =
-    moved (λ k l. IsOfKind k l (bodies.Event (events.Sent job))) kind 9 rest _ is.0 (job, (record { in_range = is.1; is = refl }, refl))
+    kind_moved (λ k l. IsOfKind k l (bodies.Event (events.Sent job))) kind 9 rest _ is.0 (job, (record { in_range = is.1; is = refl }, refl))
 of_kind kind rest (bodies.Event (events.Remove stage)) is =
-    moved (λ k l. IsOfKind k l (bodies.Event (events.Remove stage))) kind 10 rest _ is.0 (stage, (record { in_range = tt; is = refl }, refl))
+    kind_moved (λ k l. IsOfKind k l (bodies.Event (events.Remove stage))) kind 10 rest _ is.0 (stage, (record { in_range = tt; is = refl }, refl))
 of_kind kind rest (bodies.Event events.Restore) is =
-    moved (λ k l. IsOfKind k l (bodies.Event events.Restore)) kind 11 rest _ is.0 (refl, refl)
+    kind_moved (λ k l. IsOfKind k l (bodies.Event events.Restore)) kind 11 rest _ is.0 (refl, refl)
 of_kind kind rest (bodies.Piece (pieces.Base agent registered reboot next_job meta)) is =
-    moved (λ k l. IsOfKind k l (bodies.Piece (pieces.Base agent registered reboot next_job meta))) kind 12 rest _ is.0
+    kind_moved (λ k l. IsOfKind k l (bodies.Piece (pieces.Base agent registered reboot next_job meta))) kind 12 rest _ is.0
     ((agent, registered, reboot, next_job), (meta, (text_of_meta meta, (is.1.0, (refl, (record { is = is.2; spelled = refl }, refl))))))
 of_kind kind rest (bodies.Piece (pieces.Slot stage parts)) is =
-    moved (λ k l. IsOfKind k l (bodies.Piece (pieces.Slot stage parts))) kind 13 rest _ is.0
+    kind_moved (λ k l. IsOfKind k l (bodies.Piece (pieces.Slot stage parts))) kind 13 rest _ is.0
     (stage, (parts, (bytes_of_parts parts, (refl, (is.2, (record { in_range = is.1.0; is = refl }, refl))))))
 of_kind kind rest (bodies.Piece (pieces.Kept kept)) is =
-    moved (λ k l. IsOfKind k l (bodies.Piece (pieces.Kept kept))) kind 14 rest _ is.0
+    kind_moved (λ k l. IsOfKind k l (bodies.Piece (pieces.Kept kept))) kind 14 rest _ is.0
     (kept.sent, (kept.report, (bytes_of_report kept.report, (refl, (record { in_range = is.1; is = refl }, refl)))))

@@ -12,6 +12,7 @@ use Rattle.node_state.specs.declared.event.Event.{Event}
 use Rattle.node_state.specs.declared.event.Event.TheVariants as events
 use Rattle.node_state.specs.declared.event.Stage.TheVariants.{Pending, Current, Previous}
 use Rattle.node_state.specs.Table.{after, marked, newest, unsent}
+use Rattle.node_state.specs.declared.limits.TheConstants.{OLDER_REPORTS}
 use Rattle.node_state.specs.Sound.{Sound}
 use Rattle.node_state.specs.Pieces.{base_of, front, report_of, slot_of}
 use Rattle.meta_config.specs.Writing.{text_of_meta}
@@ -27,8 +28,8 @@ unmarked (kept ∷ reports) = ap (λ (l : List Kept). kept ∷ l) (unmarked repo
 same_reports : (reports : List Kept) → map (with_mark None) reports ++ [] ≡ reports
 same_reports reports = append-nil (map (with_mark None) reports) ∙ unmarked reports
 
-more_reports : (reports : List Kept) (report : Report) → map (with_mark None) (newest 15 reports) ++ unsent report ∷ [] ≡ newest 15 reports ++ unsent report ∷ []
-more_reports reports report = ap (λ (l : List Kept). l ++ unsent report ∷ []) (unmarked (newest 15 reports))
+more_reports : (reports : List Kept) (report : Report) → map (with_mark None) (newest OLDER_REPORTS reports) ++ unsent report ∷ [] ≡ newest OLDER_REPORTS reports ++ unsent report ∷ []
+more_reports reports report = ap (λ (l : List Kept). l ++ unsent report ∷ []) (unmarked (newest OLDER_REPORTS reports))
 
 -- the reports after an event are those that were kept and the one that is added
 pub reports_are : (node : Node) (event : Event) → reports_after node event ≡ (after node event).reports

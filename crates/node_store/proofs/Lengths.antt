@@ -10,6 +10,7 @@ use Rattle.dsc_document.specs.Sizes.{Fits}
 use Rattle.store_fields.specs.Fields.{IsBlob}
 use Rattle.partial_merge.specs.declared.part.Part.{Part}
 use Rattle.node_state.specs.Lists.{bytes_of, IsStaged}
+use Rattle.node_state.specs.declared.limits.TheConstants.{MAX_BYTES}
 use Rattle.store_fields.specs.declared.limits.TheConstants.{MAX_TEXT}
 
 -- a character has at most 4 bytes in UTF-8
@@ -33,4 +34,4 @@ parts_fit (part ∷ parts) total long less named =
     part_first part parts = sum_by-cons (λ (p : Part). length p.bytes) part parts
 
 pub staged_fit : (parts : List Part) → IsStaged parts → AllByRecursion (λ (part : Part). (length (encode_utf8_all part.name) ≤ MAX_TEXT) × IsBlob part.bytes) parts
-staged_fit parts staged = parts_fit parts 16777216 staged.long (omega arith) (recursion_from_All (λ part. Fits 255 part.name) parts staged.named.names)
+staged_fit parts staged = parts_fit parts MAX_BYTES staged.long (omega arith) (recursion_from_All (λ part. Fits 255 part.name) parts staged.named.names)

@@ -16,3 +16,4 @@ pub mod Rewritten
 pub mod AtRest
 pub mod Runs
 pub mod Opened
+pub mod Meaning

@@ -39,15 +39,15 @@ parts_unique bytes x y a b = one_whole bytes_of_parts AreParts (list_unique byte
 pub at_none : (found : Option Staged) (P : Type 0) → found ≡ None → IfNone found P → P
 at_none found P is on = subst (λ (o : Option Staged). IfNone o P) is on
 
-one_proof : (parts : List Part) → IsProp (IsStaged parts)
-one_proof parts = Prim.hlevel props
+one_proof_of_staged : (parts : List Part) → IsProp (IsStaged parts)
+one_proof_of_staged parts = Prim.hlevel props
 
 listed : (parts : List Part) → IsStaged parts → Staged
 listed p w = record { parts = p; whole = w }
 
 same_listed : (p q : List Part) (v : IsStaged p) (w : IsStaged q) → p ≡ q → listed p v ≡ listed q w
 same_listed p q v w same =
-    subst (λ (l : List Part). (u : IsStaged l) → listed p v ≡ listed l u) same (λ u. ap (λ (s : IsStaged p). listed p s) (one_proof p v u)) w
+    subst (λ (l : List Part). (u : IsStaged l) → listed p v ≡ listed l u) same (λ u. ap (λ (s : IsStaged p). listed p s) (one_proof_of_staged p v u)) w
 
 pub staged_same : (x y : Staged) → parts_of x ≡ parts_of y → x ≡ y
 unfolding listed

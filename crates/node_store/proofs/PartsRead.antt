@@ -1,8 +1,8 @@
 -- Which part stands in front of the bytes.
 use Rattle.std.proofs.Common.{◌≡◌, ℕ, List, ◌++◌, Ok, Err, sym, ap, subst, ◌∙◌, arith, append_assoc}
-use Rattle.std.proofs.Props.{props}
 use Rattle.sha2.specs.Sha256.{sha256}
 use Rattle.partial_merge.specs.declared.part.Part.{Part}
+use Rattle.partial_merge.proofs.SameParts.{part_same}
 use Rattle.store_fields.specs.declared.error.FieldError.TheVariants.{Wrong}
 use Rattle.store_fields.specs.Fields.{bytes_of_text, bytes_of_digest, bytes_of_blob, IsText, IsDigest, IsBlob}
 use Rattle.store_fields.specs.Reading.{Reads, IsUnique}
@@ -11,23 +11,6 @@ use Rattle.store_fields.proofs.Texts.{text_unique, blob_unique}
 use Rattle.store_fields.proofs.Composing.{taken, wrong}
 use Rattle.node_store.specs.Parts.{bytes_of_part, IsPart}
 use Rattle.store_fields.specs.declared.limits.TheConstants.{MAX_TEXT}
-
-made : (name digest bytes : List ℕ) → digest ≡ sha256 bytes → Part
-made n d b w = record { name = n; digest = d; bytes = b; whole = w }
-
-one_proof : (d e : List ℕ) → IsProp (d ≡ e)
-one_proof d e = Prim.hlevel props
-
-same_made : (n n' d d' b b' : List ℕ) (w : d ≡ sha256 b) (w' : d' ≡ sha256 b') → n ≡ n' → d ≡ d' → b ≡ b' → made n d b w ≡ made n' d' b' w'
-same_made n n' d d' b b' w w' name digest bytes =
-    subst (λ (b2 : List ℕ). (w2 : d' ≡ sha256 b2) → made n d b w ≡ made n' d' b2 w2) bytes
-    (λ w1. subst (λ (d2 : List ℕ). (w2 : d2 ≡ sha256 b) → made n d b w ≡ made n' d2 b w2) digest
-    (λ w3. ap (λ (m : List ℕ). made m d b w) name ∙ ap (λ (v : d ≡ sha256 b). made n' d b v) (one_proof d (sha256 b) w w3)) w1) w'
-
--- parts of one name and the same bytes are the same
-pub part_same : (x y : Part) → x.name ≡ y.name → x.digest ≡ y.digest → x.bytes ≡ y.bytes → x ≡ y
-unfolding made
-part_same x y name digest bytes = same_made x.name y.name x.digest y.digest x.bytes y.bytes x.whole y.whole name digest bytes
 
 pub part_opened : (part : Part) (rest : List ℕ) → bytes_of_part part ++ rest ≡ bytes_of_text part.name ++ (bytes_of_digest part.digest ++ (bytes_of_blob part.bytes ++ rest))
 part_opened part rest =

@@ -21,6 +21,7 @@ use Rattle.node_state.specs.Sound.{Sound}
 use Rattle.node_state.proofs.Building.{built_is_sound}
 use Rattle.node_state.proofs.SoundSteps.{checked, steps_are_sound}
 use Rattle.node_state.specs.Table.{Steps, after, is_next, marked, new_node, newest, promoted, refusal, unsent, with_report, without}
+use Rattle.node_state.specs.declared.limits.TheConstants.{OLDER_REPORTS}
 use Rattle.node_store.specs.Bodies.{IsEventInRange, IsPieceInRange}
 use Rattle.node_store.specs.Parts.{AreParts}
 use Rattle.node_store.specs.Reports.{IsReport}
@@ -59,7 +60,7 @@ noted node report range next is = record {
   pending = range.pending;
   current = range.current;
   previous = range.previous;
-  reports = pushed (newest 15 node.reports) (unsent report) (dropped (length node.reports - 15) node.reports range.reports) is;
+  reports = pushed (newest OLDER_REPORTS node.reports) (unsent report) (dropped (length node.reports - OLDER_REPORTS) node.reports range.reports) is;
 }
 
 without_parts : (stage : Stage) (node : Node) → InRange node → InRange (without stage node)

@@ -22,7 +22,7 @@ use Rattle.node_store.proofs.Replay.{leads-push}
 -- ---- runs
 
 -- bodies make of the node another one, one after the other
-abbrev Runs : Node → Bool → List (List ℕ) → Node → Bool → Type 0
+abbrev pub Runs : Node → Bool → List (List ℕ) → Node → Bool → Type 0
 Runs old begun [] new after = (new ≡ old) × (after ≡ begun)
 Runs old begun (body ∷ bodies) new after = (mid : Node) × (flag : Bool) × Moves old begun body mid flag × Runs mid flag bodies new after
 
@@ -34,7 +34,7 @@ moves_one : (old : Node) (begun : Bool) (body : List ℕ) (a b : Node) (x y : Bo
 moves_one old begun body a b x y p q =
     goes_one old begun q.of a b x y (subst (λ (of : Body). Goes old begun of a x) (one_body body p.of q.of p.is q.is) p.goes) q.goes
 
-runs_one : (old : Node) (begun : Bool) (bodies : List (List ℕ)) (a b : Node) (x y : Bool) → Runs old begun bodies a x → Runs old begun bodies b y → (a ≡ b) × (x ≡ y)
+pub runs_one : (old : Node) (begun : Bool) (bodies : List (List ℕ)) (a b : Node) (x y : Bool) → Runs old begun bodies a x → Runs old begun bodies b y → (a ≡ b) × (x ≡ y)
 runs_one old begun [] a b x y p q = (p.0 ∙ sym q.0, p.1 ∙ sym q.1)
 runs_one old begun (body ∷ bodies) a b x y (m, f, p, more) (n, g, q, rest) =
     let s = moves_one old begun body n m g f q p in
@@ -71,7 +71,7 @@ events_run old new [] is ranges = (is, refl)
 events_run old new (event ∷ events) (mid, step, rest) ranges =
     (mid, true, record { of = kinds.Event event; is = (refl, ranges.0, step.within); goes = (step, refl) }, later_run mid new events rest ranges.1)
 
-leads_run : (bodies : List (List ℕ)) (node : Node) (leads : Leads bodies node) → Runs new_node false bodies node (has_events leads.events)
+pub leads_run : (bodies : List (List ℕ)) (node : Node) (leads : Leads bodies node) → Runs new_node false bodies node (has_events leads.events)
 leads_run bodies node leads =
     subst (λ (l : List (List ℕ)). Runs new_node false l node (has_events leads.events)) (sym leads.is)
     (fronts_run new_node leads.first leads.front leads.builds leads.pieces (map body_of_event leads.events) node (has_events leads.events)
@@ -114,7 +114,7 @@ piece-push mid bodies body piece leads none is fit =
       ranges = tt;
     }
 
-reached_by : (old new : Node) (begun after : Bool) (bodies : List (List ℕ)) (body : List ℕ) (of : Body) → Reached old begun bodies → IsBody body of → Goes old begun of new after → Reached new after (bodies ++ body ∷ [])
+pub reached_by : (old new : Node) (begun after : Bool) (bodies : List (List ℕ)) (body : List ℕ) (of : Body) → Reached old begun bodies → IsBody body of → Goes old begun of new after → Reached new after (bodies ++ body ∷ [])
 reached_by old new begun after bodies body (kinds.Event event) reached is goes = record {
   leads = leads-push old new bodies body event reached.leads is.0 is.1 goes.0;
   is_begun = goes.1 ∙ sym (more_events reached.leads.events event);

@@ -36,7 +36,7 @@ use Rattle.node_store.specs.Parts.{bytes_of_part, bytes_of_parts}
 use Rattle.node_store.specs.Reports.{bytes_of_missed, bytes_of_mark, bytes_of_reason, bytes_of_outcome, bytes_of_report, bytes_of_job, bytes_of_run, bytes_of_result, bytes_of_lists, IsMark, IsReport}
 use Rattle.node_store.specs.declared.limits.TheConstants.{BANK, MAX_BODY}
 use Rattle.node_state.specs.declared.limits.TheConstants.{MAX_BYTES, MAX_REPORTS}
-use Rattle.report_log.specs.declared.limits.TheConstants.{MAX_PARTS}
+use Rattle.report_log.specs.declared.limits.TheConstants.{LISTED_LIMIT, MAX_PARTS}
 use Rattle.gate_log.proofs.Cells.{length-behind}
 use Rattle.node_store.proofs.Lengths.{utf8_most}
 use Rattle.node_store.proofs.Reported.{job_of, run_of, result_of, lists_of, spelled}
@@ -168,7 +168,7 @@ lists_long lists = omega (arith, length-append (bytes_of_list bytes_of_missed li
 
 all_lists_long : (report : Report) → ReportInSize report → HasDigests report → length (bytes_of_lists (lists_of report)) ≤ 18890
 all_lists_long report size digests =
-    let few : length report.listed ≤ 64 = size.listed in
+    let few : length report.listed ≤ LISTED_LIMIT = size.listed in
     omega (
       arith,
       lists_long (lists_of report),

@@ -7,7 +7,7 @@ use Rattle.node_state.specs.Pieces.{front}
 use Rattle.node_state.specs.Sound.{Sound}
 use Rattle.node_store.specs.declared.body.Body.{Body}
 use Rattle.node_store.specs.Bodies.{body_of_event, body_of_piece, HasDigests, IsBody, IsEventInRange}
-use Rattle.node_store.specs.Stands.{node_shape}
+use Rattle.node_store.specs.Stands.{FailsAt, Stands, node_shape}
 
 -- a body is of one event or piece at most
 abbrev pub BodiesAreOfOne : Type 0
@@ -25,3 +25,15 @@ pub record IsRoomFor (pieces : List (List ℕ)) : Type 0 where
 -- so it is with each sound node
 abbrev pub FrontsFit : Type 0
 FrontsFit = (agent : ℕ) (node : Node) → Sound node → All (λ kept. HasDigests kept.report) node.reports → IsRoomFor (map body_of_piece (front agent node))
+
+-- an image stands for one node at most
+abbrev pub NodesAreOne : Type 0
+NodesAreOne = (image : List ℕ) (one other : Node) → Stands image one → Stands image other → one ≡ other
+
+-- the node that an image stands for is sound
+abbrev pub NodesAreSound : Type 0
+NodesAreSound = (image : List ℕ) (node : Node) → Stands image node → Sound node
+
+-- an image that fails stands for no node
+abbrev pub FailingStandForNone : Type 0
+FailingStandForNone = (image : List ℕ) (at : ℕ) (node : Node) → FailsAt image at → Stands image node → ⊥

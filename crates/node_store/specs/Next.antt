@@ -6,6 +6,7 @@ use Rattle.node_state.specs.declared.node.Kept.{Kept}
 use Rattle.node_state.specs.declared.event.Event.{Event}
 use Rattle.node_state.specs.declared.event.Event.TheVariants as events
 use Rattle.node_state.specs.Table.{newest, unsent}
+use Rattle.node_state.specs.declared.limits.TheConstants.{OLDER_REPORTS}
 
 -- the report that the event adds
 abbrev pub added : Event → Option Report
@@ -21,9 +22,9 @@ sent_in _ = None
 
 -- the reports that are kept before one that the event adds
 abbrev pub kept_before : Node → Event → List Kept
-kept_before node (events.Promote report) = newest 15 node.reports
-kept_before node (events.Note report) = newest 15 node.reports
-kept_before node (events.AskReboot report) = newest 15 node.reports
+kept_before node (events.Promote report) = newest OLDER_REPORTS node.reports
+kept_before node (events.Note report) = newest OLDER_REPORTS node.reports
+kept_before node (events.AskReboot report) = newest OLDER_REPORTS node.reports
 kept_before node _ = node.reports
 
 -- it was sent, or the event says so

@@ -1,5 +1,5 @@
 //! Laws of the definitions. The calls do nothing; their clauses are the laws.
-ghost use Rattle.node_store.specs.Laws.{BodiesAreOfOne, EventsFit, FrontsFit};
+ghost use Rattle.node_store.specs.Laws.{BodiesAreOfOne, EventsFit, FailingStandForNone, FrontsFit, NodesAreOne, NodesAreSound};
 
 /// A body is of one event or piece at most.
 pub fn bodies_are_of_one()
@@ -10,4 +10,11 @@ pub fn bodies_are_of_one()
 pub fn bodies_fit()
     ensures events { EventsFit }
     ensures fronts { FrontsFit }
+{}
+
+/// An image stands for one node at most, which is sound, and an image that fails stands for none.
+pub fn images_have_one_meaning()
+    ensures one { NodesAreOne }
+    ensures sound { NodesAreSound }
+    ensures none { FailingStandForNone }
 {}

@@ -41,7 +41,7 @@ mod writing;
 
 pub use body::Body;
 pub use error::StoreError;
-pub use laws::{bodies_are_of_one, bodies_fit};
+pub use laws::{bodies_are_of_one, bodies_fit, images_have_one_meaning};
 pub use limits::{BANK, MAX_BODY};
 pub use metas::read_node_meta;
 pub use opening::open_store;

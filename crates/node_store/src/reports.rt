@@ -7,6 +7,7 @@ ghost use Rattle.store_fields.specs.Reading.{Reads};
 ghost use Rattle.store_fields.specs.Writing.{Writes};
 ghost use Rattle.dsc_document.specs.Sizes.{Fits};
 ghost use Rattle.report_log.specs.Sizes.{ReportInSize};
+ghost use Rattle.report_log.specs.declared.limits.TheConstants.{LISTED_LIMIT, MAX_PARTS};
 ghost use Rattle.node_store.specs.Reports.{bytes_of_outcome, bytes_of_reason, bytes_of_missed, bytes_of_mark, bytes_of_report, bytes_of_job, bytes_of_run, bytes_of_result, bytes_of_lists, byte_of_outcome, byte_of_reason, IsMissed, IsMark, IsReport, IsJob, IsRun, IsResult, AreLists};
 
 use mof_values::{Items, Memory, Text};
@@ -64,8 +65,8 @@ fn put_result(into: &mut Vec<u8>, outcome: Outcome, total: u32, missed: u32) -> 
 
 #[tactic(auto, unfolding(crate::specs::Reports::bytes_of_lists))]
 fn put_lists(into: &mut Vec<u8>, listed: &[Missed], parts: &[PartMark]) -> Result<(), Memory>
-    requires listed { (length listed.now ≤ 64) × AllByRecursion (λ missed. Fits MAX_TEXT missed.id) listed.now }
-    requires parts { (length parts.now ≤ 8) × AllByRecursion (λ mark. Fits MAX_TEXT mark.name) parts.now }
+    requires listed { (length listed.now ≤ LISTED_LIMIT) × AllByRecursion (λ missed. Fits MAX_TEXT missed.id) listed.now }
+    requires parts { (length parts.now ≤ MAX_PARTS) × AllByRecursion (λ mark. Fits MAX_TEXT mark.name) parts.now }
     ensures writes { Writes (bytes_of_lists (listed.now, parts.now)) into.old into.new result }
     ensures in_range { OnOk result (AreLists (listed.now, parts.now)) }
 {

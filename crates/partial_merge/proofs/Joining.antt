@@ -37,7 +37,7 @@ numbered_push {A} n (y ∷ ys) x =
 
 -- ---- the document of one more part
 
-same_document : {a b : List ℕ} {r s : List Resource} {x y : List Instance} {p q : List (List ℕ)} → a ≡ b → r ≡ s → x ≡ y → p ≡ q
+pub same_document : {a b : List ℕ} {r s : List Resource} {x y : List Instance} {p q : List (List ℕ)} → a ≡ b → r ≡ s → x ≡ y → p ≡ q
     → ◌≡◌ {A = Document} (record { version = a; resources = r; others = x; parts = p }) (record { version = b; resources = s; others = y; parts = q })
 same_document same_version same_resources same_others same_parts = cc
 

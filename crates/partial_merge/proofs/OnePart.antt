@@ -14,6 +14,7 @@ use Rattle.partial_merge.specs.declared.error.MergeError.{MergeError}
 use Rattle.partial_merge.specs.declared.error.MergeError.TheVariants as refusals
 use Rattle.partial_merge.specs.Parts.{AreJoined, AreParts, IsWhole, NamesDiffer, in_part, part_name_at, joined, named}
 use Rattle.partial_merge.specs.Refused.{HasFault, IsPartFault, Refused}
+use Rattle.partial_merge.proofs.Joining.{same_document}
 
 in_first : (resource : Resource) → resource.part ≡ 0 → in_part 0 resource ≡ resource
 in_first resource is = ap (λ place. in_part place resource) (sym is)
@@ -24,10 +25,6 @@ all_in_first (r ∷ rs) each =
     let here : in_part 0 r ≡ r = in_first r (each 0 r (omega arith)) in
     let behind : map (in_part 0) rs ≡ rs = all_in_first rs (All-tail (λ r. r.part ≡ 0) r rs each) in
     cc
-
-same_document : {a b : List ℕ} {r s : List Resource} {x y : List Instance} {p q : List (List ℕ)} → a ≡ b → r ≡ s → x ≡ y → p ≡ q
-    → ◌≡◌ {A = Document} (record { version = a; resources = r; others = x; parts = p }) (record { version = b; resources = s; others = y; parts = q })
-same_document same_version same_resources same_others same_parts = cc
 
 joined_one : (part : Part) (document : Document) → All (λ r. r.part ≡ 0) document.resources → named document (part.name ∷ []) ≡ joined (part ∷ []) (document ∷ [])
 joined_one part document each =

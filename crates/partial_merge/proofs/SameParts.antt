@@ -1,5 +1,7 @@
--- What one part is merged to, or refused for, is a matter of its name and its bytes.
+-- A part is its name and its bytes, and so is what it is merged to, or refused for.
 use Rattle.std.proofs.Common.{◌≡◌, ℕ, zero, suc, List, [], ◌∷◌, ap, subst, ◌∙◌, arith}
+use Rattle.std.proofs.Props.{props}
+use Rattle.sha2.specs.Sha256.{sha256}
 use Rattle.std.specs.List.{AllZip}
 use Rattle.mof_syntax.specs.Refusals.{Reads}
 use Rattle.dsc_document.specs.declared.document.Document.{Document}
@@ -12,6 +14,23 @@ use Rattle.partial_merge.specs.Parts.{AreJoined, AreParts, IsWhole, joined}
 use Rattle.partial_merge.specs.Merged.{Merged}
 use Rattle.partial_merge.proofs.OnePart.{one_differs, one_name}
 use Rattle.partial_merge.specs.Refused.{HasFault, IsFirstFault, IsUnspelled, Refused}
+
+part_made : (name digest bytes : List ℕ) → digest ≡ sha256 bytes → Part
+part_made n d b w = record { name = n; digest = d; bytes = b; whole = w }
+
+one_proof_of_digest : (d e : List ℕ) → IsProp (d ≡ e)
+one_proof_of_digest d e = Prim.hlevel props
+
+same_made : (n n' d d' b b' : List ℕ) (w : d ≡ sha256 b) (w' : d' ≡ sha256 b') → n ≡ n' → d ≡ d' → b ≡ b' → part_made n d b w ≡ part_made n' d' b' w'
+same_made n n' d d' b b' w w' name digest bytes =
+    subst (λ (b2 : List ℕ). (w2 : d' ≡ sha256 b2) → part_made n d b w ≡ part_made n' d' b2 w2) bytes
+    (λ w1. subst (λ (d2 : List ℕ). (w2 : d2 ≡ sha256 b) → part_made n d b w ≡ part_made n' d2 b w2) digest
+    (λ w3. ap (λ (m : List ℕ). part_made m d b w) name ∙ ap (λ (v : d ≡ sha256 b). part_made n' d b v) (one_proof_of_digest d (sha256 b) w w3)) w1) w'
+
+-- parts of one name and the same bytes are the same
+pub part_same : (x y : Part) → x.name ≡ y.name → x.digest ≡ y.digest → x.bytes ≡ y.bytes → x ≡ y
+unfolding part_made
+part_same x y name digest bytes = same_made x.name y.name x.digest y.digest x.bytes y.bytes x.whole y.whole name digest bytes
 
 module _ (part other : Part) (named : part.name ≡ other.name) (of : part.bytes ≡ other.bytes) where
   whole_same : (document : Document) → IsWhole part document → IsWhole other document

@@ -13,16 +13,16 @@ use Rattle.pull_client.proofs.Escaped.{AreShown, escape_shown, glyph_shown, show
 
 -- ---- decimals
 
-digits_shown : (k n : ℕ) (rest : List ℕ) → AreShown rest → AreShown (digits_onto k 10 false n rest)
-digits_shown zero n rest h = h
-digits_shown (suc k) n rest h =
+decimal_digits_shown : (k n : ℕ) (rest : List ℕ) → AreShown rest → AreShown (digits_onto k 10 false n rest)
+decimal_digits_shown zero n rest h = h
+decimal_digits_shown (suc k) n rest h =
     let more : AreShown (digit_glyph false (n % 10) ∷ rest) = (glyph_shown (nat_lt (n % 10) 10) (n % 10), h) in
     shown-either (n / 10 == 0) (digit_glyph false (n % 10) ∷ rest) (digits_onto k 10 false (n / 10) (digit_glyph false (n % 10) ∷ rest)) more
-    (digits_shown k (n / 10) (digit_glyph false (n % 10) ∷ rest) more)
+    (decimal_digits_shown k (n / 10) (digit_glyph false (n % 10) ∷ rest) more)
 
 decimal_shown : (n : ℕ) → AreShown (decimal n)
 unfolding digits
-decimal_shown n = digits_shown 64 n [] tt
+decimal_shown n = decimal_digits_shown 64 n [] tt
 
 either_size : (b : Bool) (xs ys : List ℕ) (n : ℕ) → length xs ≤ n → length ys ≤ n → length (cond b xs ys) ≤ n
 either_size true xs ys n h k = h

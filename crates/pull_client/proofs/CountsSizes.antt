@@ -40,11 +40,11 @@ upper_ascii =
 digit_shown : (i : ℕ) → i < 16 → 32 ≤ slice_index upper_digits i
 digit_shown i small = leb-true 32 (slice_index upper_digits i) (AllPass-from_list_all (nat_le 32) upper_digits refl i 0 (omega (arith, small)))
 
-digits_shown : (digest : List ℕ) → IsBytes digest → AreShown (encode_with upper_digits digest)
+digest_shown : (digest : List ℕ) → IsBytes digest → AreShown (encode_with upper_digits digest)
 unfolding encode_with
-digits_shown [] h = tt
-digits_shown (b ∷ digest) h =
-    (digit_shown (b / 16) (omega (arith, h 0)), (digit_shown (b % 16) (omega arith), digits_shown digest (λ i. h (suc i))))
+digest_shown [] h = tt
+digest_shown (b ∷ digest) h =
+    (digit_shown (b / 16) (omega (arith, h 0)), (digit_shown (b % 16) (omega arith), digest_shown digest (λ i. h (suc i))))
 
 checksum_ascii : (digest : List ℕ) → IsAscii (checksum_of digest)
 unfolding checksum_of
@@ -56,7 +56,7 @@ checksum_same digest = encodes-IsAscii (checksum_of digest) (checksum_ascii dige
 checksum_bytes : (digest : List ℕ) → IsBytes digest → length digest ≡ 32 → length (escape (checksum_of digest)) ≤ 128
 unfolding checksum_of
 checksum_bytes digest bytes size =
-    omega (arith, size, length-encode_with upper_digits digest, shown_size (encode_with upper_digits digest) (digits_shown digest bytes))
+    omega (arith, size, length-encode_with upper_digits digest, shown_size (encode_with upper_digits digest) (digest_shown digest bytes))
 
 checksum_size : (digest : List ℕ) → IsBytes digest → length digest ≡ 32 → text_size (checksum_of digest) ≤ 130
 checksum_size digest bytes size =
@@ -68,13 +68,13 @@ checksum_utf8 digest = subst IsUtf8 (sym (checksum_same digest)) (IsUtf8-from_as
 
 -- ---- parts
 
-both : (a b : Bool) → a ≡ true → b ≡ true → a && b ≡ true
-both true b h k = k
-both false b h k = h
+both_hold : (a b : Bool) → a ≡ true → b ≡ true → a && b ≡ true
+both_hold true b h k = k
+both_hold false b h k = h
 
 scalars_of : (text : List ℕ) → All IsScalar text → scalars text ≡ true
 scalars_of [] h = refl
-scalars_of (c ∷ text) h = both (scalar c) (scalars text) (All-head IsScalar c text h) (scalars_of text (All-tail IsScalar c text h))
+scalars_of (c ∷ text) h = both_hold (scalar c) (scalars text) (All-head IsScalar c text h) (scalars_of text (All-tail IsScalar c text h))
 
 part_texts : (part : PartMark) → IsMark part → AreTexts (part_data part)
 part_texts part is = (

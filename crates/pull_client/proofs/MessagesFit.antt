@@ -6,6 +6,7 @@ use Rattle.json.specs.Print.{escape, escape_byte}
 use Rattle.serde_json.specs.Data.{Data, string, object, no_items, Members, no_members, member}
 use Rattle.serde_json.specs.Written.{compact_text, members_text}
 use Rattle.mof_values.specs.declared.memory.Memory.{Memory}
+use Rattle.http_frames.specs.declared.limits.TheConstants.{MAX_MESSAGE_BODY}
 use Rattle.http_frames.specs.Limits.{request_limits}
 use Rattle.report_log.specs.declared.report.Report.{Report}
 use Rattle.dsc_document.specs.Sizes.{Fits}
@@ -85,7 +86,7 @@ last_size refresh format start status counts a b c d e =
 
 whole_size : (version end errors job operation reboot : Data) (others : Members) → AtMost 1538 version → AtMost 554 end → AtMost 99714 errors
     → AtMost 218 job → AtMost 13 operation → AtMost 7 reboot → length (members_text true others) ≤ 28204
-    → AtMost 131072 (object (member (codes "ConfigurationVersion") version
+    → AtMost MAX_MESSAGE_BODY (object (member (codes "ConfigurationVersion") version
     (member (codes "EndTime") end
     (member (codes "Errors") errors
     (member (codes "JobId") job

@@ -56,28 +56,28 @@ SaysOne {T} says Same = (reply : Reply) (a b : Result T PeerError) → a ≢ Err
 abbrev pub SameErrors : {T : Type 0} → (Result T PeerError → Result T PeerError → Type 0) → Type 0
 SameErrors Same = (e : PeerError) → Same (Err e) (Err e)
 
-both : {T : Type 0} (Same : Result T PeerError → Result T PeerError → Type 0) (e : PeerError) (a b : Result T PeerError)
+both_errors : {T : Type 0} (Same : Result T PeerError → Result T PeerError → Type 0) (e : PeerError) (a b : Result T PeerError)
     → SameErrors Same → a ≡ Err e → b ≡ Err e → Same a b
-both {T} Same e a b same is also =
+both_errors {T} Same e a b same is also =
     subst (λ (x : Result T PeerError). Same x b) (sym is) (subst (λ (y : Result T PeerError). Same (Err e) y) (sym also) (same e))
 
 one_code : {T : Type 0} (says : Reply → Result T PeerError → Type 0) (Same : Result T PeerError → Result T PeerError → Type 0)
     → SameErrors Same → SaysOne says Same → (code : Bool) (reply : Reply) (a b : Result T PeerError) → a ≢ Err Memory → b ≢ Err Memory
     → CodeMeans says code reply a → CodeMeans says code reply b → Same a b
 one_code says Same same one true reply a b m n x y = one reply a b m n x y
-one_code says Same same one false reply a b m n x y = both Same (Status reply.code) a b same x y
+one_code says Same same one false reply a b m n x y = both_errors Same (Status reply.code) a b same x y
 
 one_frame : {T : Type 0} (says : Reply → Result T PeerError → Type 0) (Same : Result T PeerError → Result T PeerError → Type 0)
     → SameErrors Same → SaysOne says Same → (frame : Result Reply FrameError) (a b : Result T PeerError) → a ≢ Err Memory → b ≢ Err Memory
     → FrameMeans says frame a → FrameMeans says frame b → Same a b
 one_frame says Same same one (Ok reply) a b m n x y = one_code says Same same one (is_accepted reply.code) reply a b m n x y
-one_frame says Same same one (Err e) a b m n x y = both Same (Frame e) a b same x y
+one_frame says Same same one (Err e) a b m n x y = both_errors Same (Frame e) a b same x y
 
 one_of : {T : Type 0} (says : Reply → Result T PeerError → Type 0) (Same : Result T PeerError → Result T PeerError → Type 0)
     → OneReplyAnswer → SameErrors Same → SaysOne says Same → (outcome : Outcome) (a b : Result T PeerError) → a ≢ Err Memory → b ≢ Err Memory
     → Means says outcome a → Means says outcome b → Same a b
-one_of says Same frames same one outcomes.Failed a b m n x y = both Same Link a b same x y
-one_of says Same frames same one outcomes.TooLong a b m n x y = both Same TooLong a b same x y
+one_of says Same frames same one outcomes.Failed a b m n x y = both_errors Same Link a b same x y
+one_of says Same frames same one outcomes.TooLong a b m n x y = both_errors Same TooLong a b same x y
 one_of says Same frames same one (outcomes.Answered bytes) a b m n x y =
     one_frame says Same same one x.0 a b m n x.2
     (subst (λ (frame : Result Reply FrameError). FrameMeans says frame b) (frames bytes y.0 x.0 y.1 x.1) y.2)
@@ -94,7 +94,7 @@ one_part : (name : List ℕ) (content : Result (List ℕ) PeerError) (a b : Resu
 one_part name (Ok content) (Ok a) (Ok b) x y = (x.0 ∙ sym y.0, x.1 ∙ sym y.1)
 one_part name (Ok content) (Ok a) (Err e) x y = absurd y
 one_part name (Ok content) (Err e) b x y = absurd x
-one_part name (Err e) a b x y = both SamePart e a b (λ _. refl) x y
+one_part name (Err e) a b x y = both_errors SamePart e a b (λ _. refl) x y
 
 -- ---- messages
 

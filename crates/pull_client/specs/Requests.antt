@@ -4,6 +4,7 @@ use Rattle.std.specs.Fmt.{decimal}
 use Rattle.dsc_outside.specs.declared.link.Peer.{Peer}
 use Rattle.meta_config.specs.declared.server.Server.{Server}
 use Rattle.http_frames.specs.declared.message.Header.{Header}
+use Rattle.http_frames.specs.Headers.{header}
 use Rattle.http_frames.specs.Writing.{request_text}
 use Rattle.pull_messages.specs.declared.target_kinds.Target.{Target}
 use Rattle.pull_messages.specs.declared.target_kinds.Target.TheVariants.{Node, Action, Content, Module, SendReport}
@@ -21,18 +22,18 @@ host_text peer = peer.host ++ codes ":" ++ decimal peer.port
 -- ---- headers
 
 abbrev pub protocol_version : Header
-protocol_version = record { name = codes "ProtocolVersion"; value = codes "2.0" }
+protocol_version = header (codes "ProtocolVersion") (codes "2.0")
 
 abbrev pub content_type : Header
-content_type = record { name = codes "Content-Type"; value = codes "application/json" }
+content_type = header (codes "Content-Type") (codes "application/json")
 
 abbrev pub date_header : List ℕ → Header
-date_header date = record { name = codes "x-ms-date"; value = date }
+date_header date = header (codes "x-ms-date") date
 
 -- the signature of the body and the date under the server's key
 abbrev pub authorization : Server → List ℕ → List ℕ → Header
 authorization server body date =
-    record { name = codes "Authorization"; value = codes "Shared " ++ signature_of (encode_utf8_all server.key) body date }
+    header (codes "Authorization") (codes "Shared " ++ signature_of (encode_utf8_all server.key) body date)
 
 -- ---- requests
 

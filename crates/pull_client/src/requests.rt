@@ -57,7 +57,7 @@ fn plain_headers(alloc: Global) -> Result<Vec<Header>, AllocError>
     ensures { IfOk result (λ headers. headers.items ≡ protocol_version ∷ []) }
 {
     let mut headers = Vec::new(alloc);
-    headers.push(header(alloc, "ProtocolVersion", b"2.0")?)?;
+    headers.push(Header::of(alloc, "ProtocolVersion", b"2.0")?)?;
     Ok(headers)
 }
 
@@ -72,7 +72,7 @@ fn body_headers(alloc: Global) -> Result<Vec<Header>, AllocError>
     ensures { IfOk result (λ headers. headers.items ≡ protocol_version ∷ content_type ∷ []) }
 {
     let mut headers = plain_headers(alloc)?;
-    headers.push(header(alloc, "Content-Type", b"application/json")?)?;
+    headers.push(Header::of(alloc, "Content-Type", b"application/json")?)?;
     Ok(headers)
 }
 
@@ -163,9 +163,9 @@ fn signed_headers(
     ensures { IfOk result (λ headers. headers.items ≡ signed_headers server.now body.now date.now) }
 {
     let mut headers = plain_headers(alloc)?;
-    headers.push(header(alloc, "x-ms-date", date)?)?;
+    headers.push(Header::of(alloc, "x-ms-date", date)?)?;
     headers.push(authorization(alloc, server, body, date)?)?;
-    headers.push(header(alloc, "Content-Type", b"application/json")?)?;
+    headers.push(Header::of(alloc, "Content-Type", b"application/json")?)?;
     Ok(headers)
 }
 
@@ -181,7 +181,7 @@ fn authorization(
     let signature = sign(key.as_bytes(), body, date);
     let mut value = b"Shared ".to_vec(alloc)?;
     value.extend_from_slice(&signature)?;
-    header(alloc, "Authorization", &value)
+    Header::of(alloc, "Authorization", &value)
 }
 
 fn written(
@@ -202,15 +202,6 @@ fn written(
         body: Bytes::of(body),
     };
     write_request(alloc, &request, &host_text(alloc, &server.peer)?)
-}
-
-fn header(alloc: Global, name: &str, value: &[u8]) -> Result<Header, AllocError>
-    ensures { IfOk result (λ header. header ≡ record { name = name.now; value = value.now }) }
-{
-    Ok(Header {
-        name: Bytes::of(name.as_bytes().to_vec(alloc)?),
-        value: Bytes::of(value.to_vec(alloc)?),
-    })
 }
 
 fn host_text(alloc: Global, peer: &Peer) -> Result<Text, AllocError>

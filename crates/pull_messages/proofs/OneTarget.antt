@@ -11,6 +11,7 @@ use Rattle.pull_messages.specs.Spelling.{Spells}
 use Rattle.pull_messages.specs.Stops.{IsEnd}
 use Rattle.pull_messages.specs.Targets.{agent, agent_of, agent_parts, IsPart, IsTarget, Part, quoted, SpellsTarget, word}
 use Rattle.pull_messages.proofs.Agents.{agent_length}
+use Rattle.pull_messages.proofs.FormLaws.{content_end}
 use Rattle.pull_messages.proofs.Languages.{same_front}
 use Rattle.pull_messages.proofs.Quotes.{quoted_free, same_value}
 use Rattle.pull_messages.proofs.TargetLaws.{chars_front, first_bytes, no_byte}
@@ -103,9 +104,6 @@ action_end = codes "')/GetDscAction"
 
 abbrev report_end : List ℕ
 report_end = codes "')/SendReport"
-
-abbrev content_end : List ℕ
-content_end = codes "')/Configurations(ConfigurationName="
 
 one_spelled : (t u : Target) (text : List ℕ) → SpellsTarget t text → SpellsTarget u text → t ≡ u
 unfolding content_parts

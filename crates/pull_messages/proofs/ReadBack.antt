@@ -16,6 +16,7 @@ use Rattle.pull_messages.specs.declared.action.Detail.{Detail}
 use Rattle.pull_messages.specs.declared.report.ReportMessage.{ReportMessage}
 use Rattle.pull_messages.specs.declared.field.Field.{Field}
 use Rattle.pull_messages.specs.declared.field.Field.TheVariants as field
+use Rattle.pull_messages.specs.declared.limits.TheConstants.{MAX_LIST_ITEMS, MAX_TEXT_BYTES}
 use Rattle.pull_messages.specs.declared.limits.Limit.TheVariants as limit
 use Rattle.pull_messages.specs.Members.{optional, required, a_text, sha256, each, an_object, within}
 use Rattle.pull_messages.specs.Recoding.{recoded, recoded_client, recoded_detail, IsRecodedReport}
@@ -74,13 +75,13 @@ items_len-map : {X : Type 0} (f : X → Data) (xs : List X) → items_len (items
 items_len-map f [] = refl
 items_len-map f (x ∷ xs) = ap suc (items_len-map f xs)
 
-pub query_back : (x : ActionQuery) → length x.clients ≤ 16 → map recoded_client x.clients ≡ x.clients → query_of (query_data x) ≡ Ok x
+pub query_back : (x : ActionQuery) → length x.clients ≤ MAX_LIST_ITEMS → map recoded_client x.clients ≡ x.clients → query_of (query_data x) ≡ Ok x
 unfolding query_of within
 query_back x few clients =
     rw (
       each_back (an_object field.ClientStatus) client_data client_data (λ _. refl) x.clients,
       items_len-map client_data x.clients,
-      le-leb (length x.clients) 16 few,
+      le-leb (length x.clients) MAX_LIST_ITEMS few,
       each_back (optional (a_text limit.Free) [] field.Checksum) client_data (λ (d : Client). recoded d.checksum) client_checksum x.clients,
       each_back (optional (a_text limit.Free) [] field.ConfigurationName) client_data (λ (d : Client). recoded d.name) client_name x.clients,
       each_back (optional sha256 tt field.ChecksumAlgorithm) client_data (λ (d : Client). tt) (λ _. refl) x.clients,
@@ -91,7 +92,7 @@ query_back x few clients =
 
 within_short : (name : Field) (text : List ℕ) → recoded text ≡ text → IsShort text → within limit.Short name (recoded text) ≡ Ok text
 unfolding within
-within_short name text same short = rw (same, le-leb (length (encode_utf8_all text)) 65_535 short) refl
+within_short name text same short = rw (same, le-leb (length (encode_utf8_all text)) MAX_TEXT_BYTES short) refl
 
 within_name : (name : Field) (text : List ℕ) → recoded text ≡ text → IsName text → within limit.Name name (recoded text) ≡ Ok text
 unfolding within
@@ -115,7 +116,7 @@ registration_back x sized version node address names =
       within_short field.NodeName x.node_name node sized.node,
       within_short field.IPAddress x.ip_address address sized.address,
       items_len-map text_data x.names,
-      le-leb (length x.names) 16 sized.few,
+      le-leb (length x.names) MAX_LIST_ITEMS sized.few,
       names_back field.ConfigurationNames x.names names sized.named,
     ) refl
 

@@ -16,6 +16,7 @@ use Rattle.pull_messages.specs.declared.field.Field.{Field}
 use Rattle.pull_messages.specs.declared.field.Field.TheVariants as field
 use Rattle.pull_messages.specs.declared.limits.Limit.{Limit}
 use Rattle.pull_messages.specs.declared.limits.Limit.TheVariants as limit
+use Rattle.pull_messages.specs.declared.limits.TheConstants.{MAX_LIST_ITEMS, MAX_TEXT_BYTES}
 use Rattle.pull_messages.specs.Limits.{is_within}
 use Rattle.pull_messages.specs.Members.{an_object, a_list, a_text, each, few, few_objects, objects, names, member_of, present, required, optional, sha256, within}
 use Rattle.pull_messages.specs.Results.{◌>>=◌, Gives}
@@ -55,7 +56,7 @@ optional_ok P read default (Some value) y at_default at_value is = at_value valu
 short_ok : (name : Field) (value : Data) (y : List ℕ) → optional (a_text limit.Short) [] name value ≡ Ok y → IsShort y
 short_ok name value y is =
     optional_ok IsShort (a_text limit.Short name) [] (member_of name value) y (omega arith)
-    (λ found read. leb-true (length (encode_utf8_all y)) 65_535 (text_ok limit.Short name found y read)) is
+    (λ found read. leb-true (length (encode_utf8_all y)) MAX_TEXT_BYTES (text_ok limit.Short name found y read)) is
 
 both_true : (a b : Bool) → a && b ≡ true → (a ≡ true) × (b ≡ true)
 both_true true b is = (refl, is)
@@ -77,14 +78,14 @@ each_ok {A} P read holds (item value values) xs is =
     subst (λ (l : List A). AllByRecursion P l × (length l ≡ items_len (item value values))) same
     ((holds value first.0 first.1, rest.0), ap suc rest.1)
 
-few_ok : (name : Field) (values y : Items) → few name values ≡ Ok y → items_len y ≤ 16
+few_ok : (name : Field) (values y : Items) → few name values ≡ Ok y → items_len y ≤ MAX_LIST_ITEMS
 few_ok name values y is =
     let fits = guard_ok _ values (error.Wrong name) y is in
-    let small : items_len values ≤ 16 = leb-true (items_len values) 16 fits.0 in
-    subst (λ (v : Items). items_len v ≤ 16) fits.1 small
+    let small : items_len values ≤ MAX_LIST_ITEMS = leb-true (items_len values) MAX_LIST_ITEMS fits.0 in
+    subst (λ (v : Items). items_len v ≤ MAX_LIST_ITEMS) fits.1 small
 
 abbrev AreNames : List (List ℕ) → Type 0
-AreNames xs = AllByRecursion IsName xs × (length xs ≤ 16)
+AreNames xs = AllByRecursion IsName xs × (length xs ≤ MAX_LIST_ITEMS)
 
 names_ok : (name : Field) (value : Data) (xs : List (List ℕ)) → names name value ≡ Ok xs → AreNames xs
 names_ok name value xs is =
@@ -118,7 +119,7 @@ length-zip [] ys = omega arith
 length-zip (x ∷ xs) [] = omega arith
 length-zip (x ∷ xs) (y ∷ ys) = omega (arith, length-zip xs ys)
 
-pub query_few : (body : Data) (x : ActionQuery) → query_of body ≡ Ok x → length x.clients ≤ 16
+pub query_few : (body : Data) (x : ActionQuery) → query_of body ≡ Ok x → length x.clients ≤ MAX_LIST_ITEMS
 unfolding query_of
 query_few body x is =
     let top = bind_ok (an_object field.Body body) _ x is in
@@ -131,5 +132,5 @@ query_few body x is =
     let small = few_ok field.ClientStatus values.0 clients.0 values.2 in
     let each_one = each_ok (λ _. Unit {0}) (optional (a_text limit.Free) [] field.Checksum) (λ _ _ _. tt) clients.0 checksums.0 checksums.1 in
     let pairs = zip checksums.0 listed.0 in
-    let few : length (map client pairs) ≤ 16 = omega (arith, length-map pairs client, length-zip checksums.0 listed.0, each_one.1, small) in
-    subst (λ (q : ActionQuery). length q.clients ≤ 16) (ok_same _ x hashes.2) few
+    let few : length (map client pairs) ≤ MAX_LIST_ITEMS = omega (arith, length-map pairs client, length-zip checksums.0 listed.0, each_one.1, small) in
+    subst (λ (q : ActionQuery). length q.clients ≤ MAX_LIST_ITEMS) (ok_same _ x hashes.2) few

@@ -12,7 +12,8 @@ use Rattle.pull_messages.specs.declared.error.MessageError.TheVariants.{Missing,
 use Rattle.pull_messages.specs.declared.field.Field.{Field}
 use Rattle.pull_messages.specs.declared.limits.Limit.{Limit}
 use Rattle.pull_messages.specs.declared.limits.Limit.TheVariants.{Free, Name}
-use Rattle.pull_messages.specs.Limits.{is_within, list_items}
+use Rattle.pull_messages.specs.declared.limits.TheConstants.{MAX_LIST_ITEMS}
+use Rattle.pull_messages.specs.Limits.{is_within}
 use Rattle.pull_messages.specs.Names.{name_of}
 use Rattle.pull_messages.specs.Results.{◌>>=◌}
 
@@ -79,16 +80,16 @@ each read (item value values) = do
 abbrev pub a_list : Field → Data → Result Items MessageError
 a_list field value = ok_or (as_array value) (Wrong field)
 
--- at most 16 elements
+-- few enough elements
 abbrev pub few : Field → Items → Result Items MessageError
-few field values = if nat_le (items_len values) list_items then Ok values else Err (Wrong field)
+few field values = if nat_le (items_len values) MAX_LIST_ITEMS then Ok values else Err (Wrong field)
 
 abbrev pub texts : Field → Data → Result (List (List ℕ)) MessageError
 texts field value = do
   values ← a_list field value
   each (a_text Free field) values
 
--- at most 16 names
+-- few enough names
 abbrev pub names : Field → Data → Result (List (List ℕ)) MessageError
 names field value = do
   values ← a_list field value
@@ -101,7 +102,7 @@ objects field value = do
   seen ← each (an_object field) values
   Ok values
 
--- at most 16 objects
+-- few enough objects
 abbrev pub few_objects : Field → Data → Result Items MessageError
 few_objects field value = do
   values ← objects field value

@@ -3,11 +3,11 @@ use Rattle.std.specs.Prelude.{ℕ, ◌+◌, ◌≤◌, List, length, sum_by, enc
 use Rattle.std.specs.List.{AllByRecursion}
 use Rattle.pull_messages.specs.declared.registration.Registration.{Registration}
 use Rattle.mof_values.specs.declared.limits.TheConstants.{MAX_NAME_BYTES}
-use Rattle.pull_messages.specs.Limits.{list_items, text_bytes}
+use Rattle.pull_messages.specs.declared.limits.TheConstants.{MAX_LIST_ITEMS, MAX_TEXT_BYTES}
 
 -- the text has so many bytes of UTF-8 at most
 abbrev pub IsShort : List ℕ → Type 0
-IsShort text = length (encode_utf8_all text) ≤ text_bytes
+IsShort text = length (encode_utf8_all text) ≤ MAX_TEXT_BYTES
 
 abbrev pub IsName : List ℕ → Type 0
 IsName text = (1 ≤ length (encode_utf8_all text)) × (length (encode_utf8_all text) ≤ MAX_NAME_BYTES)
@@ -17,7 +17,7 @@ pub record IsSized (x : Registration) : Type 0 where
   pub version : IsShort x.lcm_version
   pub node : IsShort x.node_name
   pub address : IsShort x.ip_address
-  pub few : length x.names ≤ list_items
+  pub few : length x.names ≤ MAX_LIST_ITEMS
   pub named : AllByRecursion IsName x.names
 
 -- the bytes of UTF-8 of a text

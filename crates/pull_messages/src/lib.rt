@@ -33,6 +33,7 @@ mod values;
 pub use action::{ActionAnswer, Detail, read_action, write_action};
 pub use error::MessageError;
 pub use field::Field;
+pub use limits::{MAX_LIST_ITEMS, MAX_TEXT_BYTES};
 pub use query::{ActionQuery, Client, read_query, write_query};
 pub use registration::{Registration, read_registration, write_registration};
 pub use report::{ReportMessage, read_report, write_report};

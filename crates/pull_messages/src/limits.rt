@@ -5,10 +5,10 @@ ghost use Rattle.pull_messages.specs.Limits.{is_within};
 use mof_values::MAX_NAME_BYTES;
 
 /// The most bytes of a text that an agent says of itself.
-pub(crate) const TEXT_BYTES: usize = 65_535;
+pub const MAX_TEXT_BYTES: usize = 65_535;
 
 /// The most names of a registration, and the most clients of a query.
-pub(crate) const LIST_ITEMS: usize = 16;
+pub const MAX_LIST_ITEMS: usize = 16;
 
 /// Which texts a member may hold, by their bytes of UTF-8.
 #[derive(Clone, Copy, Debug)]
@@ -16,7 +16,7 @@ pub enum Limit {
     /// Any text.
     Free,
 
-    /// At most `TEXT_BYTES` bytes.
+    /// At most `MAX_TEXT_BYTES` bytes.
     Short,
 
     /// From 1 to `MAX_NAME_BYTES` bytes.
@@ -30,7 +30,7 @@ impl Limit {
     {
         match self {
             Limit::Free => true,
-            Limit::Short => size <= TEXT_BYTES,
+            Limit::Short => size <= MAX_TEXT_BYTES,
             Limit::Name => 1 <= size && size <= MAX_NAME_BYTES,
         }
     }

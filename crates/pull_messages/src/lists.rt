@@ -5,7 +5,7 @@ ghost use Rattle.serde_json.specs.View.{view, items_view};
 ghost use Rattle.pull_messages.specs.Members.{required, optional, an_object, a_text, sha256, each, few, texts, names, objects, few_objects};
 ghost use Rattle.pull_messages.specs.Results.{Gives, Tests};
 
-use crate::limits::{LIST_ITEMS, Limit};
+use crate::limits::{Limit, MAX_LIST_ITEMS};
 use crate::members::{
     list, member, object, optional_sha256, optional_text, required_member, required_text, text,
 };
@@ -28,7 +28,7 @@ pub fn optional_texts(
     }
 }
 
-/// The names of a list that may be absent: at most `LIST_ITEMS`, each within `Limit::Name`.
+/// The names of a list that may be absent: at most `MAX_LIST_ITEMS`, each within `Limit::Name`.
 pub fn optional_names(
     alloc: Global,
     object: &Value,
@@ -45,7 +45,7 @@ pub fn optional_names(
     }
 }
 
-/// The objects of a list that must be there: at most `LIST_ITEMS`.
+/// The objects of a list that must be there: at most `MAX_LIST_ITEMS`.
 pub fn required_objects<'v>(object: &'v Value, field: Field) -> Result<&'v [Value], MessageError>
     ensures { Gives (λ v. items_view v.now) result (required few_objects field (view object.now)) }
 {
@@ -74,7 +74,7 @@ fn objects_of(value: &Value, field: Field) -> Result<&[Value], MessageError>
 fn few_of(values: &[Value], field: Field) -> Result<&[Value], MessageError>
     ensures { Gives (λ v. items_view v.now) result (few field (items_view values.now)) }
 {
-    if values.len() <= LIST_ITEMS {
+    if values.len() <= MAX_LIST_ITEMS {
         Ok(values)
     } else {
         Err(MessageError::Wrong(field))

@@ -3,7 +3,7 @@ ghost use Rattle.std.specs.Prelude.{◌≡◌, ◌≤◌, IfOk, OnOk, length, ma
 ghost use Rattle.std.specs.List.{zip};
 ghost use Rattle.serde_json.specs.View.{view};
 ghost use Rattle.pull_messages.specs.Bodies.{ReadsBy, Says};
-ghost use Rattle.pull_messages.specs.Limits.{list_items};
+ghost use Rattle.pull_messages.specs.declared.limits.TheConstants.{MAX_LIST_ITEMS};
 ghost use Rattle.pull_messages.specs.Recoding.{recoded_client};
 ghost use Rattle.pull_messages.specs.Results.{Gives};
 ghost use Rattle.pull_messages.specs.Tables.{query_of, client};
@@ -34,7 +34,7 @@ pub struct Client {
 /// Reads a query from the body of a request.
 pub fn read_query(alloc: Global, body: &[u8]) -> Result<ActionQuery, MessageError>
     ensures answers { ReadsBy query_of body.now result }
-    ensures few { IfOk result (λ x. length x.clients ≤ list_items) }
+    ensures few { IfOk result (λ x. length x.clients ≤ MAX_LIST_ITEMS) }
 {
     query_in(alloc, &value_of(alloc, body)?)
 }
@@ -66,7 +66,7 @@ fn clients(alloc: Global, checksums: Vec<Text>, names: Vec<Text>) -> Result<Vec<
 /// Writes a query as compact JSON, its members in byte order.
 pub fn write_query(alloc: Global, x: &ActionQuery) -> Result<Vec<u8>, Memory>
     ensures text { IfOk result (λ body. body.items ≡ query_text x.now) }
-    ensures reads_back { IfOk result (λ body. length x.now.clients ≤ list_items
+    ensures reads_back { IfOk result (λ body. length x.now.clients ≤ MAX_LIST_ITEMS
         → Says query_of body.items (Ok x.now)) }
 {
     Ok(query_value(alloc, x)?.to_vec(alloc)?)

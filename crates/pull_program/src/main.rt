@@ -11,11 +11,9 @@
 use mof_values::Memory;
 use pull_adapters::{FolderShelf, TcpDoor};
 use pull_serving::{ServeStatus, serve};
-use real_outside::{FileDisk, OutSink, hold_standard_descriptors};
+use real_outside::{FileDisk, OutSink, arguments, hold_standard_descriptors};
 use serve_words::{ServeWords, WordsError, serve_words};
 use std::alloc::{AllocError, Global};
-use std::env::{self, Env};
-use std::io::ErrorKind;
 use std::process::ExitCode;
 
 fn main(rt: HostRuntime) -> ExitCode {
@@ -30,15 +28,6 @@ fn main(rt: HostRuntime) -> ExitCode {
         Err(AllocError) => ServeStatus::Memory,
     };
     ExitCode::from(status.number())
-}
-
-// The arguments, the program's name first, or none where one of them is not in UTF-8.
-fn arguments<R: AllocGlobal + Env>(rt: &R) -> Result<Vec<String>, AllocError> {
-    match env::args(rt) {
-        Ok(arguments) => Ok(arguments.collect(rt.alloc())?),
-        Err(e) if e.kind() == ErrorKind::OutOfMemory => Err(AllocError),
-        Err(_) => Ok(Vec::new(rt.alloc())),
-    }
 }
 
 // Makes the real objects, which touch nothing before their first call, and calls `serve`.

@@ -83,8 +83,8 @@ pub asks_report : (request : Request) (agent : ℕ) (r : ReportMessage) → repo
 asks_report request agent r is = rw is refl
 
 -- a report that is to be kept
-abbrev pub reported : ℕ → ℕ → List ℕ → Option Change
-reported agent job body = Some (Report agent job body)
+abbrev pub reported_change : ℕ → ℕ → List ℕ → Option Change
+reported_change agent job body = Some (Report agent job body)
 
 -- ---- queries
 

@@ -49,7 +49,7 @@ is_full store change need room full =
     rw (lt-ltb (room_in store.log) (need_of (body_of change)) full.cell, lt-ltb bank_room (whole_need (after change store.rows)) rows) refl
 
 -- a registration is never refused for lack of a row
-abbrev many_or_none : Bool → Option Refusal
+abbrev pub many_or_none : Bool → Option Refusal
 many_or_none b = if b then Some TooMany else None
 
 has_a_place : (b : Bool) → many_or_none b ≡ Some Unknown → ⊥
@@ -77,11 +77,11 @@ module _ {D : Type 0} (d : Ghosts D) (old new : StoreTerm) (change : Change) (be
   where_tried t rows (inl same) = inl same
   where_tried t rows (inr is) = inr (t, is)
 
-  meanwhile : WasTried old change ⊎ Untouched old new before now → ((c : List ℕ) → d.left_since before (d.moment before) c → d.images before c)
+  keeps_meanwhile : WasTried old change ⊎ Untouched old new before now → ((c : List ℕ) → d.left_since before (d.moment before) c → d.images before c)
       → StandsAtAnyMoment d before now Stands (BeforeOrAfter old.rows change) → IsKept d before old → StandsAtAnyMoment d before now Stands (MayKeep old change)
-  meanwhile (inl t) only_now run kept = weaker d.moment d.left_since before now (StandsFor Stands (BeforeOrAfter old.rows change)) (StandsFor Stands (MayKeep old change)) run
+  keeps_meanwhile (inl t) only_now run kept = weaker d.moment d.left_since before now (StandsFor Stands (BeforeOrAfter old.rows change)) (StandsFor Stands (MayKeep old change)) run
       (λ c s. record { value = s.value; stands = s.stands; has = where_tried t s.value s.has })
-  meanwhile (inr u) only_now run kept = subst (λ x. StandsAtAnyMoment d before x Stands (MayKeep old change)) (sym u.disk)
+  keeps_meanwhile (inr u) only_now run kept = subst (λ x. StandsAtAnyMoment d before x Stands (MayKeep old change)) (sym u.disk)
       (started d.moment d.left_since before (StandsFor Stands (MayKeep old change)) (λ c left.
       let s = kept_stands d before old kept c (only_now c left) in
       record { value = s.value; stands = s.stands; has = inl s.has }))
@@ -89,7 +89,7 @@ module _ {D : Type 0} (d : Ghosts D) (old new : StoreTerm) (change : Change) (be
   -- what a crash may leave
   may_keep : {T : Type 0} (result : Result T PullError) → Changed d old change before now result new → ((c : List ℕ) → d.left_since before (d.moment before) c → d.images before c)
       → StandsAtAnyMoment d before now Stands (BeforeOrAfter old.rows change) → IsKept d before old → StandsAtAnyMoment d before now Stands (MayKeep old change)
-  may_keep result changed = meanwhile (tried result changed)
+  may_keep result changed = keeps_meanwhile (tried result changed)
 
   unchanged : Untouched old new before now → MayKeep old change new.rows
   unchanged u = inl (ap (λ (s : StoreTerm). s.rows) u.store)

@@ -50,9 +50,9 @@ module _ (store : StoreTerm) (shelf : Contents) (request : Request) where
 
   -- ---- a registration
 
-  pub not_signed : (agent : ℕ) → is_signed shelf.keys request ≡ false → past_outcome (asked store shelf request (Ok (Node agent))) ≡ Some (says 401 [])
+  pub unsigned_request : (agent : ℕ) → is_signed shelf.keys request ≡ false → past_outcome (asked store shelf request (Ok (Node agent))) ≡ Some (says 401 [])
   unfolding past_outcome asked
-  not_signed agent is = rw is refl
+  unsigned_request agent is = rw is refl
 
   pub bad_registration : (agent : ℕ) (e : MessageError) → is_signed shelf.keys request ≡ true → registration_in request.body ≡ Err e
       → past_outcome (asked store shelf request (Ok (Node agent))) ≡ Some (says 400 (fault_text e))

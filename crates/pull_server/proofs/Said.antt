@@ -7,15 +7,12 @@ use Rattle.serde_json.specs.Read.{read}
 use Rattle.pull_messages.specs.declared.error.MessageError.{MessageError}
 use Rattle.pull_messages.specs.declared.error.MessageError.TheVariants.{Json, Missing, Wrong, Memory}
 use Rattle.pull_messages.specs.Bodies.{IsJson, ReadsBy, Says}
+use Rattle.pull_store.proofs.Building.{tells}
 use Rattle.pull_server.specs.Messages.{said_of, value_in}
 
 pub value_is : (body : List ℕ) (value : Data) → IsJson body value → value_in body ≡ Some value
 unfolding value_in
 value_is body value json = rw (is_utf8-from_IsUtf8 body json.0) json.1
-
-tells : (b : Bool) → (b ≡ true) ⊎ (b ≡ false)
-tells true = inl refl
-tells false = inr refl
 
 none_read : (o : Option Data) → ((value : Data) → o ≡ Some value → ⊥) → o ≡ None
 none_read None never = refl

@@ -34,6 +34,7 @@ use Rattle.pull_server.specs.Keeping.{KeptBy, Keeps, MayKeep, made, was_spent, c
 use Rattle.pull_server.specs.Replies.{plain}
 use Rattle.pull_server.specs.Table.{makes, outcome_of, says}
 use Rattle.pull_server.proofs.Judged.{never}
+use Rattle.pull_server.proofs.Kept.{many_or_none}
 use Rattle.pull_server.proofs.Shelves.{of_told, then_of}
 
 code_of : Reply → ℕ
@@ -54,8 +55,8 @@ module _ {D : Type 0} (d : Ghosts D) (request : Request) (old : StoreTerm) (befo
   leaves_rows rows (inl same) = inl same
   leaves_rows rows (inr now) = inr (change, record { asks = record { target = target; aim = aim; is_change = asks }; made = made_by now.0 }, now.1)
 
-  meanwhile : (now : D) → StandsAtAnyMoment d before now Stands (MayKeep old change) → StandsAtAnyMoment d before now Stands (LeavesRows old shelf request)
-  meanwhile now run = weaker d.moment d.left_since before now _ (StandsFor Stands (LeavesRows old shelf request)) run
+  leaves_meanwhile : (now : D) → StandsAtAnyMoment d before now Stands (MayKeep old change) → StandsAtAnyMoment d before now Stands (LeavesRows old shelf request)
+  leaves_meanwhile now run = weaker d.moment d.left_since before now _ (StandsFor Stands (LeavesRows old shelf request)) run
       (λ c s. record { value = s.value; stands = s.stands; has = leaves_rows s.value s.has })
 
   acknowledges : (code : ℕ) (rose : Type 0) (reply : Reply) (new : StoreTerm) (now : D) → IsReady d now new → KeptBy old change code rose reply new
@@ -80,7 +81,7 @@ module _ {D : Type 0} (d : Ghosts D) (request : Request) (old : StoreTerm) (befo
   served code result new now keeps = record {
     ready = keeps.ready;
     rows = leaves_rows new.rows keeps.rows;
-    any_moment = λ kept. meanwhile now (keeps.any_moment kept);
+    any_moment = λ kept. leaves_meanwhile now (keeps.any_moment kept);
     acknowledged = acknowledges_ok code (Rose (d.faults before) (d.faults now)) result new now keeps.ready keeps.reply;
     spent = keeps.spent;
     count = keeps.count;
@@ -122,18 +123,15 @@ unserved_err d request shelf store disk e now ready = record {
 
 -- ---- the cause of 500
 
-pub fault_of : (store new : StoreTerm) (change : Change) (code : ℕ) (rose other : Type 0) (reply : Reply) → (code == 500) ≡ false → KeptBy store change code rose reply new
+pub fault_cause : (store new : StoreTerm) (change : Change) (code : ℕ) (rose other : Type 0) (reply : Reply) → (code == 500) ≡ false → KeptBy store change code rose reply new
     → reply.code ≡ 500 → (rose ⊎ other) ⊎ (is_spent store ≡ true)
-fault_of store new change code rose other reply isnt (made tried is rows fresh) fault = no_fault reply code is isnt fault
-fault_of store new change code rose other reply isnt (was_spent spent is same) fault = inr spent
-fault_of store new change code rose other reply isnt (crowded unspent many is same) fault = no_fault reply 503 is refl fault
-fault_of store new change code rose other reply isnt (overfull unspent accepted full is same) fault = no_fault reply 507 is refl fault
-fault_of store new change code rose other reply isnt (failed unspent rises is rows) fault = inl (inl rises)
+fault_cause store new change code rose other reply isnt (made tried is rows fresh) fault = no_fault reply code is isnt fault
+fault_cause store new change code rose other reply isnt (was_spent spent is same) fault = inr spent
+fault_cause store new change code rose other reply isnt (crowded unspent many is same) fault = no_fault reply 503 is refl fault
+fault_cause store new change code rose other reply isnt (overfull unspent accepted full is same) fault = no_fault reply 507 is refl fault
+fault_cause store new change code rose other reply isnt (failed unspent rises is rows) fault = inl (inl rises)
 
 -- ---- the rows of the table
-
-abbrev many_or_none : Bool → Option Refusal
-many_or_none b = if b then Some TooMany else None
 
 abbrev unknown_or_none : Bool → Option Refusal
 unknown_or_none b = if b then Some Unknown else None

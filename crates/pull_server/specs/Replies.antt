@@ -2,12 +2,9 @@
 use Rattle.std.specs.Prelude.{ℕ, List, [], ◌∷◌, codes}
 use Rattle.sha2.specs.Sha256.{sha256}
 use Rattle.shared_key.specs.Checksum.{checksum_of}
-use Rattle.http_frames.specs.declared.message.Header.{Header}
 use Rattle.http_frames.specs.declared.message.Reply.{Reply}
+use Rattle.http_frames.specs.Headers.{header}
 use Rattle.http_frames.specs.Replies.{saying}
-
-abbrev pub header : List ℕ → List ℕ → Header
-header name value = record { name = name; value = value }
 
 -- without a body
 abbrev pub plain : ℕ → Reply

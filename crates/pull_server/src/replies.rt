@@ -4,14 +4,14 @@ ghost use Rattle.std.specs.Fmt.{decimal};
 ghost use Rattle.http_frames.specs.Replies.{saying};
 ghost use Rattle.pull_messages.specs.declared.error.MessageError.TheVariants as errors;
 ghost use Rattle.pull_server.specs.Messages.{fault_text};
-ghost use Rattle.pull_server.specs.Replies.{content_reply, header, message_reply, plain};
+ghost use Rattle.pull_server.specs.Replies.{content_reply, message_reply, plain};
 
 use http_frames::{Header, Reply};
 use mof_values::{Bytes, Items, Memory};
 use pull_messages::MessageError;
 use pull_outside::Shelf;
 use shared_key::checksum_text;
-use std::alloc::{AllocError, Global};
+use std::alloc::Global;
 
 /// A reply without a body; takes no memory.
 pub fn plain(alloc: Global, code: u16) -> Reply
@@ -59,7 +59,7 @@ pub fn message_reply(alloc: Global, body: Vec<u8>) -> Result<Reply, Memory>
     ensures { IfOk result (λ reply. reply ≡ message_reply body.items) }
 {
     let mut headers = Vec::new(alloc);
-    headers.push(header(alloc, "Content-Type", b"application/json")?)?;
+    headers.push(Header::of(alloc, "Content-Type", b"application/json")?)?;
     Ok(Reply {
         code: 200,
         headers: Items::of(headers),
@@ -80,21 +80,12 @@ pub fn content_reply<S: Shelf>(
 {
     let checksum = checksum_text(&shelf.digest(&content));
     let mut headers = Vec::new(alloc);
-    headers.push(header(alloc, "Content-Type", b"application/octet-stream")?)?;
-    headers.push(header(alloc, "Checksum", &checksum)?)?;
-    headers.push(header(alloc, "ChecksumAlgorithm", b"SHA-256")?)?;
+    headers.push(Header::of(alloc, "Content-Type", b"application/octet-stream")?)?;
+    headers.push(Header::of(alloc, "Checksum", &checksum)?)?;
+    headers.push(Header::of(alloc, "ChecksumAlgorithm", b"SHA-256")?)?;
     Ok(Reply {
         code: 200,
         headers: Items::of(headers),
         body: Bytes::of(content),
-    })
-}
-
-fn header(alloc: Global, name: &str, value: &[u8]) -> Result<Header, AllocError>
-    ensures { IfOk result (λ h. h ≡ header name.now value.now) }
-{
-    Ok(Header {
-        name: Bytes::of(name.as_bytes().to_vec(alloc)?),
-        value: Bytes::of(value.to_vec(alloc)?),
     })
 }

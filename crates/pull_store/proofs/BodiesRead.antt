@@ -17,7 +17,7 @@ use Rattle.pull_store.specs.Bodies.{bytes_of_ids, bytes_of_registration}
 use Rattle.pull_store.specs.Laws.{BodiesAreOfOne}
 use Rattle.pull_store.specs.Sound.{IsId, AreIds, AreFields, IsNameText, IsRegistration}
 use Rattle.pull_store.specs.Stands.{IsBody}
-use Rattle.pull_messages.specs.Limits.{list_items, text_bytes}
+use Rattle.pull_messages.specs.declared.limits.TheConstants.{MAX_LIST_ITEMS, MAX_TEXT_BYTES}
 use Rattle.pull_store.specs.declared.limits.TheConstants.{LENGTHS, MAX_BYTES}
 use Rattle.pull_store.proofs.Sizes.{length-registration}
 
@@ -35,7 +35,7 @@ kind_of kind rest (Register agent x) is = inl (same_heads kind 1 rest (bytes_of_
 kind_of kind rest (Report agent job body) is = inr (same_heads kind 2 rest (bytes_of_number w128 agent ++ (bytes_of_number w128 job ++ body)) is.is).0
 
 -- all after the kind of a registration
-pub record Registers (rest : List ℕ) (change : Change) : Type 0 where
+pub record SpellsRegister (rest : List ℕ) (change : Change) : Type 0 where
   pub agent : ℕ
   pub registration : Registration
   pub is : change ≡ Register agent registration
@@ -43,7 +43,7 @@ pub record Registers (rest : List ℕ) (change : Change) : Type 0 where
   pub sized : IsRegistration registration
   pub spells : rest ≡ bytes_of_number w128 agent ++ bytes_of_registration registration
 
-pub register_at : (rest : List ℕ) (change : Change) → IsBody (1 ∷ rest) change → Registers rest change
+pub register_at : (rest : List ℕ) (change : Change) → IsBody (1 ∷ rest) change → SpellsRegister rest change
 register_at rest (Register agent x) is = record {
   agent = agent;
   registration = x;
@@ -56,7 +56,7 @@ register_at rest (Report agent job body) is =
     absurd (let e : 1 ≡ 2 = (same_heads 1 2 rest (bytes_of_number w128 agent ++ (bytes_of_number w128 job ++ body)) is.is).0 in omega (arith, e))
 
 -- all after the kind of a report
-pub record Reports (rest : List ℕ) (change : Change) : Type 0 where
+pub record SpellsReport (rest : List ℕ) (change : Change) : Type 0 where
   pub agent : ℕ
   pub job : ℕ
   pub body : List ℕ
@@ -65,7 +65,7 @@ pub record Reports (rest : List ℕ) (change : Change) : Type 0 where
   pub short : length body ≤ MAX_BYTES
   pub spells : rest ≡ bytes_of_ids (agent, job) ++ body
 
-pub report_at : (rest : List ℕ) (change : Change) → IsBody (2 ∷ rest) change → Reports rest change
+pub report_at : (rest : List ℕ) (change : Change) → IsBody (2 ∷ rest) change → SpellsReport rest change
 report_at rest (Register agent x) is =
     absurd (let e : 2 ≡ 1 = (same_heads 2 1 rest (bytes_of_number w128 agent ++ bytes_of_registration x) is.is).0 in omega (arith, e))
 report_at rest (Report agent job body) is = record {
@@ -121,15 +121,15 @@ same_fields x y e f g h = same_made x.lcm_version y.lcm_version x.node_name y.no
 
 pub fields_unique : IsUnique bytes_of_registration AreFields
 fields_unique x y r s one other e =
-    let version = text_unique text_bytes (omega arith) x.lcm_version y.lcm_version _ _ one.version other.version (sym (opened x r) ∙ e ∙ opened y s) in
-    let node = text_unique text_bytes (omega arith) x.node_name y.node_name _ _ one.node other.node version.1 in
-    let address = text_unique text_bytes (omega arith) x.ip_address y.ip_address _ _ one.address other.address node.1 in
+    let version = text_unique MAX_TEXT_BYTES (omega arith) x.lcm_version y.lcm_version _ _ one.version other.version (sym (opened x r) ∙ e ∙ opened y s) in
+    let node = text_unique MAX_TEXT_BYTES (omega arith) x.node_name y.node_name _ _ one.node other.node version.1 in
+    let address = text_unique MAX_TEXT_BYTES (omega arith) x.ip_address y.ip_address _ _ one.address other.address node.1 in
     let names = list_unique bytes_of_text IsNameText name_unique x.names y.names r s one.names other.names address.1 in
     (same_fields x y version.0 node.0 address.0 names.0, names.1)
 
 -- each field was read after the other
-module _ (before m1 m2 m3 after : List ℕ) (x : Registration) (one : Reads bytes_of_text (IsText text_bytes) before m1 (Ok x.lcm_version)) (two : Reads bytes_of_text (IsText text_bytes) m1 m2 (Ok x.node_name))
-    (three : Reads bytes_of_text (IsText text_bytes) m2 m3 (Ok x.ip_address)) (four : Reads (bytes_of_list bytes_of_text) (IsList IsNameText) m3 after (Ok x.names)) where
+module _ (before m1 m2 m3 after : List ℕ) (x : Registration) (one : Reads bytes_of_text (IsText MAX_TEXT_BYTES) before m1 (Ok x.lcm_version)) (two : Reads bytes_of_text (IsText MAX_TEXT_BYTES) m1 m2 (Ok x.node_name))
+    (three : Reads bytes_of_text (IsText MAX_TEXT_BYTES) m2 m3 (Ok x.ip_address)) (four : Reads (bytes_of_list bytes_of_text) (IsList IsNameText) m3 after (Ok x.names)) where
   pub fields_read : Reads bytes_of_registration AreFields before after (Ok x)
   fields_read =
       taken bytes_of_registration AreFields before after x fields_unique
@@ -143,9 +143,9 @@ pub fields_of : (x : Registration) → IsRegistration x → AreFields x
 fields_of x is = record { version = is.version; node = is.node; address = is.address; names = (omega (arith, is.few), is.names) }
 
 -- a registration that may be kept: few names, and all its bytes are no longer than they may be
-pub kept_of : (bytes after : List ℕ) (x : Registration) → AreFields x → bytes ≡ bytes_of_registration x ++ after → after ≡ [] → length x.names ≤ list_items → length bytes ≤ MAX_BYTES + LENGTHS + 2 * length x.names
+pub kept_registration : (bytes after : List ℕ) (x : Registration) → AreFields x → bytes ≡ bytes_of_registration x ++ after → after ≡ [] → length x.names ≤ MAX_LIST_ITEMS → length bytes ≤ MAX_BYTES + LENGTHS + 2 * length x.names
     → IsRegistration x × (bytes ≡ bytes_of_registration x)
-kept_of bytes after x are is none few short =
+kept_registration bytes after x are is none few short =
     let whole : bytes ≡ bytes_of_registration x = is ∙ ap (λ (l : List ℕ). bytes_of_registration x ++ l) none ∙ append-nil (bytes_of_registration x) in (
       record {
         version = are.version;
@@ -164,7 +164,7 @@ module _ {X : Type 0} (f : X → List ℕ) (R : X → Type 0) where
   none_read bytes after e x more same reads range is = (subst (λ (d : FieldError). Reads f R bytes after (Err d)) same reads).only x more range is
 
 -- no registration that may be kept has other names, or is longer
-pub none_kept : (bytes after : List ℕ) (x y : Registration) → Reads bytes_of_registration AreFields bytes after (Ok x) → ((after ≡ []) → length x.names ≤ list_items → length bytes ≤ MAX_BYTES + LENGTHS + 2 * length x.names → ⊥)
+pub none_kept : (bytes after : List ℕ) (x y : Registration) → Reads bytes_of_registration AreFields bytes after (Ok x) → ((after ≡ []) → length x.names ≤ MAX_LIST_ITEMS → length bytes ≤ MAX_BYTES + LENGTHS + 2 * length x.names → ⊥)
     → IsRegistration y → bytes ≡ bytes_of_registration y → ⊥
 none_kept bytes after x y reads other is spells =
     let found = reads.only y [] (fields_of y is) (spells ∙ sym (append-nil (bytes_of_registration y))) in

@@ -4,7 +4,7 @@ use Rattle.std.specs.List.{AllByRecursion}
 use Rattle.std.specs.Int.{w128}
 use Rattle.mof_values.specs.declared.limits.TheConstants.{MAX_NAME_BYTES}
 use Rattle.store_fields.specs.Fields.{IsList, IsNumber, IsText}
-use Rattle.pull_messages.specs.Limits.{list_items, text_bytes}
+use Rattle.pull_messages.specs.declared.limits.TheConstants.{MAX_LIST_ITEMS, MAX_TEXT_BYTES}
 use Rattle.pull_messages.specs.declared.registration.Registration.{Registration}
 use Rattle.pull_messages.specs.Sizes.{IsSized, registration_size}
 use Rattle.pull_store.specs.declared.row.Row.{Row}
@@ -22,8 +22,8 @@ IsId id = IsNumber w128 id
 abbrev pub most_bytes : ℕ
 most_bytes = MAX_BYTES
 
--- the sizes of a registration that may be kept: each text at most 65,535 bytes, at most 16 names of 1 to 255 bytes, all
--- together at most 131,072 bytes
+-- the sizes of a registration that may be kept: those of one that was read, and all its texts together no longer than a
+-- body may be
 pub record IsKeepable (registration : Registration) : Type 0 where
   pub sized : IsSized registration
   pub whole : registration_size registration ≤ most_bytes
@@ -35,18 +35,18 @@ pub record IsNameText (name : List ℕ) : Type 0 where
 
 -- a registration that may be kept, its texts in characters
 pub record IsRegistration (registration : Registration) : Type 0 where
-  pub version : IsText text_bytes registration.lcm_version
-  pub node : IsText text_bytes registration.node_name
-  pub address : IsText text_bytes registration.ip_address
-  pub few : length registration.names ≤ list_items
+  pub version : IsText MAX_TEXT_BYTES registration.lcm_version
+  pub node : IsText MAX_TEXT_BYTES registration.node_name
+  pub address : IsText MAX_TEXT_BYTES registration.ip_address
+  pub few : length registration.names ≤ MAX_LIST_ITEMS
   pub names : AllByRecursion IsNameText registration.names
   pub whole : registration_size registration ≤ most_bytes
 
 -- the fields of a registration, each in its range
 pub record AreFields (registration : Registration) : Type 0 where
-  pub version : IsText text_bytes registration.lcm_version
-  pub node : IsText text_bytes registration.node_name
-  pub address : IsText text_bytes registration.ip_address
+  pub version : IsText MAX_TEXT_BYTES registration.lcm_version
+  pub node : IsText MAX_TEXT_BYTES registration.node_name
+  pub address : IsText MAX_TEXT_BYTES registration.ip_address
   pub names : IsList IsNameText registration.names
 
 abbrev pub AreIds : ℕ × ℕ → Type 0

@@ -10,10 +10,10 @@ ghost use Rattle.pull_store.specs.Sound.{AreIds, AreFields, IsRegistration};
 ghost use Rattle.pull_store.specs.Stands.{IsBody};
 
 use crate::change::Change;
-use crate::limits::{LENGTHS, MAX_BYTES};
+use crate::limits::{LENGTHS, MAX_BYTES, TEXT_LIMIT};
 use crate::names::NameForm;
 use mof_values::{Bytes, Text};
-use pull_messages::Registration;
+use pull_messages::{MAX_LIST_ITEMS, Registration};
 use std::alloc::{AllocError, Global};
 use store_fields::{FieldError, Fields, read_list};
 
@@ -104,7 +104,10 @@ fn read_registration(alloc: Global, bytes: &[u8]) -> Result<Registration, FieldE
         Err(error) => return Err(error),
     };
     let names = registration.names.as_slice().len();
-    if fields.is_empty() && names <= 16 && bytes.len() <= MAX_BYTES + LENGTHS + 2 * names {
+    if fields.is_empty()
+        && names <= MAX_LIST_ITEMS
+        && bytes.len() <= MAX_BYTES + LENGTHS + 2 * names
+    {
         Ok(registration)
     } else {
         Err(FieldError::Wrong)
@@ -114,9 +117,9 @@ fn read_registration(alloc: Global, bytes: &[u8]) -> Result<Registration, FieldE
 fn read_fields(alloc: Global, fields: &mut Fields<'_>) -> Result<Registration, FieldError>
     ensures { Reads bytes_of_registration AreFields fields.old fields.new result }
 {
-    let lcm_version = fields.text(alloc, u16::MAX)?;
-    let node_name = fields.text(alloc, u16::MAX)?;
-    let ip_address = fields.text(alloc, u16::MAX)?;
+    let lcm_version = fields.text(alloc, TEXT_LIMIT)?;
+    let node_name = fields.text(alloc, TEXT_LIMIT)?;
+    let ip_address = fields.text(alloc, TEXT_LIMIT)?;
     let names = read_list::<NameForm, Text>(alloc, fields)?;
     Ok(Registration {
         lcm_version,

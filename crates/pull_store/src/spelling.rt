@@ -3,7 +3,7 @@ ghost use Rattle.std.specs.Prelude.{◌≡◌, ◌≤◌, ◌++◌, length, OnOk
 ghost use Rattle.std.specs.Int.{w128};
 ghost use Rattle.store_fields.specs.Fields.{IsText, bytes_of_number, bytes_of_text};
 ghost use Rattle.store_fields.specs.Writing.{Writes};
-ghost use Rattle.pull_messages.specs.Limits.{text_bytes};
+ghost use Rattle.pull_messages.specs.declared.limits.TheConstants.{MAX_TEXT_BYTES};
 ghost use Rattle.pull_messages.specs.Sizes.{IsSized};
 ghost use Rattle.pull_store.specs.Bodies.{body_of, bytes_of_head, bytes_of_texts, bytes_of_registration};
 ghost use Rattle.pull_store.specs.Sound.{IsId, IsInSize, IsKeepable, IsKeepableChange, IsRegistration, most_bytes};
@@ -115,20 +115,20 @@ fn put_registration(into: &mut Vec<u8>, x: &Registration) -> Result<(), Memory>
 fn put_texts(into: &mut Vec<u8>, x: &Registration) -> Result<(), Memory>
     requires { IsSized x.now }
     ensures writes { Writes (bytes_of_texts x.now) into.old into.new result }
-    ensures version { OnOk result (IsText text_bytes x.now.lcm_version) }
-    ensures node { OnOk result (IsText text_bytes x.now.node_name) }
-    ensures address { OnOk result (IsText text_bytes x.now.ip_address) }
+    ensures version { OnOk result (IsText MAX_TEXT_BYTES x.now.lcm_version) }
+    ensures node { OnOk result (IsText MAX_TEXT_BYTES x.now.node_name) }
+    ensures address { OnOk result (IsText MAX_TEXT_BYTES x.now.ip_address) }
 {
     put_text(into, &x.lcm_version)?;
     put_two(into, &x.node_name, &x.ip_address)
 }
 
 fn put_two(into: &mut Vec<u8>, first: &Text, second: &Text) -> Result<(), Memory>
-    requires first { length (encode_utf8_all first.now) ≤ text_bytes }
-    requires second { length (encode_utf8_all second.now) ≤ text_bytes }
+    requires first { length (encode_utf8_all first.now) ≤ MAX_TEXT_BYTES }
+    requires second { length (encode_utf8_all second.now) ≤ MAX_TEXT_BYTES }
     ensures writes { Writes (bytes_of_text first.now ++ bytes_of_text second.now) into.old into.new result }
-    ensures first { OnOk result (IsText text_bytes first.now) }
-    ensures second { OnOk result (IsText text_bytes second.now) }
+    ensures first { OnOk result (IsText MAX_TEXT_BYTES first.now) }
+    ensures second { OnOk result (IsText MAX_TEXT_BYTES second.now) }
 {
     put_text(into, first)?;
     put_text(into, second)

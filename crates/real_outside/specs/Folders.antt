@@ -7,7 +7,7 @@ use Rattle.hex.specs.Hex.{encode_upper}
 use Rattle.sha2.specs.Sha256.{sha256}
 use Rattle.dsc_outside.specs.Host.{wants_reboot}
 
--- the front of the names that are reserved for files that are being written, and the name of such a file
+-- the front of the names that are reserved for files that are being written
 abbrev pub staging_name : List ℕ
 staging_name = codes ".nimchout-staged"
 
@@ -58,9 +58,13 @@ package_place name version = path_join (codes "packages") (encode_upper (sha256 
 abbrev pub has_line : List ℕ → List ℕ → Bool
 has_line text id = wants_reboot (slice_split (λ b. b == 10) text) id
 
--- where a file is written before it takes its place: beside it
-abbrev pub staging_place : List ℕ → List ℕ
-staging_place place = path_with_file_name place staging_name
+-- the name under which a file with that mark is written before it takes its place
+abbrev pub staged_name : List ℕ → List ℕ
+staged_name mark = staging_name ++ 45 ∷ encode_upper mark
+
+-- where it is written: beside its place
+abbrev pub staging_place : List ℕ → List ℕ → List ℕ
+staging_place place mark = path_with_file_name place (staged_name mark)
 
 -- the name of something in a folder: neither empty, nor that of the folder itself, nor that of the one above, nor reserved
 abbrev pub is_entry_name : List ℕ → Bool

@@ -12,7 +12,7 @@ use crate::spot::{Kind, Spot};
 use dsc_outside::HostError;
 use std::fs;
 use std::io::ErrorKind;
-use std::os::fd::{AsFd, AsRawFd};
+use std::os::fd::AsFd;
 use std::path::PathBuf;
 use std::rt::Files;
 
@@ -53,7 +53,7 @@ pub fn split_path(path: &str) -> Option<(&str, &str)>
 
 impl<R: Files> MachineFolder<R>
 where
-    R::File: AsFd + AsRawFd,
+    R::File: AsFd,
 {
     /// Walks to the folders of that path. Those that stand as they were found before stay held, and each is looked at
     /// again.
@@ -136,7 +136,7 @@ where
     }
 
     /// The folder that a walk ended in.
-    pub(super) fn last_folder(&self) -> Result<&HeldFolder<R::File>, HostError> {
+    pub(super) fn last_folder(&self) -> Result<&HeldFolder, HostError> {
         match self.ancestors.last()? {
             Some(folder) => Ok(folder),
             None => Err(HostError::Failed),
@@ -189,7 +189,7 @@ where
     // Syncs the last folder, or the host's.
     fn sync_last(&self) -> Result<(), HostError> {
         match self.ancestors.last()? {
-            Some(folder) => Ok(folder.sync()?),
+            Some(folder) => Ok(folder.sync(&self.rt)?),
             None => Ok(sync_folder(&self.rt, self.host.as_str())?),
         }
     }

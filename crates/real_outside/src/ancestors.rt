@@ -3,8 +3,6 @@ use crate::held_folder::HeldFolder;
 use crate::identity::Identity;
 use dsc_outside::Failed;
 use std::alloc::{AllocError, Global};
-use std::fs::OpenFile;
-use std::os::fd::AsRawFd;
 
 /// How many folders are held at least, from the host's folder on; of those further down the last alone is, so that a deep
 /// path does not use up the descriptors.
@@ -12,33 +10,33 @@ const HELD: usize = 32;
 
 /// The folders above a path, from one in the host's folder down, as they were found.
 #[derive(Drop)]
-pub struct Ancestors<F: OpenFile + AsRawFd + Drop> {
-    list: Vec<Ancestor<F>>,
+pub struct Ancestors {
+    list: Vec<Ancestor>,
 }
 
 /// A folder above a path. Its identity is that of the folder that is held, where it is.
 #[derive(Drop)]
-pub struct Ancestor<F: OpenFile + AsRawFd + Drop> {
+pub struct Ancestor {
     name: String,
     identity: Identity,
-    folder: Option<HeldFolder<F>>,
+    folder: Option<HeldFolder>,
 }
 
-impl<F: OpenFile + AsRawFd + Drop> Ancestor<F> {
+impl Ancestor {
     /// Answers whether it has that name, and that identity.
     pub fn is(&self, name: &str, identity: Identity) -> bool {
         self.name.as_str() == name && self.identity == identity
     }
 }
 
-impl<F: OpenFile + AsRawFd + Drop> Ancestors<F> {
-    pub fn new(alloc: Global) -> Ancestors<F> {
+impl Ancestors {
+    pub fn new(alloc: Global) -> Ancestors {
         Ancestors {
             list: Vec::new(alloc),
         }
     }
 
-    pub fn as_slice(&self) -> &[Ancestor<F>] {
+    pub fn as_slice(&self) -> &[Ancestor] {
         self.list.as_slice()
     }
 
@@ -55,7 +53,7 @@ impl<F: OpenFile + AsRawFd + Drop> Ancestors<F> {
     }
 
     /// The last of them, or none where there is none at all.
-    pub fn last(&self) -> Result<Option<&HeldFolder<F>>, Failed> {
+    pub fn last(&self) -> Result<Option<&HeldFolder>, Failed> {
         match self.list.last() {
             None => Ok(None),
             Some(ancestor) => match &ancestor.folder {
@@ -80,7 +78,7 @@ impl<F: OpenFile + AsRawFd + Drop> Ancestors<F> {
         &mut self,
         alloc: Global,
         name: &str,
-        folder: HeldFolder<F>,
+        folder: HeldFolder,
     ) -> Result<(), AllocError> {
         let name = String::from_str(alloc, name)?;
         if self.list.len() > HELD {

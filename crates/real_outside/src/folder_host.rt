@@ -8,7 +8,7 @@ ghost use Rattle.dsc_outside.specs.declared.host.HostError.TheVariants as errors
 use crate::machine_folder::MachineFolder;
 use dsc_outside::{Host, HostError, PathState};
 use std::marker::Model;
-use std::os::fd::{AsFd, AsRawFd};
+use std::os::fd::AsFd;
 use std::rt::Files;
 
 /// A host that keeps what it holds in a folder, HOST:
@@ -20,9 +20,9 @@ use std::rt::Files;
 /// - `reboot` is a text of the folded ids that want a reboot, one a line.
 ///
 /// HOST/root may be the machine itself, bound there, with other file systems mounted below it: a mount is no link, and
-/// other users may change what is there meanwhile. So each folder above a path is looked at, opened, and compared, and
-/// what is in it is reached through its descriptor; where /proc is missing, calls fail. The folders above the last path
-/// stay open, and are compared again.
+/// other users may change what is there meanwhile. So each folder above a path is looked at, opened without following a
+/// link, and compared, and what is in it is reached through its descriptor; where /proc is missing, calls fail. The folders
+/// above the last path stay open, and are compared again.
 ///
 /// No link is followed. A path with a link above it fails in every call, since what stands there is not known; below a
 /// file, or a pipe, there is nothing. HOST itself may be a link. A removal fails before anything is removed where
@@ -38,9 +38,10 @@ use std::rt::Files;
 /// while it is; what another user put there since then is a failure. So is anything but the written file in the place of a
 /// file that was placed.
 ///
-/// A file is written beside its target, in one file system with it, under a name that begins with `.nimchout-staged`.
-/// Names that begin so are reserved: a call on a path that has one fails, a folder with nothing else in it is empty,
-/// and the next file that is placed in a folder takes the place of one that a stop left there.
+/// A file is written beside its target, in one file system with it, under a name of `.nimchout-staged-` and 16 random
+/// digits, which other users of the folder cannot take first. Names that begin with `.nimchout-staged` are reserved: a call
+/// on a path that has one fails, and a folder with nothing else in it is empty. Before the first file that a host places in
+/// a folder it takes away what has such a name there, since a stop may have left it; what may not be taken away stays.
 ///
 /// A file is placed whole or not at all: it is written, synced, given the mode of the file that it replaces, and its
 /// owner and group where they may be set, and renamed. Each change then syncs the folders whose names it changed. Where
@@ -54,7 +55,7 @@ use std::rt::Files;
 #[derive(Drop)]
 pub struct FolderHost<R: Files>
 where
-    R::File: AsFd + AsRawFd,
+    R::File: AsFd,
 {
     machine: MachineFolder<R>,
     faults: u64,
@@ -62,7 +63,7 @@ where
 
 impl<R: Files> Model for FolderHost<R>
 where
-    R::File: AsFd + AsRawFd,
+    R::File: AsFd,
 {
     ghost use Rattle.std.specs.Prelude.{ℕ};
 
@@ -73,7 +74,7 @@ where
 
 impl<R: Files> FolderHost<R>
 where
-    R::File: AsFd + AsRawFd,
+    R::File: AsFd,
 {
     /// The host in the folder of that path. Where a store is named, the folder that it is in is the node's own.
     pub fn new(rt: R, folder: String, store: Option<String>) -> FolderHost<R>
@@ -100,7 +101,7 @@ where
 
 impl<R: Files> Host for FolderHost<R>
 where
-    R::File: AsFd + AsRawFd,
+    R::File: AsFd,
 {
     ghost shown = { λ h. None };
 

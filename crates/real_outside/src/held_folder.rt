@@ -4,48 +4,42 @@ ghost use Rattle.real_outside.specs.Folders.{held_place, is_single_name};
 ghost use Rattle.dsc_outside.specs.declared.host.HostError.TheVariants as errors;
 
 use crate::identity::Identity;
+use crate::names_below::open_folder;
 use crate::paths::is_single_name;
 use crate::spot::Spot;
 use dsc_outside::{Failed, HostError};
-use std::alloc::Global;
+use std::alloc::{AllocError, Global};
 use std::fs::OpenFile;
 use std::io::ErrorKind;
-use std::os::fd::AsRawFd;
+use std::os::fd::{AsRawFd, OwnedFd};
 use std::rt::Files;
 use std::{fs, io};
 
 /// A folder that is held open. Whoever moves it, or puts something else in its place, does not change what is reached
 /// through it.
 #[derive(Drop)]
-pub struct HeldFolder<F: OpenFile + AsRawFd + Drop> {
-    file: F,
+pub struct HeldFolder {
+    folder: OwnedFd,
     identity: Identity,
 
     // That of the descriptor, below /proc.
     path: String,
 }
 
-impl<F: OpenFile + AsRawFd + Drop> HeldFolder<F> {
-    /// Opens the folder that was seen at the spot. What has come in its place since then is a failure.
-    pub fn open<R: Files<File = F>>(
-        rt: &R,
-        alloc: Global,
-        spot: &Spot,
-    ) -> Result<HeldFolder<F>, HostError> {
-        // A name that a `/` follows is that of a folder, so a pipe is not waited for.
-        let place = spot.place.as_str();
-        let inside = format!(in alloc; "{place}/.")?;
-        let file = fs::open(rt, inside.as_str())?;
-        let found = file.metadata()?;
-        if !found.is_dir() || !spot.is(&found) {
+impl HeldFolder {
+    /// Opens the folder that was seen at the spot. What has come in its place since then is a failure, and a link that has come
+    /// is not followed.
+    pub fn open<R: Files>(rt: &R, alloc: Global, spot: &Spot) -> Result<HeldFolder, HostError> {
+        let folder = open_folder(spot.place.as_str())?;
+        let number = folder.as_raw_fd();
+        let path = format!(in alloc; "/proc/self/fd/{number}")?;
+        let found = fs::metadata(rt, path.as_str())?;
+        if !spot.is(&found) {
             return Err(HostError::Failed);
         }
-        let identity = Identity::of(&found);
-        let number = file.as_raw_fd();
-        let path = format!(in alloc; "/proc/self/fd/{number}")?;
         Ok(HeldFolder {
-            file,
-            identity,
+            folder,
+            identity: Identity::of(&found),
             path,
         })
     }
@@ -54,8 +48,9 @@ impl<F: OpenFile + AsRawFd + Drop> HeldFolder<F> {
         self.identity
     }
 
-    pub fn number(&self) -> i32 {
-        self.file.as_raw_fd()
+    /// The descriptor, which is open as long as the folder is held.
+    pub fn descriptor(&self) -> &OwnedFd {
+        &self.folder
     }
 
     /// The place of a name in the folder. What is not one plain name is a failure.
@@ -72,13 +67,15 @@ impl<F: OpenFile + AsRawFd + Drop> HeldFolder<F> {
         Ok(place)
     }
 
+    /// The place of the folder itself, by which its names are read.
+    pub fn inside(&self, alloc: Global) -> Result<String, AllocError> {
+        let mut place = String::from_str(alloc, self.path.as_str())?;
+        place.push_str("/.")?;
+        Ok(place)
+    }
+
     /// Looks at a name in the folder.
-    pub fn look<R: Files<File = F>>(
-        &self,
-        rt: &R,
-        alloc: Global,
-        name: &str,
-    ) -> Result<Spot, HostError> {
+    pub fn look<R: Files>(&self, rt: &R, alloc: Global, name: &str) -> Result<Spot, HostError> {
         let spot = Spot::look(rt, self.place_of(alloc, name)?)?;
         if spot.seen.is_none() {
             self.confirm(rt)?;
@@ -87,7 +84,7 @@ impl<F: OpenFile + AsRawFd + Drop> HeldFolder<F> {
     }
 
     // Fails where the folder is not at its path, as without /proc: then nothing is found there, whatever it holds.
-    fn confirm<R: Files<File = F>>(&self, rt: &R) -> Result<(), Failed> {
+    fn confirm<R: Files>(&self, rt: &R) -> Result<(), Failed> {
         let found = fs::metadata(rt, self.path.as_str())?;
         if Identity::of(&found) == self.identity {
             Ok(())
@@ -97,18 +94,14 @@ impl<F: OpenFile + AsRawFd + Drop> HeldFolder<F> {
     }
 
     /// Puts on the disk which names the folder has. A file system that knows no sync of folders has nothing to do.
-    pub fn sync(&self) -> io::Result<()> {
-        sync_names(&self.file)
+    pub fn sync<R: Files>(&self, rt: &R) -> io::Result<()> {
+        sync_folder(rt, self.path.as_str())
     }
 }
 
 /// The same of the folder at that place.
 pub fn sync_folder<R: Files>(rt: &R, place: &str) -> io::Result<()> {
-    sync_names(&fs::open(rt, place)?)
-}
-
-fn sync_names<F: OpenFile>(folder: &F) -> io::Result<()> {
-    match folder.sync_all() {
+    match fs::open(rt, place)?.sync_all() {
         Err(e) if e.kind() == ErrorKind::InvalidInput => Ok(()),
         outcome => outcome,
     }

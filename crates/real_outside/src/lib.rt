@@ -1,5 +1,6 @@
 //! The outside on a real machine: standard input and output, a file as a disk, the folder that stands for the machine,
-//! and the clock of the system; and descriptors in the place of standard ones that are closed.
+//! the clock of the system, and the arguments of the program; and descriptors in the place of standard ones that are
+//! closed.
 //!
 //! They expose nothing of what they hold, and each counts its failures. A layer above may rely on it that no path leads
 //! out of the folder, also beside users who change what is in it. What the system gives or takes is in no clause: this
@@ -7,12 +8,13 @@
 //!
 //! Where a thing is:
 //! - what touches the real machine: this crate: standard input, standard output, a file as disk, a folder as host, the
-//!   clock of the system. Connections are in `dsc_network`, a folder as shelf and a port as door in `pull_adapters`.
-//!   Nothing else does, but the tool `merge_calls`, which reads files
+//!   clock of the system, the arguments (`src/program_arguments.rt`). Connections are in `dsc_network`, a folder as
+//!   shelf and a port as door in `pull_adapters`. Nothing else does, but the tool `merge_calls`, which reads files
 //! - where the folder that is the host keeps what it holds: `specs/Folders.antt`, `src/places.rt`; its paths in
 //!   `src/tree.rt`, its variables, log, packages and reboots in `src/lists.rt`
 //! - how a path of it is walked, a file read and placed: `src/above.rt`, through folders that are held
-//!   (`src/held_folder.rt`, `src/ancestors.rt`); `src/plain_files.rt`; `src/placing.rt`
+//!   (`src/held_folder.rt`, `src/ancestors.rt`); `src/plain_files.rt`; `src/placing.rt`, first under a name of
+//!   `src/staging.rt`, which also takes away what stops left
 //! - what a removal may reach, and its walk: `src/removing.rt`, `src/mounts.rt`, `src/tree_walk.rt`
 #![tactic(auto)]
 
@@ -35,9 +37,11 @@ mod paths;
 mod places;
 mod placing;
 mod plain_files;
+mod program_arguments;
 mod reading;
 mod removing;
 mod spot;
+mod staging;
 mod standard_descriptors;
 mod system_clock;
 mod tree;
@@ -47,5 +51,6 @@ pub use file_disk::FileDisk;
 pub use folder_host::FolderHost;
 pub use in_source::InSource;
 pub use out_sink::OutSink;
+pub use program_arguments::arguments;
 pub use standard_descriptors::{StandardDescriptors, hold_standard_descriptors};
 pub use system_clock::SystemClock;

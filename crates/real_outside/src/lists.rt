@@ -10,12 +10,12 @@ use crate::places::{REBOOT, entry_path, join_lines, package_path, variable_path}
 use crate::plain_files::{append_file, file_holds, is_plain_file, take_away};
 use crate::spot::Spot;
 use dsc_outside::HostError;
-use std::os::fd::{AsFd, AsRawFd};
+use std::os::fd::AsFd;
 use std::rt::Files;
 
 impl<R: Files> MachineFolder<R>
 where
-    R::File: AsFd + AsRawFd,
+    R::File: AsFd,
 {
     pub fn env_state(&mut self, name: &str, into: &mut Vec<u8>) -> Result<bool, HostError>
         ensures { LeavesBuffer result into.old.items into.new.items }
@@ -86,7 +86,7 @@ where
     }
 
     // The host's folder, where it is there. It may be a link.
-    fn hold_host(&self) -> Result<Option<HeldFolder<R::File>>, HostError> {
+    fn hold_host(&self) -> Result<Option<HeldFolder>, HostError> {
         let spot = Spot::look(&self.rt, self.place_in_host(".")?)?;
         if spot.seen.is_none() {
             return Ok(None);

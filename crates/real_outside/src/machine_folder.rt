@@ -6,18 +6,19 @@ use crate::identity::Identity;
 use crate::last_look::LastLook;
 use crate::places::folder_of;
 use crate::placing::place_file;
+use crate::staging::clear_staged;
 use dsc_outside::HostError;
 use std::alloc::Global;
 use std::fs;
 use std::io::ErrorKind;
-use std::os::fd::{AsFd, AsRawFd};
+use std::os::fd::AsFd;
 use std::rt::Files;
 
 /// The folder of that path, where it is there.
 #[derive(Drop)]
 pub struct MachineFolder<R: Files>
 where
-    R::File: AsFd + AsRawFd,
+    R::File: AsFd,
 {
     pub(super) rt: R,
     pub(super) host: String,
@@ -26,14 +27,17 @@ where
     pub(super) store: Option<String>,
 
     // The folders above the path of the last call.
-    pub(super) ancestors: Ancestors<R::File>,
+    pub(super) ancestors: Ancestors,
 
     pub(super) last_look: Option<LastLook>,
+
+    // The folders in which nothing is left of an earlier run that was stopped.
+    cleared: Vec<Identity>,
 }
 
 impl<R: Files> MachineFolder<R>
 where
-    R::File: AsFd + AsRawFd,
+    R::File: AsFd,
 {
     pub fn new(rt: R, host: String, store: Option<String>) -> MachineFolder<R> {
         let alloc = *host.allocator();
@@ -43,6 +47,7 @@ where
             store,
             ancestors: Ancestors::new(alloc),
             last_look: None,
+            cleared: Vec::new(alloc),
         }
     }
 
@@ -74,7 +79,27 @@ where
             return Err(HostError::Failed);
         };
         self.walk_to_change(folders, own)?;
+        self.clear_last_folder()?;
         place_file(&self.rt, self.alloc(), self.last_folder()?, name, bytes)
+    }
+
+    // Takes away what a stop left in the last folder, before the first file that is placed there.
+    fn clear_last_folder(&mut self) -> Result<(), HostError> {
+        let identity = self.last_folder()?.identity();
+        if self.is_cleared(&identity) {
+            return Ok(());
+        }
+        self.take_what_stops_left()?;
+        self.cleared.push(identity)?;
+        Ok(())
+    }
+
+    fn is_cleared(&self, identity: &Identity) -> bool {
+        self.cleared.contains(identity)
+    }
+
+    fn take_what_stops_left(&self) -> Result<(), HostError> {
+        clear_staged(&self.rt, self.alloc(), self.last_folder()?)
     }
 
     /// Makes the host's folder where nothing is. Unlike what is in it, it may be a link.

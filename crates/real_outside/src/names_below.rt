@@ -20,8 +20,14 @@ pub enum Taken {
     IsFolder,
 }
 
-fn last_error() -> Error {
+/// What made the last call of the system fail.
+pub fn last_error() -> Error {
     Error::from_raw_os_error(os::errno())
+}
+
+/// Opens the folder at that place. A link in its place is none.
+pub fn open_folder(place: &str) -> io::Result<OwnedFd> {
+    open_below(libc::AT_FDCWD, place.as_bytes())
 }
 
 /// Opens the folder of that name in the folder of that number. A link is none.

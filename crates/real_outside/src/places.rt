@@ -3,7 +3,7 @@ ghost use Rattle.std.specs.Prelude.{◌≡◌, Err, IfOk, false, string_bytes, t
 ghost use Rattle.std.specs.Path.{path_buf_bytes, path_join};
 ghost use Rattle.hex.specs.Hex.{encode_upper};
 ghost use Rattle.sha2.specs.Sha256.{sha256};
-ghost use Rattle.real_outside.specs.Folders.{entry_place, has_line_feed, is_plain_path, package_place, root_place, staging_place, two_lines, variable_place};
+ghost use Rattle.real_outside.specs.Folders.{entry_place, has_line_feed, is_plain_path, package_place, root_place, staged_name, staging_place, two_lines, variable_place};
 ghost use Rattle.dsc_outside.specs.declared.host.HostError.TheVariants as errors;
 
 use crate::paths::is_plain_path;
@@ -51,13 +51,25 @@ pub fn root_path(alloc: Global, path: &str) -> Result<PathBuf, HostError>
     Ok(path_in(alloc, ROOT, path)?)
 }
 
-/// Where the file of that place is written first: in its folder, since no file is moved from one file system to another.
-pub fn staging_path(alloc: Global, place: &str) -> Result<PathBuf, AllocError>
-    ensures { IfOk result (λ staged. path_buf_bytes staged ≡ staging_place place.now) }
+/// Where the file of that place is written first: in its folder, since no file is moved from one file system to another,
+/// under a reserved name with the digits of the mark.
+pub fn staging_path(alloc: Global, place: &str, mark: &[u8]) -> Result<PathBuf, AllocError>
+    ensures { IfOk result (λ staged. path_buf_bytes staged ≡ staging_place place.now mark.now) }
 {
+    let name = staged_name(alloc, mark)?;
     let mut staged = PathBuf::from_str(alloc, place)?;
-    staged.set_file_name(STAGED)?;
+    staged.set_file_name(name.as_str())?;
     Ok(staged)
+}
+
+fn staged_name(alloc: Global, mark: &[u8]) -> Result<String, AllocError>
+    ensures { IfOk result (λ name. string_bytes name ≡ staged_name mark.now) }
+{
+    let digits = hex::encode_upper(alloc, mark)?;
+    let mut name = String::from_str(alloc, STAGED)?;
+    name.push('-')?;
+    name.push_str(digits.as_str())?;
+    Ok(name)
 }
 
 /// The folder of what stands at the place.

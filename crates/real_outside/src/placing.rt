@@ -3,11 +3,12 @@ use crate::held_folder::HeldFolder;
 use crate::identity::Identity;
 use crate::places::staging_path;
 use crate::spot::{Kind, Spot};
+use crate::staging::new_mark;
 use dsc_outside::HostError;
 use std::alloc::Global;
 use std::fs::{Metadata, OpenFile, OpenOptions, Permissions};
 use std::io::{ErrorKind, Write};
-use std::os::fd::{AsFd, AsRawFd};
+use std::os::fd::AsFd;
 use std::os::unix::fs::{MetadataExt, OpenOptionsExt, PermissionsExt, fchown};
 use std::rt::Files;
 use std::{fs, io};
@@ -21,42 +22,31 @@ const MODE_BITS: u32 = 0o7777;
 /// Nobody but the writer reads a file before it has the mode of the one that it replaces.
 const PRIVATE: u32 = 0o600;
 
-/// Places a file with these bytes under that name in the folder: it is written and synced at the staging place beside it,
-/// and takes its own in one step, also that of a file or a link. It has the mode of a file that was there, and its owner
-/// and group where they may be set. A folder in its place is a failure, and so is anything else than the file that was
-/// written: another user of the folder may have put that at the staging place.
+/// Places a file with these bytes under that name in the folder: it is written and synced beside it, under a name that
+/// nobody else knows before, and takes its own in one step, also that of a file or a link. It has the mode of a file that
+/// was there, and its owner and group where they may be set. A folder in its place is a failure, and so is anything else
+/// than the file that was written: another user of the folder may have put that at the staging place.
 pub fn place_file<R: Files>(
     rt: &R,
     alloc: Global,
-    folder: &HeldFolder<R::File>,
+    folder: &HeldFolder,
     name: &str,
     bytes: &[u8],
 ) -> Result<(), HostError>
 where
-    R::File: AsFd + AsRawFd,
+    R::File: AsFd,
 {
     let spot = folder.look(rt, alloc, name)?;
     if spot.kind() == Kind::Folder {
         return Err(HostError::Failed);
     }
-    let staged = staging_path(alloc, spot.place.as_str())?;
-    discard(rt, staged.as_str())?;
+    let staged = staging_path(alloc, spot.place.as_str(), &new_mark()?)?;
     let outcome = write_then_move(rt, staged.as_str(), &spot, bytes);
     if outcome.is_err() {
         let _ = fs::remove_file(rt, staged.as_str());
     }
     outcome?;
-    Ok(folder.sync()?)
-}
-
-// Takes away what a stop left at the staging place, or an empty folder that another user made there.
-fn discard<R: Files>(rt: &R, staged: &str) -> Result<(), HostError> {
-    match fs::remove_file(rt, staged) {
-        Ok(()) => Ok(()),
-        Err(e) if e.kind() == ErrorKind::NotFound => Ok(()),
-        Err(e) if e.kind() == ErrorKind::IsADirectory => Ok(fs::remove_dir(rt, staged)?),
-        Err(e) => Err(HostError::from(e)),
-    }
+    Ok(folder.sync(rt)?)
 }
 
 fn write_then_move<R: Files>(rt: &R, staged: &str, spot: &Spot, bytes: &[u8]) -> io::Result<()>

@@ -9,7 +9,6 @@ use dsc_outside::HostError;
 use std::fs;
 use std::fs::OpenFile;
 use std::io::ErrorKind;
-use std::os::fd::AsRawFd;
 use std::rt::Files;
 
 /// Appends the bytes of the plain file that was seen there, and answers whether it is there. A link, a folder, or anything
@@ -67,16 +66,9 @@ fn open_plain<R: Files>(rt: &R, spot: &Spot) -> Result<Option<R::File>, HostErro
 
 /// Takes the file or the link at that place in the folder away, where one is there, and syncs the folder. A folder in its
 /// place is a failure.
-pub fn take_away<R: Files>(
-    rt: &R,
-    folder: &HeldFolder<R::File>,
-    place: &str,
-) -> Result<(), HostError>
-where
-    R::File: AsRawFd,
-{
+pub fn take_away<R: Files>(rt: &R, folder: &HeldFolder, place: &str) -> Result<(), HostError> {
     match fs::remove_file(rt, place) {
-        Ok(()) => Ok(folder.sync()?),
+        Ok(()) => Ok(folder.sync(rt)?),
         Err(e) if e.kind() == ErrorKind::NotFound => Ok(()),
         Err(e) => Err(HostError::from(e)),
     }

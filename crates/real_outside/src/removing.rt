@@ -17,21 +17,18 @@ use std::rt::Files;
 pub fn remove_folder<R: Files>(
     rt: &R,
     alloc: Global,
-    above: &HeldFolder<R::File>,
+    above: &HeldFolder,
     name: &str,
     spot: &Spot,
     own: Option<Identity>,
-) -> Result<(), HostError>
-where
-    R::File: AsRawFd,
-{
+) -> Result<(), HostError> {
     let top = HeldFolder::open(rt, alloc, spot)?;
     let mounts = Mounts::read(rt, alloc)?;
     if mounts.has_at(above.identity(), name) || !top.identity().is_beside(above.identity()) {
         return Err(HostError::Failed);
     }
-    let mount = mount_of(rt, alloc, above.number())?;
-    if mount_of(rt, alloc, top.number())? != mount {
+    let mount = mount_of(rt, alloc, above.descriptor().as_raw_fd())?;
+    if mount_of(rt, alloc, top.descriptor().as_raw_fd())? != mount {
         return Err(HostError::Failed);
     }
     let barred = Barred {
@@ -40,8 +37,14 @@ where
         mount: &mount,
         top: top.identity(),
     };
-    walk_tree(rt, alloc, top.number(), &barred, Task::Look)?;
-    walk_tree(rt, alloc, top.number(), &barred, Task::Remove)?;
+    walk_tree(rt, alloc, top.descriptor().as_raw_fd(), &barred, Task::Look)?;
+    walk_tree(
+        rt,
+        alloc,
+        top.descriptor().as_raw_fd(),
+        &barred,
+        Task::Remove,
+    )?;
     fs::remove_dir(rt, spot.place.as_str())?;
-    Ok(above.sync()?)
+    Ok(above.sync(rt)?)
 }

@@ -15,12 +15,12 @@ use crate::spot::{Kind, Spot};
 use dsc_outside::{HostError, PathState};
 use std::fs;
 use std::io::ErrorKind;
-use std::os::fd::{AsFd, AsRawFd};
+use std::os::fd::AsFd;
 use std::rt::Files;
 
 impl<R: Files> MachineFolder<R>
 where
-    R::File: AsFd + AsRawFd,
+    R::File: AsFd,
 {
     pub fn path_state(&mut self, path: &str) -> Result<PathState, HostError>
         ensures { is_plain_path path.now ≡ false → result ≡ Err errors.Failed }
@@ -130,7 +130,7 @@ where
     ) -> Result<(), HostError> {
         let folder = self.last_folder()?;
         match fs::remove_dir(&self.rt, spot.place.as_str()) {
-            Ok(()) => Ok(folder.sync()?),
+            Ok(()) => Ok(folder.sync(&self.rt)?),
             Err(e)
                 if e.kind() == ErrorKind::DirectoryNotEmpty
                     && !is_inhabited(&self.rt, spot.place.as_str())? => {

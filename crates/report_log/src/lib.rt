@@ -17,7 +17,7 @@ mod report;
 mod room;
 mod sizes;
 
-pub use limits::MAX_PARTS;
+pub use limits::{LISTED_LIMIT, MAX_PARTS};
 pub use making::report_of;
 pub use report::{FailureKind, Frame, Missed, Outcome, PartMark, Reason, Report};
 pub use room::{ReportRoom, room_for};

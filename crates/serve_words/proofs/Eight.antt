@@ -17,6 +17,7 @@ use Rattle.clap.specs.declared.error.kind.ErrorKind.TheVariants as kind
 use Rattle.clap.specs.declared.builder.value_parser.ValueParser.TheVariants as vp
 use Rattle.clap.proofs.OnLiterals.{clap_on_literals}
 use Rattle.clap.proofs.ValueTestLemmas.{Accepts-accepts}
+use Rattle.serve_words.specs.declared.command.TheConstants.{MAX_CONNECTIONS}
 use Rattle.serve_words.specs.Laws.{Give, IsPlain, eight_words}
 use Rattle.serve_words.specs.Words.{SpellsCount, value_of}
 use Rattle.serve_words.proofs.Options.{Which, connections, fault_is, listen, name, remains, shape, shelf, store}
@@ -114,7 +115,7 @@ module _ (s f l n : Text) where
   abbrev end : Walk
   end = state three (full connections n) 1 false
 
-  passes_at_end : accepts false (vp.Signed (pos 1) (pos 1_000_000)) n ≡ true → remains end [] ≡ []
+  passes_at_end : accepts false (vp.Signed (pos 1) (pos MAX_CONNECTIONS)) n ≡ true → remains end [] ≡ []
   unfolding clap_on_literals
   passes_at_end takes = ap (λ (b : Bool). or_else (or_else (if b then [] else kind.ValueValidation ∷ []) []) []) takes
 
@@ -153,7 +154,7 @@ module _ (x y z u : ℕ) (xs ys zs us : Text) (hx : (x == 45) ≡ false) (hy : (
   unfolding value_of
   found_as id = ap (λ (o : Kinds × Walk). found_in id o.1) comes_to
 
-  pub eight : accepts false (vp.Signed (pos 1) (pos 1_000_000)) n' ≡ true → (count : ℕ) → SpellsCount n' count
+  pub eight : accepts false (vp.Signed (pos 1) (pos MAX_CONNECTIONS)) n' ≡ true → (count : ℕ) → SpellsCount n' count
       → Give (eight_words s' f' l' n') s' f' l' count
   eight takes count spells = record {
     taken = fault_is (eight_words s' f' l' n') ∙ ap (λ (o : Kinds × Walk). o.0) comes_to ∙ passes_at_end s' f' l' n' takes;
@@ -170,10 +171,10 @@ record IsCountText (text : Text) (count : ℕ) : Type 0 where
   more : Text
   is : text ≡ first ∷ more
   no_hyphen : (first == 45) ≡ false
-  takes : accepts false (vp.Signed (pos 1) (pos 1_000_000)) (first ∷ more) ≡ true
+  takes : accepts false (vp.Signed (pos 1) (pos MAX_CONNECTIONS)) (first ∷ more) ≡ true
   spells : SpellsCount (first ∷ more) count
 
-count_text : (count : ℕ) → 1 ≤ count → count ≤ 1_000_000 → IsCountText (decimal count) count
+count_text : (count : ℕ) → 1 ≤ count → count ≤ MAX_CONNECTIONS → IsCountText (decimal count) count
 count_text count least most = go (decimal count) refl (decimal_is_IsNumeral count (omega arith))
   where
     go : (t : Text) → decimal count ≡ t → IsNumeral 10 (decimal count) × (digits_value 10 (decimal count) ≡ count) → IsCountText (decimal count) count
@@ -186,13 +187,13 @@ count_text count least most = go (decimal count) refl (decimal_is_IsNumeral coun
         let minus : (d == 45) ≡ false = ne_eqb _ _ (λ e. omega (arith, digit_from_value d numeral.1.0)) in
         let plus : (d == 43) ≡ false = ne_eqb _ _ (λ e. omega (arith, digit_from_value d numeral.1.0)) in
         let whole : without_leading_plus (d ∷ ds) ≡ d ∷ ds = ap (λ (b : Bool). drop (cond b 1 0) (d ∷ ds)) plus in
-        let signed : IsSignedIn (pos 1) (pos 1_000_000) (d ∷ ds) = rw (minus, plus, value) (numeral, search rules, search rules, search rules) in
+        let signed : IsSignedIn (pos 1) (pos MAX_CONNECTIONS) (d ∷ ds) = rw (minus, plus, value) (numeral, search rules, search rules, search rules) in
         record {
           first = d;
           more = ds;
           is = is;
           no_hyphen = minus;
-          takes = Accepts-accepts false (vp.Signed (pos 1) (pos 1_000_000)) (d ∷ ds) signed;
+          takes = Accepts-accepts false (vp.Signed (pos 1) (pos MAX_CONNECTIONS)) (d ∷ ds) signed;
           spells = record {
             numeral = subst (IsNumeral 10) (sym whole) numeral;
             value = ap (digits_value 10) whole ∙ value;
@@ -201,7 +202,7 @@ count_text count least most = go (decimal count) refl (decimal_is_IsNumeral coun
           };
         }
 
-pub eight_taken : (store shelf listen : Text) (count : ℕ) → IsPlain store → IsPlain shelf → IsPlain listen → 1 ≤ count → count ≤ 1_000_000
+pub eight_taken : (store shelf listen : Text) (count : ℕ) → IsPlain store → IsPlain shelf → IsPlain listen → 1 ≤ count → count ≤ MAX_CONNECTIONS
     → Give (eight_words store shelf listen (decimal count)) store shelf listen count
 eight_taken [] f l count hs hf hl least most = absurd (omega (arith, hs.0))
 eight_taken (x ∷ xs) [] l count hs hf hl least most = absurd (omega (arith, hf.0))

@@ -9,6 +9,7 @@ use Rattle.clap.specs.ValueTests.{accepts}
 use Rattle.clap.specs.Walk.{Text}
 use Rattle.clap.specs.declared.builder.value_parser.ValueParser.TheVariants as vp
 use Rattle.clap.proofs.ValueTestLemmas.{accepts-Accepts}
+use Rattle.serve_words.specs.declared.command.TheConstants.{MAX_CONNECTIONS}
 use Rattle.serve_words.specs.Words.{SpellsCount, serve_app}
 use Rattle.serve_words.proofs.Options.{Which, connections, fault_is, name, remains, same_option}
 use Rattle.serve_words.proofs.Turns.{Place, closed, first_empty, full, no_turn, opened, state}
@@ -16,21 +17,21 @@ use Rattle.serve_words.proofs.Entries.{Entry, Takes, rows_of, settles}
 use Rattle.serve_words.proofs.Steps.{Step, ended, given, goes, named, remains_after, valued}
 
 -- a number of the range has no minus
-pub no_minus : (t : Text) → accepts false (vp.Signed (pos 1) (pos 1_000_000)) t ≡ true → starts_with_minus t ≡ false
+pub no_minus : (t : Text) → accepts false (vp.Signed (pos 1) (pos MAX_CONNECTIONS)) t ≡ true → starts_with_minus t ≡ false
 no_minus t takes = go (starts_with_minus t) refl
   where
     go : (b : Bool) → starts_with_minus t ≡ b → b ≡ false
     go false minus = refl
     go true minus =
-        let passed = accepts-Accepts false (vp.Signed (pos 1) (pos 1_000_000)) t takes in
+        let passed = accepts-Accepts false (vp.Signed (pos 1) (pos MAX_CONNECTIONS)) t takes in
         let low = rw minus at passed.2 in
         absurd (omega (arith, ints))
 
 -- what the parser takes spells a number in its range
-pub spelled : (t : Text) → accepts false (vp.Signed (pos 1) (pos 1_000_000)) t ≡ true → SpellsCount t (digits_value 10 (without_leading_plus t))
+pub spelled : (t : Text) → accepts false (vp.Signed (pos 1) (pos MAX_CONNECTIONS)) t ≡ true → SpellsCount t (digits_value 10 (without_leading_plus t))
 spelled t takes =
     let minus = no_minus t takes in
-    let passed = accepts-Accepts false (vp.Signed (pos 1) (pos 1_000_000)) t takes in
+    let passed = accepts-Accepts false (vp.Signed (pos 1) (pos MAX_CONNECTIONS)) t takes in
     let numeral : IsNumeral 10 (without_leading_plus t) = rw minus at passed.0 in
     let low = rw minus at passed.2 in
     let high = rw minus at passed.3 in
@@ -94,9 +95,9 @@ reaches (word ∷ before) rest es place position is_over h =
     let on = goes word (before ++ rest) es place position is_over h in
     reaches before rest on.stepped.fs on.stepped.next position on.stepped.is_over on.remains
 
-first_name : Option (Text × Option Text) → Text
-first_name None = []
-first_name (Some p) = p.0
+name_given : Option (Text × Option Text) → Text
+name_given None = []
+name_given (Some p) = p.0
 
 given_with : Option (Text × Option Text) → Option Text
 given_with None = None
@@ -115,12 +116,12 @@ abbrev apart : Text
 apart = codes "--connections"
 
 named_apart : (p : Which) (v : Option Text) → long_of apart ≡ Some (name p, v) → connections ≡ p
-unfolding first_name
-named_apart p v e = same_option connections p (sym (ap (λ (o : Option (Text × Option Text)). bytes_eq (name connections) (first_name o)) e))
+unfolding name_given
+named_apart p v e = same_option connections p (sym (ap (λ (o : Option (Text × Option Text)). bytes_eq (name connections) (name_given o)) e))
 
 named_joined : (text : Text) (p : Which) (v : Option Text) → long_of (codes "--connections=" ++ text) ≡ Some (name p, v) → connections ≡ p
-unfolding first_name
-named_joined text p v e = same_option connections p (sym (ap (λ (o : Option (Text × Option Text)). bytes_eq (name connections) (first_name o)) e))
+unfolding name_given
+named_joined text p v e = same_option connections p (sym (ap (λ (o : Option (Text × Option Text)). bytes_eq (name connections) (name_given o)) e))
 
 pub apart_taken : (text : Text) (before rest : List Text) → fault_of serve_app (before ++ codes "--connections" ∷ text ∷ rest) ≡ [] → Takes (connections, text)
 unfolding given_with

@@ -10,6 +10,7 @@ use Rattle.clap.specs.declared.builder.action.ArgAction.TheVariants.{Set, Help}
 use Rattle.clap.specs.declared.builder.value_parser.ValueParser.{ValueParser}
 use Rattle.clap.specs.declared.builder.value_parser.ValueParser.TheVariants as vp
 use Rattle.clap.proofs.FaultLemmas.{leaf_fault}
+use Rattle.serve_words.specs.declared.command.TheConstants.{MAX_CONNECTIONS}
 use Rattle.serve_words.specs.Words.{serve_app}
 
 pub data Which : Type 0 where
@@ -28,7 +29,7 @@ abbrev pub parser : Which → ValueParser
 parser store = vp.String
 parser shelf = vp.String
 parser listen = vp.String
-parser connections = vp.Signed (pos 1) (pos 1_000_000)
+parser connections = vp.Signed (pos 1) (pos MAX_CONNECTIONS)
 
 -- the option as the command is built
 abbrev pub rule : Which → Rule

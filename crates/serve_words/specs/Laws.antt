@@ -2,6 +2,7 @@
 use Rattle.std.specs.Prelude.{◌≡◌, ◌≢◌, ◌⊎◌, ◌<◌, ◌≤◌, ℕ, List, [], ◌∷◌, ◌++◌, All, codes, Some, length, slice_index}
 use Rattle.std.specs.Fmt.{decimal}
 use Rattle.clap.specs.Words.{fault_of}
+use Rattle.serve_words.specs.declared.command.TheConstants.{MAX_CONNECTIONS}
 use Rattle.serve_words.specs.Words.{SpellsCount, serve_app, value_of}
 
 -- ---- the eight arguments
@@ -24,7 +25,7 @@ IsPlain text = (0 < length text) × (slice_index text 0 ≢ 45)
 
 abbrev pub EightWordsAreTaken : Type 0
 EightWordsAreTaken =
-    (store shelf listen : List ℕ) (count : ℕ) → IsPlain store → IsPlain shelf → IsPlain listen → 1 ≤ count → count ≤ 1_000_000
+    (store shelf listen : List ℕ) (count : ℕ) → IsPlain store → IsPlain shelf → IsPlain listen → 1 ≤ count → count ≤ MAX_CONNECTIONS
     → Give (eight_words store shelf listen (decimal count)) store shelf listen count
 
 -- ---- arguments without an option

@@ -5,6 +5,7 @@ use Rattle.clap.specs.Words.{App, Row, Rule, first_of, fault_of, matches_of, new
 use Rattle.clap.specs.Simple.{on_top}
 use Rattle.clap.specs.declared.builder.ArgAction.TheVariants.{Set}
 use Rattle.clap.specs.declared.builder.value_parser.ValueParser.TheVariants as vp
+use Rattle.serve_words.specs.declared.command.TheConstants.{MAX_CONNECTIONS}
 use Rattle.serve_words.specs.declared.words.ServeWords.{ServeWords}
 
 -- ---- the command
@@ -14,7 +15,7 @@ abbrev pub option_rule : List ℕ → Rule
 option_rule name = record (new_rule name) { long = Some name; action = Some Set; required = true }
 
 abbrev pub count_rule : Rule
-count_rule = record (option_rule (codes "connections")) { parser = Some (vp.Signed (pos 1) (pos 1_000_000)) }
+count_rule = record (option_rule (codes "connections")) { parser = Some (vp.Signed (pos 1) (pos MAX_CONNECTIONS)) }
 
 -- no argument is the program's name
 abbrev pub bare : App
@@ -32,7 +33,7 @@ pub record SpellsCount (text : List ℕ) (count : ℕ) : Type 0 where
   pub numeral : IsNumeral 10 (without_leading_plus text)
   pub value : digits_value 10 (without_leading_plus text) ≡ count
   pub least : 1 ≤ count
-  pub most : count ≤ 1_000_000
+  pub most : count ≤ MAX_CONNECTIONS
 
 -- the first value of the option with this name in the arguments
 unfoldable pub value_of : List ℕ → List (List ℕ) → Option (List ℕ)

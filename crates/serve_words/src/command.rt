@@ -6,6 +6,9 @@ ghost use Rattle.serve_words.specs.Words.{count_rule, option_rule, serve_app};
 use clap::{Arg, ArgAction, Command};
 use std::alloc::{AllocError, Global};
 
+/// The most connections that a run serves.
+pub const MAX_CONNECTIONS: u32 = 1_000_000;
+
 /// The pull server's command: its four options and no other argument; no argument is the program's name.
 pub(crate) fn command<'a>(alloc: Global) -> Result<Command<'a>, AllocError>
     ensures { IfOk result (λ command. app_of command ≡ serve_app) }
@@ -32,5 +35,6 @@ fn connections<'a>(alloc: Global) -> Arg<'a>
     ensures rule { rule_of result ≡ count_rule }
     ensures local { result.global ≡ false }
 {
-    option(alloc, "connections").value_parser(clap::value_parser!(u32).range(1..=1_000_000))
+    let numbers = clap::value_parser!(u32).range(1..=MAX_CONNECTIONS as i64);
+    option(alloc, "connections").value_parser(numbers)
 }

@@ -16,6 +16,7 @@ mod laws;
 mod values;
 mod words;
 
+pub use command::MAX_CONNECTIONS;
 pub use laws::{
     a_number_out_of_range_is_refused, eight_words_are_taken, words_that_lack_an_option_are_refused,
 };

@@ -32,8 +32,8 @@ const CASES: &[Case<'_>] = &[
     (
         (Put("a/file", b"new"), Done),
         &[
-            Look, Open, Compare, Look, Open, Compare, Look, Unlink, Create, Write, Write, Sync,
-            Compare, Mode, Compare, Rename, Look, SyncFolder,
+            Look, Find, Look, Find, List, Look, Create, Write, Write, Sync, Compare, Mode, Compare,
+            Rename, Look, Open, SyncFolder,
         ],
         &[(Same("a/file", b"old"), Yes)],
         &[(Same("a/file", b"new"), Yes)],
@@ -41,8 +41,8 @@ const CASES: &[Case<'_>] = &[
     (
         (Put("a/other", b"new"), Done),
         &[
-            Look, Open, Compare, Look, Open, Compare, Look, Find, Unlink, Create, Write, Write,
-            Sync, Compare, Rename, Look, SyncFolder,
+            Look, Find, Look, Find, List, Look, Find, Create, Write, Write, Sync, Compare, Rename,
+            Look, Open, SyncFolder,
         ],
         &[(State("a/other"), Nothing)],
         &[(Same("a/other", b"new"), Yes)],
@@ -50,17 +50,14 @@ const CASES: &[Case<'_>] = &[
     (
         (Make("d"), Done),
         &[
-            Look, Open, Compare, Look, Find, MakeFolder, SyncFolder, Look, Open, Compare,
-            SyncFolder,
+            Look, Find, Look, Find, MakeFolder, Open, SyncFolder, Look, Find, Open, SyncFolder,
         ],
         &[(State("d"), Nothing)],
         &[(State("d"), Empty)],
     ),
     (
         (Remove("a/file"), Done),
-        &[
-            Look, Open, Compare, Look, Open, Compare, Look, Unlink, SyncFolder,
-        ],
+        &[Look, Find, Look, Find, Look, Unlink, Open, SyncFolder],
         &[(Same("a/file", b"old"), Yes)],
         &[(State("a"), Empty)],
     ),
@@ -68,14 +65,11 @@ const CASES: &[Case<'_>] = &[
         (Remove("b/c"), Done),
         &[
             Look,
-            Open,
-            Compare,
+            Find,
             Look,
-            Open,
-            Compare,
+            Find,
             Look,
-            Open,
-            Compare,
+            Find,
             Mounts,
             Open,
             Read,
@@ -92,6 +86,7 @@ const CASES: &[Case<'_>] = &[
             Read,
             Read,
             RemoveFolder,
+            Open,
             SyncFolder,
         ],
         &[(State("b/c"), Empty)],
@@ -101,11 +96,9 @@ const CASES: &[Case<'_>] = &[
         (Remove("b"), Done),
         &[
             Look,
-            Open,
-            Compare,
+            Find,
             Look,
-            Open,
-            Compare,
+            Find,
             Mounts,
             Open,
             Read,
@@ -132,6 +125,7 @@ const CASES: &[Case<'_>] = &[
             Read,
             Find,
             RemoveFolder,
+            Open,
             SyncFolder,
         ],
         &[(State("b"), Folder)],
@@ -139,50 +133,43 @@ const CASES: &[Case<'_>] = &[
     ),
     (
         (State("a/file"), File),
-        &[Look, Open, Compare, Look, Open, Compare, Look],
+        &[Look, Find, Look, Find, Look],
         &[],
         &[],
     ),
-    (
-        (State("b"), Folder),
-        &[Look, Open, Compare, Look, List],
-        &[],
-        &[],
-    ),
+    ((State("b"), Folder), &[Look, Find, Look, List], &[], &[]),
     (
         (Same("a/file", b"old"), Yes),
-        &[
-            Look, Open, Compare, Look, Open, Compare, Look, Open, Compare, Read, Read,
-        ],
+        &[Look, Find, Look, Find, Look, Open, Compare, Read, Read],
         &[],
         &[],
     ),
     (
         (Value("path", b"old"), Yes),
-        &[Look, Open, Compare, Look, Open, Compare, Read, Read],
+        &[Look, Find, Look, Open, Compare, Read, Read],
         &[],
         &[],
     ),
     (
         (Set("path", b"new"), Done),
         &[
-            Look, Open, Compare, Look, Unlink, Create, Write, Write, Sync, Compare, Mode, Compare,
-            Rename, Look, SyncFolder,
+            Look, Find, List, Look, Create, Write, Write, Sync, Compare, Mode, Compare, Rename,
+            Look, Open, SyncFolder,
         ],
         &[(Value("path", b"old"), Yes)],
         &[(Value("path", b"new"), Yes)],
     ),
     (
         (Unset("path"), Done),
-        &[Look, Open, Compare, Look, Unlink, SyncFolder],
+        &[Look, Find, Look, Unlink, Open, SyncFolder],
         &[(Value("path", b"old"), Yes)],
         &[(Value("path", b""), No)],
     ),
     (
         (AddEntry("i", "m"), Done),
         &[
-            Look, MakeFolder, MakeFolder, Open, SyncFolder, Look, Open, Compare, SyncFolder, Look,
-            Find, Unlink, Create, Write, Write, Sync, Compare, Rename, Look, SyncFolder,
+            Look, MakeFolder, MakeFolder, Open, SyncFolder, Look, Find, Open, SyncFolder, List,
+            Look, Find, Create, Write, Write, Sync, Compare, Rename, Look, Open, SyncFolder,
         ],
         &[(HasEntry("i", "m"), No)],
         &[(HasEntry("i", "m"), Yes)],
@@ -190,8 +177,8 @@ const CASES: &[Case<'_>] = &[
     (
         (AddPackage("name", "1", b"new"), Done),
         &[
-            Look, MakeFolder, MakeFolder, Open, SyncFolder, Look, Open, Compare, SyncFolder, Look,
-            Find, Unlink, Create, Write, Write, Sync, Compare, Rename, Look, SyncFolder,
+            Look, MakeFolder, MakeFolder, Open, SyncFolder, Look, Find, Open, SyncFolder, List,
+            Look, Find, Create, Write, Write, Sync, Compare, Rename, Look, Open, SyncFolder,
         ],
         &[(HasPackage("name", "1"), No)],
         &[(HasPackage("name", "1"), Yes)],
@@ -254,15 +241,26 @@ fn expect_after(
     expect_one_in(rt.alloc(), rt, folder, undone, done)
 }
 
-// Returns whether something stands at that place in the folder.
-fn stands_in(rt: &HostRuntime, folder: &str, place: &str) -> io::Result<bool> {
-    let place = format!(in rt.alloc(); "{folder}/{place}")?;
-    fs::exists(rt, place.as_str())
+// Returns whether a name in that folder, where it is there, is one of a file that is being written.
+fn has_staged(rt: &HostRuntime, scratch: &str, folder: &str) -> io::Result<bool> {
+    let place = format!(in rt.alloc(); "{scratch}/host/{folder}")?;
+    if !fs::exists(rt, place.as_str())? {
+        return Ok(false);
+    }
+    for entry in fs::read_dir(rt, place.as_str())? {
+        let entry = entry?;
+        if entry.file_name().starts_with(".nimchout-staged") {
+            return Ok(true);
+        }
+    }
+    Ok(false)
 }
 
 fn expect_nothing_staged(rt: &HostRuntime, scratch: &str) -> Result<(), Fail> {
-    if stands_in(rt, scratch, "host/root/a/.nimchout-staged")? {
-        return Err(Fail::new("a file that was being written is left"));
+    for folder in ["root/a", "env", "log", "packages"] {
+        if has_staged(rt, scratch, folder)? {
+            return Err(Fail::new("a file that was being written is left"));
+        }
     }
     Ok(())
 }
@@ -318,21 +316,22 @@ fn each_call_takes_its_steps_and_one_that_fails_leaves_the_old_or_the_new(
 const DENIED: &[(Row<'_>, ErrorKind, usize)] = &[
     ((State("a/file"), Failed), ErrorKind::PermissionDenied, 0),
     ((State("a/file"), Failed), ErrorKind::PermissionDenied, 1),
-    ((State("a/file"), Failed), ErrorKind::PermissionDenied, 3),
-    ((State("a/file"), Failed), ErrorKind::PermissionDenied, 6),
+    ((State("a/file"), Failed), ErrorKind::PermissionDenied, 2),
+    ((State("a/file"), Failed), ErrorKind::PermissionDenied, 4),
     (
         (Same("a/file", b"old"), Failed),
         ErrorKind::PermissionDenied,
-        7,
+        5,
     ),
-    ((State("b/c"), Folder), ErrorKind::PermissionDenied, 7),
+    ((State("b/c"), Folder), ErrorKind::PermissionDenied, 5),
     ((Value("path", b""), Failed), ErrorKind::PermissionDenied, 0),
-    ((Value("path", b""), Failed), ErrorKind::PermissionDenied, 4),
+    ((Value("path", b""), Failed), ErrorKind::PermissionDenied, 3),
     ((HasEntry("i", "m"), Failed), ErrorKind::PermissionDenied, 0),
     // As where /proc is missing: what is not found there may still be in the folder.
-    ((State("a/none"), Failed), ErrorKind::NotFound, 7),
-    ((Value("none", b""), Failed), ErrorKind::NotFound, 4),
-    ((Remove("b/c"), Failed), ErrorKind::NotFound, 9),
+    ((State("a/file"), Failed), ErrorKind::NotFound, 1),
+    ((State("a/none"), Failed), ErrorKind::NotFound, 5),
+    ((Value("none", b""), Failed), ErrorKind::NotFound, 3),
+    ((Remove("b/c"), Failed), ErrorKind::NotFound, 6),
 ];
 
 #[test]
@@ -352,7 +351,7 @@ const ROWS: &[Row<'_>] = &[
 ];
 
 const HELD: &[SystemCall] = &[
-    Look, Open, Compare, Look, Open, Compare, Look, // The folders are held, and looked at again.
+    Look, Find, Look, Find, Look, // The folders are held, and looked at again.
     Look, Look, Look, Open, Compare, Read, Read, // The first of them is held.
     Look, Look, List,
 ];

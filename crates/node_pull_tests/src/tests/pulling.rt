@@ -8,8 +8,7 @@ use super::made::{AGENT, Answer, Held, link, meta, parts};
 use memory_outside::{MemoryHost, MemoryLink};
 use meta_config::{Meta, parts_order};
 use mof_values::Memory;
-use node_pull::{PullFault, pull};
-use node_state::Staged;
+use node_pull::{PullFault, PullOutcome, pull};
 use partial_merge::Part;
 use resource_kinds::{Kinds, Machine};
 use std::alloc::{AllocError, Global};
@@ -97,10 +96,15 @@ fn can_ask(meta: &Meta) -> bool
     }
 }
 
-fn shown(alloc: Global, pulled: &Result<Option<Staged>, PullFault>) -> Result<String, AllocError> {
+fn shown(alloc: Global, pulled: &Result<PullOutcome, PullFault>) -> Result<String, AllocError> {
     match pulled {
-        Ok(Some(staged)) => names_of(alloc, staged.parts()),
-        Ok(None) => String::from_str(alloc, "nothing"),
+        Ok(
+            PullOutcome {
+                list: Some(staged),
+                ..
+            },
+        ) => names_of(alloc, staged.parts()),
+        Ok(PullOutcome { list: None, .. }) => String::from_str(alloc, "nothing"),
         Err(error) => format!(in alloc; "{error:?}"),
     }
 }

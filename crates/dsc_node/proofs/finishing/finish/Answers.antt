@@ -9,7 +9,7 @@ use Rattle.node_state.specs.declared.node.Node.{Node}
 use Rattle.node_state.specs.Sound.{Sound}
 use Rattle.node_store.specs.Store.{StoreTerm}
 use Rattle.dsc_outside.specs.LinkView.{view_of}
-use Rattle.dsc_node.specs.Documents.{IsOfPending}
+use Rattle.dsc_node.specs.Documents.{IsOfHeld}
 use Rattle.dsc_node.specs.Path.{KeepGoes, NothingGoes}
 use Rattle.dsc_node.specs.Readings.{Took}
 use Rattle.dsc_node.specs.Running.{IsOver, IsRunStep}
@@ -35,7 +35,7 @@ run_step-requires-clause-sound g c =
 pub run_step-requires-clause-document : goal.run_step-requires-clause-document
 run_step-requires-clause-document g c =
     let node = c.state.ensures ∙ ap (λ (s : StoreTerm). s.node) c.in_default.ensures.reserved in
-    subst (λ (n : Node). IfSome c.args.document (IsOfPending n)) (sym node) c.requires.document
+    subst (λ (n : Node). IfSome c.args.document (IsOfHeld n)) (sym node) c.requires.document
 
 pub keep-requires-clause-known : goal.keep-requires-clause-known
 keep-requires-clause-known g c =

@@ -17,14 +17,14 @@ returns-in-Err g c =
 
 pub returns : goal.returns
 returns g c =
-    let document = c.args.document.now in
+    let document = c.args.ordered.now.document in
     record {
-      legal = c.run.ensures.legal;
-      whole = whole_or_none document c.args.mode c.args.order.now c.run.result _ c.run.ensures.whole;
-      end = ends_as c.args.mode c.run.result _ c.run.ensures.end;
+      legal = c.run_ordered.ensures.legal;
+      whole = whole_or_none document c.args.mode c.args.ordered.now.order c.run_ordered.result _ c.run_ordered.ensures.whole;
+      end = ends_as c.args.mode c.run_ordered.result _ c.run_ordered.ensures.end;
       chain = chain_after g.M.Resources.does g.M.Resources.still g.met.M.Resources.still_does g.met.M.Machine.still_still
-          document _ c.reserve.new.self _ _ c.reserve.ensures.still c.run.ensures.chain;
-      faults = omega (arith, c.run.ensures.faults, c.reserve.ensures.faults);
-      later = omega (arith, c.run.ensures.later, c.reserve.ensures.faults);
-      bound = c.run.ensures.bound;
+          document _ c.reserve.new.self _ _ c.reserve.ensures.still c.run_ordered.ensures.chain;
+      faults = omega (arith, c.run_ordered.ensures.faults, c.reserve.ensures.faults);
+      later = omega (arith, c.run_ordered.ensures.later, c.reserve.ensures.faults);
+      bound = c.run_ordered.ensures.bound;
     }

@@ -13,10 +13,10 @@ returns-in-Memory-clause-step g c =
     let r = c.run_merged-end.ensures in
     λ stopped chosen. (
       inr (
-        the_run g.M.Resources choice document order c.as_slice.result.now c.run_merged-end.result c.args.machine.now c.run_merged-end.new.machine,
+        the_run g.M.Resources choice document order c.run_merged-end.result c.args.machine.now c.run_merged-end.new.machine,
         record {
           chosen = chosen;
-          ran = ran_of g.M.Resources choice document order c.as_slice.result.now c.run_merged-end.result c.args.machine.now c.run_merged-end.new.machine c.as_slice.ensures
+          ran = ran_of g.M.Resources choice document order c.run_merged-end.result c.args.machine.now c.run_merged-end.new.machine
               c.requires.ready.merged c.requires.ready.ordered.order r.legal r.whole r.end r.chain r.faults r.later;
           ended = c.in-Memory.is;
         },
@@ -30,9 +30,9 @@ report_of-report-requires g c =
     let document = c.args.ready.ordered.document in
     let order = c.args.ready.ordered.order in
     let r = c.run_merged-end.ensures in
-    let ran = ran_of g.M.Resources choice document order c.as_slice.result.now c.run_merged-end.result c.args.machine.now c.run_merged-end.new.machine c.as_slice.ensures
+    let ran = ran_of g.M.Resources choice document order c.run_merged-end.result c.args.machine.now c.run_merged-end.new.machine
     c.requires.ready.merged c.requires.ready.ordered.order r.legal r.whole r.end r.chain r.faults r.later in
-    let run = the_run g.M.Resources choice document order c.as_slice.result.now c.run_merged-end.result c.args.machine.now c.run_merged-end.new.machine in
+    let run = the_run g.M.Resources choice document order c.run_merged-end.result c.args.machine.now c.run_merged-end.new.machine in
     let shown = subst (λ (t : List Entry). IsReportable document t) (sym c.calls.ensures) (reportable c.report_laws.ensures.runs g.M.Resources run c.args.machine.now c.run_merged-end.new.machine ran c.in_default.not-Memory) in
     record {
       room = c.requires.ready.room;
@@ -49,9 +49,9 @@ returns g c =
     let document = c.args.ready.ordered.document in
     let order = c.args.ready.ordered.order in
     let r = c.run_merged-end.ensures in
-    let ran = ran_of g.M.Resources choice document order c.as_slice.result.now c.run_merged-end.result c.args.machine.now c.run_merged-end.new.machine c.as_slice.ensures
+    let ran = ran_of g.M.Resources choice document order c.run_merged-end.result c.args.machine.now c.run_merged-end.new.machine
     c.requires.ready.merged c.requires.ready.ordered.order r.legal r.whole r.end r.chain r.faults r.later in
-    let run = the_run g.M.Resources choice document order c.as_slice.result.now c.run_merged-end.result c.args.machine.now c.run_merged-end.new.machine in
+    let run = the_run g.M.Resources choice document order c.run_merged-end.result c.args.machine.now c.run_merged-end.new.machine in
     record {
       step = λ stopped chosen. (
         record {

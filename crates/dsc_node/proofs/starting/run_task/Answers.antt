@@ -1,13 +1,14 @@
 use Rattle.std.proofs.Common.{◌++◌, Option, None, Bool, Ok, Err, ◌∙◌, sym, subst}
-use Rattle.std.specs.Prelude.{string_bytes}
+use Rattle.std.specs.Prelude.{IfSome, string_bytes}
 use Rattle.node_state.specs.declared.event.Event.{Event}
 use Rattle.node_state.specs.declared.node.Node.{Node}
 use Rattle.node_state.specs.Sound.{Sound}
 use Rattle.dsc_outside.specs.LinkView.{view_of}
 use Rattle.dsc_node.specs.Bringing.{Brought, events_of}
+use Rattle.dsc_node.specs.Documents.{IsOfHeldAfter}
 use Rattle.dsc_node.specs.Work.{Finish, ReadsBefore, finished, first_refused, known, not_brought}
 use Rattle.dsc_node.proofs.Commits.{ends_as, ends_here, ends_on}
-use Rattle.dsc_node.proofs.KnownDocuments.{known_pending}
+use Rattle.dsc_node.proofs.KnownDocuments.{known_held}
 use Rattle.dsc_node.proofs.Nodes.{kept_sound}
 use Rattle.dsc_node.proofs.Tasks.{run_reads, said_stops}
 use Rattle.dsc_node.proofs.starting.run_task.Goals as goal
@@ -29,7 +30,7 @@ returns-in-Err-clause-goes g c =
 
 pub returns-in-Err-commit_first-clause-goes : goal.returns-in-Err-commit_first-clause-goes
 returns-in-Err-commit_first-clause-goes g c =
-    let brought = subst (λ (n : Node). Brought g.M.Resources g.M.Machine n c.args.prepared.task c.args.start (view_of g.L.Link c.args.link.now) (view_of g.L.Link c.bring.new.link) c.args.machine.now c.bring.new.machine (Ok c.in-Ok.first)) c.state-2.ensures (c.in-Ok.ensures.brought c.args.start) in
+    let brought = subst (λ (n : Node). Brought g.M.Resources g.M.Machine n c.args.prepared.task c.args.start (view_of g.L.Link c.args.link.now) (view_of g.L.Link c.bring.new.link) c.args.machine.now c.bring.new.machine (Ok c.in-Ok.first.event)) c.state-2.ensures (c.in-Ok.ensures.brought c.args.start) in
     record {
       ready = c.bring.new.machine;
       run = None;
@@ -43,13 +44,12 @@ returns-in-Err-commit_first-clause-goes g c =
 
 pub finish-requires-clause-document : goal.finish-requires-clause-document
 finish-requires-clause-document g c =
-    let brought = subst (λ (n : Node). Brought g.M.Resources g.M.Machine n c.args.prepared.task c.args.start (view_of g.L.Link c.args.link.now) (view_of g.L.Link c.bring.new.link) c.args.machine.now c.bring.new.machine (Ok c.in-Ok.first)) c.state-2.ensures (c.in-Ok.ensures.brought c.args.start) in
-    known_pending g.M.Resources g.M.Machine c.args.store.now.node c.commit_first.new.store.node c.args.start (view_of g.L.Link c.args.link.now) (view_of g.L.Link c.bring.new.link) c.args.machine.now c.bring.new.machine c.in-Ok.first
-    c.args.prepared.task c.args.prepared.document c.requires.document brought c.in_default.ensures.goes.steps
+    let document = subst (λ (n : Node). IfSome c.in-Ok.first.document (IsOfHeldAfter n c.in-Ok.first.event)) c.state-2.ensures c.in-Ok.ensures.document in
+    known_held c.args.store.now.node c.commit_first.new.store.node c.in-Ok.first.event c.in-Ok.first.document document c.in_default.ensures.goes.steps
 
 pub returns-clause-goes : goal.returns-clause-goes
 returns-clause-goes g c =
-    let brought = subst (λ (n : Node). Brought g.M.Resources g.M.Machine n c.args.prepared.task c.args.start (view_of g.L.Link c.args.link.now) (view_of g.L.Link c.bring.new.link) c.args.machine.now c.bring.new.machine (Ok c.in-Ok.first)) c.state-2.ensures (c.in-Ok.ensures.brought c.args.start) in
+    let brought = subst (λ (n : Node). Brought g.M.Resources g.M.Machine n c.args.prepared.task c.args.start (view_of g.L.Link c.args.link.now) (view_of g.L.Link c.bring.new.link) c.args.machine.now c.bring.new.machine (Ok c.in-Ok.first.event)) c.state-2.ensures (c.in-Ok.ensures.brought c.args.start) in
     let first = c.in_default.ensures.goes in
     let mid = c.commit_first.new.store.node in
     let ran = c.finish.ensures.goes in
@@ -59,6 +59,6 @@ returns-clause-goes g c =
       run = ran.0;
       leaves = record { kept = c.in-Ok.ensures.kept; packages = c.in-Ok.ensures.packages; later = c.in-Ok.ensures.later };
       ends = ends_on g.D.Disk first ran.1 (λ from counts work committed broken t unread allowed runs reads.
-          finished c.args.start (g.C.Clock.coming c.args.clock.now) (view_of g.L.Link c.bring.new.link) c.bring.new.machine c.in-Ok.first mid ran.0 committed broken allowed runs reads.0 reads.1 brought first.steps
-          (subst (λ (b : Bool). Finish (known g.D.Disk g.M.Resources g.M.Machine g.C.Clock) from counts (work ++ events_of c.in-Ok.first) mid b (g.C.Clock.coming c.args.clock.now) (g.C.Clock.coming c.finish.new.clock) c.args.start (view_of g.L.Link c.bring.new.link) (view_of g.L.Link c.finish.new.link) c.bring.new.machine c.finish.new.machine c.finish.result.status (string_bytes c.finish.result.lines) ran.0 committed broken) stopped t));
+          finished c.args.start (g.C.Clock.coming c.args.clock.now) (view_of g.L.Link c.bring.new.link) c.bring.new.machine c.in-Ok.first.event mid ran.0 committed broken allowed runs reads.0 reads.1 brought first.steps
+          (subst (λ (b : Bool). Finish (known g.D.Disk g.M.Resources g.M.Machine g.C.Clock) from counts (work ++ events_of c.in-Ok.first.event) mid b (g.C.Clock.coming c.args.clock.now) (g.C.Clock.coming c.finish.new.clock) c.args.start (view_of g.L.Link c.bring.new.link) (view_of g.L.Link c.finish.new.link) c.bring.new.machine c.finish.new.machine c.finish.result.status (string_bytes c.finish.result.lines) ran.0 committed broken) stopped t));
     }

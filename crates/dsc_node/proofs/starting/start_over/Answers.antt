@@ -78,10 +78,16 @@ returns-in-Err-open_store-clause-goes_on g c = stays _
 -- the headline follows from the table, whatever that says
 
 pub returns-in-Err-clause-headline : goal.returns-in-Err-clause-headline
-returns-in-Err-clause-headline g c = headline (known g.D.Disk g.M.Resources g.M.Machine g.C.Clock) c.args.command _ _ _ _
+returns-in-Err-clause-headline g c =
+    headline (known g.D.Disk g.M.Resources g.M.Machine g.C.Clock) c.args.command
+    (outside c.args.disk.now c.args.machine.now (view_of g.L.Link c.args.link.now) c.args.clock.now) _ _ _ (g.met.D.Disk.honest c.args.disk.now)
 
 pub returns-in-Ok-open_store-clause-headline : goal.returns-in-Ok-open_store-clause-headline
-returns-in-Ok-open_store-clause-headline g c = headline (known g.D.Disk g.M.Resources g.M.Machine g.C.Clock) c.args.command _ _ _ _
+returns-in-Ok-open_store-clause-headline g c =
+    headline (known g.D.Disk g.M.Resources g.M.Machine g.C.Clock) c.args.command
+    (outside c.args.disk.now c.args.machine.now (view_of g.L.Link c.args.link.now) c.args.clock.now) _ _ _ (g.met.D.Disk.honest c.args.disk.now)
 
 pub returns-in-Err-open_store-clause-headline : goal.returns-in-Err-open_store-clause-headline
-returns-in-Err-open_store-clause-headline g c = headline (known g.D.Disk g.M.Resources g.M.Machine g.C.Clock) c.args.command _ _ _ _
+returns-in-Err-open_store-clause-headline g c =
+    headline (known g.D.Disk g.M.Resources g.M.Machine g.C.Clock) c.args.command
+    (outside c.args.disk.now c.args.machine.now (view_of g.L.Link c.args.link.now) c.args.clock.now) _ _ _ (g.met.D.Disk.honest c.args.disk.now)

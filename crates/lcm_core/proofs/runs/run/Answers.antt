@@ -6,4 +6,4 @@ pub returns-in-Monitor-clause-bound : goal.returns-in-Monitor-clause-bound
 returns-in-Monitor-clause-bound g c = λ r. at_most c.args.document.now Monitor c.args.order.now _ r c.monitor.ensures.legal
 
 pub returns-in-Repair-clause-bound : goal.returns-in-Repair-clause-bound
-returns-in-Repair-clause-bound g c = λ r. at_most c.args.document.now Repair c.args.order.now _ r c.repair.ensures.legal
+returns-in-Repair-clause-bound g c = λ r. at_most c.args.document.now Repair c.args.order.now _ r c.repair_by_names.ensures.legal

@@ -10,11 +10,11 @@ use Rattle.lcm_program.proofs.test.monitor_document.Goals as goal
 
 pub outcome_of-requires-clause-known : goal.outcome_of-requires-clause-known
 outcome_of-requires-clause-known g c =
-    rw c.calls.ensures (legal_places c.args.ordered.now.document Monitor c.as_slice.result.now (g.M.Resources.kept c.run_merged.new.machine) c.run_merged.ensures.legal)
+    rw c.calls.ensures (legal_places c.args.ordered.now.document Monitor c.args.ordered.now.order (g.M.Resources.kept c.run_merged.new.machine) c.run_merged.ensures.legal)
 
 pub outcome_of-requires-clause-ends : goal.outcome_of-requires-clause-ends
 outcome_of-requires-clause-ends g c =
-    rw c.calls.ensures (legal_ends c.args.ordered.now.document Monitor c.as_slice.result.now (g.M.Resources.kept c.run_merged.new.machine) c.run_merged.ensures.legal)
+    rw c.calls.ensures (legal_ends c.args.ordered.now.document Monitor c.args.ordered.now.order (g.M.Resources.kept c.run_merged.new.machine) c.run_merged.ensures.legal)
 
 pub returns-in_err-outcome_of-in-Finished-clause-run : goal.returns-in_err-outcome_of-in-Finished-clause-run
 returns-in_err-outcome_of-in-Finished-clause-run g c =
@@ -23,8 +23,8 @@ returns-in_err-outcome_of-in-Finished-clause-run g c =
       record {
         order = c.args.ordered.now.order;
         is_order = c.requires.ordered.order;
-        legal = rw c.as_slice.ensures at c.run_merged.ensures.legal;
-        whole = rw c.as_slice.ensures at c.run_merged.ensures.whole;
+        legal = c.run_merged.ensures.legal;
+        whole = c.run_merged.ensures.whole;
         ended = c.run_merged.ensures.end;
         chain = c.run_merged.ensures.chain;
         failures = c.run_merged.ensures.faults;
@@ -41,8 +41,8 @@ returns-in_ok-outcome_of-in-Finished g c =
     let run : Monitored g.M.Resources nothing_further_of_runs document c.run_merged.result c.args.machine.now c.run_merged.new.machine = record {
       order = c.args.ordered.now.order;
       is_order = c.requires.ordered.order;
-      legal = rw c.as_slice.ensures at c.run_merged.ensures.legal;
-      whole = rw c.as_slice.ensures at c.run_merged.ensures.whole;
+      legal = c.run_merged.ensures.legal;
+      whole = c.run_merged.ensures.whole;
       ended = c.run_merged.ensures.end;
       chain = c.run_merged.ensures.chain;
       failures = c.run_merged.ensures.faults;
@@ -65,8 +65,8 @@ returns-in-Memory-clause-run g c =
       record {
         order = c.args.ordered.now.order;
         is_order = c.requires.ordered.order;
-        legal = rw c.as_slice.ensures at c.run_merged.ensures.legal;
-        whole = rw c.as_slice.ensures at c.run_merged.ensures.whole;
+        legal = c.run_merged.ensures.legal;
+        whole = c.run_merged.ensures.whole;
         ended = c.run_merged.ensures.end;
         chain = c.run_merged.ensures.chain;
         failures = c.run_merged.ensures.faults;

@@ -16,11 +16,11 @@ returns-in_default-3-clause-none c = λ count counted.
 
 pub returns-in-Ok-clause-some : goal.returns-in-Ok-clause-some
 returns-in-Ok-clause-some c =
-    read_is c.args.word.now c.parse.result c.parse.ensures.value.0 c.in-Ok.count c.in-Ok.is (omega (arith, ap (λ w. get_or w 0 0) c.as_bytes.ensures.value)) c.if-count-le-GENERATED_LIMIT.true
+    read_is c.args.word.now c.parse.result c.parse.ensures.value.0 c.in-Ok.count c.in-Ok.is (omega (arith, ap (λ w. get_or w 0 0) c.as_bytes.ensures.value)) c.if-count-le-MAX_RESOURCES.true
 
 pub returns-in_default-parse-clause-none : goal.returns-in_default-parse-clause-none
 returns-in_default-parse-clause-none c =
-    above_is_none c.args.word.now c.parse.result c.parse.ensures.value.0 c.in-Ok.count c.in-Ok.is c.if-count-le-GENERATED_LIMIT.false
+    above_is_none c.args.word.now c.parse.result c.parse.ensures.value.0 c.in-Ok.count c.in-Ok.is c.if-count-le-MAX_RESOURCES.false
 
 pub returns-in_default-parse-2-clause-none : goal.returns-in_default-parse-2-clause-none
 returns-in_default-parse-2-clause-none c =

@@ -1,7 +1,7 @@
 use Rattle.std.proofs.Common.{refl, []}
 use Rattle.mof_syntax.specs.declared.mof_error.Form.TheVariants as forms
 use Rattle.mof_syntax.specs.Profile.{pragma, qualifiers, class, qualifier}
-use Rattle.mof_examples.proofs.Refusing.{empty_wide, wrong_at_once, begins_at_once, form_refused, no_class}
+use Rattle.mof_examples.proofs.Refusing.{empty_wide, wrong_at_once, begins_at_once, form_refused, no_longer_word}
 use Rattle.mof_examples.proofs.laws.texts_are_refused_at_their_first_character.Goals as goal
 
 pub returns : goal.returns
@@ -12,6 +12,6 @@ returns c = record {
   qualifier = form_refused 113 _ forms.Qualifier (record { no_blank = refl; no_slash = refl; no_keyword = refl }) (qualifier (begins_at_once _) (record { same = refl; stops = refl }));
   syntax = wrong_at_once 120 [] (record { no_blank = refl; no_slash = refl; no_keyword = refl });
   longer_word = wrong_at_once 99 _ (record { no_blank = refl; no_slash = refl; no_keyword = refl });
-  no_longer_word = no_class;
+  no_longer_word = no_longer_word;
   no_empty_text = λ at a. a.outside empty_wide;
 }

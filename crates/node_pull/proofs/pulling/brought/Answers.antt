@@ -1,8 +1,9 @@
 use Rattle.node_state.specs.declared.error.StageError.TheVariants as stages
 use Rattle.node_pull.specs.declared.error.PullFault.TheVariants.{Memory}
-use Rattle.node_pull.specs.Pulling.{not_staged}
+use Rattle.node_pull.specs.Pulling.{list_of, not_staged}
+use Rattle.std.proofs.Common.{ap}
 use Rattle.node_pull.proofs.Exits.{out_of}
-use Rattle.node_pull.proofs.PullRows.{pulled_short, pulled_whole}
+use Rattle.node_pull.proofs.PullRows.{document_staged, pulled_short, pulled_whole}
 use Rattle.node_pull.proofs.pulling.brought.Goals as goal
 
 pub returns-in-Err-clause-pulled : goal.returns-in-Err-clause-pulled
@@ -14,12 +15,18 @@ returns-in_err-modules-clause-pulled g c = λ before listed.
 
 pub returns-in-Ok-packages-clause-pulled : goal.returns-in-Ok-packages-clause-pulled
 returns-in-Ok-packages-clause-pulled g c = λ before listed.
-    pulled_whole g.M.Machine.packages g.M.Resources.faults c.args.meta.now c.args.server.now c.args.agent c.args.held.now before _ _ c.args.machine.now _ c.args.parts.items c.parts.result.now
-    c.in-Ok.staged c.in_ok-modules.modules.items c.deref.result.now c.brought_of.result c.in-Ok.ensures.staged c.parts.ensures c.deref.ensures.value listed c.in-Ok.ensures.fits
-    c.in_ok-modules.ensures c.in-Ok-packages.ensures.packages c.brought_of.ensures
+    pulled_whole g.M.Machine.packages g.M.Resources.faults c.args.meta.now c.args.server.now c.args.agent c.args.held.now before _ _ c.args.machine.now _ c.args.parts.items
+    c.in-Ok.pair.0 c.in-Ok.pair.1.document c.in_ok-modules.modules.items c.deref.result.now _ c.in-Ok.ensures.staged c.deref.ensures.value c.in_ok-modules.ensures listed c.in-Ok.ensures.fits
+    c.in-Ok.ensures.merged c.in-Ok-packages.ensures.packages c.brought_of.ensures.list
+
+pub brought_of-requires : goal.brought_of-requires
+brought_of-requires g c = record {
+  document = document_staged c.args.parts.items c.in-Ok.pair.0 c.in-Ok.pair.1 c.in-Ok.ensures.staged
+      (record { merged = c.in-Ok.ensures.merged; ordered = c.in-Ok.ensures.ordered; in_size = c.in-Ok.ensures.in_size });
+}
 
 pub returns-in-Err-packages-clause-pulled : goal.returns-in-Err-packages-clause-pulled
 returns-in-Err-packages-clause-pulled g c = λ before listed.
-    pulled_short g.M.Machine.packages g.M.Resources.faults c.args.meta.now c.args.server.now c.args.agent c.args.held.now before _ _ c.args.machine.now _ c.args.parts.items c.parts.result.now
-    c.in-Ok.staged c.in_ok-modules.modules.items c.deref.result.now c.in-Err-packages.error c.in-Ok.ensures.staged c.parts.ensures c.deref.ensures.value listed c.in-Ok.ensures.fits
-    c.in_ok-modules.ensures c.in-Err-packages.ensures.packages
+    pulled_short g.M.Machine.packages g.M.Resources.faults c.args.meta.now c.args.server.now c.args.agent c.args.held.now before _ _ c.args.machine.now _ c.args.parts.items
+    c.in-Ok.pair.0 c.in-Ok.pair.1.document c.in_ok-modules.modules.items c.deref.result.now c.in-Err-packages.error c.in-Ok.ensures.staged c.deref.ensures.value c.in_ok-modules.ensures listed c.in-Ok.ensures.fits
+    c.in-Ok.ensures.merged c.in-Err-packages.ensures.packages

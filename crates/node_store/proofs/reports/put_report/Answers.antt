@@ -1,6 +1,10 @@
 use Rattle.std.proofs.Common.{ℕ, List, ◌++◌, ◌≤◌, length, subst, sym, arith, Err}
 use Rattle.report_log.specs.declared.report.Missed.{Missed}
 use Rattle.report_log.specs.declared.report.PartMark.{PartMark}
+use Rattle.report_log.specs.declared.limits.TheConstants.{LISTED_LIMIT, MAX_PARTS}
+use Rattle.dsc_document.specs.declared.limits.TheConstants.{MAX_ID}
+use Rattle.mof_values.specs.declared.limits.TheConstants.{MAX_NAME_BYTES}
+use Rattle.store_fields.specs.declared.limits.TheConstants.{MAX_TEXT}
 use Rattle.store_fields.specs.Writing.{Writes}
 use Rattle.store_fields.proofs.Appending.{both, cut, exit}
 use Rattle.node_store.specs.Reports.{bytes_of_report, bytes_of_job, bytes_of_run, bytes_of_result, bytes_of_lists}
@@ -12,10 +16,10 @@ pub put_run-requires : goal.put_run-requires
 put_run-requires c = omega (arith, utf8_most c.args.report.now.version, c.requires.version)
 
 pub put_lists-requires-clause-listed : goal.put_lists-requires-clause-listed
-put_lists-requires-clause-listed c = (subst (λ (l : List Missed). length l ≤ 64) (sym c.as_slice.ensures) c.requires.listed, all_fit (λ (m : Missed). m.id) 256 65535 _ _ c.as_slice.ensures (omega arith) c.requires.ids)
+put_lists-requires-clause-listed c = (subst (λ (l : List Missed). length l ≤ LISTED_LIMIT) (sym c.as_slice.ensures) c.requires.listed, all_fit (λ (m : Missed). m.id) MAX_ID MAX_TEXT _ _ c.as_slice.ensures (omega arith) c.requires.ids)
 
 pub put_lists-requires-clause-parts : goal.put_lists-requires-clause-parts
-put_lists-requires-clause-parts c = (subst (λ (l : List PartMark). length l ≤ 8) (sym c.as_slice-2.ensures) c.requires.parts.count, all_fit (λ (m : PartMark). m.name) 255 65535 _ _ c.as_slice-2.ensures (omega arith) c.requires.parts.names)
+put_lists-requires-clause-parts c = (subst (λ (l : List PartMark). length l ≤ MAX_PARTS) (sym c.as_slice-2.ensures) c.requires.parts.count, all_fit (λ (m : PartMark). m.name) MAX_NAME_BYTES MAX_TEXT _ _ c.as_slice-2.ensures (omega arith) c.requires.parts.names)
 
 pub returns-in_err-put_result-clause-writes : goal.returns-in_err-put_result-clause-writes
 returns-in_err-put_result-clause-writes c =

@@ -2,6 +2,7 @@ use Rattle.serde_json.specs.View.{view}
 use Rattle.pull_messages.specs.Tables.{query_of}
 use Rattle.std.proofs.Common.{◌≤◌, length}
 use Rattle.pull_messages.specs.declared.query.ActionQuery.{ActionQuery}
+use Rattle.pull_messages.specs.declared.limits.TheConstants.{MAX_LIST_ITEMS}
 use Rattle.pull_messages.proofs.Reading.{reads_by}
 use Rattle.pull_messages.proofs.SizedMessages.{if_gives, query_few}
 use Rattle.pull_messages.proofs.query.read_query.Goals as goal
@@ -11,5 +12,5 @@ returns-clause-answers c = reads_by query_of c.args.body.now (view c.in_ok-value
 
 pub returns-clause-few : goal.returns-clause-few
 returns-clause-few c =
-    if_gives (λ (x : ActionQuery). length x.clients ≤ 16) c.query_in.result (query_of (view c.in_ok-value_of.field-0)) c.query_in.ensures
+    if_gives (λ (x : ActionQuery). length x.clients ≤ MAX_LIST_ITEMS) c.query_in.result (query_of (view c.in_ok-value_of.field-0)) c.query_in.ensures
     (query_few (view c.in_ok-value_of.field-0))

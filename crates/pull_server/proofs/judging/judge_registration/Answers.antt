@@ -9,7 +9,7 @@ use Rattle.pull_server.specs.Messages.{fault_text}
 use Rattle.pull_server.specs.Signed.{is_signed}
 use Rattle.pull_server.specs.Table.{outcome_of}
 use Rattle.pull_server.proofs.Judged.{refuses, asks_registration}
-use Rattle.pull_server.proofs.Rows.{not_signed, bad_registration, registers}
+use Rattle.pull_server.proofs.Rows.{unsigned_request, bad_registration, registers}
 use Rattle.pull_server.proofs.Said.{read_as, refused_as}
 use Rattle.pull_server.proofs.Shelves.{of_told, then_of}
 use Rattle.pull_server.proofs.judging.judge_registration.Goals as goal
@@ -19,7 +19,7 @@ returns-in-Ok-false-clause-judged g c =
     let unsigned : c.in-Ok-false.field-0 ≡ false = search rules in
     refuses c.args.store.now c.args.request.now (Ok (Node c.args.agent)) (g.S.Shelf.holds c.args.shelf.now) (Rose (g.S.Shelf.faults c.args.shelf.now) (g.S.Shelf.faults c.is_signed.new.shelf))
     c.plain.result 401 [] c.plain.ensures refl refl (λ shelf told.
-    c.requires.past shelf ∙ not_signed c.args.store.now shelf c.args.request.now c.args.agent (sym (of_told (λ contents. c.in-Ok-false.field-0 ≡ is_signed contents.keys c.args.request.now) (g.S.Shelf.holds c.args.shelf.now) c.in-Ok-false.ensures.signed shelf told) ∙ unsigned))
+    c.requires.past shelf ∙ unsigned_request c.args.store.now shelf c.args.request.now c.args.agent (sym (of_told (λ contents. c.in-Ok-false.field-0 ≡ is_signed contents.keys c.args.request.now) (g.S.Shelf.holds c.args.shelf.now) c.in-Ok-false.ensures.signed shelf told) ∙ unsigned))
 
 pub returns-in-Ok-clause-judged : goal.returns-in-Ok-clause-judged
 returns-in-Ok-clause-judged g c =

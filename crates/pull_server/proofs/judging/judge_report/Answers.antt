@@ -7,7 +7,7 @@ use Rattle.pull_server.specs.Asked.{asked}
 use Rattle.pull_server.specs.Judging.{kept_outcome}
 use Rattle.pull_server.specs.Messages.{fault_text}
 use Rattle.pull_server.specs.Table.{outcome_of}
-use Rattle.pull_server.proofs.Judged.{refuses, asks_report, reported}
+use Rattle.pull_server.proofs.Judged.{refuses, asks_report, reported_change}
 use Rattle.pull_server.proofs.Rows.{no_row_to_report, bad_report, reports}
 use Rattle.pull_server.proofs.Said.{read_as, refused_as}
 use Rattle.pull_server.proofs.Shelves.{of_all}
@@ -29,7 +29,7 @@ returns-in_ok-to_vec-in-Ok-clause-judged g c =
       has,
       same,
       record {
-        asks = asks_report c.args.request.now c.args.agent c.in-Ok.report read ∙ ap (λ (l : List ℕ). reported c.args.agent c.in-Ok.report.job l) (sym same);
+        asks = asks_report c.args.request.now c.args.agent c.in-Ok.report read ∙ ap (λ (l : List ℕ). reported_change c.args.agent c.in-Ok.report.job l) (sym same);
         passes = of_all
             (λ contents. outcome_of (asked c.args.store.now contents c.args.request.now (Ok (SendReport c.args.agent))) ≡ kept_outcome (asked c.args.store.now contents c.args.request.now (Ok (SendReport c.args.agent))))
             (g.S.Shelf.holds c.args.shelf.now) (λ contents. c.requires.past contents ∙ reports c.args.store.now contents c.args.request.now c.args.agent c.in-Ok.report has read);

@@ -64,8 +64,8 @@ appended-none : (value : List ℕ) → appended value [] ≡ value
 appended-none [] = refl
 appended-none (b ∷ bs) = refl
 
-unchanged : (old value : List ℕ) → HasEntries (Some old) value → with_entries (Some old) value ≡ Some old
-unchanged old value has =
+entries_unchanged : (old value : List ℕ) → HasEntries (Some old) value → with_entries (Some old) value ≡ Some old
+entries_unchanged old value has =
     let none = filter-none (λ e. not (is_among (entries old) e)) (wanted_entries value) (λ k d lt. not_from_true _ (Contains-among (entries old) _ (has k d lt))) in
     ap (λ (l : List (List ℕ)). Some (appended old (each_once l))) none ∙ ap Some (appended-none old)
 
@@ -92,6 +92,6 @@ returns c = record {
   present = present;
   absent = absent;
   added = added;
-  stays = unchanged;
+  stays = entries_unchanged;
   kept = kept;
 }

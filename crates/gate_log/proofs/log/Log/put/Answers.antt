@@ -19,22 +19,22 @@ other_kept shown log kept put at body same is has room =
     in_other shown kept put at body (subst (λ (t : LogTerm). HasPut shown t put) (sym same) has) is (subst (λ (t : LogTerm). need_of body ≤ room_to_put t) (sym same) room)
 
 -- every moment of the call, by what the log keeps
-at_each_moment : {D : Type 0} (d : Ghosts D) (old new : D) (log kept : LogTerm) (bodies put : List (List ℕ)) (at : ℕ) (body : List ℕ) → kept ≡ log → kept.filled ≡ Some at → IsLogOf d old log bodies → HasPutOn d old log put → need_of body ≤ room_to_put log
+at_each_moment_of_put : {D : Type 0} (d : Ghosts D) (old new : D) (log kept : LogTerm) (bodies put : List (List ℕ)) (at : ℕ) (body : List ℕ) → kept ≡ log → kept.filled ≡ Some at → IsLogOf d old log bodies → HasPutOn d old log put → need_of body ≤ room_to_put log
     → (IsInOther kept.shape kept.second at (1 + need_of body) → Each (d.images old) (λ f. IsText kept.shape kept.second kept.closed f bodies) → AtAnyMoment d old new (λ f. IsText kept.shape kept.second kept.closed f bodies))
     → AtAnyMoment d old new (λ f. Gives log.shape f bodies)
-at_each_moment d old new log kept bodies put at body same is of has room moments =
+at_each_moment_of_put d old new log kept bodies put at body same is of has room moments =
     let of_it = of_kept (d.shown old) (d.images old) log kept bodies same of in
     weaker d.moment d.left_since old new _ (λ f. Gives log.shape f bodies) (moments (other_kept (d.shown old) log kept put at body same is has room) of_it.each)
     (λ f t. subst (λ (t : LogTerm). Gives t.shape f bodies) same (text_gives kept.shape kept.second kept.closed f bodies t))
 
 pub returns-in_err-put_cell-clause-any_moment : goal.returns-in_err-put_cell-clause-any_moment
 returns-in_err-put_cell-clause-any_moment g c = λ bodies of.
-    at_each_moment g.D.Disk c.args.disk.now c.put_cell.new.disk c.args.self.now _ bodies c.requires.begun.0 c.in-Some.at c.args.body.now c.self.view_is c.in-Some.is of c.requires.begun.1 c.requires.room
+    at_each_moment_of_put g.D.Disk c.args.disk.now c.put_cell.new.disk c.args.self.now _ bodies c.requires.begun.0 c.in-Some.at c.args.body.now c.self.view_is c.in-Some.is of c.requires.begun.1 c.requires.room
     (c.put_cell.ensures.any_moment c.self.inside.shape c.self.inside.second c.self.inside.closed bodies c.self.invariant.2)
 
 pub returns-clause-any_moment : goal.returns-clause-any_moment
 returns-clause-any_moment g c = λ bodies of.
-    at_each_moment g.D.Disk c.args.disk.now c.put_cell.new.disk c.args.self.now _ bodies c.requires.begun.0 c.in-Some.at c.args.body.now c.self.view_is c.in-Some.is of c.requires.begun.1 c.requires.room
+    at_each_moment_of_put g.D.Disk c.args.disk.now c.put_cell.new.disk c.args.self.now _ bodies c.requires.begun.0 c.in-Some.at c.args.body.now c.self.view_is c.in-Some.is of c.requires.begun.1 c.requires.room
     (c.put_cell.ensures.any_moment c.self.inside.shape c.self.inside.second c.self.inside.closed bodies c.self.invariant.2)
 
 pub returns-clause-ok : goal.returns-clause-ok

@@ -2,10 +2,8 @@ use Rattle.std.specs.Str.{chars}
 use Rattle.std.proofs.Common.{rules, ◌≡◌, Bool, true, false, sym, ◌∙◌}
 use Rattle.mof_codec.proofs.Stepping.{ends_with}
 use Rattle.mof_codec.proofs.ExcessSearch.{searched_none, searched_on, found_at, stuck_none_at, stuck_wide_at, all_searched, end_none, end_count, end_parts, few}
+use Rattle.mof_codec.proofs.Truths.{clash}
 use Rattle.mof_codec.proofs.refusing.excess.first_excess.Goals as goal
-
-clash : {b : Bool} → b ≡ true → b ≡ false → ⊥
-clash e f = cc
 
 pub loop-c-init : goal.loop-c-init
 loop-c-init c = (c.utf8.text, searched_none (chars c.args.text.now))

@@ -2,10 +2,8 @@ use Rattle.std.proofs.Common.{◌≡◌, Bool, true, false, List, ℕ, sym, ◌�
 use Rattle.std.specs.Prelude.{codes}
 use Rattle.mof_syntax.specs.declared.mof_error.Form.{Form}
 use Rattle.mof_codec.specs.Searching.{BeginsForm, BeginsWord, begins_with, pragma, qualifiers, class, qualifier}
+use Rattle.mof_codec.proofs.Truths.{clash}
 use Rattle.mof_codec.proofs.refusing.form.declared.Goals as goal
-
-clash : {b : Bool} → b ≡ true → b ≡ false → ⊥
-clash e f = cc
 
 pub returns-then-begins_with-clause-some : goal.returns-then-begins_with-clause-some
 returns-then-begins_with-clause-some c = pragma (sym c.begins_with.ensures ∙ c.if-begins_with.true)

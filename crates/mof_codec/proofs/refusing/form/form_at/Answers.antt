@@ -1,10 +1,8 @@
 use Rattle.std.proofs.Common.{◌≡◌, Bool, true, false, sym, ◌∙◌}
 use Rattle.mof_codec.proofs.ScalarSearch.{never_stuck}
 use Rattle.mof_codec.proofs.FormSearch.{real_found, real_none, here_found, here_none}
+use Rattle.mof_codec.proofs.Truths.{clash}
 use Rattle.mof_codec.proofs.refusing.form.form_at.Goals as goal
-
-clash : {b : Bool} → b ≡ true → b ≡ false → ⊥
-clash e f = cc
 
 pub returns-in-Some-clause-some : goal.returns-in-Some-clause-some
 returns-in-Some-clause-some c =

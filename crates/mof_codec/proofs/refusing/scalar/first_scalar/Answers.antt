@@ -1,10 +1,8 @@
 use Rattle.std.proofs.Common.{rules, ◌≡◌, Bool, true, false, sym, ◌∙◌}
 use Rattle.mof_codec.proofs.Stepping.{ends_with}
 use Rattle.mof_codec.proofs.ScalarSearch.{scalar_found, scalar_on, scalar_stuck, scalar_end, scalar_last}
+use Rattle.mof_codec.proofs.Truths.{clash}
 use Rattle.mof_codec.proofs.refusing.scalar.first_scalar.Goals as goal
-
-clash : {b : Bool} → b ≡ true → b ≡ false → ⊥
-clash e f = cc
 
 pub returns-then-stands-clause-some : goal.returns-then-stands-clause-some
 returns-then-stands-clause-some c = rw c.place_of.ensures (scalar_found _ _ _ _ c.loop-c.invariant.1 (c.stands.ensures.0 c.if-stands.true))

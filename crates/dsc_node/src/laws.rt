@@ -1,0 +1,21 @@
+//! Laws of starts in a row. The calls do nothing; their clauses are the laws.
+ghost use Rattle.dsc_node.specs.Starts.{FindsWhatIsRead, PartsAreBrought, StartsGoOn, StartsJoin};
+ghost use Rattle.dsc_node.specs.Work.{known};
+
+use dsc_outside::{Clock, Disk};
+use resource_kinds::Machine;
+
+/// A start finds a node that the start before it may have left, wherever that was stopped, and what that left at its end, where it came to it.
+///
+/// What a disk reads as is found at the begin of a start.
+pub fn starts_join<D: Disk, M: Machine, C: Clock>()
+    ensures go_on { StartsGoOn (known D.Disk M.Resources M.Machine.own C.Clock) }
+    ensures join { StartsJoin (known D.Disk M.Resources M.Machine.own C.Clock) }
+    ensures read { FindsWhatIsRead (known D.Disk M.Resources M.Machine.own C.Clock) }
+{}
+
+/// Over a list of starts each part that a node holds was in a slot of a node that the first start found, or one of the starts brought
+/// it: it is the start's input, or the node's server gave it in that start under the digest that was announced for it.
+pub fn parts_are_brought<D: Disk, M: Machine, C: Clock>()
+    ensures { PartsAreBrought (known D.Disk M.Resources M.Machine.own C.Clock) }
+{}

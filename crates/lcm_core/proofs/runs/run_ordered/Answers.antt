@@ -1,0 +1,9 @@
+use Rattle.lcm_core.specs.declared.modes.RunMode.TheVariants.{Monitor, Repair}
+use Rattle.lcm_core.proofs.Bounded.{at_most}
+use Rattle.lcm_core.proofs.runs.run_ordered.Goals as goal
+
+pub returns-in-Monitor-clause-bound : goal.returns-in-Monitor-clause-bound
+returns-in-Monitor-clause-bound g c = λ r. at_most c.args.ordered.now.document Monitor c.as_slice.result.now _ r c.monitor.ensures.legal
+
+pub returns-in-Repair-clause-bound : goal.returns-in-Repair-clause-bound
+returns-in-Repair-clause-bound g c = λ r. at_most c.args.ordered.now.document Repair c.as_slice-in-Repair.result.now _ r c.repair.ensures.legal
