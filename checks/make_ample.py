@@ -330,7 +330,7 @@ def generated():
 
 
 def valued(count, value, ids=None):
-    """A document of so many variables without dependencies."""
+    """A document of that many variables without dependencies."""
     ids = ids or environment_ids(count)
     return "".join(f'instance of MSFT_EnvironmentResource{{ResourceID="{ids[r]}";Name="V{r}";Value="{value}";}};\n' for r in range(count)) + HEADER
 

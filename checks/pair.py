@@ -597,7 +597,7 @@ def silent_servers():
     for result in SILENT_RESULTS:
         check(*result)
 
-# ---- lists of up to 16 MiB, so many that the store is written anew, into either of its banks
+# ---- lists of up to 16 MiB, that many that the store is written anew, into either of its banks
 
 def long_lists():
     server = Server()
@@ -722,7 +722,7 @@ def killed_reports():
     took = time.monotonic() - begun
     unsent, jobs = 0, 1
     for number in range(KILLS):
-        # a node keeps its newest 16 reports, so those that wait are sent before so many are there, however slow the machine is
+        # a node keeps its newest 16 reports, so those that wait are sent before that many are there, however slow the machine is
         if number % 8 == 7:
             check('a start between kills', node.does('consistency')[0].splitlines()[-1:], ['report %d sent' % (jobs + 1)])
             jobs += 1

@@ -1,4 +1,4 @@
-/* partner FOLDER COUNT: places so many files in the folder as the node does, one after the other: a staging file is written and
+/* partner FOLDER COUNT: places COUNT files in the folder as the node does, one after the other: a staging file is written and
    synced, renamed over the target, and the folder is synced. */
 #include <fcntl.h>
 #include <stdio.h>

@@ -1,5 +1,5 @@
 #!/usr/bin/env python3
-"""make_data.py FILE COUNT: a document of so many instances, with comments, aliases, escapes, arrays and joined literals;
+"""make_data.py FILE COUNT: a document of COUNT instances, with comments, aliases, escapes, arrays and joined literals;
 of 4,096 instances it is about 2 MB."""
 import sys
 

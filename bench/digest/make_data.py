@@ -1,5 +1,5 @@
 #!/usr/bin/env python3
-"""make_data.py FILE COUNT: a file of so many bytes in no order, the same ones each time."""
+"""make_data.py FILE COUNT: a file of COUNT bytes in no order, the same ones each time."""
 import random
 import sys
 

@@ -1,5 +1,5 @@
 #!/usr/bin/env python3
-"""make_data.py FOLDER COUNT: a document of so many environment resources, and a host folder on which they hold."""
+"""make_data.py FOLDER COUNT: a document of COUNT environment resources, and a host folder on which they hold."""
 import os
 import sys
 

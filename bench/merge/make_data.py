@@ -1,5 +1,5 @@
 #!/usr/bin/env python3
-"""make_data.py FOLDER COUNT: for each of three shapes of dependencies between so many resources a document SHAPE.mof, the same resources
+"""make_data.py FOLDER COUNT: for each of three shapes of dependencies between COUNT resources a document SHAPE.mof, the same resources
 as eight parts SHAPE.0.mof to SHAPE.7.mof, each with a header of its own, and SHAPE.order, the ids as `order` is to print them.
 
 Part r has the numbers with the remainder r by 8, the last first; the document has those of part 0, of part 1 and so on. backwards: each

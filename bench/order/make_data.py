@@ -1,5 +1,5 @@
 #!/usr/bin/env python3
-"""make_data.py FOLDER COUNT: for each of four shapes of dependencies between so many resources a document SHAPE.mof, the
+"""make_data.py FOLDER COUNT: for each of four shapes of dependencies between COUNT resources a document SHAPE.mof, the
 pairs SHAPE.edges for tsort, and SHAPE.order, the ids as `order` is to print them.
 
 chain: each depends on the one before. backwards: the same, the last first in the text. tree: number i depends on the

@@ -1,6 +1,6 @@
 //! What a plain server does: one connection after the other, without limits.
 //!
-//!     serve PORT COUNT FOLDER      serves so many connections: a GET is answered the configuration that it names, read and
+//!     serve PORT COUNT FOLDER      serves COUNT connections: a GET is answered the configuration that it names, read and
 //!                                  hashed anew each time, anything else 204
 //!     open STORE                   reads a store into a map of its agents, each with its newest four reports
 use std::collections::HashMap;

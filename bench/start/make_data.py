@@ -1,5 +1,5 @@
 #!/usr/bin/env python3
-"""make_data.py FOLDER COUNT BYTES: a document of so many environment resources and of at most so many bytes, and a host folder on
+"""make_data.py FOLDER COUNT BYTES: a document of COUNT environment resources and of at most BYTES bytes, and a host folder on
 which they hold. 0 bytes leave the values short."""
 import os
 import sys

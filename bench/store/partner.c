@@ -1,4 +1,4 @@
-/* partner FILE COUNT SIZE: writes so many cells of that size as a log does, and prints the microseconds that the fastest took: the
+/* partner FILE COUNT SIZE: writes COUNT cells of that size as a log does, and prints the microseconds that the fastest took: the
    cell after the closed gate, a sync, the gate, a sync. */
 #include <fcntl.h>
 #include <stdio.h>

@@ -57,8 +57,8 @@ module _ (depends : List (Vec ℕ)) (i : ℕ) (numbers : Vec ℕ) where
       (slice_get-get_or (take i depends) r numbers (omega (arith, lt, within, length-take i depends))
       ∙ ap Some (get_or-take i depends r numbers lt) ∙ sym (slice_get-get_or depends r numbers within))
 
-  numbers_behind : (r : ℕ) → i ≤ r → numbers_of (take i depends) r ≡ []
-  numbers_behind r past = numbers_past (take i depends) r (omega (arith, past, length-take i depends))
+  numbers_after : (r : ℕ) → i ≤ r → numbers_of (take i depends) r ≡ []
+  numbers_after r past = numbers_past (take i depends) r (omega (arith, past, length-take i depends))
 
 module _ (depends : List (Vec ℕ)) (i : ℕ) (numbers : Vec ℕ) (lt : i < length depends) (read : numbers ≡ get_or depends i numbers) where
   here_now : numbers_of (take (i + 1) depends) i ≡ numbers.items
@@ -70,7 +70,7 @@ module _ (depends : List (Vec ℕ)) (i : ℕ) (numbers : Vec ℕ) (lt : i < leng
     | inl before ↦
         numbers_before depends (i + 1) numbers r (omega (arith, before)) (omega (arith, before, lt))
         ∙ sym (numbers_before depends i numbers r before (omega (arith, before, lt)))
-    | inr past ↦ numbers_behind depends (i + 1) numbers r (omega (arith, past, other)) ∙ sym (numbers_behind depends i numbers r past)
+    | inr past ↦ numbers_after depends (i + 1) numbers r (omega (arith, past, other)) ∙ sym (numbers_after depends i numbers r past)
   ]
 
   -- the place at i is added to the lists of those that it depends on
@@ -80,6 +80,6 @@ module _ (depends : List (Vec ℕ)) (i : ℕ) (numbers : Vec ℕ) (lt : i < leng
       → (q r : ℕ) → times r (numbers_of after q) ≡ times q (numbers_of (take (i + 1) depends) r)
   listed_more before after so_far here others q r = elim (cases_eq r i) [
     | inl is ↦ subst (λ t. times t (numbers_of after q) ≡ times q (numbers_of (take (i + 1) depends) t)) (sym is)
-        (omega (arith, here q, so_far q i, ap (times q) (numbers_behind depends i numbers i (omega arith)), ap (times q) here_now))
+        (omega (arith, here q, so_far q i, ap (times q) (numbers_after depends i numbers i (omega arith)), ap (times q) here_now))
     | inr ne ↦ omega (arith, others q r ne, so_far q r, ap (times q) (same_now r ne))
   ]

@@ -25,8 +25,8 @@ same_cycle : (lead : List ℕ) (first : ℕ) (rest : List ℕ) (lead' : List ℕ
     → lead ++ first ∷ rest ++ first ∷ [] ≡ lead' ++ first' ∷ rest' ++ first' ∷ [] ++ more → first ∷ rest ≡ first' ∷ rest'
 same_cycle lead first rest lead' first' rest' [] once p =
     let ends = same_from_push (lead ++ first ∷ rest) (lead' ++ first' ∷ rest') first first' (p ∙ append-nil (lead' ++ first' ∷ rest' ++ first' ∷ [])) in
-    let behind = split_once lead rest lead' rest' first once (ends.0 ∙ ap (λ (n : ℕ). lead' ++ n ∷ rest') (sym ends.1)) in
-    λ i. ends.1 i ∷ behind i
+    let after = split_once lead rest lead' rest' first once (ends.0 ∙ ap (λ (n : ℕ). lead' ++ n ∷ rest') (sym ends.1)) in
+    λ i. ends.1 i ∷ after i
 same_cycle lead first rest lead' first' rest' (m ∷ more) once p =
     let q : lead ++ first ∷ rest ++ first ∷ [] ≡ lead' ++ first' ∷ rest' ++ first' ∷ m ∷ more = p ∙ append_assoc (lead' ++ first' ∷ rest') (first' ∷ []) (m ∷ more) in
     elim (split_push (lead ++ first ∷ rest) first (lead' ++ first' ∷ rest') first' (m ∷ more) q) [
@@ -35,9 +35,9 @@ same_cycle lead first rest lead' first' rest' (m ∷ more) once p =
     ]
 
 -- a walk that closes a cycle has a begin
-headed : (lead : List ℕ) (first : ℕ) (behind : List ℕ) → (r : ℕ) × (rest : List ℕ) × (lead ++ first ∷ behind ≡ r ∷ rest)
-headed [] first behind = (first, behind, refl)
-headed (r ∷ lead) first behind = (r, lead ++ first ∷ behind, refl)
+headed : (lead : List ℕ) (first : ℕ) (after : List ℕ) → (r : ℕ) × (rest : List ℕ) × (lead ++ first ∷ after ≡ r ∷ rest)
+headed [] first after = (first, after, refl)
+headed (r ∷ lead) first after = (r, lead ++ first ∷ after, refl)
 
 module _ (count : ℕ) (names : ℕ → ℕ → ℕ → Type 0) (one_each : (r k q s : ℕ) → names r k q → names r k s → q ≡ s) where
   first_same : (r s t : ℕ) → IsFirstLeft count names r s → IsFirstLeft count names r t → s ≡ t
@@ -45,7 +45,7 @@ module _ (count : ℕ) (names : ℕ → ℕ → ℕ → Type 0) (one_each : (r k
     | inl same ↦ one_each r other.at s t (subst (λ (k : ℕ). names r k s) same one.means) other.means
     | inr differ ↦ elim (cases_lt one.at other.at) [
       | inl before ↦ absurd (other.first one.at s before one.means one.left)
-      | inr behind ↦ absurd (one.first other.at t (omega arith) other.means other.left)
+      | inr after ↦ absurd (one.first other.at t (omega arith) other.means other.left)
     ]
   ]
 

@@ -71,9 +71,9 @@ module _ (depends : List (Vec ℕ)) (order waiting ready : List ℕ) (counted : 
       least = λ s is. least s (omega (arith, ready_once s is));
     }
 
-    -- there is room for it in the order
-    pub room : ((s : ℕ) → 1 ≤ times s ready → r ≤ s) → IsEarliestReady (length depends) (DependsOn (Lists depends)) order → length order + 1 ≤ length depends
-    room least earliest =
+    -- there is a place left for it in the order
+    pub place_left : ((s : ℕ) → 1 ≤ times s ready → r ≤ s) → IsEarliestReady (length depends) (DependsOn (Lists depends)) order → length order + 1 ≤ length depends
+    place_left least earliest =
         let more = earliest_push (length depends) (DependsOn (Lists depends)) order r earliest (ready_next least) in
         omega (arith, earliest_count (length depends) (DependsOn (Lists depends)) (order ++ r ∷ []) more, length-append order (r ∷ []))
 

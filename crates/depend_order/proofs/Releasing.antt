@@ -50,20 +50,20 @@ module _ (dependents start waiting : List ℕ) (i q : ℕ) (lt : i < length depe
       ]
 
 -- the places that wait for none, one after another
-module _ (waiting ready : List ℕ) (i : ℕ) (passed : (r : ℕ) → r < i → times r ready ≡ none_left (slice_index waiting r)) (behind : (r : ℕ) → i ≤ r → times r ready ≡ 0) where
+module _ (waiting ready : List ℕ) (i : ℕ) (passed : (r : ℕ) → r < i → times r ready ≡ none_left (slice_index waiting r)) (after : (r : ℕ) → i ≤ r → times r ready ≡ 0) where
   pub passed_ready : (now : List ℕ) → slice_index waiting i ≡ 0 → ((r : ℕ) → times r now ≡ one_if i r + times r ready) → (r : ℕ) → r < i + 1 → times r now ≡ none_left (slice_index waiting r)
   passed_ready now none pushed r lt = elim (cases_eq r i) [
     | inl is ↦ subst (λ t. times t now ≡ none_left (slice_index waiting t)) (sym is)
-        (omega (arith, pushed i, one_same i, behind i (omega arith), none_is (slice_index waiting i) none))
+        (omega (arith, pushed i, one_same i, after i (omega arith), none_is (slice_index waiting i) none))
     | inr ne ↦ omega (arith, pushed r, one_other i r (λ e. ne (sym e)), passed r (omega (arith, lt, ne)))
   ]
 
-  pub behind_ready : (now : List ℕ) → ((r : ℕ) → times r now ≡ one_if i r + times r ready) → (r : ℕ) → i + 1 ≤ r → times r now ≡ 0
-  behind_ready now pushed r past = omega (arith, pushed r, one_other i r (λ e. omega (arith, e, past)), behind r (omega (arith, past)))
+  pub after_ready : (now : List ℕ) → ((r : ℕ) → times r now ≡ one_if i r + times r ready) → (r : ℕ) → i + 1 ≤ r → times r now ≡ 0
+  after_ready now pushed r past = omega (arith, pushed r, one_other i r (λ e. omega (arith, e, past)), after r (omega (arith, past)))
 
   pub passed_waiting : 1 ≤ slice_index waiting i → (r : ℕ) → r < i + 1 → times r ready ≡ none_left (slice_index waiting r)
   passed_waiting some r lt = elim (cases_eq r i) [
     | inl is ↦ subst (λ t. times t ready ≡ none_left (slice_index waiting t)) (sym is)
-        (omega (arith, behind i (omega arith), none_not (slice_index waiting i) some))
+        (omega (arith, after i (omega arith), none_not (slice_index waiting i) some))
     | inr ne ↦ passed r (omega (arith, lt, ne))
   ]

@@ -47,8 +47,8 @@ module _ (resources : List Resource) where
     short : length (take n resources) ≡ n
     short = length-take-le n resources within
 
-    behind_front : (k : ℕ) (r : Resource) → slice_get (take n resources) k ≡ Some r → (k < n) × (slice_get resources k ≡ Some r)
-    behind_front k r at =
+    after_front : (k : ℕ) (r : Resource) → slice_get (take n resources) k ≡ Some r → (k < n) × (slice_get resources k ≡ Some r)
+    after_front k r at =
         let below : k < length (take n resources) = slice_get_within (take n resources) k r at in
         let less : k < n = omega (arith, below, short) in
         (less, slice_get-get_or resources k r (omega (arith, less, within)) ∙ ap Some (sym (get_or-take n resources k r less) ∙ get_or_from_slice_get (take n resources) k r r at))
@@ -70,7 +70,7 @@ module _ (resources : List Resource) where
       pub earlier : (other : Resource) × (first < n) × (id_at resources first ≡ Some other.id) × SameName other.id resource.id
       earlier =
           let found = some_of (slice_get (take n resources) first) (λ r. key.items ≡ fold_case r.id) (so_far.sound key first kept) in
-          let at = behind_front n (omega (arith, lt)) first found.0 found.1 in
+          let at = after_front n (omega (arith, lt)) first found.0 found.1 in
           (found.0, at.0, id_here first found.0 at.1, sym found.2 ∙ is)
 
       pub first_repeat : IsFirstRepeat (id_at resources) first n

@@ -35,7 +35,7 @@ module _ (document : Document) (distinct : HasDistinctIds document) where
     | inl same ↦ same
     | inr other ↦ elim (cases_lt q s) [
       | inl before ↦ absurd (apart name q s before first second)
-      | inr behind ↦ absurd (apart name s q (omega arith) second first)
+      | inr after ↦ absurd (apart name s q (omega arith) second first)
     ]
   ]
 

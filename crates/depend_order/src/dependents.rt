@@ -18,7 +18,7 @@ pub fn dependents_of(alloc: Global, depends: &[Vec<u32>]) -> Result<Vec<Vec<u32>
     Ok(dependents)
 }
 
-// So many lists without a place.
+// This many lists without a place.
 fn no_places(alloc: Global, count: usize) -> Result<Vec<Vec<u32>>, AllocError>
     ensures count { IfOk result (λ lists. length lists.items ≡ count) }
     ensures none { IfOk result (λ lists. (q : ℕ) → numbers_of lists.items q ≡ []) }

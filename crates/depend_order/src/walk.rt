@@ -59,11 +59,11 @@ fn from_first(walk: &[u32], place: u32) -> &[u32]
         × (walk.now ≡ lead ++ place ∷ rest) × (result.now ≡ place ∷ rest) }
 {
     let mut rest = walk;
-    while let [visited, behind @ ..] = rest {
+    while let [visited, after @ ..] = rest {
         if *visited == place {
             return rest;
         }
-        rest = behind;
+        rest = after;
     }
     rest
 }

@@ -14,7 +14,7 @@ use Rattle.mof_syntax.specs.Separators.{BlockComment, LineComment, NoEnd, Separa
 use Rattle.mof_syntax.specs.Strings.{Escape as IsEscape, HexDigits, Quoted, closed, digit, ended, escaped, full, hexadecimal, plain, short, short_escape}
 use Rattle.mof_syntax.specs.Tokens.{AliasName, Identifier, IsToken, Lexeme, Lexes, alias, comma_mark, end, equals_mark, identifier, integer, left_brace_mark, literal, right_brace_mark, semicolon_mark, separator, token, word}
 use Rattle.mof_codec.specs.Machine.{digit_on, is_no_char, quoted, step}
-use Rattle.mof_codec.specs.Walked.{Behind, moved, tally, walk_from}
+use Rattle.mof_codec.specs.Walked.{AfterWalk, moved, tally, walk_from}
 use Rattle.mof_syntax.proofs.Scans.{test_or}
 use Rattle.mof_codec.proofs.Runs.{bit_digit, short_no_x}
 use Rattle.mof_codec.proofs.Walking.{none_stays}
@@ -101,7 +101,7 @@ module _ (T : Lexeme → Type 0) where
   -- so it is wherever the machine comes to from the state
   abbrev pub Comes : Half → Place → List ℕ → Type 0
   Comes h p cs =
-      (front left : List ℕ) (begun : List Event) (b : Behind) → cs ≡ front ++ left → walk_from (Some (record { half = h; place = p; begun = begun })) front ≡ Some b → Leaves b.half left
+      (front left : List ℕ) (begun : List Event) (b : AfterWalk) → cs ≡ front ++ left → walk_from (Some (record { half = h; place = p; begun = begun })) front ≡ Some b → Leaves b.half left
 
   abbrev EachPlace : Half → List ℕ → Type 0
   EachPlace h cs = (p : Place) → Comes h p cs
@@ -121,9 +121,9 @@ module _ (T : Lexeme → Type 0) where
 
   -- ---- steps
 
-  stays : (h : Half) (p : Place) (cs left : List ℕ) (begun : List Event) (b : Behind) → Leaves h cs → cs ≡ left → Some (record { half = h; place = p; begun = begun }) ≡ Some b → Leaves b.half left
+  stays : (h : Half) (p : Place) (cs left : List ℕ) (begun : List Event) (b : AfterWalk) → Leaves h cs → cs ≡ left → Some (record { half = h; place = p; begun = begun }) ≡ Some b → Leaves b.half left
   stays h p cs left begun b here split e =
-      let half : h ≡ b.half = ap (λ (x : Behind). x.half) (same_Some (record { half = h; place = p; begun = begun }) b e) in
+      let half : h ≡ b.half = ap (λ (x : AfterWalk). x.half) (same_Some (record { half = h; place = p; begun = begun }) b e) in
       subst (λ (x : Half). Leaves x left) half (subst (λ (l : List ℕ). Leaves h l) split here)
 
   comes_end : (h : Half) (p : Place) → Leaves h [] → Comes h p []
@@ -134,7 +134,7 @@ module _ (T : Lexeme → Type 0) where
       differ d l e = cc
 
   module _ (h : Half) (p : Place) (c : ℕ) (cs : List ℕ) (here : Leaves h (c ∷ cs)) where
-    none_comes : (front : List ℕ) (b : Behind) → walk_from None front ≡ Some b → ⊥
+    none_comes : (front : List ℕ) (b : AfterWalk) → walk_from None front ≡ Some b → ⊥
     none_comes front b walk = clash (sym (none_stays front) ∙ walk)
       where
         clash : None ≡ Some b → ⊥
@@ -208,7 +208,7 @@ module _ (T : Lexeme → Type 0) where
 
   -- ---- literals
 
-  -- after so many digits of an escape that may go on
+  -- after that many digits of an escape that may go on
   record InDigits (n v : ℕ) (h : Half) : Type 0 where
     steps : (p : Place) (c : ℕ) → step h p c ≡ digit_on n v p c
     nothing : (cs : List ℕ) → Leaves h cs

@@ -22,7 +22,7 @@ use Rattle.mof_codec.specs.Counting.{WereWithin, declarations_in, elements_in, p
 use Rattle.mof_codec.specs.Machine.{step}
 use Rattle.mof_codec.specs.Searching.{BeginsExcessInteger}
 use Rattle.mof_codec.specs.Values.{sign_rest, is_negative, signed}
-use Rattle.mof_codec.specs.Walked.{Behind, moved, start, tally, walk_from, walked}
+use Rattle.mof_codec.specs.Walked.{AfterWalk, moved, start, tally, walk_from, walked}
 use Rattle.mof_codec.proofs.Answered.{reads_no_fault, reads_not_long}
 use Rattle.mof_codec.proofs.Excess.{too_many_told}
 use Rattle.mof_codec.proofs.ExcessSearch.{goes_within, too_many_before}
@@ -88,16 +88,16 @@ were_without Declaration acc were = were.1
 were_without Property acc were = were.1
 were_without Element acc were = were.1
 
-none_walked : (cs : List ℕ) (f : Behind) → walk_from None cs ≡ Some f → ⊥
+none_walked : (cs : List ℕ) (f : AfterWalk) → walk_from None cs ≡ Some f → ⊥
 none_walked cs f e = clash (sym (none_stays cs) ∙ e)
   where
     clash : None ≡ Some f → ⊥
     clash e = cc
 
 -- what was begun in the end was begun before
-were_before : (cs : List ℕ) (h : Half) (p : Place) (acc : List Event) (f : Behind) → walk_from (Some (record { half = h; place = p; begun = acc })) cs ≡ Some f → WereWithin f.begun → WereWithin acc
+were_before : (cs : List ℕ) (h : Half) (p : Place) (acc : List Event) (f : AfterWalk) → walk_from (Some (record { half = h; place = p; begun = acc })) cs ≡ Some f → WereWithin f.begun → WereWithin acc
 were_before [] h p acc f walk were =
-    subst WereWithin (sym (ap (λ (x : Behind). x.begun) (same_Some (record { half = h; place = p; begun = acc }) f walk))) were
+    subst WereWithin (sym (ap (λ (x : AfterWalk). x.begun) (same_Some (record { half = h; place = p; begun = acc }) f walk))) were
 were_before (c ∷ cs) h p acc f walk were = from (step h p c) walk (λ k q more on. were_before cs k q more f on were)
   where
     from : (o : Option State) → walk_from (moved o acc) cs ≡ Some f
@@ -106,12 +106,12 @@ were_before (c ∷ cs) h p acc f walk were = from (step h p c) walk (λ k q more
     from (Some s) walk before = were_without s.begun acc (before s.half s.place (tally s.begun acc) walk)
 
 -- the step over the next character, and the walk on
-record StepsOn (b : Behind) (c : ℕ) (cs : List ℕ) (f : Behind) : Type 0 where
+record StepsOn (b : AfterWalk) (c : ℕ) (cs : List ℕ) (f : AfterWalk) : Type 0 where
   next : State
   is : step b.half b.place c ≡ Some next
   on : walk_from (Some (record { half = next.half; place = next.place; begun = tally next.begun b.begun })) cs ≡ Some f
 
-steps_on : (b : Behind) (c : ℕ) (cs : List ℕ) (f : Behind) → walk_from (Some b) (c ∷ cs) ≡ Some f → StepsOn b c cs f
+steps_on : (b : AfterWalk) (c : ℕ) (cs : List ℕ) (f : AfterWalk) → walk_from (Some b) (c ∷ cs) ≡ Some f → StepsOn b c cs f
 steps_on b c cs f walk = from (step b.half b.place c) refl walk
   where
     from : (o : Option State) → step b.half b.place c ≡ o → walk_from (moved o b.begun) cs ≡ Some f → StepsOn b c cs f
@@ -132,7 +132,7 @@ module _ (text : List ℕ) (is : List Instance) (spelled : Spells text is) where
   front_there : (at : ℕ) → IsFront (take at text)
   front_there at = (drop at text, subst (λ (cs : List ℕ). Wide cs) (sym (take-append-drop at text)) wide)
 
-  state_at : (at : ℕ) → (b : Behind) × (walked (take at text) ≡ Some b)
+  state_at : (at : ℕ) → (b : AfterWalk) × (walked (take at text) ≡ Some b)
   state_at at = front_walked (take at text) (front_there at)
 
   -- what is left where the machine is after the first characters
@@ -157,7 +157,7 @@ module _ (text : List ℕ) (is : List Instance) (spelled : Spells text is) where
       (λ n stands. no_scalar n (subst (λ (cs : List ℕ). BeginsScalar cs n) whole_text stands.begins)
       (subst (λ (cs : List ℕ). BeginsExcessInteger (drop n cs)) whole_text stands.stands)) (NumberRange at) (omega arith) (omega arith) applies
 
-  ends : (f : Behind) × (walked text ≡ Some f)
+  ends : (f : AfterWalk) × (walked text ≡ Some f)
   ends = front_walked text ([], subst (λ (cs : List ℕ). Wide cs) (sym (append-nil text)) wide)
 
   were_all : WereWithin ends.0.begun
@@ -165,7 +165,7 @@ module _ (text : List ℕ) (is : List Instance) (spelled : Spells text is) where
 
   walk_rest : (at : ℕ) → walk_from (Some (state_at at).0) (drop at text) ≡ Some ends.0
   walk_rest at =
-      sym (walk-append (Some start) (take at text) (drop at text) ∙ ap (λ (b : Option Behind). walk_from b (drop at text)) (state_at at).1)
+      sym (walk-append (Some start) (take at text) (drop at text) ∙ ap (λ (b : Option AfterWalk). walk_from b (drop at text)) (state_at at).1)
       ∙ ap (λ (cs : List ℕ). walked cs) (take-append-drop at text) ∙ ends.1
 
   no_parts : (at : ℕ) → Applies text (TooMany at) → ⊥

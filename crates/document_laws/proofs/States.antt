@@ -150,7 +150,7 @@ Hexadecimal = half_in (step Prefix Start 48)
 pattern abbrev pub Binary : Half
 Binary = half_in (step Zero Start 98)
 
--- a keyword of which one letter and so many further ones are read
+-- a keyword of which one letter and that many further ones are read
 abbrev pub key_half : Keyword → ℕ → Half
 key_half k n = half_in (keyed (Some 97) first_state.begun k n Start 97)
 

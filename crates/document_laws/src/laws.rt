@@ -1,4 +1,4 @@
-//! The laws.
+//! The laws of a document's way: bytes are read or refused, instances keep the rules or break one, parts are merged or refused.
 ghost use Rattle.document_laws.specs.Laws.{BytesHaveOneKindOfAnswer, DocumentsHaveAnAnswer, MergedOrRefused, PartsHaveAnAnswer, WhatIsReadIsNotRefused};
 
 use partial_merge::Part;

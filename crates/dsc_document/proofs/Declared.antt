@@ -30,8 +30,8 @@ module _ (P : Resource → Type 0) where
   OfInstances instances = (k m : ℕ) (i : Instance) (r : Resource) → slice_get instances k ≡ Some i → resource_at (m, i) ≡ Some r → P r
 
   all_joined : (o : Option Resource) (rs : List Resource) → ((r : Resource) → o ≡ Some r → P r) → All P rs → All P (cons_option o rs)
-  all_joined None rs here behind = behind
-  all_joined (Some r) rs here behind = All-cons P r rs (here r refl) behind
+  all_joined None rs here after = after
+  all_joined (Some r) rs here after = All-cons P r rs (here r refl) after
 
   pub all_from : (n : ℕ) (instances : List Instance) → OfInstances instances → All P (resources_from n instances)
   all_from n [] each = All-nil P
@@ -82,8 +82,8 @@ abbrev Apart : Resource → Resource → Type 0
 Apart a b = SameName a.id b.id → ⊥
 
 apart_joined : (o : Option Resource) (rs : List Resource) → ((r : Resource) → o ≡ Some r → All (Apart r) rs) → AllPairs Apart rs → AllPairs Apart (cons_option o rs)
-apart_joined None rs here behind = behind
-apart_joined (Some r) rs here behind = AllPairs-cons Apart r rs (here r refl) behind
+apart_joined None rs here after = after
+apart_joined (Some r) rs here after = AllPairs-cons Apart r rs (here r refl) after
 
 pub distinct_from : (n : ℕ) (instances : List Instance) → ((first second : ℕ) → ShareName (id_at instances) first second → ⊥) → AllPairs Apart (resources_from n instances)
 distinct_from n [] none = λ i j d before within. absurd (omega (arith, before, within))
@@ -97,21 +97,21 @@ distinct_from n (i ∷ is) none =
 -- ---- names are ids
 
 module _ (i : Instance) (is : List Instance) (name : List ℕ) (elsewhere : (other : List ℕ) → id_of i ≡ Some other → SameName other name → ⊥) where
-  not_behind : (IsName (id_at is) name → ⊥) → (k : ℕ) (other : List ℕ) → id_at (i ∷ is) k ≡ Some other → SameName other name → ⊥
-  not_behind unnamed zero other at same = elsewhere other at same
-  not_behind unnamed (suc k) other at same = unnamed (k, other, at, same)
+  not_after : (IsName (id_at is) name → ⊥) → (k : ℕ) (other : List ℕ) → id_at (i ∷ is) k ≡ Some other → SameName other name → ⊥
+  not_after unnamed zero other at same = elsewhere other at same
+  not_after unnamed (suc k) other at same = unnamed (k, other, at, same)
 
-  named_behind : IsName (id_at is) name ⊎ (IsName (id_at is) name → ⊥) → IsName (id_at (i ∷ is)) name ⊎ (IsName (id_at (i ∷ is)) name → ⊥)
-  named_behind (inl named) = inl (suc named.0, named.1, named.2, named.3)
-  named_behind (inr unnamed) = inr (λ named. not_behind unnamed named.0 named.1 named.2 named.3)
+  named_after : IsName (id_at is) name ⊎ (IsName (id_at is) name → ⊥) → IsName (id_at (i ∷ is)) name ⊎ (IsName (id_at (i ∷ is)) name → ⊥)
+  named_after (inl named) = inl (suc named.0, named.1, named.2, named.3)
+  named_after (inr unnamed) = inr (λ named. not_after unnamed named.0 named.1 named.2 named.3)
 
 module _ (i : Instance) (is : List Instance) (name : List ℕ) where
   named_here : IsName (id_at is) name ⊎ (IsName (id_at is) name → ⊥) → (o : Option (List ℕ)) → id_of i ≡ o
       → IsName (id_at (i ∷ is)) name ⊎ (IsName (id_at (i ∷ is)) name → ⊥)
-  named_here behind None none = named_behind i is name (λ other at same. none-some other (sym none ∙ at)) behind
-  named_here behind (Some id) is_id = elim (cases_same_name id name) [
+  named_here after None none = named_after i is name (λ other at same. none-some other (sym none ∙ at)) after
+  named_here after (Some id) is_id = elim (cases_same_name id name) [
     | inl same ↦ inl (0, id, is_id, same)
-    | inr differs ↦ named_behind i is name (λ other at same. differs (subst (λ x. SameName x name) (sym (same_Some id other (sym is_id ∙ at))) same)) behind
+    | inr differs ↦ named_after i is name (λ other at same. differs (subst (λ x. SameName x name) (sym (same_Some id other (sym is_id ∙ at))) same)) after
   ]
 
 is_name : (instances : List Instance) (name : List ℕ) → IsName (id_at instances) name ⊎ (IsName (id_at instances) name → ⊥)

@@ -21,5 +21,5 @@ module _ {A : Type 0} (P : A → Type 0) where
       let here : z ≡ y = cc in
       absurd (not_y (subst P here (on_a 0 z (omega arith))))
   first_once (z ∷ a) b (w ∷ c) d x y same on_a on_c not_x not_y =
-      let behind : a ++ x ∷ b ≡ c ++ y ∷ d = cc in
-      first_once a b c d x y behind (All-tail P z a on_a) (All-tail P w c on_c) not_x not_y
+      let after : a ++ x ∷ b ≡ c ++ y ∷ d = cc in
+      first_once a b c d x y after (All-tail P z a on_a) (All-tail P w c on_c) not_x not_y

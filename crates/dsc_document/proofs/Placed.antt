@@ -15,7 +15,7 @@ module _ (instances : List Instance) (name_of : Instance → Option (List ℕ)) 
   at_item n item within is = ap (option_and_then name_of) (slice_get-get_or instances n item within) ∙ ap name_of (sym is)
 
   pub at_past : (n : ℕ) → length instances ≤ n → (k : ℕ) → n ≤ k → option_and_then name_of (slice_get instances k) ≡ None
-  at_past n all k behind = ap (option_and_then name_of) (slice_get_past instances k (omega arith))
+  at_past n all k after = ap (option_and_then name_of) (slice_get_past instances k (omega arith))
 
 module _ (names : ℕ → Option (List ℕ)) (n : ℕ) (places : Places) (so_far : Indexes names n places) where
   module _ (name : List ℕ) (p : ℕ) (is : names n ≡ Some name) (placed : place_of places name ≡ Some p) where
@@ -48,7 +48,7 @@ module _ (names : ℕ → Option (List ℕ)) (n : ℕ) (places : Places) (so_far
     ShareName-never i j shared =
         ⊎_elim
         (λ below. Indexes-apart names n places so_far i j shared.1 shared.2 shared.0 below shared.3 shared.4 shared.5)
-        (λ behind. absurd (cc (no_more j behind, shared.4)))
+        (λ after. absurd (cc (no_more j after, shared.4)))
         (cases_lt j n)
 
     has_place : (name : List ℕ) → IsTrue (is_some (place_of places name)) → IsName names name
@@ -58,7 +58,7 @@ module _ (names : ℕ → Option (List ℕ)) (n : ℕ) (places : Places) (so_far
     placed name named =
         ⊎_elim
         (λ below. ap is_some (sym (place_of-same places named.1 name named.3) ∙ so_far.known named.0 named.1 below named.2))
-        (λ behind. absurd (cc (no_more named.0 behind, named.2)))
+        (λ after. absurd (cc (no_more named.0 after, named.2)))
         (cases_lt named.0 n)
 
     pub HoldsNames-all : HoldsNames names places

@@ -3,7 +3,7 @@ use Rattle.std.specs.Prelude.{ℕ, ◌≤◌, List, All, encode_utf8_all, length
 use Rattle.dsc_document.specs.declared.document.Document.{Document}
 use Rattle.dsc_document.specs.declared.limits.TheConstants.{MAX_ID, MAX_RESOURCES, MAX_VERSION}
 
--- at most so many bytes of UTF-8
+-- at most that many bytes of UTF-8
 abbrev pub Fits : ℕ → List ℕ → Type 0
 Fits limit text = length (encode_utf8_all text) ≤ limit
 

@@ -35,7 +35,7 @@ fn property(rt: &impl AllocGlobal, name: &str, value: &str) -> Result<Property, 
     })
 }
 
-// A header, another instance, and so many resources, each of which depends on the one before it, and the first on `first`.
+// A header, another instance, and that many resources, each of which depends on the one before it, and the first on `first`.
 fn instances(rt: &impl AllocGlobal, count: u32, first: &str) -> Result<Vec<Instance>, Fail> {
     let mut made = Vec::new(rt.alloc());
     made.push(instance(rt, "OMI_ConfigurationDocument", &[])?)?;

@@ -15,7 +15,7 @@ use Rattle.dsc_node.specs.Path.{Carries, CommitGoes, Ended, EndsStart, IsOnTheWa
 use Rattle.dsc_node.specs.Commits.{IsCause, RefusedAfter, broken_by}
 use Rattle.dsc_node.proofs.Way.{kept_stands, stands_map, steps-append, steps-push, way_grows, way_steps}
 
--- what takes memory where room was reserved takes it where none was
+-- what takes memory where capacity was reserved takes it where none was
 takes_unreserved : (reserved : Bool) (event : Event) → TakesMemory reserved event → TakesMemory false event
 takes_unreserved reserved (events.Init agent) takes = takes
 takes_unreserved reserved (events.SetMeta meta) takes = takes

@@ -69,8 +69,8 @@ promotion_allowed node report parts sound pending job below =
 module _ {D S C : Type 0} (o : Known D S C) (begin now : D) (from : Node) (sound : Sound from) where
   record Facts (ready after : S) (status : Status) (lines : List ℕ) (run : Option Run) (committed : List Event) (broken : Option Event) : Type 0 where
     sets_follow_tests : IsRun o.resources run ready after
-    reports_are_true : AreTold from run (o.resources.kept after) (all_of committed broken) status lines
-    compliant_runs_are_promoted : IsPromoted o.disk begin now from run (o.resources.kept after) committed
+    reports_are_true : AreTold from run (o.resources.trace after) (all_of committed broken) status lines
+    compliant_runs_are_promoted : IsPromoted o.disk begin now from run (o.resources.trace after) committed
 
   module _ (status : Status) (lines : List ℕ) where
     idle : (ready after : S) (committed : List Event) (broken : Option Event) → after ≡ ready → ((report : Report) → Keeps (all_of committed broken) report → ⊥)
@@ -79,7 +79,7 @@ module _ {D S C : Type 0} (o : Known D S C) (begin now : D) (from : Node) (sound
 
     module _ (ready after : S) (work : List Event) (node : Node) (stopped : Bool) (readings left : Option (List (Option ℕ))) (start : ℕ) (asked heard : LinkView) (steps : Steps from work node)
         (job : node.next_job ≡ from.next_job) (meta : node.meta ≡ from.meta) (none : (report : Report) → Keeps work report → ⊥) where
-      module _ (run : Run) (report : Report) (reported : Reported o.resources node stopped readings start run report ready after) (f : IsPromotable o.disk begin now from run (o.resources.kept after)) where
+      module _ (run : Run) (report : Report) (reported : Reported o.resources node stopped readings start run report ready after) (f : IsPromotable o.disk begin now from run (o.resources.trace after)) where
         no_missed : report.missed ≡ 0
         no_missed = reported.is.missed ∙ f.compliant
 
@@ -148,7 +148,7 @@ module _ {D S C : Type 0} (o : Known D S C) (begin now : D) (from : Node) (sound
             (printed answers);
         compliant_runs_are_promoted = λ f. absurd (not_refused run report reported f error committed broken refused memory);
       } where
-        printed : {wanted : Status} → Answers wanted text status lines → IsPrinted run (o.resources.kept after) status lines
+        printed : {wanted : Status} → Answers wanted text status lines → IsPrinted run (o.resources.trace after) status lines
         printed (inl e) = inr (text, is_text, inl e.1)
         printed (inr e) = inl e
       finish_facts _ _ _ (report_kept run report text noted tried committed broken reported took is_text step sends ended) = record {
@@ -159,12 +159,12 @@ module _ {D S C : Type 0} (o : Known D S C) (begin now : D) (from : Node) (sound
             (printed (status_after node.meta.reboot_if_needed run.end report.missed) tried ended);
         compliant_runs_are_promoted = λ f. is_current run report reported f noted tried committed broken step sends;
       } where
-        alone : (wanted : Status) → Answers wanted text status lines → IsPrinted run (o.resources.kept after) status lines
+        alone : (wanted : Status) → Answers wanted text status lines → IsPrinted run (o.resources.trace after) status lines
         alone wanted (inl e) = inr (text, is_text, inl e.1)
         alone wanted (inr e) = inl e
 
         printed : (wanted : Status) (tried : Result (List Tried) StoreError) → EndsAfterSending wanted text (end_line run.end run.choice.pending report.missed) tried status lines
-            → IsPrinted run (o.resources.kept after) status lines
+            → IsPrinted run (o.resources.trace after) status lines
         printed wanted (Ok some) (inl e) = inr (text, is_text, inr (some, e.1 ∙ ap (λ (n : ℕ). text ++ end_line run.end run.choice.pending n ++ tried_text some) reported.is.missed))
         printed wanted (Ok some) (inr e) = inl e
         printed wanted (Err errors.Memory) e = inl e
@@ -211,7 +211,7 @@ headline o command before after status lines honest opened =
         packages = opened.leaves.packages;
         added =
             work_adds o command opened.task opened.is_task opened.from (disk_counts o.disk before.disk after.disk) [] opened.from before.beside after.beside status lines opened.ready opened.run opened.ended.committed opened.ended.broken opened.ended.table;
-        untested = opened.leaves.kept;
+        untested = opened.leaves.trace;
         later = opened.leaves.later;
         runs = facts.sets_follow_tests;
       };

@@ -96,13 +96,13 @@ module _ {S : Type 0} (machine : resources.Ghosts S) (before after : S) where
   pub shown : (from node : Node) → node.next_job ≡ from.next_job → node.meta ≡ from.meta → (stopped : Bool) (readings : Option (List (Option ℕ))) (start : ℕ) (run : Run) (report : Report)
       (work : List Event) (status : Status) (lines : List ℕ)
       → Reported machine node stopped readings start run report before after → ((kept : Report) → Keeps work kept → kept ≡ report)
-      → IsPrinted run (machine.kept after) status lines → AreTold from (Some run) (machine.kept after) work status lines
+      → IsPrinted run (machine.trace after) status lines → AreTold from (Some run) (machine.trace after) work status lines
   shown from node job meta stopped readings start run report work status lines reported one printed = record {
-    report = λ kept k. (start, end_of start reported.given, subst (λ (r : Report). IsReport run.document (machine.kept after) (frame_of from run.choice start (end_of start reported.given)) r) (sym (one kept k)) is);
+    report = λ kept k. (start, end_of start reported.given, subst (λ (r : Report). IsReport run.document (machine.trace after) (frame_of from run.choice start (end_of start reported.given)) r) (sym (one kept k)) is);
     success = λ kept k success r lt.
-        each_succeeded run.document (machine.kept after) (sym is.missed ∙ success_none (machine.kept after) report.missed report.outcome is.outcome (ap (λ (x : Report). x.outcome) (sym (one kept k)) ∙ success)) r lt;
+        each_succeeded run.document (machine.trace after) (sym is.missed ∙ success_none (machine.trace after) report.missed report.outcome is.outcome (ap (λ (x : Report). x.outcome) (sym (one kept k)) ∙ success)) r lt;
     compliant = λ kept k goes_on compliant.
-        ap (λ (x : Report). x.outcome) (one kept k) ∙ none_success (machine.kept after) report.missed report.outcome is.outcome goes_on (is.missed ∙ compliant);
+        ap (λ (x : Report). x.outcome) (one kept k) ∙ none_success (machine.trace after) report.missed report.outcome is.outcome goes_on (is.missed ∙ compliant);
     printed = printed;
   } where
     framed : (job : ℕ) (meta : Meta) → Node → Node
@@ -111,8 +111,8 @@ module _ {S : Type 0} (machine : resources.Ghosts S) (before after : S) where
     same : frame_of node run.choice start (end_of start reported.given) ≡ frame_of from run.choice start (end_of start reported.given)
     same = ap (λ (j : ℕ). frame_of (framed j node.meta from) run.choice start (end_of start reported.given)) job ∙ ap (λ (m : Meta). frame_of (framed from.next_job m from) run.choice start (end_of start reported.given)) meta
 
-    is : IsReport run.document (machine.kept after) (frame_of from run.choice start (end_of start reported.given)) report
-    is = subst (λ (f : Frame). IsReport run.document (machine.kept after) f report) same reported.is
+    is : IsReport run.document (machine.trace after) (frame_of from run.choice start (end_of start reported.given)) report
+    is = subst (λ (f : Frame). IsReport run.document (machine.trace after) f report) same reported.is
 
 module _ {H : Type 0} (host : hosts.Ghosts H) (before after : Kinds H) where
   pub is_true : (run : Run) → Ran (kinds_of host) run before after → IsTrueRun host (Some run) before after

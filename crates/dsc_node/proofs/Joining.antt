@@ -93,7 +93,7 @@ module _ {D S C : Type 0} (o : Known D S C) (counts_now : (disk : D) (t : ℕ) (
 
   -- ---- a list of starts
 
-  -- the part was there, where the disk is exposed
+  -- the part was there, where the disk is shown
   found_part : (begin : D) → ((held : List ℕ) × (o.disk.shown begin ≡ Some held)) → (from : Node) (part : Part) → WasThere o.disk begin from part
       → (node : Node) × StoodFor o.disk begin Stands node × IsSlot node part
   found_part begin exposed from part (node, inl found, slot) = (node, found, slot)

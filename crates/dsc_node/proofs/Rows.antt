@@ -83,15 +83,15 @@ module _ {D S C : Type 0} (o : Known D S C) (old now : D) (store : StoreTerm) (s
   finish_nothing none idle taken goes = (None, ends_as o.disk goes (λ from counts work committed broken n. no_run n.tried committed broken none idle taken n.sends n.ends))
 
   pub finish_kept : (over : Over) → IsOver o.resources store.node stopped readings start over before after × Took 1 readings left
-      → KeepGoes o.disk old now store over (o.resources.kept after) asked heard status lines → FinishGoes
+      → KeepGoes o.disk old now store over (o.resources.trace after) asked heard status lines → FinishGoes
   finish_kept over (is, took) goes = (Some (run_of over is.parts is.mode is.order), ends_as o.disk goes row) where
-    text : IsRunText over.document (o.resources.kept after) (text_of over (o.resources.kept after))
-    text = run_text over.document (o.resources.kept after) over.overlap is.found
+    text : IsRunText over.document (o.resources.trace after) (text_of over (o.resources.trace after))
+    text = run_text over.document (o.resources.trace after) over.overlap is.found
 
     row : (from : Node) (counts : ℕ × ℕ) (work committed : List Event) (broken : Option Event)
-        → IsKeptSo from counts work store.node over (o.resources.kept after) asked heard status lines committed broken ⊎ IsRefusedSo from counts work over (o.resources.kept after) asked heard status lines committed broken
+        → IsKeptSo from counts work store.node over (o.resources.trace after) asked heard status lines committed broken ⊎ IsRefusedSo from counts work over (o.resources.trace after) asked heard status lines committed broken
         → Finish o from counts work store.node stopped readings left start asked heard before after status lines (Some (run_of over is.parts is.mode is.order)) committed broken
     row from counts work committed broken (inl n) =
-        report_kept (run_of over is.parts is.mode is.order) over.report (text_of over (o.resources.kept after)) n.noted n.tried committed broken is.reported took text n.step n.sends n.ends
+        report_kept (run_of over is.parts is.mode is.order) over.report (text_of over (o.resources.trace after)) n.noted n.tried committed broken is.reported took text n.step n.sends n.ends
     row from counts work committed broken (inr n) =
-        report_refused (run_of over is.parts is.mode is.order) over.report n.error (text_of over (o.resources.kept after)) committed broken is.reported took n.unasked n.refused n.memory text n.answers
+        report_refused (run_of over is.parts is.mode is.order) over.report n.error (text_of over (o.resources.trace after)) committed broken is.reported took n.unasked n.refused n.memory text n.answers

@@ -60,9 +60,9 @@ module _ {S : Type 0} (machine : Ghosts S) (choice : Choice) (document : Documen
   abbrev pub the_run : Run
   the_run = record { choice = choice; document = document; order = order; end = end }
 
-  pub ran_of : Merged choice.parts document → IsOrderOfDocument document order → Legal document choice.mode order (machine.kept after)
-      → IsWholeOrNone document choice.mode order end (machine.kept after) → EndsAs end (machine.kept after) → Chain machine.does machine.still document before (machine.kept after) after
-      → RoseBy (host_failures (machine.kept after)) (machine.faults before) (machine.faults after) → machine.faults before ≤ machine.faults after → Ran machine the_run before after
+  pub ran_of : Merged choice.parts document → IsOrderOfDocument document order → Legal document choice.mode order (machine.trace after)
+      → IsWholeOrNone document choice.mode order end (machine.trace after) → EndsAs end (machine.trace after) → Chain machine.does machine.still document before (machine.trace after) after
+      → RoseBy (host_failures (machine.trace after)) (machine.faults before) (machine.faults after) → machine.faults before ≤ machine.faults after → Ran machine the_run before after
   ran_of merged ordered legal whole ended chain failures later = record {
     merged = merged;
     is_order = ordered;
@@ -80,11 +80,11 @@ is_end mode (ends.RebootAsked place) trace goes_on ended = ended
 is_end mode ends.Memory trace goes_on ended = absurd (goes_on refl)
 
 pub reportable : RunsAreReportable → {S : Type 0} (machine : Ghosts S) (run : Run) (before after : S) → Ran machine run before after → run.end ≢ ends.Memory
-    → IsReportable run.document (machine.kept after)
+    → IsReportable run.document (machine.trace after)
 reportable law machine run before after ran goes_on =
-    law run.document run.choice.mode run.order run.end (machine.kept after) goes_on ran.legal
-    (inl (whole_of run.document run.choice.mode run.order run.end (machine.kept after) ran.whole goes_on))
-    (is_end run.choice.mode run.end (machine.kept after) goes_on ran.ended)
+    law run.document run.choice.mode run.order run.end (machine.trace after) goes_on ran.legal
+    (inl (whole_of run.document run.choice.mode run.order run.end (machine.trace after) ran.whole goes_on))
+    (is_end run.choice.mode run.end (machine.trace after) goes_on ran.ended)
 
 -- ---- its frame
 
@@ -111,7 +111,7 @@ framed node choice start pull end marks given same last are =
 
 pub reported_of : {S : Type 0} (machine : Ghosts S) (node : Node) (stopped : Bool) (readings : Option (List (Option ℕ))) (start : ℕ) (run : Run) (report : Report) (before after : S)
     (given : Option ℕ) (frame : Frame) (trace : List Entry) → chosen_of stopped node ≡ Some run.choice → Ran machine run before after → run.end ≢ ends.Memory → Gave readings given
-    → frame ≡ frame_of node run.choice start (end_of start given) → trace ≡ machine.kept after → IsReport run.document trace frame report → ReportInSize report
+    → frame ≡ frame_of node run.choice start (end_of start given) → trace ≡ machine.trace after → IsReport run.document trace frame report → ReportInSize report
     → Reported machine node stopped readings start run report before after
 reported_of machine node stopped readings start run report before after given frame trace chosen ran goes_on gave framed same is in_size = record {
   chosen = chosen;
@@ -119,6 +119,6 @@ reported_of machine node stopped readings start run report before after given fr
   goes_on = goes_on;
   given = given;
   time = gave;
-  is = subst (λ (f : Frame). IsReport run.document (machine.kept after) f report) framed (subst (λ (t : List Entry). IsReport run.document t frame report) same is);
+  is = subst (λ (f : Frame). IsReport run.document (machine.trace after) f report) framed (subst (λ (t : List Entry). IsReport run.document t frame report) same is);
   in_size = in_size;
 }

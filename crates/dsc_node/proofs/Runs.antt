@@ -1,4 +1,4 @@
--- What a run shows after room for its trace was made.
+-- What a run shows after capacity for its trace was made.
 use Rattle.std.proofs.Common.{◌≡◌, ◌⊎◌, inl, inr, ℕ, List, [], ◌∷◌, Option}
 use Rattle.dsc_document.specs.declared.document.Document.{Document}
 use Rattle.dsc_outside.specs.Host.{HostState}
@@ -15,7 +15,7 @@ use Rattle.resource_kinds.specs.True.{TellsEntry, TellsTrue}
 use Rattle.resource_kinds.proofs.Chains.{chain_map, tells_true}
 use Rattle.dsc_node.specs.Ran.{EndsAs, IsWholeOrNone}
 
--- a chain that begins where nothing but the room has changed
+-- a chain that begins where nothing but the capacity has changed
 pub chain_after : {S : Type 0} (does : S → Document → Entry → S → Type 0) (still : S → S → Type 0)
     → ((a b c : S) (d : Document) (e : Entry) → still a b → does b d e c → does a d e c)
     → ((a b c : S) → still a b → still b c → still a c)
@@ -40,7 +40,7 @@ ends_as mode (RebootAsked place) trace ends = ends
 ends_as mode Memory trace (inl wants) = inl wants
 ends_as mode Memory trace (inr none) = inr none.nothing
 
--- a chain of the kinds over a host is true of the host, where it exposes what it holds
+-- a chain of the kinds over a host is true of the host, where it shows what it holds
 module _ {H : Type 0} (shown : H → Option HostState) where
   told_by : Kinds H → Option HostState
   told_by k = shown (host_of k)

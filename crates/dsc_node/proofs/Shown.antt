@@ -12,7 +12,7 @@ pub checksum_is : (digest : List ℕ) → encode_upper digest ≡ checksum_of di
 unfolding checksum_of
 checksum_is digest = refl
 
--- a text that was made, or for which memory was refused, is the wanted one
+-- a text that was made, or one that ran out of memory, is the wanted one
 pub shown_answers : {T E : Type 0} (text_of : T → List ℕ) (made : Result T E) (wanted : List ℕ) (status : Status) (lines : List ℕ) → IfOk made (λ text. text_of text ≡ wanted)
     → IfOk made (λ text. Answers statuses.Done (text_of text) status lines) → (IsErr made → Ends statuses.Memory [] status lines) → Answers statuses.Done wanted status lines
 shown_answers text_of (Ok text) wanted status lines is answers memory = subst (λ (t : List ℕ). Answers statuses.Done t status lines) is answers

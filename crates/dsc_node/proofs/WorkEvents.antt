@@ -32,7 +32,7 @@ use Rattle.dsc_node.specs.Headline.{AddsPackages, IsPullFault, IsPullRefused}
 use Rattle.dsc_node.proofs.Firsts.{command_adds, fault_error}
 use Rattle.dsc_node.proofs.Sends.{sends_less}
 
--- the link exposes what it exposed before, and more
+-- the link shows what it showed before, and more
 sends_on : (from : Node) (counts : ℕ × ℕ) (work : List Event) (node : Node) (asked heard : LinkView) (tried : Result (List Tried) StoreError) (committed : List Event) (broken : Option Event)
     → Sends from counts work node asked heard tried committed broken → GoesOn asked heard
 sends_on from counts _ _ _ _ _ _ _ (all_sent work node view none) = stays view

@@ -66,7 +66,7 @@ AreSound d begin from work = (node : Node) → IsOnTheWay d begin from work node
 
 -- ---- 3: as announced or pushed
 
--- an image at the beginning stood for the node, or, where the disk does not expose what it holds, it is the one that was opened
+-- an image at the beginning stood for the node, or, where the disk does not show what it holds, it is the one that was opened
 abbrev pub WasFound : {D : Type 0} → disks.Ghosts D → D → Node → Node → Type 0
 WasFound d begin from node = StoodFor d begin Stands node ⊎ ((d.shown begin ≡ None) × (node ≡ from))
 
@@ -142,7 +142,7 @@ AddsPackages _ node asked heard status before ready = ready ≡ before
 pub record RunsAfterPackages {D S C : Type 0} (o : Known D S C) (command : Command) (node : Node) (asked heard : LinkView) (status : Status) (run : Option Run) (before ready after : S) : Type 0 where
   pub packages : o.machine.packages_changed before ready
   pub added : AddsPackages command node asked heard status (o.machine.packages before) (o.machine.packages ready)
-  pub untested : o.resources.kept ready ≡ o.resources.kept before
+  pub untested : o.resources.trace ready ≡ o.resources.trace before
   pub later : o.resources.faults before ≤ o.resources.faults ready
   pub runs : IsRun o.resources run ready after
 
@@ -207,8 +207,8 @@ pub record Headline {D S C : Type 0} (o : Known D S C) (command : Command) (befo
   pub documents_are_whole : AreSound o.disk before.disk from (all_of committed broken)
   pub parts_are_as_brought : AreAsBrought o.disk before.disk command before.beside.link after.beside.link from (all_of committed broken)
   pub sets_follow_tests : RunsAfterPackages o command from before.beside.link after.beside.link status run before.beside.machine ready after.beside.machine
-  pub reports_are_true : AreTold from run (o.resources.kept after.beside.machine) (all_of committed broken) status lines
-  pub compliant_runs_are_promoted : IsPromoted o.disk before.disk after.disk from run (o.resources.kept after.beside.machine) committed
+  pub reports_are_true : AreTold from run (o.resources.trace after.beside.machine) (all_of committed broken) status lines
+  pub compliant_runs_are_promoted : IsPromoted o.disk before.disk after.disk from run (o.resources.trace after.beside.machine) committed
 
 -- of each start that opened its store
 abbrev pub HasHeadline : {D S C : Type 0} → Known D S C → Command → Outside D S C → Outside D S C → Status → List ℕ → Type 0

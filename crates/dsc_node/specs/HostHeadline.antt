@@ -30,7 +30,7 @@ use Rattle.dsc_node.specs.Work.{Known, known}
 -- the kinds of resources over a host, as what is run, and as a machine that keeps packages
 abbrev pub kinds_of : {H : Type 0} → hosts.Ghosts H → resources.Ghosts (Kinds H)
 kinds_of host = record {
-  kept = calls_of;
+  trace = calls_of;
   spare = spare_of;
   faults = λ kinds. host.faults (host_of kinds);
   does = λ before document entry after. TellsEntry (host.shown (host_of before)) document entry (host.shown (host_of after));
@@ -49,14 +49,14 @@ known_on_host disk host clock = known disk (kinds_of host) (machine_of host) clo
 
 -- ---- 4: each Set
 
--- the trace of a run is true of the host, where that exposes what it holds
+-- the trace of a run is true of the host, where that shows what it holds
 abbrev pub IsTrueRun : {H : Type 0} → hosts.Ghosts H → Option Run → Kinds H → Kinds H → Type 0
 IsTrueRun host None before after = ⊤
 IsTrueRun host (Some run) before after = TellsTrue run.document (host.shown (host_of before)) (calls_of after) (host.shown (host_of after))
 
 -- ---- 6: completes
 
--- a repair that came to its last resource, on a host that exposes what it holds
+-- a repair that came to its last resource, on a host that shows what it holds
 pub record IsFinished {H : Type 0} (host : hosts.Ghosts H) (run : Run) (before : Kinds H) : Type 0 where
   pub repairs : run.choice.mode ≡ Repair
   pub finished : run.end ≡ ends.Finished

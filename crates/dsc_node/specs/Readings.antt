@@ -8,7 +8,7 @@ abbrev pub next_reading : List (Option ℕ) → Option ℕ
 next_reading [] = None
 next_reading (reading ∷ rest) = reading
 
--- a clock that still gave these readings, where it exposes them, gave this one
+-- a clock that still gave these readings, where it shows them, gave this one
 abbrev pub Gave : Option (List (Option ℕ)) → Option ℕ → Type 0
 Gave readings given = IfSome readings (λ list. given ≡ next_reading list)
 

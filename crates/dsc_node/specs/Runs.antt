@@ -66,11 +66,11 @@ pub record Run : Type 0 where
 pub record Ran {S : Type 0} (machine : Ghosts S) (run : Run) (before after : S) : Type 0 where
   pub merged : Merged run.choice.parts run.document
   pub is_order : IsOrderOfDocument run.document run.order
-  pub legal : Legal run.document run.choice.mode run.order (machine.kept after)
-  pub whole : IsWholeOrNone run.document run.choice.mode run.order run.end (machine.kept after)
-  pub ended : EndsAs run.end (machine.kept after)
-  pub chain : Chain machine.does machine.still run.document before (machine.kept after) after
-  pub failures : RoseBy (host_failures (machine.kept after)) (machine.faults before) (machine.faults after)
+  pub legal : Legal run.document run.choice.mode run.order (machine.trace after)
+  pub whole : IsWholeOrNone run.document run.choice.mode run.order run.end (machine.trace after)
+  pub ended : EndsAs run.end (machine.trace after)
+  pub chain : Chain machine.does machine.still run.document before (machine.trace after) after
+  pub failures : RoseBy (host_failures (machine.trace after)) (machine.faults before) (machine.faults after)
   pub later : machine.faults before ≤ machine.faults after
 
 -- ---- its report
@@ -93,7 +93,7 @@ pub record Reported {S : Type 0} (machine : Ghosts S) (node : Node) (stopped : B
   pub goes_on : run.end ≢ ends.Memory
   pub given : Option ℕ
   pub time : Gave readings given
-  pub is : IsReport run.document (machine.kept after) (frame_of node run.choice start (end_of start given)) report
+  pub is : IsReport run.document (machine.trace after) (frame_of node run.choice start (end_of start given)) report
   pub in_size : ReportInSize report
 
 -- a run in this node for which memory ran out: before its first Test, or in its last Test or Set

@@ -95,7 +95,7 @@ abbrev pub last_of : {D S C : Type 0} (o : Known D S C) → OneStart o → List 
 last_of o one [] = one
 last_of o one (next ∷ starts) = last_of o next starts
 
--- the disk exposes what it holds at the begin
+-- the disk shows what it holds at the beginning
 abbrev pub IsExposed : {D S C : Type 0} (o : Known D S C) → OneStart o → Type 0
 IsExposed o one = (held : List ℕ) × (o.disk.shown one.before.disk ≡ Some held)
 

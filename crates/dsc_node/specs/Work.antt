@@ -51,7 +51,7 @@ beside machine link clock = record { machine = machine; link = link; clock = clo
 
 -- what brings a task's event leaves the machine's entries as they were, and all but its packages
 pub record LeavesEntries {D S C : Type 0} (o : Known D S C) (before ready : S) : Type 0 where
-  pub kept : o.resources.kept ready ≡ o.resources.kept before
+  pub trace : o.resources.trace ready ≡ o.resources.trace before
   pub packages : o.machine.packages_changed before ready
   pub later : o.resources.faults before ≤ o.resources.faults ready
 
@@ -76,11 +76,11 @@ pub data Finish {D S C : Type 0} (o : Known D S C) (from : Node) (counts : ℕ �
   report_refused : (run : Run) (report : Report) (error : StoreError) (text : List ℕ) (committed : List Event) (broken : Option Event)
       → Reported o.resources node stopped readings start run report before after → Took 1 readings left → heard ≡ asked
       → RefusedAfter from counts work (event_of run.end run.choice.pending report) error committed broken
-      → error ≢ errors.Memory → IsRunText run.document (o.resources.kept after) text → Answers (status_of error) text status lines
+      → error ≢ errors.Memory → IsRunText run.document (o.resources.trace after) text → Answers (status_of error) text status lines
       → Finish o from counts work node stopped readings left start asked heard before after status lines (Some run) committed broken
   -- it was committed
   report_kept : (run : Run) (report : Report) (text : List ℕ) (noted : Node) (tried : Result (List Tried) StoreError) (committed : List Event) (broken : Option Event)
-      → Reported o.resources node stopped readings start run report before after → Took 1 readings left → IsRunText run.document (o.resources.kept after) text
+      → Reported o.resources node stopped readings start run report before after → Took 1 readings left → IsRunText run.document (o.resources.trace after) text
       → Step node (event_of run.end run.choice.pending report) noted
       → Sends from counts (work ++ event_of run.end run.choice.pending report ∷ []) noted asked heard tried committed broken
       → EndsAfterSending (status_after node.meta.reboot_if_needed run.end report.missed) text (end_line run.end run.choice.pending report.missed) tried status lines

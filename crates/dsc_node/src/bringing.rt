@@ -80,7 +80,7 @@ pub(crate) fn bring<L: Link, M: Machine>(
     ensures within { IfOk result (λ first. IfSome first.event IsWithin) }
     ensures document { IfOk result (λ first.
         IfSome first.document (IsOfHeldAfter node.now first.event)) }
-    ensures kept { M.kept machine.new ≡ M.kept machine.old }
+    ensures trace { M.trace machine.new ≡ M.trace machine.old }
     ensures packages { M.packages_changed machine.old machine.new }
     ensures later { M.faults machine.old ≤ M.faults machine.new }
 {
@@ -123,7 +123,7 @@ fn pulled<L: Link, M: Machine>(
     ensures within { IfOk result (λ first. IfSome first.event IsWithin) }
     ensures document { IfOk result (λ first.
         IfSome first.document (IsOfHeldAfter node.now first.event)) }
-    ensures kept { M.kept machine.new ≡ M.kept machine.old }
+    ensures trace { M.trace machine.new ≡ M.trace machine.old }
     ensures packages { M.packages_changed machine.old machine.new }
     ensures later { M.faults machine.old ≤ M.faults machine.new }
 {

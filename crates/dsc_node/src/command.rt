@@ -1,4 +1,4 @@
-//! Commands.
+//! What a node is asked to do, and the command with its merged document.
 ghost use Rattle.std.specs.Prelude.{◌≡◌, None};
 
 use meta_config::Meta;

@@ -40,7 +40,7 @@ pub(crate) fn finish<D: Disk, M: Machine, L: Link, C: Clock>(
     clock: &mut C,
 ) -> StartEnd
     requires kept { IsKept D.Disk disk.old store.old }
-    requires fresh { M.kept machine.old ≡ [] }
+    requires fresh { M.trace machine.old ≡ [] }
     requires document { IfSome document (IsOfHeld store.old.node) }
     requires moment { start ≤ last_moment }
     ensures goes { (run : Option Run) × EndsStart D.Disk disk.old disk.new store.old

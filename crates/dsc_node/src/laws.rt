@@ -7,7 +7,7 @@ use resource_kinds::Machine;
 
 /// A start finds a node that the start before it may have left, wherever that was stopped, and what that left at its end, where it came to it.
 ///
-/// What a disk reads as is found at the begin of a start.
+/// What a disk reads as is found at the beginning of a start.
 pub fn starts_join<D: Disk, M: Machine, C: Clock>()
     ensures go_on { StartsGoOn (known D.Disk M.Resources M.Machine.own C.Clock) }
     ensures join { StartsJoin (known D.Disk M.Resources M.Machine.own C.Clock) }

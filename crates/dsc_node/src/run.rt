@@ -27,21 +27,21 @@ pub fn run_merged<M: Machine>(
     mode: RunMode,
     machine: &mut M,
 ) -> RunEnd
-    requires fresh { M.kept machine.old ≡ [] }
+    requires fresh { M.trace machine.old ≡ [] }
     requires merged { (parts : List Part) × Merged parts ordered.now.document }
     requires ordered { IsOrdered ordered.now }
 
-    ensures legal { Legal ordered.now.document mode ordered.now.order (M.kept machine.new) }
+    ensures legal { Legal ordered.now.document mode ordered.now.order (M.trace machine.new) }
     ensures whole { IsWholeOrNone ordered.now.document mode ordered.now.order result
-        (M.kept machine.new) }
-    ensures end { EndsAs result (M.kept machine.new) }
-    ensures chain { Chain M.does M.still ordered.now.document machine.old (M.kept machine.new)
+        (M.trace machine.new) }
+    ensures end { EndsAs result (M.trace machine.new) }
+    ensures chain { Chain M.does M.still ordered.now.document machine.old (M.trace machine.new)
         machine.new }
-    ensures faults { RoseBy (host_failures (M.kept machine.new)) (M.faults machine.old)
+    ensures faults { RoseBy (host_failures (M.trace machine.new)) (M.faults machine.old)
         (M.faults machine.new) }
     ensures later { M.faults machine.old ≤ M.faults machine.new }
-    ensures bound { (r : ℕ) → (tests_of (M.kept machine.new) r ≤ 2)
-        × (sets_of (M.kept machine.new) r ≤ 1) }
+    ensures bound { (r : ℕ) → (tests_of (M.trace machine.new) r ≤ 2)
+        × (sets_of (M.trace machine.new) r ≤ 1) }
 {
     let count = ordered.document.resources.as_slice().len() as u32;
     if let Err(Memory) = machine.reserve(3 * count) {
@@ -52,7 +52,7 @@ pub fn run_merged<M: Machine>(
 
 /// Runs over the resources of a merged document in its order, that of their dependencies, on the machine that a host is.
 ///
-/// Where the host exposes what it holds the trace is true of it.
+/// Where the host shows what it holds the trace is true of it.
 pub fn run_kinds<H: Host>(
     alloc: Global,
     ordered: &OrderedDocument,

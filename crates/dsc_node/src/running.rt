@@ -50,7 +50,7 @@ pub(crate) enum RunStep {
     Over(Over),
 }
 
-// All that a run takes beside the room of its trace.
+// All that a run takes beside the capacity of its trace.
 #[derive(Drop)]
 pub(crate) struct Ready {
     pub(crate) ordered: OrderedDocument,
@@ -70,7 +70,7 @@ pub(crate) fn run_step<M: Machine, C: Clock>(
     machine: &mut M,
     clock: &mut C,
 ) -> RunStep
-    requires fresh { M.kept machine.old ≡ [] }
+    requires fresh { M.trace machine.old ≡ [] }
     requires sound { Sound node.now }
     requires document { IfSome document (IsOfHeld node.now) }
     requires moment { start ≤ last_moment }
@@ -146,7 +146,7 @@ fn run_ready<M: Machine, C: Clock>(
     machine: &mut M,
     clock: &mut C,
 ) -> RunStep
-    requires fresh { M.kept machine.old ≡ [] }
+    requires fresh { M.trace machine.old ≡ [] }
     requires staged { IsStaged chosen.parts.now }
     requires ready { IsReadyFor chosen.parts.now ready }
     requires moment { start ≤ last_moment }

@@ -1,4 +1,4 @@
-//! One start.
+//! One start of the node: its store is opened, and the task of its command is done.
 ghost use Rattle.std.specs.Prelude.{◌≡◌, ◌≤◌, [], IfOk, IfSome, None, true, string_bytes};
 ghost use Rattle.dsc_outside.specs.Clock.{last_moment};
 ghost use Rattle.gate_log.specs.Standing.{AllStand, Any};
@@ -44,7 +44,7 @@ pub fn start_over<D: Disk, M: Machine, L: Link, C: Clock>(
     clock: &mut C,
 ) -> StartEnd
     requires taken { IsTaken command }
-    requires fresh { M.kept machine.old ≡ [] }
+    requires fresh { M.trace machine.old ≡ [] }
     ensures start { Start (known D.Disk M.Resources M.Machine.own C.Clock) command
         (outside disk.old machine.old (view_of L.Link link.old) clock.old)
         (outside disk.new machine.new (view_of L.Link link.new) clock.new)
@@ -116,7 +116,7 @@ fn opened<D: Disk, M: Machine, L: Link, C: Clock>(
     requires kept { IsKept D.Disk disk.old store.old }
     requires taken { IsTakenTask prepared.task }
     requires document { IfSome prepared.document (IsOfTask prepared.task) }
-    requires fresh { M.kept machine.old ≡ [] }
+    requires fresh { M.trace machine.old ≡ [] }
     ensures goes { OpenedGoes (known D.Disk M.Resources M.Machine.own C.Clock) prepared.task
         disk.old disk.new store.old (beside machine.old (view_of L.Link link.old) clock.old)
         (beside machine.new (view_of L.Link link.new) clock.new) result.status
@@ -163,7 +163,7 @@ fn run_task<D: Disk, M: Machine, L: Link, C: Clock>(
     requires allowed { why_not store.old.node prepared.task ≡ None }
     requires runs { is_run prepared.task ≡ true }
     requires document { IfSome prepared.document (IsOfTask prepared.task) }
-    requires fresh { M.kept machine.old ≡ [] }
+    requires fresh { M.trace machine.old ≡ [] }
     requires moment { start ≤ last_moment }
     ensures goes { RunGoes (known D.Disk M.Resources M.Machine.own C.Clock) prepared.task start
         disk.old disk.new store.old (beside machine.old (view_of L.Link link.old) clock.old)

@@ -34,7 +34,7 @@ pub enum InputError {
 pub enum Status {
     Done,
 
-    /// So many resources did not succeed: their last Test did not answer yes.
+    /// How many resources did not succeed: their last Test did not answer yes.
     NotCompliant { count: u32 },
 
     /// The arguments fit no command; `word` is the place of the first argument that no command goes on with, or their count.

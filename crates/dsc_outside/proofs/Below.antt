@@ -21,13 +21,13 @@ below_says (p ∷ ps) (c ∷ cs) e =
     let rest = below_says ps cs parts.1 in
     (rest.0, ap (λ x. x ∷ cs) (sym (eqb-true p c parts.0)) ∙ ap (λ t. p ∷ t) rest.1)
 
-pub below_behind : (path rest : List ℕ) → is_below path (path ++ rest) ≡ begins_below rest
-below_behind [] [] = refl
-below_behind [] (c ∷ cs) = refl
-below_behind (p ∷ ps) rest = rw (eq-eqb p p refl, below_behind ps rest) refl
+pub below_after : (path rest : List ℕ) → is_below path (path ++ rest) ≡ begins_below rest
+below_after [] [] = refl
+below_after [] (c ∷ cs) = refl
+below_after (p ∷ ps) rest = rw (eq-eqb p p refl, below_after ps rest) refl
 
 pub below_found : (path other : List ℕ) → IsBelow path other → is_below path other ≡ true
-below_found path other below = rw (below.1, below_behind path (47 ∷ below.0)) refl
+below_found path other below = rw (below.1, below_after path (47 ∷ below.0)) refl
 
 pub below-Decides : (path other : List ℕ) → Decides (is_below path other) (IsBelow path other)
 below-Decides path other = (below_says path other, below_found path other)
@@ -59,10 +59,10 @@ pub below_rest : (path other rest : List ℕ) → bytes_eq (take (length path) o
 below_rest path other rest same is =
     let front = (bytes_eq-Decides (take (length path) other) path).0 same in
     let whole : other ≡ path ++ rest = sym (take-append-drop (length path) other) ∙ ap (λ t. t ++ drop (length path) other) front ∙ ap (λ t. path ++ t) (sym is) in
-    rw (whole, below_behind path rest) refl
+    rw (whole, below_after path rest) refl
 
-pub not_behind : (path other : List ℕ) → bytes_eq (take (length path) other) path ≡ false → is_below path other ≡ false
-not_behind path other e = false_from_ne_true _ (λ below. let says = below_says path other below in
+pub not_after : (path other : List ℕ) → bytes_eq (take (length path) other) path ≡ false → is_below path other ≡ false
+not_after path other e = false_from_ne_true _ (λ below. let says = below_says path other below in
     both_ways _ e ((bytes_eq-Decides (take (length path) other) path).1 (ap (λ t. take (length path) t) says.1 ∙ take-append_seam path (47 ∷ says.0))))
 
 pub begins_first : (rest : List ℕ) → 1 ≤ length rest → begins_below rest ≡ (get_or rest 0 0 == 47)

@@ -46,13 +46,13 @@ pub record ChangedVariable (name : List ℕ) (old new : HostState) : Type 0 wher
 abbrev pub AllOrNothing : (HostState → HostState) → HostState → HostState → Type 0
 AllOrNothing done old new = (new ≡ old) ⊎ (new ≡ done old)
 
--- where the host exposes what it holds, the call did this to it; where it answered an error, it did at most that part
+-- where the host shows what it holds, the call did this to it; where it answered an error, it did at most that part
 abbrev pub Does : {A E : Type 0} → Option HostState → Option HostState → Result A E → (HostState → HostState) → (HostState → HostState → Type 0) → Type 0
 Does None new result done part = new ≡ None
 Does (Some old) new (Ok answer) done part = new ≡ Some (done old)
 Does (Some old) new (Err error) done part = (state : HostState) × (new ≡ Some state) × part old state
 
--- what each call that changes the machine does, from what the host exposes before it and after it, and from its answer
+-- what each call that changes the machine does, from what the host shows before it and after it, and from its answer
 abbrev pub PutsFile : {A E : Type 0} → List ℕ → List ℕ → Option HostState → Option HostState → Result A E → Type 0
 PutsFile path bytes old new result = Does old new result (with_file path bytes) (ChangedPath path)
 

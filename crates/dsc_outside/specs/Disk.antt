@@ -48,11 +48,11 @@ pub record Elapses (before now : ℕ) (past since : ℕ → List ℕ → Type 0)
 abbrev pub TimePasses : {D : Type 0} → (D → ℕ) → (D → ℕ → List ℕ → Type 0) → (D → List ℕ → Type 0) → D → D → Type 0
 TimePasses moment left_since images old new = Elapses (moment old) (moment new) (left_since old) (left_since new) (images new)
 
--- where what the disk holds is exposed, the bytes that were read stand there from this place on
+-- where what the disk holds is shown, the bytes that were read stand there from this place on
 abbrev pub ReadsFrom : {E : Type 0} → ℕ → Option (List ℕ) → Result ℕ E → List ℕ → Type 0
 ReadsFrom at shown result into = IfOk result (λ n. IfSome shown (λ held. take n into ≡ take (length into) (drop at held)))
 
--- a call that succeeded changed what is held so, where that is exposed
+-- a call that succeeded changed what is held so, where that is shown
 abbrev pub Makes : {A E : Type 0} → (List ℕ → List ℕ) → Option (List ℕ) → Option (List ℕ) → Result A E → Type 0
 Makes change before after result = OnOk result (after ≡ option_map change before)
 

@@ -35,7 +35,7 @@ has_package packages name version = list_any (λ p. bytes_eq p.name name && byte
 abbrev pub wants_reboot : List (List ℕ) → List ℕ → Bool
 wants_reboot wanting id = list_any (λ w. bytes_eq w id) wanting
 
--- where the host exposes what it holds, that is what the call answers by
+-- where the host shows what it holds, that is what the call answers by
 abbrev pub Tells : {A E : Type 0} → Option HostState → Result A E → (HostState → A → Type 0) → Type 0
 Tells None result shows = ⊤
 Tells (Some host) result shows = IfOk result (λ answer. shows host answer)
@@ -63,7 +63,7 @@ Shows (Some value) false old new = ⊥
 Shows None true old new = ⊥
 Shows None false old new = new ≡ old
 
--- where the host exposes what it holds, the variable of that name is what it answers
+-- where the host shows what it holds, the variable of that name is what it answers
 abbrev pub TellsVariable : {E : Type 0} → Option HostState → List ℕ → Result Bool E → List ℕ → List ℕ → Type 0
 TellsVariable None name result old new = ⊤
 TellsVariable (Some host) name result old new = IfOk result (λ there. Shows (host.variable name) there old new)

@@ -1,4 +1,4 @@
--- What a link exposes of its exchanges.
+-- What a link shows of its exchanges.
 use Rattle.std.specs.Prelude.{◌≡◌, ◌⊎◌, ◌<◌, ◌≤◌, ℕ, ◌+◌, List, [], ◌∷◌, ◌++◌, length, Option, Some, None, Result, Ok, Err, IsErrOf, ⊤}
 use Rattle.std.specs.Io.{StartsWith}
 use Rattle.dsc_outside.specs.declared.link.LinkError.{LinkError}
@@ -30,8 +30,8 @@ ComesTo (Ok done) old new Failed = ⊥
 ComesTo (Ok done) old new TooLong = ⊥
 ComesTo (Err error) old new outcome = IsFault error outcome
 
--- where the exchanges are exposed, the call adds its own at the end; out of memory, it adds at most its own. A link
--- that does not expose them exposes nothing afterwards either
+-- where the exchanges are shown, the call adds its own at the end; out of memory, it adds at most its own. A link
+-- that does not show them shows nothing afterwards either
 abbrev pub AddsExchange : Option (List Exchange) → Option (List Exchange) → Peer → List ℕ → Result (Unit {0}) LinkError → List ℕ → List ℕ → Type 0
 AddsExchange None after to request result old new = after ≡ None
 AddsExchange (Some before) after to request result old new =
@@ -43,12 +43,12 @@ abbrev pub LeavesAnswer : Result (Unit {0}) LinkError → List ℕ → List ℕ 
 LeavesAnswer (Ok done) old new = StartsWith new old × (length new < length old + answer_limit)
 LeavesAnswer (Err error) old new = new ≡ old
 
--- what a link shows: its exchanges, where it exposes them, and how often it has failed
+-- what a link shows: its exchanges, where it shows them, and how often it has failed
 pub record LinkView : Type 0 where
   pub shown : Option (List Exchange)
   pub faults : ℕ
 
--- where the exchanges are exposed, they are only added
+-- where the exchanges are shown, they are only added
 abbrev pub AddsExchanges : Option (List Exchange) → Option (List Exchange) → Type 0
 AddsExchanges None after = after ≡ None
 AddsExchanges (Some before) after = (more : List Exchange) × (after ≡ Some (before ++ more))

@@ -10,7 +10,7 @@ pub const LAST_MOMENT: u64 = 253_402_207_200;
 
 /// A clock. A reading that it cannot give is a failure.
 pub trait Clock {
-    /// The readings that it still gives, in order, where they are exposed; one that is none is a failure.
+    /// The readings that it still gives, in order, where they are shown; one that is none is a failure.
     ghost coming: { Self → Option (List (Option ℕ)) };
 
     /// How often a call has failed.

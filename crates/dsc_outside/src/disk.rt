@@ -10,10 +10,10 @@ use crate::Failed;
 /// What a crash may leave is a set of images. Right after a sync that succeeded the one image is what a read gives;
 /// each write and each cut makes more of them. Every image at every moment since a call began can be spoken of.
 pub trait Disk {
-    /// What a read gives, where it is exposed.
+    /// What a read gives, where it is shown.
     ghost shown: { Self → Option (List ℕ) };
 
-    /// What a crash at this moment may leave. A disk that exposes nothing has no image.
+    /// What a crash at this moment may leave. A disk that shows nothing has no image.
     ghost images: { Self → List ℕ → Type 0 };
 
     /// The moment, as a number that does not fall.

@@ -88,7 +88,7 @@ pub enum PathState {
 /// are added whole or not at all. Nothing else changes. A host may fail where a path is in the way of a change, as a
 /// file above it is; one that does not then leaves what is above as it is.
 pub trait Host {
-    /// What the machine holds, where it is exposed.
+    /// What the machine holds, where it is shown.
     ghost shown: { Self → Option HostState };
 
     /// How often a call has failed.

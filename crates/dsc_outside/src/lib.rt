@@ -1,8 +1,8 @@
 //! The outside of the product: what it reads, writes, tests and asks, as traits.
 //!
 //! Each trait has a count of faults that never falls, and a call answers `Failed` only where the count rose in that
-//! call, or stands at 2^64 - 1. What an object holds is exposed or not: the forms of `memory_outside` expose it, the
-//! adapters of `real_outside` do not, and the clauses on content hold where it is exposed. A layer above is generic
+//! call, or stands at 2^64 - 1. What an object holds is shown or not: the forms of `memory_outside` show it, the
+//! adapters of `real_outside` do not, and the clauses on content hold where it is shown. A layer above is generic
 //! over the traits, and so cannot know which of the two it was given. A link says what exchanges may make of it.
 //! `write_all` writes all of a piece to any sink.
 //!

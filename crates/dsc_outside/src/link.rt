@@ -57,7 +57,7 @@ impl fmt::Display for LinkError {
 }
 
 pub trait Link {
-    /// The exchanges so far, in order, where they are exposed.
+    /// The exchanges so far, in order, where they are shown.
     ghost shown: { Self → Option (List Exchange) };
 
     /// How often a call has failed.

@@ -6,7 +6,7 @@ use Rattle.std.proofs.lemmas.Bool.{cases_lt, cases_eq}
 use Rattle.std.proofs.lemmas.List.{get_or-take, get_or-drop, length-take-le, take_more_same}
 use Rattle.std.proofs.Math.ListN.{get_or-eq_default}
 use Rattle.gate_log.specs.declared.shape.Shape.{Shape}
-use Rattle.gate_log.specs.Text.{Holds, behind, begin, end_of, cells, magic, IsLive, HasCells, IsBank, fresh, text, HasNumber, IsTooLong, FailsFrom, no_gate, no_length, too_long, no_body, FailsInBank, wrong_magic, wrong_bank}
+use Rattle.gate_log.specs.Text.{Holds, after_gate, begin, end_of, cells, magic, IsLive, HasCells, IsBank, fresh, text, HasNumber, IsTooLong, FailsFrom, no_gate, no_length, too_long, no_body, FailsInBank, wrong_magic, wrong_bank}
 use Rattle.gate_log.specs.Laws.{AreBytes, AnswerExists}
 use Rattle.gate_log.proofs.Holds.{holds_both, holds_byte}
 use Rattle.gate_log.proofs.Cells.{cells-push, length-cells-push, fit-push}
@@ -53,16 +53,16 @@ module _ (shape : Shape) (second : Bool) (image : List ℕ) (bytes : AreBytes im
 
   more : (bodies : List (List ℕ)) (number : ℕ) → HasCells shape second image bodies → HasNumber (end_of shape second bodies) number image → (IsTooLong shape.largest (begin shape second + shape.bank) (end_of shape second bodies) number → ⊥)
       → end_of shape second bodies + 5 + number ≤ length image → HasCells shape second image (bodies ++ take number (drop (end_of shape second bodies + 5) image) ∷ [])
-  unfolding behind
+  unfolding after_gate
   more bodies number has there fit le =
       let place = end_of shape second bodies in
       let body = take number (drop (place + 5) image) in
       let long : length body ≡ number = length-take-le number (drop (place + 5) image) (omega (arith, le, length-drop (place + 5) image)) in
       let here : Holds (place + 5) body image = ap (λ (k : ℕ). take k (drop (place + 5) image)) long in
       let head : Holds place (165 ∷ to_be_bytes w32 (length body)) image = subst (λ (k : ℕ). Holds place (165 ∷ to_be_bytes w32 k) image) (sym long) there.1 in
-      let cell : Holds place (165 ∷ behind body) image = holds_both place (165 ∷ to_be_bytes w32 (length body)) body image head here in
+      let cell : Holds place (165 ∷ after_gate body) image = holds_both place (165 ∷ to_be_bytes w32 (length body)) body image head here in
       record {
-        is = subst (λ (l : List ℕ). Holds (begin shape second) l image) (sym (cells-push bodies body)) (holds_both (begin shape second) (cells bodies) (165 ∷ behind body) image has.is cell);
+        is = subst (λ (l : List ℕ). Holds (begin shape second) l image) (sym (cells-push bodies body)) (holds_both (begin shape second) (cells bodies) (165 ∷ after_gate body) image has.is cell);
         within = by_limit (cases_lt (begin shape second + shape.bank) (place + 6 + number)) body long;
         fit = fit-push shape.largest bodies body has.fit (by_largest (cases_lt shape.largest number) body long);
       }

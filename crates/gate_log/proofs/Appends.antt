@@ -4,23 +4,23 @@ use Rattle.std.specs.Prelude.{IfSome, false}
 use Rattle.dsc_outside.proofs.Moments.{weaker}
 use Rattle.dsc_outside.specs.declared.disk.Disk.{Ghosts}
 use Rattle.dsc_outside.specs.Disk.{Each}
-use Rattle.gate_log.specs.Log.{LogTerm, IsOf, IsLogOf, AtAnyMoment, grown, room_in}
+use Rattle.gate_log.specs.Log.{LogTerm, IsOf, IsLogOf, AtAnyMoment, grown, capacity_in}
 use Rattle.gate_log.specs.Steps.{TextBeforeOrAfter}
 use Rattle.gate_log.specs.Text.{IsText, need_of, begin}
 
--- the room for a cell, and the texts, by the place that the log keeps
-pub room_there : (log : LogTerm) (closed : ℕ) (body : List ℕ) → log.closed ≡ closed → need_of body ≤ room_in log → closed + 1 + need_of body ≤ begin log.shape log.second + log.shape.bank
-room_there log closed body same room = omega (arith, same, room)
+-- the capacity for a cell, and the texts, by the place that the log keeps
+pub capacity_there : (log : LogTerm) (closed : ℕ) (body : List ℕ) → log.closed ≡ closed → need_of body ≤ capacity_in log → closed + 1 + need_of body ≤ begin log.shape log.second + log.shape.bank
+capacity_there log closed body same capacity = omega (arith, same, capacity)
 
 pub texts_there : {D : Type 0} (d : Ghosts D) (disk : D) (log : LogTerm) (closed : ℕ) (bodies : List (List ℕ)) → log.closed ≡ closed → IsLogOf d disk log bodies → Each (d.images disk) (λ f. IsText log.shape log.second closed f bodies)
 texts_there d disk log closed bodies same of f here = subst (λ (n : ℕ). IsText log.shape log.second n f bodies) same (of.each f here)
 
 -- every moment of the call, by what the log keeps
-pub at_each_moment : {D : Type 0} (d : Ghosts D) (old new : D) (log : LogTerm) (closed : ℕ) (body : List ℕ) (bodies : List (List ℕ)) (P : List ℕ → Type 0) → log.closed ≡ closed → need_of body ≤ room_in log → IsLogOf d old log bodies
+pub at_each_moment : {D : Type 0} (d : Ghosts D) (old new : D) (log : LogTerm) (closed : ℕ) (body : List ℕ) (bodies : List (List ℕ)) (P : List ℕ → Type 0) → log.closed ≡ closed → need_of body ≤ capacity_in log → IsLogOf d old log bodies
     → (closed + 1 + need_of body ≤ begin log.shape log.second + log.shape.bank → Each (d.images old) (λ f. IsText log.shape log.second closed f bodies) → AtAnyMoment d old new (TextBeforeOrAfter log.shape log.second closed bodies body))
     → ((f : List ℕ) → TextBeforeOrAfter log.shape log.second closed bodies body f → P f) → AtAnyMoment d old new P
-at_each_moment d old new log closed body bodies P same room of moments gives =
-    weaker d.moment d.left_since old new _ P (moments (room_there log closed body same room) (texts_there d old log closed bodies same of)) gives
+at_each_moment d old new log closed body bodies P same capacity of moments gives =
+    weaker d.moment d.left_since old new _ P (moments (capacity_there log closed body same capacity) (texts_there d old log closed bodies same of)) gives
 
 -- the log with a body more
 pub grown_is : (kept log : LogTerm) (need longest : ℕ) (body : List ℕ) → kept ≡ log → need_of body ≡ need → longest ≡ max kept.long (kept.closed + 1 + need)

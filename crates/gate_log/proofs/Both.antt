@@ -4,12 +4,12 @@ use Rattle.std.specs.Int.{w32, to_be_bytes, from_be_bytes}
 use Rattle.std.proofs.lemmas.Nat.{from_be_bytes-to_be_bytes_4}
 use Rattle.std.proofs.lemmas.List.{get_or-take}
 use Rattle.gate_log.specs.declared.shape.Shape.{Shape}
-use Rattle.gate_log.specs.Text.{Holds, Selects, behind, begin, cells, magic, AllFit, Gives, fresh, text, HasNumber, FailsFrom, no_gate, no_length, too_long, no_body, FailsAt, wrong_magic, wrong_bank}
+use Rattle.gate_log.specs.Text.{Holds, Selects, after_gate, begin, cells, magic, AllFit, Gives, fresh, text, HasNumber, FailsFrom, no_gate, no_length, too_long, no_body, FailsAt, wrong_magic, wrong_bank}
 use Rattle.gate_log.specs.Laws.{OneList, NeverBoth, FrontGiven}
 use Rattle.gate_log.specs.Replay.{IsRefused, FailsFirst, no_text, no_meaning}
 use Rattle.gate_log.proofs.Holds.{holds_drop, holds_first, holds_second, holds_one, holds_long}
-use Rattle.gate_log.proofs.Cells.{length-behind}
-use Rattle.gate_log.proofs.Unique.{gives_one, same_tail, same_behind, same_bank}
+use Rattle.gate_log.proofs.Cells.{length-after_gate}
+use Rattle.gate_log.proofs.Unique.{gives_one, same_tail, same_after, same_bank}
 
 pub one_list : OneList
 one_list shape image one other small (fresh short) (fresh short') = refl
@@ -17,14 +17,14 @@ one_list shape image one other small (fresh short) (text second closed bodies lo
 one_list shape image one other small (text second closed bodies long t) gives = gives_one shape second closed image bodies other small t gives
 
 -- two cells at one place have one body
-same_body : (at : ℕ) (a b image : List ℕ) → length a < 2 ^ 32 → length b < 2 ^ 32 → Holds at (165 ∷ behind a) image → Holds at (165 ∷ behind b) image → a ≡ b
+same_body : (at : ℕ) (a b image : List ℕ) → length a < 2 ^ 32 → length b < 2 ^ 32 → Holds at (165 ∷ after_gate a) image → Holds at (165 ∷ after_gate b) image → a ≡ b
 same_body at a b image small_a small_b first second =
-    let is = sym (holds_drop at (165 ∷ behind a) image first) ∙ holds_drop at (165 ∷ behind b) image second in
-    (same_behind a b _ _ small_a small_b (same_tail 165 165 _ _ is)).0
+    let is = sym (holds_drop at (165 ∷ after_gate a) image first) ∙ holds_drop at (165 ∷ after_gate b) image second in
+    (same_after a b _ _ small_a small_b (same_tail 165 165 _ _ is)).0
 
 -- the length of a cell is the number that stands in it
-same_number : (at number : ℕ) (body image : List ℕ) → length body < 2 ^ 32 → HasNumber at number image → Holds at (165 ∷ behind body) image → number ≡ length body
-unfolding behind
+same_number : (at number : ℕ) (body image : List ℕ) → length body < 2 ^ 32 → HasNumber at number image → Holds at (165 ∷ after_gate body) image → number ≡ length body
+unfolding after_gate
 same_number at number body image small has there =
     let four = holds_first at (165 ∷ to_be_bytes w32 (length body)) body image there in
     let is : 165 ∷ to_be_bytes w32 number ≡ 165 ∷ to_be_bytes w32 (length body) = sym has.1 ∙ four in
@@ -38,13 +38,13 @@ gate_holds largest limit at fails gate image shut here (too_long number has long
 gate_holds largest limit at fails gate image shut here (no_body number has fit less) = shut (holds_one at gate 165 image here (holds_first at (165 ∷ []) (to_be_bytes w32 number) image has.1))
 
 -- at a cell within the limit nothing fails
-cell_holds : (largest limit at fails : ℕ) (body image : List ℕ) → largest < 2 ^ 32 → length body ≤ largest → at + 6 + length body ≤ limit → Holds at (165 ∷ behind body) image → FailsFrom largest limit at image fails → ⊥
-cell_holds largest limit at fails body image small fits within here (no_gate short) = omega (arith, short, holds_long at 165 (behind body) image here, length-behind body)
-cell_holds largest limit at fails body image small fits within here (no_length there less) = omega (arith, less, holds_long at 165 (behind body) image here, length-behind body)
+cell_holds : (largest limit at fails : ℕ) (body image : List ℕ) → largest < 2 ^ 32 → length body ≤ largest → at + 6 + length body ≤ limit → Holds at (165 ∷ after_gate body) image → FailsFrom largest limit at image fails → ⊥
+cell_holds largest limit at fails body image small fits within here (no_gate short) = omega (arith, short, holds_long at 165 (after_gate body) image here, length-after_gate body)
+cell_holds largest limit at fails body image small fits within here (no_length there less) = omega (arith, less, holds_long at 165 (after_gate body) image here, length-after_gate body)
 cell_holds largest limit at fails body image small fits within here (too_long number has (inl above)) = omega (arith, above, fits, same_number at number body image (omega (arith, fits, small)) has here)
 cell_holds largest limit at fails body image small fits within here (too_long number has (inr past)) = omega (arith, past, within, same_number at number body image (omega (arith, fits, small)) has here)
 cell_holds largest limit at fails body image small fits within here (no_body number has fit less) =
-    omega (arith, less, holds_long at 165 (behind body) image here, length-behind body, same_number at number body image (omega (arith, fits, small)) has here)
+    omega (arith, less, holds_long at 165 (after_gate body) image here, length-after_gate body, same_number at number body image (omega (arith, fits, small)) has here)
 
 -- nothing fails after cells of a bank that holds cells and a closed gate
 never : (largest limit from fails gate : ℕ) (image : List ℕ) (reached bodies : List (List ℕ)) → largest < 2 ^ 32 → Holds from (cells reached) image → AllFit largest reached → Holds from (cells bodies) image → AllFit largest bodies
@@ -52,22 +52,22 @@ never : (largest limit from fails gate : ℕ) (image : List ℕ) (reached bodies
 never largest limit from fails gate image [] [] small r fit_r b fit_b within shut here f =
     gate_holds largest limit (from + 0) fails gate image shut here f
 never largest limit from fails gate image [] (body ∷ bodies) small r fit_r b fit_b within shut here f =
-    let le : from + 6 + length body ≤ limit = omega (arith, within, length-append (behind body) (cells bodies), length-behind body) in
-    let there = holds_first from (165 ∷ behind body) (cells bodies) image b in
+    let le : from + 6 + length body ≤ limit = omega (arith, within, length-append (after_gate body) (cells bodies), length-after_gate body) in
+    let there = holds_first from (165 ∷ after_gate body) (cells bodies) image b in
     cell_holds largest limit from fails body image small fit_b.0 le there (subst (λ (n : ℕ). FailsFrom largest limit n image fails) (omega arith) f)
 never largest limit from fails gate image (first ∷ reached) [] small r fit_r b fit_b within shut here f =
-    let there = holds_first from (165 ∷ []) (behind first ++ cells reached) image r in
+    let there = holds_first from (165 ∷ []) (after_gate first ++ cells reached) image r in
     shut (holds_one from gate 165 image (subst (λ (n : ℕ). Holds n (gate ∷ []) image) (omega arith) here) there)
 never largest limit from fails gate image (first ∷ reached) (body ∷ bodies) small r fit_r b fit_b within shut here f =
-    let one = holds_first from (165 ∷ behind first) (cells reached) image r in
-    let other = holds_first from (165 ∷ behind body) (cells bodies) image b in
+    let one = holds_first from (165 ∷ after_gate first) (cells reached) image r in
+    let other = holds_first from (165 ∷ after_gate body) (cells bodies) image b in
     let same : first ≡ body = same_body from first body image (omega (arith, fit_r.0, small)) (omega (arith, fit_b.0, small)) one other in
-    let step : length (behind first) ≡ length (behind body) = ap (λ (l : List ℕ). length (behind l)) same in
-    let past = from + length (165 ∷ behind body) in
-    let rest : Holds past (cells reached) image = subst (λ (n : ℕ). Holds n (cells reached) image) (omega (arith, step)) (holds_second from (165 ∷ behind first) (cells reached) image r) in
-    let there = holds_second from (165 ∷ behind body) (cells bodies) image b in
-    let long = length-append (behind body) (cells bodies) in
-    let long_r = length-append (behind first) (cells reached) in
+    let step : length (after_gate first) ≡ length (after_gate body) = ap (λ (l : List ℕ). length (after_gate l)) same in
+    let past = from + length (165 ∷ after_gate body) in
+    let rest : Holds past (cells reached) image = subst (λ (n : ℕ). Holds n (cells reached) image) (omega (arith, step)) (holds_second from (165 ∷ after_gate first) (cells reached) image r) in
+    let there = holds_second from (165 ∷ after_gate body) (cells bodies) image b in
+    let long = length-append (after_gate body) (cells bodies) in
+    let long_r = length-append (after_gate first) (cells reached) in
     never largest limit past fails gate image reached bodies small rest fit_r.1 there fit_b.1 (omega (arith, within, long)) shut
     (subst (λ (n : ℕ). Holds n (gate ∷ []) image) (omega (arith, long)) here)
     (subst (λ (n : ℕ). FailsFrom largest limit n image fails) (omega (arith, long_r, step)) f)
@@ -77,17 +77,17 @@ front_of : (largest from gate : ℕ) (image : List ℕ) (front bodies : List (Li
     → gate ≢ 165 → Holds (from + length (cells bodies)) (gate ∷ []) image → (rest : List (List ℕ)) × (bodies ≡ front ++ rest)
 front_of largest from gate image [] bodies small r fit_r b fit_b shut here = (bodies, refl)
 front_of largest from gate image (first ∷ front) [] small r fit_r b fit_b shut here =
-    let there = holds_first from (165 ∷ []) (behind first ++ cells front) image r in
+    let there = holds_first from (165 ∷ []) (after_gate first ++ cells front) image r in
     absurd (shut (holds_one from gate 165 image (subst (λ (n : ℕ). Holds n (gate ∷ []) image) (omega arith) here) there))
 front_of largest from gate image (first ∷ front) (body ∷ bodies) small r fit_r b fit_b shut here =
-    let one = holds_first from (165 ∷ behind first) (cells front) image r in
-    let other = holds_first from (165 ∷ behind body) (cells bodies) image b in
+    let one = holds_first from (165 ∷ after_gate first) (cells front) image r in
+    let other = holds_first from (165 ∷ after_gate body) (cells bodies) image b in
     let same : first ≡ body = same_body from first body image (omega (arith, fit_r.0, small)) (omega (arith, fit_b.0, small)) one other in
-    let step : length (behind first) ≡ length (behind body) = ap (λ (l : List ℕ). length (behind l)) same in
-    let past = from + length (165 ∷ behind body) in
-    let rest : Holds past (cells front) image = subst (λ (n : ℕ). Holds n (cells front) image) (omega (arith, step)) (holds_second from (165 ∷ behind first) (cells front) image r) in
-    let there = holds_second from (165 ∷ behind body) (cells bodies) image b in
-    let more = front_of largest past gate image front bodies small rest fit_r.1 there fit_b.1 shut (subst (λ (n : ℕ). Holds n (gate ∷ []) image) (omega (arith, length-append (behind body) (cells bodies))) here) in
+    let step : length (after_gate first) ≡ length (after_gate body) = ap (λ (l : List ℕ). length (after_gate l)) same in
+    let past = from + length (165 ∷ after_gate body) in
+    let rest : Holds past (cells front) image = subst (λ (n : ℕ). Holds n (cells front) image) (omega (arith, step)) (holds_second from (165 ∷ after_gate first) (cells front) image r) in
+    let there = holds_second from (165 ∷ after_gate body) (cells bodies) image b in
+    let more = front_of largest past gate image front bodies small rest fit_r.1 there fit_b.1 shut (subst (λ (n : ℕ). Holds n (gate ∷ []) image) (omega (arith, length-append (after_gate body) (cells bodies))) here) in
     (more.0, ap (λ (l : List ℕ). l ∷ bodies) (sym same) ∙ ap (λ (l : List (List ℕ)). first ∷ l) more.1)
 
 pub front_given : FrontGiven

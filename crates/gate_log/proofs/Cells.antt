@@ -4,32 +4,32 @@ use Rattle.std.proofs.lemmas.List.{append-nil}
 use Rattle.std.proofs.lemmas.Bool.{cases_eq}
 use Rattle.dsc_outside.specs.Disk.{Torn, written}
 use Rattle.gate_log.specs.declared.shape.Shape.{Shape}
-use Rattle.gate_log.specs.Text.{Holds, behind, cells, magic, begin, AllFit, IsBank, IsText, Gives, fresh, text, IsLive, need_of}
+use Rattle.gate_log.specs.Text.{Holds, after_gate, cells, magic, begin, AllFit, IsBank, IsText, Gives, fresh, text, IsLive, need_of}
 use Rattle.gate_log.specs.Log.{BeforeOrAfter}
 use Rattle.gate_log.specs.Steps.{IsStaged, TextBeforeOrAfter}
 use Rattle.gate_log.proofs.Holds.{holds_first, holds_second, holds_both, holds_long, holds_byte, torn_holds, written_torn, written_holds}
 
-cells-push-rest : (bodies : List (List ℕ)) (body rest : List ℕ) → cells (bodies ++ body ∷ []) ++ rest ≡ cells bodies ++ 165 ∷ (behind body ++ rest)
-cells-push-rest [] body rest = ap (λ (l : List ℕ). 165 ∷ (l ++ rest)) (append-nil (behind body))
+cells-push-rest : (bodies : List (List ℕ)) (body rest : List ℕ) → cells (bodies ++ body ∷ []) ++ rest ≡ cells bodies ++ 165 ∷ (after_gate body ++ rest)
+cells-push-rest [] body rest = ap (λ (l : List ℕ). 165 ∷ (l ++ rest)) (append-nil (after_gate body))
 cells-push-rest (b ∷ bodies) body rest =
-    ap (λ (l : List ℕ). 165 ∷ l) (append_assoc (behind b) (cells (bodies ++ body ∷ [])) rest ∙ ap (λ (l : List ℕ). behind b ++ l) (cells-push-rest bodies body rest) ∙ sym (append_assoc (behind b) (cells bodies) (165 ∷ (behind body ++ rest))))
+    ap (λ (l : List ℕ). 165 ∷ l) (append_assoc (after_gate b) (cells (bodies ++ body ∷ [])) rest ∙ ap (λ (l : List ℕ). after_gate b ++ l) (cells-push-rest bodies body rest) ∙ sym (append_assoc (after_gate b) (cells bodies) (165 ∷ (after_gate body ++ rest))))
 
-pub cells-push : (bodies : List (List ℕ)) (body : List ℕ) → cells (bodies ++ body ∷ []) ≡ cells bodies ++ 165 ∷ behind body
-cells-push bodies body = sym (append-nil (cells (bodies ++ body ∷ []))) ∙ cells-push-rest bodies body [] ∙ ap (λ (l : List ℕ). cells bodies ++ 165 ∷ l) (append-nil (behind body))
+pub cells-push : (bodies : List (List ℕ)) (body : List ℕ) → cells (bodies ++ body ∷ []) ≡ cells bodies ++ 165 ∷ after_gate body
+cells-push bodies body = sym (append-nil (cells (bodies ++ body ∷ []))) ∙ cells-push-rest bodies body [] ∙ ap (λ (l : List ℕ). cells bodies ++ 165 ∷ l) (append-nil (after_gate body))
 
-pub length-behind : (body : List ℕ) → length (behind body) ≡ 4 + length body
-unfolding behind
-length-behind body = omega arith
+pub length-after_gate : (body : List ℕ) → length (after_gate body) ≡ 4 + length body
+unfolding after_gate
+length-after_gate body = omega arith
 
 -- a cell but for its gate, with a closed gate after it
-pub cell_size : (cell body : List ℕ) → cell ≡ behind body ++ 0 ∷ [] → length cell ≡ need_of body
-cell_size cell body is = omega (arith, ap length is, length-append (behind body) (0 ∷ []), length-behind body)
+pub cell_size : (cell body : List ℕ) → cell ≡ after_gate body ++ 0 ∷ [] → length cell ≡ need_of body
+cell_size cell body is = omega (arith, ap length is, length-append (after_gate body) (0 ∷ []), length-after_gate body)
 
 pub length-cells-push : (bodies : List (List ℕ)) (body : List ℕ) → length (cells (bodies ++ body ∷ [])) ≡ length (cells bodies) + need_of body
-length-cells-push bodies body = omega (arith, ap length (cells-push bodies body), length-append (cells bodies) (165 ∷ behind body), length-behind body)
+length-cells-push bodies body = omega (arith, ap length (cells-push bodies body), length-append (cells bodies) (165 ∷ after_gate body), length-after_gate body)
 
 pub long-cells : (body : List ℕ) (bodies : List (List ℕ)) → 5 ≤ length (cells (body ∷ bodies))
-long-cells body bodies = omega (arith, length-append (behind body) (cells bodies), length-behind body)
+long-cells body bodies = omega (arith, length-append (after_gate body) (cells bodies), length-after_gate body)
 
 pub fit-push : (largest : ℕ) (bodies : List (List ℕ)) (body : List ℕ) → AllFit largest bodies → length body ≤ largest → AllFit largest (bodies ++ body ∷ [])
 fit-push largest [] body fit le = (le, tt)
@@ -110,38 +110,38 @@ module _ (shape : Shape) (second : Bool) (closed : ℕ) (bodies : List (List ℕ
   past_head : (d : List ℕ) → IsText shape second closed d bodies → 8 ≤ closed
   past_head d t = omega (arith, t.bank.place, begin_past shape second)
 
-  pub torn_behind : (n : ℕ) (d c : List ℕ) → IsText shape second closed d bodies → Torn (closed + 1) n d c → IsText shape second closed c bodies
-  torn_behind n d c t torn = torn_beside (closed + 1) n d c t torn (omega (arith, past_head d t)) (inr (omega arith))
+  pub torn_after : (n : ℕ) (d c : List ℕ) → IsText shape second closed d bodies → Torn (closed + 1) n d c → IsText shape second closed c bodies
+  torn_after n d c t torn = torn_beside (closed + 1) n d c t torn (omega (arith, past_head d t)) (inr (omega arith))
 
-  pub written_behind : (body d c : List ℕ) → IsText shape second closed d bodies → c ≡ written (closed + 1) (behind body ++ 0 ∷ []) d → IsStaged shape second closed c bodies body
-  written_behind body d c t is =
-      let cell = behind body ++ 0 ∷ [] in
+  pub written_after : (body d c : List ℕ) → IsText shape second closed d bodies → c ≡ written (closed + 1) (after_gate body ++ 0 ∷ []) d → IsStaged shape second closed c bodies body
+  written_after body d c t is =
+      let cell = after_gate body ++ 0 ∷ [] in
       subst (λ (l : List ℕ). IsStaged shape second closed l bodies body) (sym is) (record {
-        text = torn_behind (length cell) d (written (closed + 1) cell d) t (written_torn (closed + 1) cell d (text_long d t));
+        text = torn_after (length cell) d (written (closed + 1) cell d) t (written_torn (closed + 1) cell d (text_long d t));
         cell = written_holds (closed + 1) cell d (text_long d t);
       })
 
-  module _ (body : List ℕ) (le : length body ≤ shape.largest) (room : closed + 1 + need_of body ≤ begin shape second + shape.bank) where
-    opened : (d c : List ℕ) → IsStaged shape second closed d bodies body → Torn closed 1 d c → Holds closed (165 ∷ []) c → IsText shape second (closed + length (behind body ++ 0 ∷ [])) c (bodies ++ body ∷ [])
+  module _ (body : List ℕ) (le : length body ≤ shape.largest) (capacity : closed + 1 + need_of body ≤ begin shape second + shape.bank) where
+    opened : (d c : List ℕ) → IsStaged shape second closed d bodies body → Torn closed 1 d c → Holds closed (165 ∷ []) c → IsText shape second (closed + length (after_gate body ++ 0 ∷ [])) c (bodies ++ body ∷ [])
     opened d c s torn gate =
         let t = s.text in
         let first = begin shape second in
         let front : Holds first (cells bodies) c = torn_holds first closed 1 (cells bodies) d c torn (inl (omega (arith, t.bank.place))) t.bank.cells.is in
-        let cell : Holds (closed + 1) (behind body ++ 0 ∷ []) c = torn_holds (closed + 1) closed 1 (behind body ++ 0 ∷ []) d c torn (inr (omega arith)) s.cell in
-        let whole : Holds closed (165 ∷ behind body) c = holds_both closed (165 ∷ []) (behind body) c gate (holds_first (closed + 1) (behind body) (0 ∷ []) c cell) in
-        let place : closed + length (behind body ++ 0 ∷ []) ≡ closed + 1 + length (behind body) = omega (arith, length-append (behind body) (0 ∷ [])) in
+        let cell : Holds (closed + 1) (after_gate body ++ 0 ∷ []) c = torn_holds (closed + 1) closed 1 (after_gate body ++ 0 ∷ []) d c torn (inr (omega arith)) s.cell in
+        let whole : Holds closed (165 ∷ after_gate body) c = holds_both closed (165 ∷ []) (after_gate body) c gate (holds_first (closed + 1) (after_gate body) (0 ∷ []) c cell) in
+        let place : closed + length (after_gate body ++ 0 ∷ []) ≡ closed + 1 + length (after_gate body) = omega (arith, length-append (after_gate body) (0 ∷ [])) in
         record {
           head = torn_head closed 1 d c t.head torn (past_head d t);
           bank = record {
             cells = record {
-              is = subst (λ (l : List ℕ). Holds first l c) (sym (cells-push bodies body)) (holds_both first (cells bodies) (165 ∷ behind body) c front (subst (λ (n : ℕ). Holds n (165 ∷ behind body) c) t.bank.place whole));
-              within = omega (arith, t.bank.place, length-cells-push bodies body, room);
+              is = subst (λ (l : List ℕ). Holds first l c) (sym (cells-push bodies body)) (holds_both first (cells bodies) (165 ∷ after_gate body) c front (subst (λ (n : ℕ). Holds n (165 ∷ after_gate body) c) t.bank.place whole));
+              within = omega (arith, t.bank.place, length-cells-push bodies body, capacity);
               fit = fit-push shape.largest bodies body t.bank.cells.fit le;
             };
             gate = 0;
             shut = omega arith;
-            closes = subst (λ (n : ℕ). Holds n (0 ∷ []) c) (sym place) (holds_second (closed + 1) (behind body) (0 ∷ []) c cell);
-            place = omega (arith, place, t.bank.place, length-cells-push bodies body, length-behind body);
+            closes = subst (λ (n : ℕ). Holds n (0 ∷ []) c) (sym place) (holds_second (closed + 1) (after_gate body) (0 ∷ []) c cell);
+            place = omega (arith, place, t.bank.place, length-cells-push bodies body, length-after_gate body);
           };
         }
 
@@ -152,7 +152,7 @@ module _ (shape : Shape) (second : Bool) (closed : ℕ) (bodies : List (List ℕ
         let gate = get_or c closed 0 in
         let here : Holds closed (gate ∷ []) c = holds_byte closed c there in
         elim (cases_eq gate 165) [
-          | inl is_open ↦ inr (subst (λ (n : ℕ). IsText shape second (closed + n) c (bodies ++ body ∷ [])) (omega (arith, length-append (behind body) (0 ∷ []), length-behind body)) (opened d c s torn (subst (λ (n : ℕ). Holds closed (n ∷ []) c) is_open here)))
+          | inl is_open ↦ inr (subst (λ (n : ℕ). IsText shape second (closed + n) c (bodies ++ body ∷ [])) (omega (arith, length-append (after_gate body) (0 ∷ []), length-after_gate body)) (opened d c s torn (subst (λ (n : ℕ). Holds closed (n ∷ []) c) is_open here)))
           | inr shut ↦ inl (record {
             head = torn_head closed 1 d c t.head torn (past_head d t);
             bank = record {
@@ -169,8 +169,8 @@ module _ (shape : Shape) (second : Bool) (closed : ℕ) (bodies : List (List ℕ
           })
         ]
 
-    pub written_gate : (d c : List ℕ) → IsStaged shape second closed d bodies body → c ≡ written closed (165 ∷ []) d → IsText shape second (closed + length (behind body ++ 0 ∷ [])) c (bodies ++ body ∷ [])
+    pub written_gate : (d c : List ℕ) → IsStaged shape second closed d bodies body → c ≡ written closed (165 ∷ []) d → IsText shape second (closed + length (after_gate body ++ 0 ∷ [])) c (bodies ++ body ∷ [])
     written_gate d c s is =
         let le : closed ≤ length d = omega (arith, text_long d s.text) in
-        subst (λ (l : List ℕ). IsText shape second (closed + length (behind body ++ 0 ∷ [])) l (bodies ++ body ∷ [])) (sym is)
+        subst (λ (l : List ℕ). IsText shape second (closed + length (after_gate body ++ 0 ∷ [])) l (bodies ++ body ∷ [])) (sym is)
         (opened d (written closed (165 ∷ []) d) s (written_torn closed (165 ∷ []) d le) (written_holds closed (165 ∷ []) d le))

@@ -4,7 +4,7 @@ use Rattle.std.specs.Prelude.{option_map}
 use Rattle.std.proofs.lemmas.List.{take_at, drop_at, drop-drop, length-take-le}
 use Rattle.std.specs.Int.{w32, to_be_bytes}
 use Rattle.dsc_outside.specs.Disk.{written}
-use Rattle.gate_log.specs.Text.{behind, body_in, need_of}
+use Rattle.gate_log.specs.Text.{after_gate, body_in, need_of}
 
 pub need_in : (head tail : List ℕ) → 4 ≤ length head → need_of (body_in head tail) ≡ length head + length tail + 1
 unfolding body_in
@@ -16,8 +16,8 @@ unfolding body_in
 body_after front head tail four = ap (λ (l : List ℕ). l ++ tail) (drop_at front head 4 four)
 
 -- with its length in those four
-pub numbered : (number head tail : List ℕ) (n : ℕ) → 4 ≤ length head → n ≡ length head - 4 + length tail → number ≡ to_be_bytes w32 n → (number ++ drop 4 head) ++ tail ≡ behind (body_in head tail)
-unfolding behind body_in
+pub numbered : (number head tail : List ℕ) (n : ℕ) → 4 ≤ length head → n ≡ length head - 4 + length tail → number ≡ to_be_bytes w32 n → (number ++ drop 4 head) ++ tail ≡ after_gate (body_in head tail)
+unfolding after_gate body_in
 numbered number head tail n whole size is =
     let long : n ≡ length (drop 4 head ++ tail) = omega (arith, whole, size, length-append (drop 4 head) tail, length-drop 4 head) in
     append_assoc number (drop 4 head) tail ∙ ap (λ (l : List ℕ). l ++ (drop 4 head ++ tail)) (is ∙ ap (λ (k : ℕ). to_be_bytes w32 k) long)

@@ -4,11 +4,11 @@ use Rattle.std.specs.Prelude.{option_map}
 use Rattle.std.proofs.lemmas.Option.{same_Some}
 use Rattle.dsc_outside.specs.Disk.{Each, Torn, From, Only, written}
 use Rattle.gate_log.specs.declared.shape.Shape.{Shape}
-use Rattle.gate_log.specs.Text.{Holds, behind, cells, begin, Selects, need_of, IsText}
+use Rattle.gate_log.specs.Text.{Holds, after_gate, cells, begin, Selects, need_of, IsText}
 use Rattle.gate_log.specs.Steps.{IsInOther, IsWhole}
-use Rattle.gate_log.specs.Log.{LogTerm, IsOf, HasPut, OldOrNew, begun, left_behind, room_to_put}
+use Rattle.gate_log.specs.Log.{LogTerm, IsOf, HasPut, OldOrNew, begun, left_after, capacity_to_put}
 use Rattle.gate_log.proofs.Holds.{holds_first, holds_both, torn_holds, torn_end, length-written, written_torn, written_holds}
-use Rattle.gate_log.proofs.Cells.{cells-push, length-behind, text_gives, torn_beside, begin_past}
+use Rattle.gate_log.proofs.Cells.{cells-push, length-after_gate, text_gives, torn_beside, begin_past}
 use Rattle.gate_log.proofs.Steps.{held_before, if_some, Honest}
 use Rattle.gate_log.proofs.Switch.{IsReadyToSwitch, torn_other, written_whole, torn_selector, written_selector}
 
@@ -41,28 +41,28 @@ filled_text shape second closed end n bodies old le texts c from =
 pub other_text : (shape : Shape) (second : Bool) (closed at n : ℕ) (bodies : List (List ℕ)) (old : List ℕ → Type 0) → IsInOther shape second at n → Each old (λ c. IsText shape second closed c bodies) → (c : List ℕ) → From (Torn at n) old c → IsText shape second closed c bodies
 other_text shape second closed at n bodies old other texts c from = torn_other shape second closed at n bodies from.0 c other (texts from.0 from.1) from.2
 
-pub put_holds : (from at long : ℕ) (put : List (List ℕ)) (body cell : List ℕ) (before after : Option (List ℕ)) → at ≡ from + length (cells put) → cell ≡ 165 ∷ (behind body ++ 0 ∷ []) → after ≡ option_map (written at cell) before
+pub put_holds : (from at long : ℕ) (put : List (List ℕ)) (body cell : List ℕ) (before after : Option (List ℕ)) → at ≡ from + length (cells put) → cell ≡ 165 ∷ (after_gate body ++ 0 ∷ []) → after ≡ option_map (written at cell) before
     → IfSome before (λ held. max long at ≡ length held) → IfSome before (Holds from (cells put)) → IfSome after (Holds from (cells (put ++ body ∷ [])))
 put_holds from at long put body cell before after place is_cell is size there =
     told_write _ _ (written at cell) before after is (λ held both.
     let le : at ≤ length held = omega (arith, both.0) in
     let new = written at cell held in
     let front : Holds from (cells put) new = torn_holds from at (length cell) (cells put) held new (written_torn at cell held le) (inl (omega (arith, place))) both.1 in
-    let here : Holds at (165 ∷ (behind body ++ 0 ∷ [])) new = subst (λ (l : List ℕ). Holds at l new) is_cell (written_holds at cell held le) in
-    let last : Holds (from + length (cells put)) (165 ∷ behind body) new = subst (λ (n : ℕ). Holds n (165 ∷ behind body) new) place (holds_first at (165 ∷ behind body) (0 ∷ []) new here) in
-    subst (λ (l : List ℕ). Holds from l new) (sym (cells-push put body)) (holds_both from (cells put) (165 ∷ behind body) new front last)) (told_both _ _ before size there)
+    let here : Holds at (165 ∷ (after_gate body ++ 0 ∷ [])) new = subst (λ (l : List ℕ). Holds at l new) is_cell (written_holds at cell held le) in
+    let last : Holds (from + length (cells put)) (165 ∷ after_gate body) new = subst (λ (n : ℕ). Holds n (165 ∷ after_gate body) new) place (holds_first at (165 ∷ after_gate body) (0 ∷ []) new here) in
+    subst (λ (l : List ℕ). Holds from l new) (sym (cells-push put body)) (holds_both from (cells put) (165 ∷ after_gate body) new front last)) (told_both _ _ before size there)
 
-pub cell_long : (body cell : List ℕ) → cell ≡ 165 ∷ (behind body ++ 0 ∷ []) → length cell ≡ length body + 6
-cell_long body cell is = omega (arith, ap length is, length-append (behind body) (0 ∷ []), length-behind body)
+pub cell_long : (body cell : List ℕ) → cell ≡ 165 ∷ (after_gate body ++ 0 ∷ []) → length cell ≡ length body + 6
+cell_long body cell is = omega (arith, ap length is, length-append (after_gate body) (0 ∷ []), length-after_gate body)
 
-pub other_whole : (shape : Shape) (second : Bool) (at : ℕ) (body cell : List ℕ) → cell ≡ 165 ∷ (behind body ++ 0 ∷ []) → IsInOther shape second at (1 + need_of body) → IsInOther shape second at (length cell)
-other_whole shape second at body cell is other = record { behind = other.behind; within = omega (arith, other.within, cell_long body cell is) }
+pub other_whole : (shape : Shape) (second : Bool) (at : ℕ) (body cell : List ℕ) → cell ≡ 165 ∷ (after_gate body ++ 0 ∷ []) → IsInOther shape second at (1 + need_of body) → IsInOther shape second at (length cell)
+other_whole shape second at body cell is other = record { after = other.after; within = omega (arith, other.within, cell_long body cell is) }
 
 -- ---- the switch
 
 module _ (shape : Shape) (second : Bool) (closed at long : ℕ) (bodies put : List (List ℕ)) (whole : IsWhole shape second at put) (old : List ℕ → Type 0) (texts : Each old (λ c. IsText shape second closed c bodies)) where
   pub gate_moment : (c : List ℕ) → From (Torn at 1) old c → OldOrNew shape bodies put c
-  gate_moment c from = inl (text_gives shape second closed c bodies (other_text shape second closed at 1 bodies old (record { behind = omega (arith, whole.place); within = omega (arith, whole.place, whole.within) }) texts c from))
+  gate_moment c from = inl (text_gives shape second closed c bodies (other_text shape second closed at 1 bodies old (record { after = omega (arith, whole.place); within = omega (arith, whole.place, whole.within) }) texts c from))
 
   module _ (seen0 seen1 : Option (List ℕ)) (honest0 : Honest seen0 old) (size : IfSome seen0 (λ held. max long at ≡ length held)) (there : IfSome seen0 (Holds (begin shape (not second)) (cells put)))
       (mid : List ℕ → Type 0) (is1 : seen1 ≡ option_map (written at (0 ∷ [])) seen0) (only1 : Only seen1 mid) where
@@ -100,16 +100,16 @@ begun_put shown log some = record { filled = ap (λ (n : ℕ). some_of n) (omega
     some_of : ℕ → Option ℕ
     some_of n = Some n
 
-pub put_place : (log : LogTerm) (at need : ℕ) → log.filled ≡ Some at → 5 ≤ need → need ≤ room_to_put log → at + 1 + need ≤ begin log.shape (not log.second) + log.shape.bank
+pub put_place : (log : LogTerm) (at need : ℕ) → log.filled ≡ Some at → 5 ≤ need → need ≤ capacity_to_put log → at + 1 + need ≤ begin log.shape (not log.second) + log.shape.bank
 put_place log at need is some le =
-    let there : need ≤ left_behind log.shape log.second (Some at) = subst (λ (o : Option ℕ). need ≤ left_behind log.shape log.second o) is le in
+    let there : need ≤ left_after log.shape log.second (Some at) = subst (λ (o : Option ℕ). need ≤ left_after log.shape log.second o) is le in
     omega (arith, there)
 
 pub put_at : (shown : Option (List ℕ)) (log : LogTerm) (put : List (List ℕ)) (at : ℕ) → HasPut shown log put → log.filled ≡ Some at → at ≡ begin log.shape (not log.second) + length (cells put)
 put_at shown log put at has is = same_Some at _ (sym is ∙ has.filled)
 
-pub in_other : (shown : Option (List ℕ)) (log : LogTerm) (put : List (List ℕ)) (at : ℕ) (body : List ℕ) → HasPut shown log put → log.filled ≡ Some at → need_of body ≤ room_to_put log → IsInOther log.shape log.second at (1 + need_of body)
-in_other shown log put at body has is le = record { behind = omega (arith, put_at shown log put at has is); within = omega (arith, put_place log at (need_of body) is (omega arith) le) }
+pub in_other : (shown : Option (List ℕ)) (log : LogTerm) (put : List (List ℕ)) (at : ℕ) (body : List ℕ) → HasPut shown log put → log.filled ≡ Some at → need_of body ≤ capacity_to_put log → IsInOther log.shape log.second at (1 + need_of body)
+in_other shown log put at body has is le = record { after = omega (arith, put_at shown log put at has is); within = omega (arith, put_place log at (need_of body) is (omega arith) le) }
 
 pub is_whole : (shown : Option (List ℕ)) (log : LogTerm) (put : List (List ℕ)) (at : ℕ) → HasPut shown log put → log.filled ≡ Some at → IsWhole log.shape log.second at put
 is_whole shown log put at has is = record { place = put_at shown log put at has is; within = has.within; fit = has.fit }

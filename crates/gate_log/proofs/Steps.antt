@@ -4,10 +4,10 @@ use Rattle.std.specs.Prelude.{option_map}
 use Rattle.std.proofs.lemmas.Option.{none-some, same_Some}
 use Rattle.dsc_outside.specs.Disk.{Each, Torn, From, Only, written}
 use Rattle.gate_log.specs.declared.shape.Shape.{Shape}
-use Rattle.gate_log.specs.Text.{behind, begin, need_of, IsText}
+use Rattle.gate_log.specs.Text.{after_gate, begin, need_of, IsText}
 use Rattle.gate_log.specs.Steps.{IsStaged, TextBeforeOrAfter}
 use Rattle.gate_log.proofs.Holds.{length-written}
-use Rattle.gate_log.proofs.Cells.{torn_behind, written_behind, torn_gate, written_gate}
+use Rattle.gate_log.proofs.Cells.{torn_after, written_after, torn_gate, written_gate}
 
 pub held_before : (f : List ℕ → List ℕ) (before after : Option (List ℕ)) (c : List ℕ) → after ≡ option_map f before → after ≡ Some c → (held : List ℕ) × (before ≡ Some held) × (c ≡ f held)
 held_before f None after c is now = absurd (none-some c (sym is ∙ now))
@@ -36,23 +36,23 @@ lengths at gate cell (Some held) seen1 seen2 n is1 is2 le long =
 abbrev pub Honest : Option (List ℕ) → (List ℕ → Type 0) → Type 0
 Honest shown images = (held : List ℕ) → shown ≡ Some held → images held
 
-module _ (shape : Shape) (second : Bool) (closed : ℕ) (bodies : List (List ℕ)) (body cell : List ℕ) (is_cell : cell ≡ behind body ++ 0 ∷ []) (le : length body ≤ shape.largest) (room : closed + 1 + need_of body ≤ begin shape second + shape.bank)
+module _ (shape : Shape) (second : Bool) (closed : ℕ) (bodies : List (List ℕ)) (body cell : List ℕ) (is_cell : cell ≡ after_gate body ++ 0 ∷ []) (le : length body ≤ shape.largest) (capacity : closed + 1 + need_of body ≤ begin shape second + shape.bank)
     (old : List ℕ → Type 0) (texts : Each old (λ c. IsText shape second closed c bodies)) where
   pub first_moment : (c : List ℕ) → From (Torn (closed + 1) (length cell)) old c → TextBeforeOrAfter shape second closed bodies body c
-  first_moment c from = inl (torn_behind shape second closed bodies (length cell) from.0 c (texts from.0 from.1) from.2)
+  first_moment c from = inl (torn_after shape second closed bodies (length cell) from.0 c (texts from.0 from.1) from.2)
 
   module _ (seen0 seen1 : Option (List ℕ)) (honest0 : Honest seen0 old) (mid : List ℕ → Type 0) (is1 : seen1 ≡ option_map (written (closed + 1) cell) seen0) (only1 : Only seen1 mid) where
     pub staged : Each mid (λ c. IsStaged shape second closed c bodies body)
     staged c here =
         let from = held_before (written (closed + 1) cell) seen0 seen1 c is1 (only1 c here) in
-        written_behind shape second closed bodies body from.0 c (texts from.0 (honest0 from.0 from.1)) (subst (λ (l : List ℕ). c ≡ written (closed + 1) l from.0) is_cell from.2)
+        written_after shape second closed bodies body from.0 c (texts from.0 (honest0 from.0 from.1)) (subst (λ (l : List ℕ). c ≡ written (closed + 1) l from.0) is_cell from.2)
 
     pub second_moment : (c : List ℕ) → From (Torn closed 1) mid c → TextBeforeOrAfter shape second closed bodies body c
-    second_moment c from = torn_gate shape second closed bodies body le room from.0 c (staged from.0 from.1) from.2
+    second_moment c from = torn_gate shape second closed bodies body le capacity from.0 c (staged from.0 from.1) from.2
 
     pub appended : (seen2 : Option (List ℕ)) (new : List ℕ → Type 0) → Honest seen1 mid → seen2 ≡ option_map (written closed (165 ∷ [])) seen1 → Only seen2 new
         → Each new (λ c. IsText shape second (closed + length cell) c (bodies ++ body ∷ []))
     appended seen2 new honest1 is2 only2 c here =
         let from = held_before (written closed (165 ∷ [])) seen1 seen2 c is2 (only2 c here) in
-        let done = written_gate shape second closed bodies body le room from.0 c (staged from.0 (honest1 from.0 from.1)) from.2 in
+        let done = written_gate shape second closed bodies body le capacity from.0 c (staged from.0 (honest1 from.0 from.1)) from.2 in
         subst (λ (l : List ℕ). IsText shape second (closed + length l) c (bodies ++ body ∷ [])) (sym is_cell) done

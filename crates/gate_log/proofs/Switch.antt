@@ -11,12 +11,12 @@ use Rattle.gate_log.proofs.Cells.{begin_past, text_gives, torn_bank, torn_beside
 
 -- the banks lie apart
 pub apart : (shape : Shape) (second : Bool) (closed at n : ℕ) → closed + 1 ≤ begin shape second + shape.bank → IsInOther shape second at n → (at + n ≤ begin shape second) ⊎ (closed + 1 ≤ at)
-apart shape false closed at n le other = inr (omega (arith, other.behind))
+apart shape false closed at n le other = inr (omega (arith, other.after))
 apart shape true closed at n le other = inl (omega (arith, other.within))
 
 pub torn_other : (shape : Shape) (second : Bool) (closed at n : ℕ) (bodies : List (List ℕ)) (d c : List ℕ) → IsInOther shape second at n → IsText shape second closed d bodies → Torn at n d c → IsText shape second closed c bodies
 torn_other shape second closed at n bodies d c other t torn =
-    torn_beside shape second closed bodies at n d c t torn (omega (arith, other.behind, begin_past shape (not second))) (apart shape second closed at n (omega (arith, t.bank.place, t.bank.cells.within)) other)
+    torn_beside shape second closed bodies at n d c t torn (omega (arith, other.after, begin_past shape (not second))) (apart shape second closed at n (omega (arith, t.bank.place, t.bank.cells.within)) other)
 
 -- both banks hold what they should
 pub record IsReadyToSwitch (shape : Shape) (second : Bool) (closed at : ℕ) (image : List ℕ) (bodies put : List (List ℕ)) : Type 0 where
@@ -29,7 +29,7 @@ written_whole shape second closed at bodies put d c le whole put_there t is =
     let new = written at (0 ∷ []) d in
     let torn = written_torn at (0 ∷ []) d le in
     subst (λ (l : List ℕ). IsReadyToSwitch shape second closed at l bodies put) (sym is) (record {
-      live = torn_other shape second closed at 1 bodies d new (record { behind = omega (arith, whole.place); within = omega (arith, whole.place, whole.within) }) t torn;
+      live = torn_other shape second closed at 1 bodies d new (record { after = omega (arith, whole.place); within = omega (arith, whole.place, whole.within) }) t torn;
       other = record {
         cells = record {
           is = torn_holds (begin shape (not second)) at 1 (cells put) d new torn (inl (omega (arith, whole.place))) put_there;

@@ -6,7 +6,7 @@ use Rattle.std.proofs.lemmas.Nat.{from_be_bytes-to_be_bytes_4}
 use Rattle.std.proofs.lemmas.List.{take_at, drop_at}
 use Rattle.dsc_outside.specs.Disk.{Cut}
 use Rattle.gate_log.specs.declared.shape.Shape.{Shape}
-use Rattle.gate_log.specs.Text.{Holds, Selects, behind, begin, cells, magic, AllFit, IsLive, IsBank, IsText, Gives, fresh, text}
+use Rattle.gate_log.specs.Text.{Holds, Selects, after_gate, begin, cells, magic, AllFit, IsLive, IsBank, IsText, Gives, fresh, text}
 use Rattle.gate_log.specs.Log.{Keeps}
 use Rattle.gate_log.proofs.Holds.{holds_drop, holds_both, holds_one, cut_holds}
 use Rattle.gate_log.proofs.Cells.{long-cells, begin_past, bank_long, text_gives}
@@ -28,9 +28,9 @@ same_front a b xs ys long is = (
   sym (drop_at a xs (length a) refl) ∙ ap (λ (l : List ℕ). drop (length a) l) is ∙ drop_at b ys (length a) (sym long),
 )
 
-pub same_behind : (a b xs ys : List ℕ) → length a < 2 ^ 32 → length b < 2 ^ 32 → behind a ++ xs ≡ behind b ++ ys → (a ≡ b) × (xs ≡ ys)
-unfolding behind
-same_behind a b xs ys fit_a fit_b is =
+pub same_after : (a b xs ys : List ℕ) → length a < 2 ^ 32 → length b < 2 ^ 32 → after_gate a ++ xs ≡ after_gate b ++ ys → (a ≡ b) × (xs ≡ ys)
+unfolding after_gate
+same_after a b xs ys fit_a fit_b is =
     let whole = sym (append_assoc (to_be_bytes w32 (length a)) a xs) ∙ is ∙ append_assoc (to_be_bytes w32 (length b)) b ys in
     let parts = same_front (to_be_bytes w32 (length a)) (to_be_bytes w32 (length b)) (a ++ xs) (b ++ ys) refl whole in
     let long : length a ≡ length b = sym (from_be_bytes-to_be_bytes_4 (length a) fit_a) ∙ ap (λ (l : List ℕ). from_be_bytes w32 l) parts.0 ∙ from_be_bytes-to_be_bytes_4 (length b) fit_b in
@@ -38,11 +38,11 @@ same_behind a b xs ys fit_a fit_b is =
 
 same_cells : (largest : ℕ) (ls bs : List (List ℕ)) (g h : ℕ) (xs ys : List ℕ) → largest < 2 ^ 32 → AllFit largest ls → AllFit largest bs → g ≢ 165 → h ≢ 165 → cells ls ++ g ∷ xs ≡ cells bs ++ h ∷ ys → ls ≡ bs
 same_cells largest [] [] g h xs ys small fa fb sg sh is = refl
-same_cells largest [] (b ∷ bs) g h xs ys small fa fb sg sh is = absurd (sg (same_head g 165 xs ((behind b ++ cells bs) ++ h ∷ ys) is))
-same_cells largest (a ∷ ls) [] g h xs ys small fa fb sg sh is = absurd (sh (sym (same_head 165 h ((behind a ++ cells ls) ++ g ∷ xs) ys is)))
+same_cells largest [] (b ∷ bs) g h xs ys small fa fb sg sh is = absurd (sg (same_head g 165 xs ((after_gate b ++ cells bs) ++ h ∷ ys) is))
+same_cells largest (a ∷ ls) [] g h xs ys small fa fb sg sh is = absurd (sh (sym (same_head 165 h ((after_gate a ++ cells ls) ++ g ∷ xs) ys is)))
 same_cells largest (a ∷ ls) (b ∷ bs) g h xs ys small fa fb sg sh is =
-    let rest = same_tail 165 165 ((behind a ++ cells ls) ++ g ∷ xs) ((behind b ++ cells bs) ++ h ∷ ys) is in
-    let parts = same_behind a b (cells ls ++ g ∷ xs) (cells bs ++ h ∷ ys) (omega (arith, fa.0)) (omega (arith, fb.0)) (sym (append_assoc (behind a) (cells ls) (g ∷ xs)) ∙ rest ∙ append_assoc (behind b) (cells bs) (h ∷ ys)) in
+    let rest = same_tail 165 165 ((after_gate a ++ cells ls) ++ g ∷ xs) ((after_gate b ++ cells bs) ++ h ∷ ys) is in
+    let parts = same_after a b (cells ls ++ g ∷ xs) (cells bs ++ h ∷ ys) (omega (arith, fa.0)) (omega (arith, fb.0)) (sym (append_assoc (after_gate a) (cells ls) (g ∷ xs)) ∙ rest ∙ append_assoc (after_gate b) (cells bs) (h ∷ ys)) in
     let others = same_cells largest ls bs g h xs ys small fa.1 fb.1 sg sh parts.1 in
     λ i. parts.0 i ∷ others i
 

@@ -4,7 +4,7 @@ use Rattle.std.specs.Prelude.{IfSome, option_map}
 use Rattle.std.specs.Int.{w32, to_be_bytes}
 use Rattle.std.proofs.lemmas.List.{drop_more, take_all, length-take-le, take-append-le}
 use Rattle.gate_log.specs.declared.shape.Shape.{Shape}
-use Rattle.gate_log.specs.Text.{Holds, Selects, behind, begin, end_of, cells, magic, IsLive, IsBank, FailsFrom}
+use Rattle.gate_log.specs.Text.{Holds, Selects, after_gate, begin, end_of, cells, magic, IsLive, IsBank, FailsFrom}
 use Rattle.gate_log.specs.Steps.{StandsAt, ReadUpTo, Unread}
 use Rattle.gate_log.specs.Opening.{HandedUpTo, HandedOn, FailsInOrder, no_cell, refused_cell, Untaken}
 use Rattle.gate_log.specs.declared.error.LogError.{LogError}
@@ -16,7 +16,7 @@ use Rattle.std.proofs.lemmas.Bool.{eqb-true, eqb-false}
 
 cell_here : (largest at : ℕ) (held head body : List ℕ) (n got : ℕ) → length head ≡ 5 → 5 ≤ n → get_or head 0 0 ≡ 165 → to_be_bytes w32 (length body) ≡ drop 1 head → length body ≤ got → length body ≤ largest
     → take n head ≡ take (length head) (drop at held) → take got body ≡ take (length body) (drop (at + 5) held) → StandsAt largest at held (Some body)
-unfolding behind
+unfolding after_gate
 cell_here largest at held head body n got five enough gate size all fits first second =
     let is_head : take (length head) (drop at held) ≡ head = sym first ∙ take_all n head (omega arith) in
     let is_body : Holds (at + 5) body held = sym second ∙ take_all got body all in
@@ -32,7 +32,7 @@ cell_told largest at (Some held) mid head body n got five enough gate size all f
 
 -- the front of a buffer whose items were read anew
 pub all_of : (n len : ℕ) (into items : List ℕ) → n ≤ length into → n ≤ len → take n (take len (into ++ drop (length into) items)) ≡ take n into
-all_of n len into items enough room = take_take n (len - n) len (into ++ drop (length into) items) (omega (arith, room)) ∙ take-append-le n into (drop (length into) items) enough
+all_of n len into items enough capacity = take_take n (len - n) len (into ++ drop (length into) items) (omega (arith, capacity)) ∙ take-append-le n into (drop (length into) items) enough
 
 read_more : (shape : Shape) (second : Bool) (at : ℕ) (held : List ℕ) (bodies : List (List ℕ)) (body : List ℕ) → at + 5 + length body < begin shape second + shape.bank → ReadUpTo shape second at held bodies → StandsAt shape.largest at held (Some body)
     → ReadUpTo shape second (at + (length body + 5)) held (bodies ++ body ∷ [])
@@ -41,7 +41,7 @@ read_more shape second at held bodies body inside so_far here =
     record {
       place = omega (arith, so_far.place, length-cells-push bodies body);
       read = record {
-        is = subst (λ (l : List ℕ). Holds from l held) (sym (cells-push bodies body)) (holds_both from (cells bodies) (165 ∷ behind body) held so_far.read.is (subst (λ (n : ℕ). Holds n (165 ∷ behind body) held) so_far.place here.1));
+        is = subst (λ (l : List ℕ). Holds from l held) (sym (cells-push bodies body)) (holds_both from (cells bodies) (165 ∷ after_gate body) held so_far.read.is (subst (λ (n : ℕ). Holds n (165 ∷ after_gate body) held) so_far.place here.1));
         within = omega (arith, so_far.place, inside, length-cells-push bodies body);
         fit = fit-push shape.largest bodies body so_far.read.fit here.0;
       };
@@ -76,7 +76,7 @@ told_all f shape second at (Some held) mid bodies o none so_far same here =
     let gate = subst (λ (p : Option ℕ). StandsAt shape.largest at held (option_map f p)) none there in
     read_all shape second at held bodies so_far gate
 
--- nothing was handed on at the begin of a bank
+-- nothing was handed on at the beginning of a bank
 pub handed_none : (shape : Shape) (second : Bool) (at : ℕ) (shown : Option (List ℕ)) (Took : List (List ℕ) → Type 0) → 1 ≤ shape.bank → at ≡ begin shape second → Took [] → HandedUpTo shape second shown Took at
 handed_none shape second at shown Took some is took = record { bodies = []; took = took; read = told_none shape second at shown some is }
 

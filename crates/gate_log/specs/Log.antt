@@ -23,7 +23,7 @@ pub record LogTerm : Type 0 where
   pub filled : Option ℕ
 
 -- Every image has the log's bank live with these bodies and its closed gate, and the log keeps the disk's length. Over a disk
--- that does not expose this says nothing.
+-- that does not show this says nothing.
 pub record IsOf (shown : Option (List ℕ)) (images : List ℕ → Type 0) (log : LogTerm) (bodies : List (List ℕ)) : Type 0 where
   pub each : Each images (λ c. IsText log.shape log.second log.closed c bodies)
   pub long : IfSome shown (λ held. log.long ≡ length held)
@@ -62,16 +62,16 @@ abbrev pub Keeps : Shape → List ℕ → List ℕ → Type 0
 Keeps shape old new = (bodies : List (List ℕ)) → Gives shape old bodies → Gives shape new bodies
 
 -- the bytes left in the live bank after its closed gate
-abbrev pub room_in : LogTerm → ℕ
-room_in log = begin log.shape log.second + log.shape.bank - (log.closed + 1)
+abbrev pub capacity_in : LogTerm → ℕ
+capacity_in log = begin log.shape log.second + log.shape.bank - (log.closed + 1)
 
 -- the bytes left in the other bank, but one for its gate
-abbrev pub left_behind : Shape → Bool → Option ℕ → ℕ
-left_behind shape second None = 0
-left_behind shape second (Some at) = begin shape (not second) + shape.bank - (at + 1)
+abbrev pub left_after : Shape → Bool → Option ℕ → ℕ
+left_after shape second None = 0
+left_after shape second (Some at) = begin shape (not second) + shape.bank - (at + 1)
 
-abbrev pub room_to_put : LogTerm → ℕ
-room_to_put log = left_behind log.shape log.second log.filled
+abbrev pub capacity_to_put : LogTerm → ℕ
+capacity_to_put log = left_after log.shape log.second log.filled
 
 -- a body was appended
 abbrev pub grown : LogTerm → ℕ → LogTerm
@@ -98,7 +98,7 @@ pub record PutMore (old : LogTerm) (body : List ℕ) (new : LogTerm) : Type 0 wh
   pub second : new.second ≡ old.second
   pub closed : new.closed ≡ old.closed
   pub spent : new.spent ≡ false
-  pub room : room_to_put new + need_of body ≡ room_to_put old
+  pub capacity : capacity_to_put new + need_of body ≡ capacity_to_put old
 
 -- what an answer of put says
 abbrev pub Put : {T : Type 0} → LogTerm → List ℕ → ℕ → ℕ → Result T LogError → LogTerm → Type 0
@@ -107,13 +107,13 @@ Put old body before after (Err Disk) new = Rose before after × (new ≡ spoilt 
 Put old body before after (Err (NotAStore at)) new = ⊥
 Put old body before after (Err Memory) new = ⊥
 
--- the other bank is live, with the room that was left there
+-- the other bank is live, with the capacity that was left there
 pub record Switched (old new : LogTerm) : Type 0 where
   pub shape : new.shape ≡ old.shape
   pub second : new.second ≡ not old.second
   pub spent : new.spent ≡ false
   pub filled : new.filled ≡ None
-  pub room : room_in new ≡ room_to_put old
+  pub capacity : capacity_in new ≡ capacity_to_put old
 
 -- what an answer of finish_rewrite says
 abbrev pub Finished : {T : Type 0} → LogTerm → ℕ → ℕ → Result T LogError → LogTerm → Type 0

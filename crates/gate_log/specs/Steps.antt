@@ -6,7 +6,7 @@ use Rattle.dsc_outside.specs.Disk.{Each, AnyMoment}
 use Rattle.gate_log.specs.declared.shape.Shape.{Shape}
 use Rattle.gate_log.specs.declared.error.LogError.{LogError}
 use Rattle.gate_log.specs.declared.error.LogError.TheVariants.{Disk, NotAStore, Memory}
-use Rattle.gate_log.specs.Text.{IsText, HasCells, Holds, AllFit, behind, begin, end_of, cells, need_of}
+use Rattle.gate_log.specs.Text.{IsText, HasCells, Holds, AllFit, after_gate, begin, end_of, cells, need_of}
 use Rattle.gate_log.specs.Log.{OldOrNew}
 
 -- every image is the text of these bodies, with the closed gate at this place
@@ -29,7 +29,7 @@ Reaches d before now end result =
 -- a text with a whole cell, but for its gate, and a closed gate after its own closed gate
 pub record IsStaged (shape : Shape) (second : Bool) (closed : ℕ) (image : List ℕ) (bodies : List (List ℕ)) (body : List ℕ) : Type 0 where
   pub text : IsText shape second closed image bodies
-  pub cell : Holds (closed + 1) (behind body ++ 0 ∷ []) image
+  pub cell : Holds (closed + 1) (after_gate body ++ 0 ∷ []) image
 
 -- with one body more or without it, in the same bank
 abbrev pub TextBeforeOrAfter : Shape → Bool → ℕ → List (List ℕ) → List ℕ → List ℕ → Type 0
@@ -55,24 +55,24 @@ abbrev pub WritesCell : {T D : Type 0} → Ghosts D → D → D → ℕ → List
 WritesCell d before now closed cell result =
     (shape : Shape) (second : Bool) (bodies : List (List ℕ)) (body : List ℕ)
     → AreTexts d before shape second closed bodies → length body ≤ shape.largest
-    → closed + 1 + need_of body ≤ begin shape second + shape.bank → cell ≡ behind body ++ 0 ∷ []
+    → closed + 1 + need_of body ≤ begin shape second + shape.bank → cell ≡ after_gate body ++ 0 ∷ []
     → OnOk result (AreTexts d now shape second (closed + length cell) (bodies ++ body ∷ []))
 
 abbrev pub LeavesSpelled : {D : Type 0} → Ghosts D → D → D → ℕ → List ℕ → Type 0
 LeavesSpelled d before now closed cell =
     (shape : Shape) (second : Bool) (bodies : List (List ℕ)) (body : List ℕ)
     → AreTexts d before shape second closed bodies → length body ≤ shape.largest
-    → closed + 1 + need_of body ≤ begin shape second + shape.bank → cell ≡ behind body ++ 0 ∷ []
+    → closed + 1 + need_of body ≤ begin shape second + shape.bank → cell ≡ after_gate body ++ 0 ∷ []
     → AnyMoment d.moment d.left_since before now (TextBeforeOrAfter shape second closed bodies body)
 
 -- ---- a rewrite
 
 -- these bytes lie in the bank that is not live
 pub record IsInOther (shape : Shape) (second : Bool) (at n : ℕ) : Type 0 where
-  pub behind : begin shape (not second) ≤ at
+  pub after : begin shape (not second) ≤ at
   pub within : at + n ≤ begin shape (not second) + shape.bank
 
--- cells of these bodies end at this place of that bank, and a gate has room there
+-- cells of these bodies end at this place of that bank, and a gate fits there
 pub record IsWhole (shape : Shape) (second : Bool) (at : ℕ) (put : List (List ℕ)) : Type 0 where
   pub place : at ≡ end_of shape (not second) put
   pub within : length (cells put) + 1 ≤ shape.bank
@@ -102,7 +102,7 @@ PutsCell d before now at body result =
     → IfSome (d.shown before) (Holds from (cells put))
     → OnOk result (IfSome (d.shown now) (Holds from (cells (put ++ body ∷ []))))
 
--- writing so many bytes at a place of the other bank keeps each text
+-- writing that many bytes at a place of the other bank keeps each text
 abbrev pub KeepsLive : {T D : Type 0} → Ghosts D → D → D → ℕ → ℕ → ℕ → Result T Failed → Type 0
 KeepsLive d before now long at n result =
     (shape : Shape) (second : Bool) (closed : ℕ) (bodies : List (List ℕ)) → closed + 1 ≤ long
@@ -134,7 +134,7 @@ LeavesEitherBank d before now long at second =
 
 -- a cell with this body, or a closed gate
 abbrev pub StandsAt : ℕ → ℕ → List ℕ → Option (List ℕ) → Type 0
-StandsAt largest at held (Some body) = (length body ≤ largest) × Holds at (165 ∷ behind body) held
+StandsAt largest at held (Some body) = (length body ≤ largest) × Holds at (165 ∷ after_gate body) held
 StandsAt largest at held None = (gate : ℕ) × (gate ≢ 165) × Holds at (gate ∷ []) held
 
 -- these bodies were read from a bank up to a place

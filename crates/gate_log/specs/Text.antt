@@ -13,17 +13,17 @@ abbrev pub Holds : ℕ → List ℕ → List ℕ → Type 0
 Holds at bytes image = take (length bytes) (drop at image) ≡ bytes
 
 -- what stands after the gate of a cell: the length in four bytes, the greatest first, and the body
-unfoldable pub behind : List ℕ → List ℕ
-behind body = to_be_bytes w32 (length body) ++ body
+unfoldable pub after_gate : List ℕ → List ℕ
+after_gate body = to_be_bytes w32 (length body) ++ body
 
--- the body in two pieces: the first of them stands after four bytes of room for the length
+-- the body in two pieces: the first of them stands after four bytes for the length
 unfoldable pub body_in : List ℕ → List ℕ → List ℕ
 body_in head tail = drop 4 head ++ tail
 
 -- the cells of these bodies, each with an open gate (A5) in front
 abbrev pub cells : List (List ℕ) → List ℕ
 cells [] = []
-cells (body ∷ bodies) = 165 ∷ (behind body ++ cells bodies)
+cells (body ∷ bodies) = 165 ∷ (after_gate body ++ cells bodies)
 
 -- the bytes that a body takes, its gate and its length with it
 abbrev pub need_of : List ℕ → ℕ

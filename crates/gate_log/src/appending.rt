@@ -3,7 +3,7 @@ ghost use Rattle.std.specs.Prelude.{◌≡◌, [], ◌∷◌, ◌++◌, ℕ, ◌
 ghost use Rattle.dsc_outside.specs.Causes.{HasCause};
 ghost use Rattle.dsc_outside.specs.Disk.{Only, written};
 ghost use Rattle.gate_log.specs.declared.shape.Shape.{Shape};
-ghost use Rattle.gate_log.specs.Text.{behind, body_in, need_of};
+ghost use Rattle.gate_log.specs.Text.{after_gate, body_in, need_of};
 ghost use Rattle.gate_log.specs.Steps.{AppendsCell, AreTexts, LeavesCell, LeavesSpelled, Reaches, StayTexts, WritesCell};
 
 use crate::through::{write_on, write_through};
@@ -11,10 +11,10 @@ use dsc_outside::{Disk, Failed};
 
 /// Writes the length, the body and a closed gate into the buffer, and gives how many bytes these are.
 pub(crate) fn fill(buffer: &mut [u8], body: &[u8]) -> usize
-    requires room { length body.now + 5 ≤ length buffer.old }
+    requires capacity { length body.now + 5 ≤ length buffer.old }
     requires size { length body.now < 2 ^ 32 }
     ensures size { result ≡ length body.now + 5 }
-    ensures cell { take result buffer.new ≡ behind body.now ++ 0 ∷ [] }
+    ensures cell { take result buffer.new ≡ after_gate body.now ++ 0 ∷ [] }
 {
     let end = body.len() + 4;
     buffer[..4].copy_from_slice(&(body.len() as u32).to_be_bytes());
@@ -33,7 +33,7 @@ pub(crate) fn append_cell<D: Disk>(
     requires fits { closed + 1 < 2 ^ 64 }
     requires size { length body.now < 2 ^ 32 }
     requires buffer { length body.now + 5 ≤ length buffer.old }
-    requires room { IfSome (D.shown disk.old) (λ held. closed + 1 ≤ length held) }
+    requires capacity { IfSome (D.shown disk.old) (λ held. closed + 1 ≤ length held) }
     ensures ok { AppendsCell D.Disk disk.old disk.new closed body.now result }
     ensures any_moment { LeavesCell D.Disk disk.old disk.new closed body.now }
     ensures long { Reaches D.Disk disk.old disk.new (closed + 1 + need_of body.now) result }
@@ -54,7 +54,7 @@ pub(crate) fn append_cell_in_place<D: Disk>(
     requires fits { closed + 2 + length head.old + length tail.now < 2 ^ 64 }
     requires whole { 4 ≤ length head.old }
     requires size { length head.old + length tail.now < 2 ^ 32 + 4 }
-    requires room { IfSome (D.shown disk.old) (λ held. closed + 1 ≤ length held) }
+    requires capacity { IfSome (D.shown disk.old) (λ held. closed + 1 ≤ length held) }
     ensures ok { let body = body_in head.old tail.now in
         AppendsCell D.Disk disk.old disk.new closed body result }
     ensures any_moment { let body = body_in head.old tail.now in
@@ -62,19 +62,19 @@ pub(crate) fn append_cell_in_place<D: Disk>(
     ensures long { let body = body_in head.old tail.now in
         Reaches D.Disk disk.old disk.new (closed + 1 + need_of body) result }
     ensures cause { HasCause (D.faults disk.old) (D.faults disk.new) result }
-    ensures left { head.new ++ tail.now ≡ behind (body_in head.old tail.now) }
+    ensures left { head.new ++ tail.now ≡ after_gate (body_in head.old tail.now) }
 {
     number(head, tail.len());
     stage_cell(disk, closed, head, tail)?;
     write_through(disk, closed, &[0xA5])
 }
 
-// The length of a body whose second piece has so many bytes is written before its first.
+// The length of a body whose second piece has that many bytes is written before its first.
 fn number(head: &mut [u8], more: usize)
     requires whole { 4 ≤ length head.old }
     requires size { length head.old + more < 2 ^ 32 + 4 }
     ensures { (tail : List ℕ) → more ≡ length tail
-        → head.new ++ tail ≡ behind (body_in head.old tail) }
+        → head.new ++ tail ≡ after_gate (body_in head.old tail) }
 {
     let length = (head.len() - 4 + more) as u32;
     head[..4].copy_from_slice(&length.to_be_bytes());
@@ -83,7 +83,7 @@ fn number(head: &mut [u8], more: usize)
 // The two pieces of a cell and a closed gate are written after the closed gate, and are on the disk.
 fn stage_cell<D: Disk>(disk: &mut D, closed: u64, head: &[u8], tail: &[u8]) -> Result<(), Failed>
     requires fits { closed + 2 + length head.now + length tail.now < 2 ^ 64 }
-    requires room { IfSome (D.shown disk.old) (λ held. closed + 1 ≤ length held) }
+    requires capacity { IfSome (D.shown disk.old) (λ held. closed + 1 ≤ length held) }
     ensures written { let cell = (head.now ++ tail.now) ++ 0 ∷ [] in
         OnOk result (D.shown disk.new ≡ option_map (written (closed + 1) cell) (D.shown disk.old)) }
     ensures only { OnOk result (Only (D.shown disk.new) (D.images disk.new)) }
@@ -101,7 +101,7 @@ fn stage_cell<D: Disk>(disk: &mut D, closed: u64, head: &[u8], tail: &[u8]) -> R
 // The cell is written after the closed gate, and its own gate is opened once it is on the disk.
 fn write_cell<D: Disk>(disk: &mut D, closed: u64, cell: &[u8]) -> Result<(), Failed>
     requires fits { closed + 1 < 2 ^ 64 }
-    requires room { IfSome (D.shown disk.old) (λ held. closed + 1 ≤ length held) }
+    requires capacity { IfSome (D.shown disk.old) (λ held. closed + 1 ≤ length held) }
     ensures ok { WritesCell D.Disk disk.old disk.new closed cell.now result }
     ensures any_moment { LeavesSpelled D.Disk disk.old disk.new closed cell.now }
     ensures long { Reaches D.Disk disk.old disk.new (closed + 1 + length cell.now) result }

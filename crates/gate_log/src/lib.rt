@@ -1,8 +1,8 @@
 //! Bodies on a disk, in the live one of two banks, that survive a crash at any moment.
 //!
 //! A body is appended to the live bank after its closed gate, and the gate is opened once the body is on the disk.
-//! Where no room is left there, the bodies that are still wanted are put into the other bank, and one byte makes that
-//! bank live.
+//! Where no capacity is left there, the bodies that are still wanted are put into the other bank, and one byte makes
+//! that bank live.
 //!
 //! A layer above may rely on this: every image that a crash at any moment of a call may leave gives the bodies before
 //! or after it, and after `Ok` the bodies after it; an opening hands over each body once, in order, or names the first

@@ -1,6 +1,6 @@
 //! A log of bodies in the live one of two banks.
 ghost use Rattle.std.specs.Prelude.{◌≡◌, ◌++◌, ℕ, ◌+◌, ◌-◌, ◌≤◌, ◌<◌, ◌^◌, ◌↔◌, IsTrue, List, length, false};
-ghost use Rattle.gate_log.specs.Text.{behind, body_in, need_of};
+ghost use Rattle.gate_log.specs.Text.{after_gate, body_in, need_of};
 
 use crate::appending::{append_cell, append_cell_in_place};
 use crate::error::LogError;
@@ -22,7 +22,7 @@ pub struct Log {
     // the disk's length
     long: u64,
     spent: bool,
-    // room for the longest cell and a gate
+    // capacity for the longest cell and a gate
     buffer: Vec<u8>,
     // up to where the other bank is filled, where a rewrite is begun
     filled: Option<u64>,
@@ -48,7 +48,7 @@ impl Model for Log {
 }
 
 impl Log {
-    ghost use Rattle.gate_log.specs.Log.{IsLogOf, HasPutOn, Appended, Put, Finished, begun, room_in, room_to_put, log_at};
+    ghost use Rattle.gate_log.specs.Log.{IsLogOf, HasPutOn, Appended, Put, Finished, begun, capacity_in, capacity_to_put, log_at};
     ghost use Rattle.gate_log.specs.Calls.{AddsBody, LeavesWithOrWithout, StaysInBank, KeepsBodies, PutsBody, LeavesBodies, TakesPut, LeavesOldOrPut};
     ghost use Rattle.std.specs.Prelude.{vec_capacity};
 
@@ -77,9 +77,9 @@ impl Log {
         self.spent
     }
 
-    /// Whether a body of this length has room in the live bank.
+    /// Whether a body of this length fits the live bank.
     pub fn has_room(&self, length: u32) -> bool
-        ensures { IsTrue result ↔ (5 + length ≤ room_in self.now) }
+        ensures { IsTrue result ↔ (5 + length ≤ capacity_in self.now) }
     {
         let end = begin(self.shape, self.second) + self.shape.bank;
         length as u64 + CELL_HEAD <= end.saturating_sub(self.closed).saturating_sub(1)
@@ -91,7 +91,7 @@ impl Log {
     /// After an error the log is spent.
     pub fn append<D: Disk>(&mut self, disk: &mut D, body: &[u8]) -> Result<(), LogError>
         requires size { length body.now ≤ self.old.shape.largest }
-        requires room { need_of body.now ≤ room_in self.old }
+        requires capacity { need_of body.now ≤ capacity_in self.old }
         requires unspent { self.old.spent ≡ false }
         requires of { (bodies : List (List ℕ)) × IsLogOf D.Disk disk.old self.old bodies }
         ensures answer { Appended self.old body.now (D.faults disk.old) (D.faults disk.new)
@@ -124,7 +124,7 @@ impl Log {
     ) -> Result<(), LogError>
         requires whole { 4 ≤ length head.old }
         requires size { length head.old + length tail.now ≤ self.old.shape.largest + 4 }
-        requires room { length head.old + length tail.now + 1 ≤ room_in self.old }
+        requires capacity { length head.old + length tail.now + 1 ≤ capacity_in self.old }
         requires unspent { self.old.spent ≡ false }
         requires of { (bodies : List (List ℕ)) × IsLogOf D.Disk disk.old self.old bodies }
         ensures answer { let body = body_in head.old tail.now in
@@ -135,7 +135,7 @@ impl Log {
             LeavesWithOrWithout D.Disk disk.old disk.new self.old body }
         ensures same_bank { StaysInBank D.Disk disk.old disk.new self.old }
         ensures count { D.faults disk.old ≤ D.faults disk.new }
-        ensures left { head.new ++ tail.now ≡ behind (body_in head.old tail.now) }
+        ensures left { head.new ++ tail.now ≡ after_gate (body_in head.old tail.now) }
     {
         let need = head.len() as u64 + tail.len() as u64 + 1;
         self.spent = true; // until its gate is open
@@ -155,9 +155,9 @@ impl Log {
         self.filled = Some(begin(self.shape, !self.second));
     }
 
-    /// Whether a body of this length has room in the other bank, after those that were put since the rewrite was begun.
+    /// Whether a body of this length fits the other bank, after those that were put since the rewrite was begun.
     pub fn has_room_to_put(&self, length: u32) -> bool
-        ensures { IsTrue result ↔ (5 + length ≤ room_to_put self.now) }
+        ensures { IsTrue result ↔ (5 + length ≤ capacity_to_put self.now) }
     {
         let Some(at) = self.filled else {
             return false;
@@ -171,7 +171,7 @@ impl Log {
     /// A crash at any moment leaves the bodies of the live bank. After an error the log is spent.
     pub fn put<D: Disk>(&mut self, disk: &mut D, body: &[u8]) -> Result<(), LogError>
         requires size { length body.now ≤ self.old.shape.largest }
-        requires room { need_of body.now ≤ room_to_put self.old }
+        requires capacity { need_of body.now ≤ capacity_to_put self.old }
         requires unspent { self.old.spent ≡ false }
         requires of { (bodies : List (List ℕ)) × IsLogOf D.Disk disk.old self.old bodies }
         requires begun { (put : List (List ℕ)) × HasPutOn D.Disk disk.old self.old put }
@@ -187,8 +187,8 @@ impl Log {
         };
         let end = at + CELL_HEAD + body.len() as u64;
         self.spent = true;
-        let room = self.shape.largest as usize + 6;
-        lengthen(&mut self.buffer, with_zeros(body.len() + 6, room));
+        let capacity = self.shape.largest as usize + 6;
+        lengthen(&mut self.buffer, with_zeros(body.len() + 6, capacity));
         put_cell(disk, &mut self.buffer, self.long, at, body)?;
         self.spent = false;
         self.long = max(max(self.long, at), end + 1);
@@ -213,8 +213,8 @@ impl Log {
             unreachable!()
         };
         self.spent = true;
-        let room = self.shape.largest as usize + 6;
-        lengthen(&mut self.buffer, with_zeros(1, room));
+        let capacity = self.shape.largest as usize + 6;
+        lengthen(&mut self.buffer, with_zeros(1, capacity));
         finish_cells(disk, &mut self.buffer, self.long, at, self.second)?;
         self.spent = false;
         self.second = !self.second;

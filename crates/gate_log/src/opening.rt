@@ -87,12 +87,12 @@ fn replay_old<D: Disk, R: Replay>(
     requires small { shape.largest < 2 ^ 32 }
     requires some { 1 ≤ shape.bank }
     requires bank { shape.bank ≤ 2 ^ 62 }
-    requires room { shape.largest ≤ vec_capacity buffer.old }
+    requires capacity { shape.largest ≤ vec_capacity buffer.old }
     requires first { R.took replay.old [] }
     ensures ok { IfOk result (λ r. Replayed D.Disk disk.old disk.new shape (R.took replay.new) r.0 r.1) }
     ensures shown { IfOk result (λ r. IfSome (D.shown disk.new) (λ held. r.1 + 1 ≡ length held)) }
     ensures within { IfOk result (λ r. r.1 + 1 < 2 ^ 64) }
-    ensures room { vec_capacity buffer.old ≤ vec_capacity buffer.new }
+    ensures capacity { vec_capacity buffer.old ≤ vec_capacity buffer.new }
     ensures any_moment { AnyMoment D.moment D.left_since disk.old disk.new (From (Keeps shape) (D.images disk.old)) }
     ensures still { IfErr result (StillWhereRefused D.Disk disk.old disk.new) }
     ensures cause { IfErr result (Unread (Rose (D.faults disk.old) (D.faults disk.new)) (D.shown disk.old) (FailsFirst shape (R.took replay.new) (R.refused replay.new))) }
@@ -111,7 +111,7 @@ fn replay_old<D: Disk, R: Replay>(
 /// first failure in the order of the file: the byte at which the grammar fails, or the first byte of a body that was refused.
 /// Then the file is as it was. A crash at any moment leaves what an image gave before.
 ///
-/// The memory is the room for one cell, touched up to the longest body that is read, and what the replay takes.
+/// The memory is the capacity for one cell, touched up to the longest body that is read, and what the replay takes.
 pub fn replay_log<D: Disk, R: Replay>(
     alloc: Global,
     disk: &mut D,

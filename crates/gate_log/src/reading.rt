@@ -14,11 +14,11 @@ use crate::shape::{Shape, begin};
 use crate::through::read_from;
 use dsc_outside::{Disk, Failed};
 
-/// Makes the buffer at least so long, within its room.
+/// Makes the buffer at least so long, within its capacity.
 pub(crate) fn lengthen(buffer: &mut Vec<u8>, size: usize)
     requires { size ≤ vec_capacity buffer.old }
     ensures size { size ≤ length buffer.new.items }
-    ensures room { vec_capacity buffer.old ≤ vec_capacity buffer.new }
+    ensures capacity { vec_capacity buffer.old ≤ vec_capacity buffer.new }
 {
     if buffer.len() < size {
         let Ok(()) = buffer.resize(size, 0) else {
@@ -35,17 +35,17 @@ fn length_in(head: &[u8]) -> u32
     u32::from_be_bytes([head[1], head[2], head[3], head[4]])
 }
 
-// Reads so many bytes, or as many as there are, into the front of the buffer.
+// Reads that many bytes, or as many as there are, into the front of the buffer.
 fn read_front<D: Disk>(
     disk: &mut D,
     at: u64,
     size: usize,
     buffer: &mut [u8],
 ) -> Result<usize, Failed>
-    requires room { size ≤ length buffer.old }
+    requires capacity { size ≤ length buffer.old }
     ensures size { IfOk result (λ n. n ≤ size) }
     ensures bytes { IfOk result (λ n. IfSome (D.shown disk.old) (λ held. take n (take size buffer.new) ≡ take size (drop at held))) }
-    ensures room { length buffer.new ≡ length buffer.old }
+    ensures capacity { length buffer.new ≡ length buffer.old }
     ensures still { Still D.shown D.images D.moment D.left_since disk.old disk.new }
     ensures cause { HasCause (D.faults disk.old) (D.faults disk.new) result }
 {
@@ -64,14 +64,14 @@ fn read_cell<D: Disk>(
 ) -> Result<Option<usize>, LogError>
     requires inside { at < limit }
     requires end { IfSome (D.shown disk.old) (λ held. end ≡ length held) }
-    requires room { largest ≤ vec_capacity buffer.old }
+    requires capacity { largest ≤ vec_capacity buffer.old }
     ensures still { Still D.shown D.images D.moment D.left_since disk.old disk.new }
     ensures cell { IfOk result (λ cell. IfSome (D.shown disk.old) (λ held. StandsAt largest at held (option_map (λ n. take n buffer.new.items) cell))) }
     ensures read { IfOk result (λ cell. IfSome cell (λ n. n ≤ length buffer.new.items)) }
     ensures within { IfOk result (λ cell. IfSome cell (λ n. at + 5 + n ≤ end)) }
     ensures fits { IfOk result (λ cell. IfSome cell (λ n. at + 5 + n < limit)) }
     ensures before { IfOk result (λ cell. at < end) }
-    ensures room { vec_capacity buffer.old ≤ vec_capacity buffer.new }
+    ensures capacity { vec_capacity buffer.old ≤ vec_capacity buffer.new }
     ensures cause { IfErr result (Unread (Rose (D.faults disk.old) (D.faults disk.new)) (D.shown disk.old) (FailsFrom largest limit at)) }
     ensures count { D.faults disk.old ≤ D.faults disk.new }
 {
@@ -128,12 +128,12 @@ pub(crate) fn read_cells<D: Disk, R: Replay>(
     requires some { 1 ≤ shape.bank }
     requires bank { shape.bank ≤ 2 ^ 62 }
     requires end { IfSome (D.shown disk.old) (λ held. end ≡ length held) }
-    requires room { shape.largest ≤ vec_capacity buffer.old }
+    requires capacity { shape.largest ≤ vec_capacity buffer.old }
     requires first { R.took replay.old [] }
     ensures still { Still D.shown D.images D.moment D.left_since disk.old disk.new }
     ensures cells { IfOk result (HandedOn shape second (D.shown disk.old) (R.took replay.new)) }
     ensures before { IfOk result (λ at. at < end) }
-    ensures room { vec_capacity buffer.old ≤ vec_capacity buffer.new }
+    ensures capacity { vec_capacity buffer.old ≤ vec_capacity buffer.new }
     ensures cause { IfErr result (Unread (Rose (D.faults disk.old) (D.faults disk.new)) (D.shown disk.old) (FailsInOrder shape second (R.took replay.new) (R.refused replay.new))) }
     ensures count { D.faults disk.old ≤ D.faults disk.new }
 {

@@ -1,7 +1,7 @@
 //! The other bank is written, and made live.
 ghost use Rattle.std.specs.Prelude.{◌≡◌, [], ◌∷◌, ◌++◌, ◌+◌, ◌≤◌, ◌<◌, ◌^◌, max, take, length, IfSome, OnOk};
 ghost use Rattle.dsc_outside.specs.Causes.{HasCause};
-ghost use Rattle.gate_log.specs.Text.{behind, need_of, Selects};
+ghost use Rattle.gate_log.specs.Text.{after_gate, need_of, Selects};
 ghost use Rattle.gate_log.specs.Steps.{KeepsBytes, KeepsLive, KeepsTexts, LeavesEitherBank, LeavesLive, LeavesTexts, PutsCell, SwitchesBanks};
 
 use crate::appending::fill;
@@ -12,13 +12,13 @@ use std::cmp::{max, min};
 // How many zeros are written at once, at most.
 const ZEROS: usize = 65_536;
 
-/// How long the buffer is made for so many bytes, and for zeros in front of them, within its room.
-pub(crate) fn with_zeros(size: usize, room: usize) -> usize
-    requires { size ≤ room }
+/// How long the buffer is made for that many bytes, and for zeros in front of them, within its capacity.
+pub(crate) fn with_zeros(size: usize, capacity: usize) -> usize
+    requires { size ≤ capacity }
     ensures size { size ≤ result }
-    ensures room { result ≤ room }
+    ensures capacity { result ≤ capacity }
 {
-    max(size, min(room, ZEROS))
+    max(size, min(capacity, ZEROS))
 }
 
 // Writes zeros from the disk's end up to a place, by way of the buffer.
@@ -32,10 +32,10 @@ fn fill_up<D: Disk>(disk: &mut D, buffer: &mut [u8], long: u64, to: u64) -> Resu
     ensures any_moment { LeavesTexts D.Disk disk.old disk.new long }
     ensures cause { HasCause (D.faults disk.old) (D.faults disk.new) result }
 {
-    let room = zero_front(buffer);
+    let capacity = zero_front(buffer);
     let mut end = long;
     while end < to {
-        let size = piece(to - end, room);
+        let size = piece(to - end, capacity);
         write_on(disk, end, &buffer[..size])?;
         end += size as u64;
     }
@@ -47,23 +47,23 @@ fn zero_front(buffer: &mut [u8]) -> usize
     requires { 0 < length buffer.old }
     ensures size { length buffer.new ≡ length buffer.old }
     ensures some { 0 < result }
-    ensures room { result ≤ length buffer.new }
+    ensures capacity { result ≤ length buffer.new }
 {
-    let room = min(buffer.len(), ZEROS);
-    buffer[..room].fill(0);
-    room
+    let capacity = min(buffer.len(), ZEROS);
+    buffer[..capacity].fill(0);
+    capacity
 }
 
 // How much of the rest is written at once.
-fn piece(rest: u64, room: usize) -> usize
+fn piece(rest: u64, capacity: usize) -> usize
     requires rest { 0 < rest }
-    requires room { 0 < room }
+    requires capacity { 0 < capacity }
     ensures some { 0 < result }
     ensures rest { result ≤ rest }
-    ensures room { result ≤ room }
+    ensures capacity { result ≤ capacity }
 {
-    if (room as u64) < rest {
-        room
+    if (capacity as u64) < rest {
+        capacity
     } else {
         rest as usize
     }
@@ -95,9 +95,9 @@ pub(crate) fn put_cell<D: Disk>(
 // Writes an open gate, the length, the body and a closed gate into the buffer, and gives how many bytes these are.
 fn fill_cell(buffer: &mut [u8], body: &[u8]) -> usize
     requires size { length body.now < 2 ^ 32 }
-    requires room { length body.now + 6 ≤ length buffer.old }
+    requires capacity { length body.now + 6 ≤ length buffer.old }
     ensures size { result ≡ length body.now + 6 }
-    ensures cell { take result buffer.new ≡ 165 ∷ (behind body.now ++ 0 ∷ []) }
+    ensures cell { take result buffer.new ≡ 165 ∷ (after_gate body.now ++ 0 ∷ []) }
 {
     buffer[0] = 0xA5;
     fill(&mut buffer[1..], body) + 1

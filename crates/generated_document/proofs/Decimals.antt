@@ -28,8 +28,8 @@ literal_digits [] all = refl
 literal_digits (d ∷ ds) all =
     let range = digit_from_value d all.0 in
     let here : literal_char d ≡ d ∷ [] = literal_digit d range.0 range.1 in
-    let behind : flat_map literal_char ds ≡ ds = literal_digits ds all.1 in
-    rw (here, behind)
+    let after : flat_map literal_char ds ≡ ds = literal_digits ds all.1 in
+    rw (here, after)
 
 -- a digit has no case
 lower_digit : (c : ℕ) → 48 ≤ c → c ≤ 57 → to_ascii_lowercase c ≡ c
@@ -40,7 +40,7 @@ fold_digits [] all = refl
 fold_digits (d ∷ ds) all =
     let range = digit_from_value d all.0 in
     let here : to_ascii_lowercase d ≡ d = lower_digit d range.0 range.1 in
-    let behind : fold_case ds ≡ ds = fold_digits ds all.1 in
+    let after : fold_case ds ≡ ds = fold_digits ds all.1 in
     cc
 
 folded_id : (n : ℕ) → n < MAX_RESOURCES → fold_case (id_of_number n) ≡ codes "[environment]r" ++ decimal n

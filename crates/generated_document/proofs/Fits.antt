@@ -30,8 +30,8 @@ encoded : (text : List ℕ) → list_all is_ascii text ≡ true → encode_utf8_
 encoded [] all = refl
 encoded (c ∷ text) all =
     let parts = and_parts (nat_lt c 128) (list_all is_ascii text) all in
-    let behind : encode_utf8_all text ≡ text = encoded text parts.1 in
-    ap (λ bytes. bytes ++ encode_utf8_all text) (encode_ascii c (below c parts.0)) ∙ ap (λ rest. c ∷ rest) behind
+    let after : encode_utf8_all text ≡ text = encoded text parts.1 in
+    ap (λ bytes. bytes ++ encode_utf8_all text) (encode_ascii c (below c parts.0)) ∙ ap (λ rest. c ∷ rest) after
 
 pub fits_encoded : (bound : ℕ) (text : List ℕ) → Fits bound text → length (encode_utf8_all text) ≤ bound
 fits_encoded bound text fits = omega (arith, ap length (encoded text fits.ascii), fits.short)
@@ -43,8 +43,8 @@ ascii_digits : (ds : List ℕ) → AllDigits 10 ds → list_all is_ascii ds ≡ 
 ascii_digits [] all = refl
 ascii_digits (d ∷ ds) all =
     let here : nat_lt d 128 ≡ true = ascii_digit d (digit_from_value d all.0).1 in
-    let behind : list_all is_ascii ds ≡ true = ascii_digits ds all.1 in
-    λ i. here i && behind i
+    let after : list_all is_ascii ds ≡ true = ascii_digits ds all.1 in
+    λ i. here i && after i
 
 pub fits_digits : (bound : ℕ) (ds : List ℕ) → AllDigits 10 ds → length ds ≤ bound → Fits bound ds
 fits_digits bound ds all short = record { ascii = ascii_digits ds all; short = short }

@@ -20,8 +20,8 @@ rises : (first : ℕ) (rest : List ℕ) (last : ℕ) → ((a : List ℕ) (r s : 
 rises first [] last step = step [] first last [] refl
 rises first (next ∷ rest) last step =
     let here : first < next = step [] first next (rest ++ last ∷ []) refl in
-    let behind : next < last = rises next rest last (λ a r s b split. step (first ∷ a) r s b (ap (λ (l : List ℕ). first ∷ l) split)) in
-    omega (arith, here, behind)
+    let after : next < last = rises next rest last (λ a r s b split. step (first ∷ a) r s b (ap (λ (l : List ℕ). first ∷ l) split)) in
+    omega (arith, here, after)
 
 never_closed : (depends : ℕ → ℕ → Type 0) → ((r q : ℕ) → depends r q → r < q) → (cycle : List ℕ) → IsClosed depends cycle → ⊥
 never_closed depends further [] is = is
@@ -36,8 +36,8 @@ lesser (suc i) (suc k) name at = absurd (none-some name at)
 
 module _ (document : Document) (n : ℕ) (few : n ≤ MAX_RESOURCES) (are : document.resources ≡ resources 0 n) where
   -- where a resource of one number depends on the one of another, the other stands after
-  behind : (r q k : ℕ) → Names document r k q → r < q
-  behind r q k names =
+  after : (r q k : ℕ) → Names document r k q → r < q
+  after r q k names =
       let from = some_of (slice_get document.resources r) (λ resource. IsSomeAnd (slice_get resource.depends k) (λ name. Means document.resources name q)) names in
       let named = some_of (slice_get from.0.depends k) (λ name. Means document.resources name q) from.2 in
       let to = some_of (slice_get document.resources q) (λ (resource : Resource). SameName named.0 resource.id) named.2 in
@@ -49,5 +49,5 @@ module _ (document : Document) (n : ℕ) (few : n ≤ MAX_RESOURCES) (are : docu
 
   pub no_cycle : (cycle : List ℕ) → IsCycleOfDocument document cycle → ⊥
   no_cycle cycle is =
-      never_closed (DependsOn (Names document)) (λ r q depends. behind r q depends.0 depends.1) cycle
+      never_closed (DependsOn (Names document)) (λ r q depends. after r q depends.0 depends.1) cycle
       (closed (length document.resources) (Names document) cycle is)

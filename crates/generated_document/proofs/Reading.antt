@@ -26,8 +26,8 @@ ascii_chars [] all = refl
 ascii_chars (c ∷ text) all =
     let parts = and_parts (nat_lt c 128) (list_all is_ascii text) all in
     let here : scalar c ≡ true = scalar_ascii c parts.0 in
-    let behind : AreChars text = ascii_chars text parts.1 in
-    λ i. here i && behind i
+    let after : AreChars text = ascii_chars text parts.1 in
+    λ i. here i && after i
 
 -- a word and a number
 numbered_chars : (word : List ℕ) (i : ℕ) → i < MAX_RESOURCES → Fits 14 word → AreChars (word ++ decimal i)

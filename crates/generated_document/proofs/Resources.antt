@@ -62,19 +62,19 @@ stands_at from (suc i) zero r at =
     let same : resource from i ≡ r = same_Some (resource from i) r at in
     record { number = i; place = omega arith; id = ap (λ (x : Resource). x.id) (sym same); depends = ap (λ (x : Resource). x.depends) (sym same) }
 stands_at from (suc i) (suc k) r at =
-    let behind = stands_at (from + 1) i k r at in
-    record { number = behind.number; place = omega (arith, behind.place); id = behind.id; depends = behind.depends }
+    let after = stands_at (from + 1) i k r at in
+    record { number = after.number; place = omega (arith, after.place); id = after.id; depends = after.depends }
 
 -- ---- dependencies are resources
 
-found_behind : (name : List ℕ) (r : Resource) (rs : List Resource) → IsId rs name → IsId (r ∷ rs) name
-found_behind name r rs found = (suc found.0, found.1, omega (arith, found.2), found.3, found.4)
+found_after : (name : List ℕ) (r : Resource) (rs : List Resource) → IsId rs name → IsId (r ∷ rs) name
+found_after name r rs found = (suc found.0, found.1, omega (arith, found.2), found.3, found.4)
 
 pub id_known : (from n i : ℕ) → i < n → IsId (resources from n) (id_of_number i)
 id_known from zero i within = absurd (omega (arith, within))
 id_known from (suc l) i within = elim (cases_eq i l) [
   | inl same ↦ (0, resource from l, omega arith, refl, ap (λ (j : ℕ). fold_case (id_of_number j)) same)
-  | inr differ ↦ found_behind (id_of_number i) (resource from l) (resources (from + 1) l) (id_known (from + 1) l i (omega (arith, within, differ)))
+  | inr differ ↦ found_after (id_of_number i) (resource from l) (resources (from + 1) l) (id_known (from + 1) l i (omega (arith, within, differ)))
 ]
 
 known_names : (n i : ℕ) → i < n → All (IsId (resources 0 n)) (depends_of (generated_resource i))

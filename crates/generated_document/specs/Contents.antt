@@ -14,7 +14,7 @@ pub record IsResourceOf (i : ℕ) (resource : Resource) : Type 0 where
   pub instance : resource.instance ≡ generated_resource i
   pub depends : resource.depends ≡ depends_of_number i
 
--- the document has so many resources, that of number i at the place that leaves i of them after it, and no other instances are kept
+-- the document has that many resources, that of number i at the place that leaves i of them after it, and no other instances are kept
 pub record HasContents (count : ℕ) (document : Document) : Type 0 where
   pub version : document.version ≡ codes "2.0.0"
   pub resources : length document.resources ≡ count

@@ -1,4 +1,4 @@
--- The document that is made from a number: so many environment resources, each but the last of them with a dependency.
+-- The document that is made from a number: that many environment resources, each but the last of them with a dependency.
 use Rattle.std.specs.Prelude.{◌≡◌, ℕ, zero, suc, ◌/◌, List, [], ◌∷◌, ◌++◌, None, codes}
 use Rattle.std.specs.Fmt.{decimal}
 use Rattle.mof_values.specs.declared.instance.Instance.{Instance}

@@ -10,7 +10,7 @@ use Rattle.std.proofs.lemmas.List.Elements.{All-cons, All-nil}
 use Rattle.httparse.specs.Grammar.{ChunkLine, IsChunkLine, print_chunk_line, crlf, lf, is_ows, is_extension_byte, print_extension, IsExtension}
 use Rattle.http_frames.specs.declared.chunks.Phase.{Phase}
 use Rattle.http_frames.specs.declared.chunks.Phase.TheVariants.{Line, Size, Pad, Extension, SizeReturn, Data, DataEnd, DataReturn, Trailer as TrailerStart, TrailerReturn, TrailerText, Done}
-use Rattle.http_frames.specs.Phases.{next_phase, behind_size, behind_line, next_in_trailer, is_data, is_done}
+use Rattle.http_frames.specs.Phases.{next_phase, after_size, after_chunk_line, next_in_trailer, is_data, is_done}
 use Rattle.http_frames.specs.Chunks.{is_trailer_byte, Trailer, ended, lined, Chunked, last_chunk, chunk}
 
 abbrev pub OnSome : Option Phase → (Phase → Type 0) → Type 0
@@ -40,8 +40,8 @@ abbrev pub AfterLine : ℕ → List ℕ → List ℕ → Type 0
 AfterLine size bytes content = ((size ≡ 0) × Trailer bytes × (content ≡ [])) ⊎ ((0 < size) × DataThen size bytes content)
 
 -- after the digits
-abbrev pub BehindSize : ℕ → List ℕ → List ℕ → Type 0
-BehindSize size bytes content =
+abbrev pub AfterSize : ℕ → List ℕ → List ℕ → Type 0
+AfterSize size bytes content =
     (pad : List ℕ) × (text : Option (List ℕ)) × (rest : List ℕ) × AllPass is_ows pad × IsExtension text
     × (bytes ≡ pad ++ (print_extension text ++ (13 ∷ 10 ∷ rest))) × AfterLine size rest content
 
@@ -54,8 +54,8 @@ abbrev pub PhaseMeans : Phase → List ℕ → List ℕ → Type 0
 PhaseMeans Line bytes content = Chunked bytes content
 PhaseMeans (Size digits size) bytes content =
     (ds : List ℕ) × (rest : List ℕ) × AllPass is_ascii_hexdigit ds × ((16 < digits) ⊎ (digits + length ds ≤ 16)) × (bytes ≡ ds ++ rest)
-    × BehindSize (digits_value_after 16 size ds) rest content
-PhaseMeans (Pad size) bytes content = BehindSize size bytes content
+    × AfterSize (digits_value_after 16 size ds) rest content
+PhaseMeans (Pad size) bytes content = AfterSize size bytes content
 PhaseMeans (Extension size) bytes content =
     (text : List ℕ) × (rest : List ℕ) × AllPass is_extension_byte text × (bytes ≡ text ++ (13 ∷ 10 ∷ rest)) × AfterLine size rest content
 PhaseMeans (SizeReturn size) bytes content = (rest : List ℕ) × (bytes ≡ 10 ∷ rest) × AfterLine size rest content
@@ -83,21 +83,21 @@ line_of_size : (b : ℕ) (bytes content : List ℕ) → is_ascii_hexdigit b ≡ 
 unfolding print_chunk_line
 line_of_size b bytes content hex m =
     let ds = m.0 in
-    let behind = m.5 in
+    let rest = m.5 in
     let few : suc (length ds) ≤ 16 = elim m.3 [ inl w ↦ absurd (omega (arith, w)) | inr w ↦ omega (arith, w) ] in
     let value : digits_value 16 (b ∷ ds) ≡ digits_value_after 16 (digit_value b) ds =
     ap (λ (n : ℕ). digits_value_after 16 n ds) (zero-add (digit_value b)) in
-    let line : ChunkLine = record { digits = b ∷ ds; pad = behind.0; extension = behind.1 } in
+    let line : ChunkLine = record { digits = b ∷ ds; pad = rest.0; extension = rest.1 } in
     let valid : IsChunkLine line = record {
       digits = (omega arith, few, All-cons (λ x. is_ascii_hexdigit x ≡ true) b ds hex m.2);
-      pad = behind.3;
-      extension = behind.4;
+      pad = rest.3;
+      extension = rest.4;
     } in
-    let text : b ∷ bytes ≡ print_chunk_line line ++ behind.2 =
-    ap (λ (l : List ℕ). b ∷ l) (m.4 ∙ ap (λ (l : List ℕ). ds ++ l) behind.5)
-    ∙ regroup (b ∷ ds) behind.0 (print_extension behind.1) behind.2 in
-    elim behind.6 [
-      | inl w ↦ subst (Chunked (b ∷ bytes)) (sym w.2) (last_chunk (b ∷ bytes) line behind.2 valid (value ∙ w.0) text w.1)
+    let text : b ∷ bytes ≡ print_chunk_line line ++ rest.2 =
+    ap (λ (l : List ℕ). b ∷ l) (m.4 ∙ ap (λ (l : List ℕ). ds ++ l) rest.5)
+    ∙ regroup (b ∷ ds) rest.0 (print_extension rest.1) rest.2 in
+    elim rest.6 [
+      | inl w ↦ subst (Chunked (b ∷ bytes)) (sym w.2) (last_chunk (b ∷ bytes) line rest.2 valid (value ∙ w.0) text w.1)
       | inr w ↦
           let part = w.1 in
           chunk (b ∷ bytes) content line part.0 part.1 part.2 valid (value ∙ sym part.3) (subst (λ (n : ℕ). 0 < n) (sym part.3) w.0)
@@ -107,9 +107,9 @@ line_of_size b bytes content hex m =
     regroup : (a p e r : List ℕ) → a ++ (p ++ (e ++ (13 ∷ 10 ∷ r))) ≡ (a ++ p ++ e ++ 13 ∷ 10 ∷ []) ++ r
     regroup a p e r = sym (append_assoc (a ++ p ++ e) (13 ∷ 10 ∷ []) r ∙ append_assoc (a ++ p) e (13 ∷ 10 ∷ r) ∙ append_assoc a p (e ++ (13 ∷ 10 ∷ r)))
 
-behind_means : (size b : ℕ) (bytes content : List ℕ) → OnSome (behind_size size b) (λ next. PhaseMeans next bytes content)
-    → BehindSize size (b ∷ bytes) content
-behind_means size b bytes content h = elim (if_cases (is_ows b) _ _ (λ next. PhaseMeans next bytes content) h) [
+after_means : (size b : ℕ) (bytes content : List ℕ) → OnSome (after_size size b) (λ next. PhaseMeans next bytes content)
+    → AfterSize size (b ∷ bytes) content
+after_means size b bytes content h = elim (if_cases (is_ows b) _ _ (λ next. PhaseMeans next bytes content) h) [
   | inl w ↦
       let m = w.1 in
       (b ∷ m.0, m.1, m.2, All-cons (λ x. is_ows x ≡ true) b m.0 w.0 m.3, m.4, ap (λ (l : List ℕ). b ∷ l) m.5, m.6)
@@ -145,7 +145,7 @@ if_means false x y bytes content m = inr (refl, m)
 pub positive : (n : ℕ) → (n == 0) ≡ false → 0 < n
 positive n h = elim (eqb_tells n 0) [ inl w ↦ absurd (false≢true (sym h ∙ w.0)) | inr w ↦ omega (arith, w.1) ]
 
-after_line : (size : ℕ) (bytes content : List ℕ) → PhaseMeans (behind_line size) bytes content → AfterLine size bytes content
+after_line : (size : ℕ) (bytes content : List ℕ) → PhaseMeans (after_chunk_line size) bytes content → AfterLine size bytes content
 after_line size bytes content m = elim (if_means (size == 0) TrailerStart (Data size) bytes content m) [
   | inl w ↦ inl (same_byte size 0 w.0, w.1.0, w.1.1)
   | inr w ↦ inr (positive size w.0, w.1)
@@ -240,11 +240,11 @@ sound (b ∷ bytes) (Size digits size) content h = elim (if_cases (is_ascii_hexd
         All-nil (λ x. is_ascii_hexdigit x ≡ true),
         fits,
         refl,
-        behind_means size b bytes content (on_some_map (behind_size size b) _ _ (λ next. sound bytes next content) w.1),
+        after_means size b bytes content (on_some_map (after_size size b) _ _ (λ next. sound bytes next content) w.1),
       )
 ]
 sound (b ∷ bytes) (Pad size) content h =
-    behind_means size b bytes content (on_some_map (behind_size size b) _ _ (λ next. sound bytes next content) h)
+    after_means size b bytes content (on_some_map (after_size size b) _ _ (λ next. sound bytes next content) h)
 sound (b ∷ bytes) (Extension size) content h = elim (if_cases (b == 13) _ _ (λ next. Accepts next bytes content) h) [
   | inl w ↦
       let m = sound bytes (SizeReturn size) content w.1 in
@@ -262,7 +262,7 @@ sound (b ∷ bytes) (Extension size) content h = elim (if_cases (b == 13) _ _ (�
   ]
 ]
 sound (b ∷ bytes) (SizeReturn size) content h = elim (if_cases (b == 10) _ _ (λ next. Accepts next bytes content) h) [
-  | inl w ↦ (bytes, ap (λ (x : ℕ). x ∷ bytes) (same_byte b 10 w.0), after_line size bytes content (sound bytes (behind_line size) content w.1))
+  | inl w ↦ (bytes, ap (λ (x : ℕ). x ∷ bytes) (same_byte b 10 w.0), after_line size bytes content (sound bytes (after_chunk_line size) content w.1))
   | inr w ↦ absurd w.1
 ]
 sound (b ∷ bytes) (Data zero) content h = absurd (no_data_left bytes h.0 h.2)

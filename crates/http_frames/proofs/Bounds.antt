@@ -8,10 +8,10 @@ use Rattle.std.proofs.lemmas.List.{length-replicate}
 use Rattle.httparse.specs.Grammar.{is_ows}
 use Rattle.http_frames.specs.declared.chunks.Phase.{Phase}
 use Rattle.http_frames.specs.declared.chunks.Phase.TheVariants.{Line, Size, Pad, Extension, SizeReturn, Data, DataEnd, DataReturn, Trailer as TrailerStart, TrailerReturn, TrailerText, Done}
-use Rattle.http_frames.specs.Phases.{next_phase, behind_size, behind_line, next_in_trailer, is_data, is_done, least_rest, least_behind, begun_content}
+use Rattle.http_frames.specs.Phases.{next_phase, after_size, after_chunk_line, next_in_trailer, is_data, is_done, least_rest, least_after, begun_content}
 use Rattle.http_frames.specs.Walks.{content_byte}
 use Rattle.http_frames.proofs.Accepts.{OnSome, Keeps, Accepts, positive}
-use Rattle.http_frames.proofs.Complete.{data_accepted, size_reads, pad_reads, text_behind, end_of_line}
+use Rattle.http_frames.proofs.Complete.{data_accepted, size_reads, pad_reads, text_after, end_of_line}
 
 abbrev pub AllSome : Option Phase → (Phase → Type 0) → Type 0
 AllSome None P = Unit {0}
@@ -26,17 +26,17 @@ pub record Least (phase next : Phase) : Type 0 where
   pub rest : least_rest phase ≤ suc (least_rest next)
   pub content : begun_content phase ≤ content_byte phase + begun_content next
 
-behind_more : (v w : ℕ) → v ≤ w → least_behind v ≤ least_behind w
-behind_more v w h = elim (eqb_tells v 0) [
+after_further : (v w : ℕ) → v ≤ w → least_after v ≤ least_after w
+after_further v w h = elim (eqb_tells v 0) [
   | inl a ↦ elim (eqb_tells w 0) [
-    | inl c ↦ subst (λ (t : Bool). (if t then 1 else v + 6) ≤ least_behind w) (sym a.0)
+    | inl c ↦ subst (λ (t : Bool). (if t then 1 else v + 6) ≤ least_after w) (sym a.0)
         (subst (λ (t : Bool). 1 ≤ (if t then 1 else w + 6)) (sym c.0) (omega arith))
-    | inr c ↦ subst (λ (t : Bool). (if t then 1 else v + 6) ≤ least_behind w) (sym a.0)
+    | inr c ↦ subst (λ (t : Bool). (if t then 1 else v + 6) ≤ least_after w) (sym a.0)
         (subst (λ (t : Bool). 1 ≤ (if t then 1 else w + 6)) (sym c.0) (omega arith))
   ]
   | inr a ↦ elim (eqb_tells w 0) [
     | inl c ↦ absurd (a.1 (omega (arith, c.1, h)))
-    | inr c ↦ subst (λ (t : Bool). (if t then 1 else v + 6) ≤ least_behind w) (sym a.0)
+    | inr c ↦ subst (λ (t : Bool). (if t then 1 else v + 6) ≤ least_after w) (sym a.0)
         (subst (λ (t : Bool). v + 6 ≤ (if t then 1 else w + 6)) (sym c.0) (omega (arith, h)))
   ]
 ]
@@ -54,13 +54,13 @@ line_least_at size false e = record {
   content = omega arith;
 }
 
-line_least : (size : ℕ) → Least (SizeReturn size) (behind_line size)
+line_least : (size : ℕ) → Least (SizeReturn size) (after_chunk_line size)
 line_least size = line_least_at size (size == 0) refl
 
-behind_least : (phase : Phase) (size b : ℕ) → least_rest phase ≡ 2 + least_behind size → begun_content phase ≡ size
-    → AllSome (behind_size size b) (Least phase)
+after_least : (phase : Phase) (size b : ℕ) → least_rest phase ≡ 2 + least_after size → begun_content phase ≡ size
+    → AllSome (after_size size b) (Least phase)
 unfolding least_rest begun_content
-behind_least phase size b rest begun =
+after_least phase size b rest begun =
     all_if (is_ows b) (Some (Pad size)) _ (Least phase) (record { rest = omega (arith, rest); content = omega (arith, begun) })
     (all_if (b == 59) (Some (Extension size)) _ (Least phase) (record { rest = omega (arith, rest); content = omega (arith, begun) })
     (all_if (b == 13) (Some (SizeReturn size)) None (Least phase) (record { rest = omega (arith, rest); content = omega (arith, begun) }) tt))
@@ -88,17 +88,17 @@ pub step_least : (phase : Phase) (b : ℕ) → AllSome (next_phase phase b) (Lea
 unfolding next_phase least_rest begun_content
 step_least Line b =
     all_if (is_ascii_hexdigit b) (Some (Size 1 (digit_value b))) None (Least Line)
-    (record { rest = (let more = behind_more 0 (digit_value b) (omega arith) in omega (arith, more)); content = omega arith }) tt
+    (record { rest = (let more = after_further 0 (digit_value b) (omega arith) in omega (arith, more)); content = omega arith }) tt
 step_least (Size digits size) b =
-    all_if (is_ascii_hexdigit b) _ (behind_size size b) (Least (Size digits size))
+    all_if (is_ascii_hexdigit b) _ (after_size size b) (Least (Size digits size))
     (all_if (nat_lt digits 16) (Some (Size (digits + 1) (size * 16 + digit_value b))) None (Least (Size digits size))
-    (record { rest = (let more = behind_more size (size * 16 + digit_value b) (omega arith) in omega (arith, more)); content = omega arith }) tt)
-    (behind_least (Size digits size) size b refl refl)
-step_least (Pad size) b = behind_least (Pad size) size b refl refl
+    (record { rest = (let more = after_further size (size * 16 + digit_value b) (omega arith) in omega (arith, more)); content = omega arith }) tt)
+    (after_least (Size digits size) size b refl refl)
+step_least (Pad size) b = after_least (Pad size) size b refl refl
 step_least (Extension size) b =
     all_if (b == 13) (Some (SizeReturn size)) _ (Least (Extension size)) (record { rest = omega arith; content = omega arith })
     (all_if (b == 10) None (Some (Extension size)) (Least (Extension size)) tt (record { rest = omega arith; content = omega arith }))
-step_least (SizeReturn size) b = all_if (b == 10) (Some (behind_line size)) None (Least (SizeReturn size)) (line_least size) tt
+step_least (SizeReturn size) b = all_if (b == 10) (Some (after_chunk_line size)) None (Least (SizeReturn size)) (line_least size) tt
 step_least (Data left) b = data_least_at left (left == 1) refl
 step_least DataEnd b = all_if (b == 13) (Some DataReturn) None (Least DataEnd) (record { rest = omega arith; content = omega arith }) tt
 step_least DataReturn b = all_if (b == 10) (Some Line) None (Least DataReturn) (record { rest = omega arith; content = omega arith }) tt
@@ -182,19 +182,19 @@ data_sane : (left : ℕ) (t : Bool) → (left == 1) ≡ t → 0 < left → IsSan
 data_sane left true e some = tt
 data_sane left false e some = elim (eqb_tells left 1) [ inl w ↦ absurd (false≢true (sym e ∙ w.0)) | inr w ↦ omega (arith, w.1, some) ]
 
-behind_sane : (size b : ℕ) → AllSome (behind_size size b) IsSane
-behind_sane size b = all_if (is_ows b) (Some (Pad size)) _ IsSane tt
+after_sane : (size b : ℕ) → AllSome (after_size size b) IsSane
+after_sane size b = all_if (is_ows b) (Some (Pad size)) _ IsSane tt
     (all_if (b == 59) (Some (Extension size)) _ IsSane tt (all_if (b == 13) (Some (SizeReturn size)) None IsSane tt tt))
 
 pub step_sane : (phase : Phase) (b : ℕ) → IsSane phase → AllSome (next_phase phase b) IsSane
 unfolding next_phase
 step_sane Line b h = all_if (is_ascii_hexdigit b) (Some (Size 1 (digit_value b))) None IsSane tt tt
-step_sane (Size digits size) b h = all_if (is_ascii_hexdigit b) _ (behind_size size b) IsSane
-    (all_if (nat_lt digits 16) (Some (Size (digits + 1) (size * 16 + digit_value b))) None IsSane tt tt) (behind_sane size b)
-step_sane (Pad size) b h = behind_sane size b
+step_sane (Size digits size) b h = all_if (is_ascii_hexdigit b) _ (after_size size b) IsSane
+    (all_if (nat_lt digits 16) (Some (Size (digits + 1) (size * 16 + digit_value b))) None IsSane tt tt) (after_sane size b)
+step_sane (Pad size) b h = after_sane size b
 step_sane (Extension size) b h =
     all_if (b == 13) (Some (SizeReturn size)) _ IsSane tt (all_if (b == 10) None (Some (Extension size)) IsSane tt tt)
-step_sane (SizeReturn size) b h = all_if (b == 10) (Some (behind_line size)) None IsSane (line_sane size (size == 0) refl) tt
+step_sane (SizeReturn size) b h = all_if (b == 10) (Some (after_chunk_line size)) None IsSane (line_sane size (size == 0) refl) tt
 step_sane (Data left) b h = data_sane left (left == 1) refl h
 step_sane DataEnd b h = all_if (b == 13) (Some DataReturn) None IsSane tt tt
 step_sane DataReturn b h = all_if (b == 10) (Some Line) None IsSane tt tt
@@ -214,11 +214,11 @@ pub record Reaches (phase : Phase) : Type 0 where
   pub length_is : length more ≡ least_rest phase
   pub content_is : length content ≡ begun_content phase
 
-record ReachesBehind (size : ℕ) : Type 0 where
+record ReachesAfter (size : ℕ) : Type 0 where
   more : List ℕ
   content : List ℕ
-  accepts : Accepts (behind_line size) more content
-  length_is : length more ≡ least_behind size
+  accepts : Accepts (after_chunk_line size) more content
+  length_is : length more ≡ least_after size
   content_is : length content ≡ size
 
 trailer_feed : Accepts TrailerStart (10 ∷ []) []
@@ -233,20 +233,20 @@ shortest_accepted : Accepts Line shortest []
 unfolding next_phase
 shortest_accepted = (refl, refl)
 
-behind_reach : (size : ℕ) → ReachesBehind size
-behind_reach zero = record {
+after_reach : (size : ℕ) → ReachesAfter size
+after_reach zero = record {
   more = 10 ∷ [];
   content = [];
   accepts = trailer_feed;
   length_is = refl;
   content_is = refl;
 }
-behind_reach (suc n) =
+after_reach (suc n) =
     let some : (suc n == 0) ≡ false = elim (eqb_tells (suc n) 0) [ inl w ↦ absurd (omega (arith, w.1)) | inr w ↦ w.0 ] in
     let part : List ℕ = replicate n 0 in
     let none : List ℕ = [] in
     let len : length part ≡ n = length-replicate n 0 in
-    let same : behind_line (suc n) ≡ Data (suc n) = ap (λ (t : Bool). if t then TrailerStart else Data (suc n)) some in
+    let same : after_chunk_line (suc n) ≡ Data (suc n) = ap (λ (t : Bool). if t then TrailerStart else Data (suc n)) some in
     record {
       more = (0 ∷ part) ++ (13 ∷ 10 ∷ shortest);
       content = (0 ∷ part) ++ [];
@@ -261,25 +261,25 @@ pub reach : (phase : Phase) → IsSane phase → is_done phase ≡ false → Rea
 unfolding least_rest begun_content next_phase
 reach Line sane h = record { more = shortest; content = []; accepts = shortest_accepted; length_is = refl; content_is = refl }
 reach (Size digits size) sane h =
-    let r = behind_reach size in
+    let r = after_reach size in
     record {
       more = 13 ∷ 10 ∷ r.more;
       content = r.content;
-      accepts = text_behind (Size digits size) size None r.more r.content (size_reads digits size) tt r.accepts;
+      accepts = text_after (Size digits size) size None r.more r.content (size_reads digits size) tt r.accepts;
       length_is = omega (arith, r.length_is);
       content_is = r.content_is;
     }
 reach (Pad size) sane h =
-    let r = behind_reach size in
+    let r = after_reach size in
     record {
       more = 13 ∷ 10 ∷ r.more;
       content = r.content;
-      accepts = text_behind (Pad size) size None r.more r.content (pad_reads size) tt r.accepts;
+      accepts = text_after (Pad size) size None r.more r.content (pad_reads size) tt r.accepts;
       length_is = omega (arith, r.length_is);
       content_is = r.content_is;
     }
 reach (Extension size) sane h =
-    let r = behind_reach size in
+    let r = after_reach size in
     record {
       more = 13 ∷ 10 ∷ r.more;
       content = r.content;
@@ -288,7 +288,7 @@ reach (Extension size) sane h =
       content_is = r.content_is;
     }
 reach (SizeReturn size) sane h =
-    let r = behind_reach size in
+    let r = after_reach size in
     record {
       more = 10 ∷ r.more;
       content = r.content;

@@ -10,7 +10,7 @@ use Rattle.std.proofs.lemmas.List.Elements.{All-head, All-tail}
 use Rattle.httparse.specs.Grammar.{ChunkLine, IsChunkLine, print_chunk_line, chunk_size, LineEnd, crlf, lf, print_end, is_ows, is_extension_byte, print_extension, IsExtension}
 use Rattle.http_frames.specs.declared.chunks.Phase.{Phase}
 use Rattle.http_frames.specs.declared.chunks.Phase.TheVariants.{Line, Size, Pad, Extension, SizeReturn, Data, DataEnd, DataReturn, Trailer as TrailerStart, TrailerReturn, TrailerText, Done}
-use Rattle.http_frames.specs.Phases.{next_phase, behind_size, behind_line, is_data}
+use Rattle.http_frames.specs.Phases.{next_phase, after_size, after_chunk_line, is_data}
 use Rattle.http_frames.specs.Chunks.{is_trailer_byte, IsTrailerLine, Trailer, ended, lined, Chunked, last_chunk, chunk}
 use Rattle.http_frames.proofs.Accepts.{OnSome, Keeps, Accepts}
 
@@ -74,9 +74,9 @@ return_accepted : (b : ℕ) (line rest : List ℕ) → b ≡ 13 → IsTrailerLin
 return_accepted b [] rest same valid h = absurd (valid.more (ap (λ (x : ℕ). x ∷ []) same))
 return_accepted b (c ∷ line) rest same valid h =
     let P : ℕ → Type 0 = λ x. is_trailer_byte x ≡ true in
-    let behind = All-tail P b (c ∷ line) valid.bytes in
-    accept TrailerReturn TrailerText c (line ++ 10 ∷ rest) [] (step_return c (not_feed c (All-head P c line behind))) refl
-    (text_accepted line rest (All-tail P c line behind) h)
+    let after = All-tail P b (c ∷ line) valid.bytes in
+    accept TrailerReturn TrailerText c (line ++ 10 ∷ rest) [] (step_return c (not_feed c (All-head P c line after))) refl
+    (text_accepted line rest (All-tail P c line after) h)
 
 line_accepted : (line rest : List ℕ) → IsTrailerLine line → Accepts TrailerStart rest [] → Accepts TrailerStart (line ++ 10 ∷ rest) []
 line_accepted [] rest valid h = absurd (valid.some refl)
@@ -136,22 +136,22 @@ data_accepted (suc n) b (c ∷ part) rest more len h =
 -- ---- a chunk line
 
 -- the phase reads what stands after a size
-abbrev pub ReadsBehind : Phase → ℕ → Type 0
-ReadsBehind p size = (is_data p ≡ false) × ((b : ℕ) → is_ascii_hexdigit b ≡ false → next_phase p b ≡ behind_size size b)
+abbrev pub ReadsAfter : Phase → ℕ → Type 0
+ReadsAfter p size = (is_data p ≡ false) × ((b : ℕ) → is_ascii_hexdigit b ≡ false → next_phase p b ≡ after_size size b)
 
-pub pad_reads : (size : ℕ) → ReadsBehind (Pad size) size
+pub pad_reads : (size : ℕ) → ReadsAfter (Pad size) size
 unfolding next_phase
 pad_reads size = (refl, λ b h. refl)
 
-pub size_reads : (digits size : ℕ) → ReadsBehind (Size digits size) size
+pub size_reads : (digits size : ℕ) → ReadsAfter (Size digits size) size
 unfolding next_phase
 size_reads digits size = (
   refl,
   λ b h.
-      ap (λ (t : Bool). if t then (if nat_lt digits 16 then Some (Size (digits + 1) (size * 16 + digit_value b)) else None) else behind_size size b) h,
+      ap (λ (t : Bool). if t then (if nat_lt digits 16 then Some (Size (digits + 1) (size * 16 + digit_value b)) else None) else after_size size b) h,
 )
 
-step_line_end : (size : ℕ) → next_phase (SizeReturn size) 10 ≡ Some (behind_line size)
+step_line_end : (size : ℕ) → next_phase (SizeReturn size) 10 ≡ Some (after_chunk_line size)
 unfolding next_phase
 step_line_end size = refl
 
@@ -169,10 +169,10 @@ step_extension size b h = elim (eqb_tells b 13) [
   ]
 ]
 
-pub end_of_line : (size : ℕ) (rest content : List ℕ) → Accepts (behind_line size) rest content → Accepts (SizeReturn size) (10 ∷ rest) content
-end_of_line size rest content h = accept (SizeReturn size) (behind_line size) 10 rest content (step_line_end size) refl h
+pub end_of_line : (size : ℕ) (rest content : List ℕ) → Accepts (after_chunk_line size) rest content → Accepts (SizeReturn size) (10 ∷ rest) content
+end_of_line size rest content h = accept (SizeReturn size) (after_chunk_line size) 10 rest content (step_line_end size) refl h
 
-pub extension_accepted : (size : ℕ) (text rest content : List ℕ) → AllPass is_extension_byte text → Accepts (behind_line size) rest content
+pub extension_accepted : (size : ℕ) (text rest content : List ℕ) → AllPass is_extension_byte text → Accepts (after_chunk_line size) rest content
     → Accepts (Extension size) (text ++ (13 ∷ 10 ∷ rest)) content
 extension_accepted size [] rest content all h =
     accept (Extension size) (SizeReturn size) 13 (10 ∷ rest) content (step_extension_end size) refl (end_of_line size rest content h)
@@ -181,11 +181,11 @@ extension_accepted size (b ∷ text) rest content all h =
     accept (Extension size) (Extension size) b (text ++ (13 ∷ 10 ∷ rest)) content (step_extension size b (All-head P b text all)) refl
     (extension_accepted size text rest content (All-tail P b text all) h)
 
-pub text_behind : (p : Phase) (size : ℕ) (text : Option (List ℕ)) (rest content : List ℕ) → ReadsBehind p size → IsExtension text
-    → Accepts (behind_line size) rest content → Accepts p (print_extension text ++ (13 ∷ 10 ∷ rest)) content
-text_behind p size None rest content reads valid h =
+pub text_after : (p : Phase) (size : ℕ) (text : Option (List ℕ)) (rest content : List ℕ) → ReadsAfter p size → IsExtension text
+    → Accepts (after_chunk_line size) rest content → Accepts p (print_extension text ++ (13 ∷ 10 ∷ rest)) content
+text_after p size None rest content reads valid h =
     accept p (SizeReturn size) 13 (10 ∷ rest) content (reads.1 13 refl) reads.0 (end_of_line size rest content h)
-text_behind p size (Some text) rest content reads valid h =
+text_after p size (Some text) rest content reads valid h =
     accept p (Extension size) 59 (text ++ (13 ∷ 10 ∷ rest)) content (reads.1 59 refl) reads.0 (extension_accepted size text rest content valid h)
 
 ows_no_digit : (b : ℕ) → is_ows b ≡ true → is_ascii_hexdigit b ≡ false
@@ -197,26 +197,26 @@ ows_no_digit b h = elim (eqb_tells b 32) [
   ]
 ]
 
-step_pad : (size b : ℕ) → is_ows b ≡ true → behind_size size b ≡ Some (Pad size)
+step_pad : (size b : ℕ) → is_ows b ≡ true → after_size size b ≡ Some (Pad size)
 step_pad size b h =
     ap (λ (t : Bool). if t then Some (Pad size) else (if b == 59 then Some (Extension size) else (if b == 13 then Some (SizeReturn size) else None))) h
 
-pub size_behind : (pad : List ℕ) (p : Phase) (size : ℕ) (text : Option (List ℕ)) (rest content : List ℕ) → ReadsBehind p size
-    → AllPass is_ows pad → IsExtension text → Accepts (behind_line size) rest content
+pub size_after : (pad : List ℕ) (p : Phase) (size : ℕ) (text : Option (List ℕ)) (rest content : List ℕ) → ReadsAfter p size
+    → AllPass is_ows pad → IsExtension text → Accepts (after_chunk_line size) rest content
     → Accepts p (pad ++ (print_extension text ++ (13 ∷ 10 ∷ rest))) content
-size_behind [] p size text rest content reads all valid h = text_behind p size text rest content reads valid h
-size_behind (b ∷ pad) p size text rest content reads all valid h =
+size_after [] p size text rest content reads all valid h = text_after p size text rest content reads valid h
+size_after (b ∷ pad) p size text rest content reads all valid h =
     let P : ℕ → Type 0 = λ x. is_ows x ≡ true in
     let blank = All-head P b pad all in
     accept p (Pad size) b _ content (reads.1 b (ows_no_digit b blank) ∙ step_pad size b blank) reads.0
-    (size_behind pad (Pad size) size text rest content (pad_reads size) (All-tail P b pad all) valid h)
+    (size_after pad (Pad size) size text rest content (pad_reads size) (All-tail P b pad all) valid h)
 
 step_digit : (digits size b : ℕ) → is_ascii_hexdigit b ≡ true → digits < 16
     → next_phase (Size digits size) b ≡ Some (Size (digits + 1) (size * 16 + digit_value b))
 unfolding next_phase
 step_digit digits size b hex few =
     let less : nat_lt digits 16 ≡ true = grind (arith, few) in
-    ap₂ (λ (s t : Bool). if s then (if t then Some (Size (digits + 1) (size * 16 + digit_value b)) else None) else behind_size size b) hex less
+    ap₂ (λ (s t : Bool). if s then (if t then Some (Size (digits + 1) (size * 16 + digit_value b)) else None) else after_size size b) hex less
 
 pub step_first : (b : ℕ) → is_ascii_hexdigit b ≡ true → next_phase Line b ≡ Some (Size 1 (digit_value b))
 unfolding next_phase
@@ -224,10 +224,10 @@ step_first b hex = ap (λ (t : Bool). if t then Some (Size 1 (digit_value b)) el
 
 pub digits_accepted : (ds : List ℕ) (digits size : ℕ) (pad : List ℕ) (text : Option (List ℕ)) (rest content : List ℕ)
     → AllPass is_ascii_hexdigit ds → digits + length ds ≤ 16 → AllPass is_ows pad → IsExtension text
-    → Accepts (behind_line (digits_value_after 16 size ds)) rest content
+    → Accepts (after_chunk_line (digits_value_after 16 size ds)) rest content
     → Accepts (Size digits size) (ds ++ (pad ++ (print_extension text ++ (13 ∷ 10 ∷ rest)))) content
 digits_accepted [] digits size pad text rest content hex few blanks valid h =
-    size_behind pad (Size digits size) size text rest content (size_reads digits size) blanks valid h
+    size_after pad (Size digits size) size text rest content (size_reads digits size) blanks valid h
 digits_accepted (b ∷ ds) digits size pad text rest content hex few blanks valid h =
     let P : ℕ → Type 0 = λ x. is_ascii_hexdigit x ≡ true in
     accept (Size digits size) (Size (digits + 1) (size * 16 + digit_value b)) b _ content
@@ -235,7 +235,7 @@ digits_accepted (b ∷ ds) digits size pad text rest content hex few blanks vali
     (digits_accepted ds (digits + 1) (size * 16 + digit_value b) pad text rest content (All-tail P b ds hex) (omega (arith, few)) blanks valid h)
 
 line_accepted_at : (ds pad : List ℕ) (text : Option (List ℕ)) (rest content : List ℕ) → 0 < length ds → length ds ≤ 16
-    → AllPass is_ascii_hexdigit ds → AllPass is_ows pad → IsExtension text → Accepts (behind_line (digits_value 16 ds)) rest content
+    → AllPass is_ascii_hexdigit ds → AllPass is_ows pad → IsExtension text → Accepts (after_chunk_line (digits_value 16 ds)) rest content
     → Accepts Line (ds ++ (pad ++ (print_extension text ++ (13 ∷ 10 ∷ rest)))) content
 line_accepted_at [] pad text rest content some few hex blanks valid h = absurd (omega arith)
 line_accepted_at (b ∷ ds) pad text rest content some few hex blanks valid h =
@@ -244,9 +244,9 @@ line_accepted_at (b ∷ ds) pad text rest content some few hex blanks valid h =
     ap (λ (n : ℕ). digits_value_after 16 n ds) (zero-add (digit_value b)) in
     accept Line (Size 1 (digit_value b)) b _ content (step_first b (All-head P b ds hex)) refl
     (digits_accepted ds 1 (digit_value b) pad text rest content (All-tail P b ds hex) (omega (arith, few)) blanks valid
-    (subst (λ (n : ℕ). Accepts (behind_line n) rest content) value h))
+    (subst (λ (n : ℕ). Accepts (after_chunk_line n) rest content) value h))
 
-pub chunk_line_accepted : (line : ChunkLine) (rest content : List ℕ) → IsChunkLine line → Accepts (behind_line (chunk_size line)) rest content
+pub chunk_line_accepted : (line : ChunkLine) (rest content : List ℕ) → IsChunkLine line → Accepts (after_chunk_line (chunk_size line)) rest content
     → Accepts Line (print_chunk_line line ++ rest) content
 unfolding print_chunk_line
 chunk_line_accepted line rest content valid h =
@@ -256,15 +256,15 @@ chunk_line_accepted line rest content valid h =
     regroup : (a p e r : List ℕ) → a ++ (p ++ (e ++ (13 ∷ 10 ∷ r))) ≡ (a ++ p ++ e ++ 13 ∷ 10 ∷ []) ++ r
     regroup a p e r = sym (append_assoc (a ++ p ++ e) (13 ∷ 10 ∷ []) r ∙ append_assoc (a ++ p) e (13 ∷ 10 ∷ r) ∙ append_assoc a p (e ++ (13 ∷ 10 ∷ r)))
 
-after_zero : (size : ℕ) (rest : List ℕ) → size ≡ 0 → Trailer rest → Accepts (behind_line size) rest []
+after_zero : (size : ℕ) (rest : List ℕ) → size ≡ 0 → Trailer rest → Accepts (after_chunk_line size) rest []
 after_zero size rest none trailer =
-    subst (λ (n : ℕ). Accepts (behind_line n) rest []) (sym none) (trailer_accepted rest trailer)
+    subst (λ (n : ℕ). Accepts (after_chunk_line n) rest []) (sym none) (trailer_accepted rest trailer)
 
 after_some : (size : ℕ) (part rest more : List ℕ) → size ≡ length part → 0 < length part → Accepts Line rest more
-    → Accepts (behind_line size) (part ++ (13 ∷ 10 ∷ rest)) (part ++ more)
+    → Accepts (after_chunk_line size) (part ++ (13 ∷ 10 ∷ rest)) (part ++ more)
 after_some size [] rest more len some h = absurd (omega arith)
 after_some size (b ∷ part) rest more len some h =
-    subst (λ (n : ℕ). Accepts (behind_line n) ((b ∷ part) ++ (13 ∷ 10 ∷ rest)) ((b ∷ part) ++ more)) (sym len)
+    subst (λ (n : ℕ). Accepts (after_chunk_line n) ((b ∷ part) ++ (13 ∷ 10 ∷ rest)) ((b ∷ part) ++ more)) (sym len)
     (subst (λ (p : Phase). Accepts p ((b ∷ part) ++ (13 ∷ 10 ∷ rest)) ((b ∷ part) ++ more))
     (sym (ap (λ (t : Bool). if t then TrailerStart else Data (suc (length part))) (not_same (suc (length part)) 0 (λ e. omega (arith, e)))))
     (data_accepted (length part) b part rest more refl h))
@@ -274,8 +274,8 @@ pub complete : (bytes content : List ℕ) → Chunked bytes content → Accepts 
 complete _ _ (last_chunk bytes line rest valid none is trailer) =
     subst (λ (l : List ℕ). Accepts Line l []) (sym is)
     (chunk_line_accepted line rest [] valid (after_zero (chunk_size line) rest none trailer))
-complete _ _ (chunk bytes content line part rest more valid size some is joined behind) =
+complete _ _ (chunk bytes content line part rest more valid size some is joined after) =
     subst (λ (l : List ℕ). Accepts Line l content) (sym is)
     (subst (λ (l : List ℕ). Accepts Line (print_chunk_line line ++ (part ++ (13 ∷ 10 ∷ rest))) l) (sym joined)
     (chunk_line_accepted line (part ++ (13 ∷ 10 ∷ rest)) (part ++ more) valid
-    (after_some (chunk_size line) part rest more size some (complete rest more behind))))
+    (after_some (chunk_size line) part rest more size some (complete rest more after))))

@@ -44,7 +44,7 @@ front_reads n len bytes printed within is =
 pub request_read : (bytes : List ℕ) (spans : List HeaderSpan) (found : RequestSpans) (start : RequestStart)
     → length spans ≡ 64 → IsRequestWithin (take 16384 bytes) spans found → IsRequestOf (take 16384 bytes) spans found
     → IsCopyOfRequest (take 16384 bytes) spans found start → IsRequestHeadOf bytes start
-request_read bytes spans found start room within whole copy =
+request_read bytes spans found start capacity within whole copy =
     let head = whole.0 in
     let at = whole.1 in
     let short : found.len ≤ 16384 = omega (arith, within.section.len_fits, length-take 16384 bytes) in
@@ -56,7 +56,7 @@ request_read bytes spans found start room within whole copy =
       head = head;
       begins = record {
         reads = (at.reads.0, is);
-        lines = omega (arith, room, within.section.count_fits, count_is (take 16384 bytes) spans found.headers head.fields at.fields within.section.count_fits);
+        lines = omega (arith, capacity, within.section.count_fits, count_is (take 16384 bytes) spans found.headers head.fields at.fields within.section.count_fits);
       };
       length_is = copy.length_is ∙ at.len;
       short = omega (arith, short, copy.length_is);
@@ -68,7 +68,7 @@ request_read bytes spans found start room within whole copy =
 pub answer_read : (bytes : List ℕ) (spans : List HeaderSpan) (found : ResponseSpans) (start : AnswerStart)
     → length spans ≡ 64 → IsResponseWithin (take 16384 bytes) spans found → IsResponseOf (take 16384 bytes) spans found
     → IsCopyOfAnswer (take 16384 bytes) spans found start → IsAnswerHeadOf bytes start
-answer_read bytes spans found start room within whole copy =
+answer_read bytes spans found start capacity within whole copy =
     let head = whole.0 in
     let at = whole.1 in
     let short : found.len ≤ 16384 = omega (arith, within.section.len_fits, length-take 16384 bytes) in
@@ -80,7 +80,7 @@ answer_read bytes spans found start room within whole copy =
       head = head;
       begins = record {
         reads = (at.reads.0, is);
-        lines = omega (arith, room, within.section.count_fits, count_is (take 16384 bytes) spans found.headers head.fields at.fields within.section.count_fits);
+        lines = omega (arith, capacity, within.section.count_fits, count_is (take 16384 bytes) spans found.headers head.fields at.fields within.section.count_fits);
       };
       length_is = copy.length_is ∙ at.len;
       short = omega (arith, short, copy.length_is);

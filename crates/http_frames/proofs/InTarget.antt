@@ -11,8 +11,8 @@ use Rattle.http_frames.proofs.RequestLines.{request_parts, inside_by_method, req
 use Rattle.http_frames.proofs.OneHead.{front_within}
 
 -- after the empty lines stands the text
-pub behind_blank : (blank text : List ℕ) → Breaks blank → BeginsInside text → skip_breaks (blank ++ text) ≡ text
-behind_blank blank text breaks begins =
+pub after_blank : (blank text : List ℕ) → Breaks blank → BeginsInside text → skip_breaks (blank ++ text) ≡ text
+after_blank blank text breaks begins =
     skip_all blank text breaks ∙ ap skip_breaks begins.2 ∙ skip_no_more begins.0 begins.1 begins.3 ∙ sym begins.2
 
 -- a text of a target has no blank in it
@@ -33,11 +33,11 @@ whole_not_in_target bytes head rest front ends =
     let more = print_version head.minor ++ (print_end head.line_end ++ (flat_map print_field head.fields ++ (print_end head.last ++ z))) in
     let left : skip_breaks (take 16384 bytes) ≡ ends.1 ++ 32 ∷ ends.2 =
     ap skip_breaks (ends.5 ∙ append_assoc (print_blank ends.0) ends.1 (32 ∷ ends.2))
-    ∙ behind_blank (print_blank ends.0) (ends.1 ++ 32 ∷ ends.2) (blank_breaks ends.0)
+    ∙ after_blank (print_blank ends.0) (ends.1 ++ 32 ∷ ends.2) (blank_breaks ends.0)
     (inside_by_method ends.1 (32 ∷ ends.2) ends.3.0 ends.3.1) in
     let right : skip_breaks (take 16384 bytes) ≡ section_of (start_line head) head.fields head.last z =
     ap skip_breaks (within.1 ∙ request_parts head z)
-    ∙ behind_blank (print_blank head.blank) (section_of (start_line head) head.fields head.last z) (blank_breaks head.blank)
+    ∙ after_blank (print_blank head.blank) (section_of (start_line head) head.fields head.last z) (blank_breaks head.blank)
     (request_inside head _ valid) in
     no_blank ends.1 head.method ends.2 head.target more ends.3.1 valid.method.1 ends.4
     (sym left ∙ right

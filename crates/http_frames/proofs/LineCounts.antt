@@ -54,7 +54,7 @@ skip_split (suc n) (b ∷ xs) rest h =
     [ true ↦ skip_split n xs rest | false ↦ skip_split (suc n) xs rest ] in
     (b ∷ (go h).0, ap (λ (l : List ℕ). b ∷ l) (go h).1)
 
--- what has so many lines has fewer
+-- what has that many lines has fewer
 pub skip_fewer : (n m : ℕ) (xs rest : List ℕ) → m ≤ n → skip_lines n xs ≡ Some rest
     → (front : List ℕ) × (skip_lines m xs ≡ Some front)
 unfolding skip_lines
@@ -247,11 +247,11 @@ no_extra_long : (line : List ℕ) (gs : List Field) (f : Field) (hs : List Field
     → (next : List ℕ) × (y ++ next ≡ section_of line gs last [])
 no_extra_long line gs f hs last more y start all full is none =
     let front = line ++ flat_map print_field gs in
-    let behind = flat_map print_field hs ++ (print_end last ++ []) in
-    let parts : y ++ more ≡ front ++ (print_field f ++ behind) = is
+    let rest = flat_map print_field hs ++ (print_end last ++ []) in
+    let parts : y ++ more ≡ front ++ (print_field f ++ rest) = is
     ∙ ap (λ (l : List ℕ). line ++ (l ++ (print_end last ++ []))) (flat_map-append print_field gs (f ∷ hs))
     ∙ regroup line (flat_map print_field gs) (print_field f) (flat_map print_field hs) (print_end last ++ []) in
-    elim (longer_front y more front (print_field f ++ behind) parts) [
+    elim (longer_front y more front (print_field f ++ rest) parts) [
       | inl w ↦ (
         w.0 ++ (print_end last ++ []),
         sym (append_assoc y w.0 (print_end last ++ []))
@@ -260,7 +260,7 @@ no_extra_long line gs f hs last more y start all full is none =
       )
       | inr w ↦
           let inside : is_break w.0 ≡ false =
-          field_begins f behind w.1 more w.0 (all_middle gs f hs all) (sym w.3) in
+          field_begins f rest w.1 more w.0 (all_middle gs f hs all) (sym w.3) in
           let count : 65 ≡ suc (length gs + 0) = omega (arith, full) in
           let skipped : skip_lines 65 y ≡ Some (w.0 ∷ w.1) =
           ap (skip_lines 65) (w.2 ∙ append_assoc line (flat_map print_field gs) (w.0 ∷ w.1))

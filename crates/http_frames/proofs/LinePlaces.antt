@@ -9,7 +9,7 @@ use Rattle.std.proofs.lemmas.List.Elements.{All-head, All-tail, All-nil, All-con
 use Rattle.httparse.specs.Grammar.{is_ows}
 use Rattle.http_frames.specs.declared.chunks.Phase.{Phase}
 use Rattle.http_frames.specs.declared.chunks.Phase.TheVariants.{Line, Size, Pad, Extension, SizeReturn, Data, DataEnd, DataReturn, Trailer as TrailerStart, TrailerReturn, TrailerText, Done}
-use Rattle.http_frames.specs.Phases.{next_phase, behind_size, behind_line, is_data, is_done, least_rest, least_behind}
+use Rattle.http_frames.specs.Phases.{next_phase, after_size, after_chunk_line, is_data, is_done, least_rest, least_after}
 use Rattle.http_frames.specs.Chunks.{Chunked, AreChunks, LineBegins, IsLineStart, is_trailer_byte}
 use Rattle.http_frames.proofs.Accepts.{OnSome, Keeps, Accepts, sound}
 use Rattle.http_frames.proofs.Complete.{complete}
@@ -25,8 +25,8 @@ two_fronts [] b x y e = inl (b, refl, e)
 two_fronts (c ∷ a) [] x y e = inr (c ∷ a, refl, sym e)
 two_fronts (c ∷ a) (d ∷ b) x y e =
     let same : c ≡ d = cc in
-    let behind : a ++ x ≡ b ++ y = cc in
-    elim (two_fronts a b x y behind) [
+    let after : a ++ x ≡ b ++ y = cc in
+    elim (two_fronts a b x y after) [
       | inl w ↦ inl (w.0, ap₂ (λ (h : ℕ) (l : List ℕ). h ∷ l) (sym same) w.1, w.2)
       | inr w ↦ inr (w.0, ap₂ (λ (h : ℕ) (l : List ℕ). h ∷ l) same w.1, w.2)
     ]
@@ -52,11 +52,11 @@ leads_one (b ∷ bytes) phase p q h k =
     on_both (next_phase phase b) (λ next. Leads next bytes p) (λ next. Leads next bytes q) (p ≡ q)
     (λ next. leads_one bytes next p q) h k
 
-leads_behind : (xs ys : List ℕ) (phase p q : Phase) → Leads phase xs p → Leads phase (xs ++ ys) q → Leads p ys q
-leads_behind [] ys phase p q h k = subst (λ (r : Phase). Leads r ys q) h k
-leads_behind (b ∷ xs) ys phase p q h k =
+leads_after : (xs ys : List ℕ) (phase p q : Phase) → Leads phase xs p → Leads phase (xs ++ ys) q → Leads p ys q
+leads_after [] ys phase p q h k = subst (λ (r : Phase). Leads r ys q) h k
+leads_after (b ∷ xs) ys phase p q h k =
     on_both (next_phase phase b) (λ next. Leads next xs p) (λ next. Leads next (xs ++ ys) q) (Leads p ys q)
-    (λ next. leads_behind xs ys next p q) h k
+    (λ next. leads_after xs ys next p q) h k
 
 -- the front of an accepted text leads somewhere, and there the rest is accepted
 record Halfway (phase : Phase) (xs ys : List ℕ) : Type 0 where
@@ -130,19 +130,19 @@ IsCounted TrailerReturn = Unit {0}
 IsCounted TrailerText = Unit {0}
 IsCounted Done = Unit {0}
 
-behind_counted : (size b : ℕ) → AllSome (behind_size size b) IsCounted
-behind_counted size b = all_if (is_ows b) (Some (Pad size)) _ IsCounted tt
+after_counted : (size b : ℕ) → AllSome (after_size size b) IsCounted
+after_counted size b = all_if (is_ows b) (Some (Pad size)) _ IsCounted tt
     (all_if (b == 59) (Some (Extension size)) _ IsCounted tt (all_if (b == 13) (Some (SizeReturn size)) None IsCounted tt tt))
 
 step_counted : (phase : Phase) (b : ℕ) → AllSome (next_phase phase b) IsCounted
 unfolding next_phase
 step_counted Line b = all_if (is_ascii_hexdigit b) (Some (Size 1 (digit_value b))) None IsCounted (omega arith) tt
-step_counted (Size digits size) b = all_if (is_ascii_hexdigit b) _ (behind_size size b) IsCounted
-    (all_if (nat_lt digits 16) (Some (Size (digits + 1) (size * 16 + digit_value b))) None IsCounted (omega arith) tt) (behind_counted size b)
-step_counted (Pad size) b = behind_counted size b
+step_counted (Size digits size) b = all_if (is_ascii_hexdigit b) _ (after_size size b) IsCounted
+    (all_if (nat_lt digits 16) (Some (Size (digits + 1) (size * 16 + digit_value b))) None IsCounted (omega arith) tt) (after_counted size b)
+step_counted (Pad size) b = after_counted size b
 step_counted (Extension size) b =
     all_if (b == 13) (Some (SizeReturn size)) _ IsCounted tt (all_if (b == 10) None (Some (Extension size)) IsCounted tt tt)
-step_counted (SizeReturn size) b = all_if (b == 10) (Some (behind_line size)) None IsCounted
+step_counted (SizeReturn size) b = all_if (b == 10) (Some (after_chunk_line size)) None IsCounted
     (elim (size == 0) as (λ t. IsCounted (if t then TrailerStart else Data size)) [ true ↦ tt | false ↦ tt ]) tt
 step_counted (Data left) b = elim (left == 1) as (λ t. IsCounted (if t then DataEnd else Data (left - 1))) [ true ↦ tt | false ↦ tt ]
 step_counted DataEnd b = all_if (b == 13) (Some DataReturn) None IsCounted tt tt
@@ -204,7 +204,7 @@ size_limit (suc k) digits size tail content h =
     let w = size_step digits size (nat_lt digits 16) (λ next. Accepts next (zeros (suc k) tail) content) refl h in
     omega (arith, size_limit k (digits + 1) (size * 16 + 0) tail content w.1)
 
-least_of : (size : ℕ) → 6 < least_behind (suc size)
+least_of : (size : ℕ) → 6 < least_after (suc size)
 least_of size = elim (eqb_tells (suc size) 0) [
   | inl w ↦ absurd (omega (arith, w.1))
   | inr w ↦ subst (λ (t : Bool). 6 < (if t then 1 else suc size + 6)) (sym w.0) (omega arith)
@@ -231,9 +231,9 @@ only_line Done c d e some x y z = absurd x
 
 chunks_lead : (bytes : List ℕ) → AreChunks bytes → Leads Line bytes Line
 chunks_lead bytes are =
-    let a = behind empty_body [] empty_accepted in
-    let b = behind lines_body (13 ∷ 10 ∷ []) lines_accepted in
-    let c = behind long_body [] long_accepted in
+    let a = after empty_body [] empty_accepted in
+    let b = after lines_body (13 ∷ 10 ∷ []) lines_accepted in
+    let c = after long_body [] long_accepted in
     let ab = leads_one bytes Line b.at a.at b.leads a.leads in
     let ac = leads_one bytes Line c.at a.at c.leads a.leads in
     subst (Leads Line bytes)
@@ -242,8 +242,8 @@ chunks_lead bytes are =
     (subst (λ (p : Phase). Accepts p long_body c.content) ac c.accepts))
     a.leads
   where
-    behind : (body content : List ℕ) → Accepts Line body content → Halfway Line bytes body
-    behind body content h =
+    after : (body content : List ℕ) → Accepts Line body content → Halfway Line bytes body
+    after body content h =
         let w = are body content (sound body Line content h) in
         halfway bytes body Line w.0 (complete (bytes ++ body) w.0 w.1)
 
@@ -272,9 +272,9 @@ apart Line h k = false≢true k
 apart DataEnd h k = false≢true k
 apart phase h k = false≢true h
 
-behind_no_line : (size : ℕ) (t : Bool) → (if t then TrailerStart else Data size) ≡ Line → ⊥
-behind_no_line size true h = false≢true (ap at_start h)
-behind_no_line size false h = false≢true (ap at_start h)
+after_no_line : (size : ℕ) (t : Bool) → (if t then TrailerStart else Data size) ≡ Line → ⊥
+after_no_line size true h = false≢true (ap at_start h)
+after_no_line size false h = false≢true (ap at_start h)
 
 end_no_line : (left : ℕ) (t : Bool) → (if t then DataEnd else Data left) ≡ Line → ⊥
 end_no_line left true h = absurd (cc)
@@ -290,9 +290,9 @@ before_line : (phase : Phase) → Leads phase (13 ∷ 10 ∷ []) Line → at_sta
 unfolding next_phase
 before_line Line h = refl
 before_line DataEnd h = refl
-before_line (Size digits size) h = absurd (behind_no_line size (size == 0) h)
-before_line (Pad size) h = absurd (behind_no_line size (size == 0) h)
-before_line (Extension size) h = absurd (behind_no_line size (size == 0) h)
+before_line (Size digits size) h = absurd (after_no_line size (size == 0) h)
+before_line (Pad size) h = absurd (after_no_line size (size == 0) h)
+before_line (Extension size) h = absurd (after_no_line size (size == 0) h)
 before_line (SizeReturn size) h = absurd h
 before_line (Data left) h = absurd (data_no_line (left - 1) (left == 1) h)
 before_line DataReturn h = absurd h
@@ -324,8 +324,8 @@ all_unless : (t : Bool) (x : Option Phase) (P : Phase → Type 0) → not t ≡ 
 all_unless true x P h = absurd (false≢true h)
 all_unless false x P h = tt
 
-behind_inside : (size b : ℕ) → AllSome (behind_size size b) IsInside
-behind_inside size b = all_if (is_ows b) (Some (Pad size)) _ IsInside refl
+after_inside : (size b : ℕ) → AllSome (after_size size b) IsInside
+after_inside size b = all_if (is_ows b) (Some (Pad size)) _ IsInside refl
     (all_if (b == 59) (Some (Extension size)) _ IsInside refl (all_if (b == 13) (Some (SizeReturn size)) None IsInside refl tt))
 
 -- a byte other than LF leads on inside a line
@@ -333,12 +333,12 @@ step_inside : (phase : Phase) (b : ℕ) → (at_start phase || inside phase) ≡
     → AllSome (next_phase phase b) IsInside
 unfolding next_phase
 step_inside Line b h k = all_if (is_ascii_hexdigit b) (Some (Size 1 (digit_value b))) None IsInside refl tt
-step_inside (Size digits size) b h k = all_if (is_ascii_hexdigit b) _ (behind_size size b) IsInside
-    (all_if (nat_lt digits 16) (Some (Size (digits + 1) (size * 16 + digit_value b))) None IsInside refl tt) (behind_inside size b)
-step_inside (Pad size) b h k = behind_inside size b
+step_inside (Size digits size) b h k = all_if (is_ascii_hexdigit b) _ (after_size size b) IsInside
+    (all_if (nat_lt digits 16) (Some (Size (digits + 1) (size * 16 + digit_value b))) None IsInside refl tt) (after_inside size b)
+step_inside (Pad size) b h k = after_inside size b
 step_inside (Extension size) b h k =
     all_if (b == 13) (Some (SizeReturn size)) _ IsInside refl (all_if (b == 10) None (Some (Extension size)) IsInside tt refl)
-step_inside (SizeReturn size) b h k = all_unless (b == 10) (Some (behind_line size)) IsInside k
+step_inside (SizeReturn size) b h k = all_unless (b == 10) (Some (after_chunk_line size)) IsInside k
 step_inside DataEnd b h k = all_if (b == 13) (Some DataReturn) None IsInside refl tt
 step_inside DataReturn b h k = all_unless (b == 10) (Some Line) IsInside k
 step_inside (Data left) b h k = absurd (false≢true h)
@@ -380,7 +380,7 @@ no_later front later [] begun h k e all = e ∙ append-nil front
 no_later front later (b ∷ z) begun h k e all =
     let p = line_leads front h in
     let q = line_leads later k in
-    let leads = leads_behind front (b ∷ z) Line p.0 q.0 p.1 (subst (λ (l : List ℕ). Leads Line l q.0) e q.1) in
+    let leads = leads_after front (b ∷ z) Line p.0 q.0 p.1 (subst (λ (l : List ℕ). Leads Line l q.0) e q.1) in
     absurd (apart q.0 q.2 (starts_inside b z p.0 q.0 p.2 (trailer_front (b ∷ z) begun all) leads))
 
 pub one_place : (bytes : List ℕ) (p q : ℕ) → IsLineStart bytes p → IsLineStart bytes q → p ≡ q
@@ -398,7 +398,7 @@ one_place bytes p q s t =
 pub body_ends : (bytes content : List ℕ) (place : ℕ) → Chunked bytes content → IsLineStart bytes place → ⊥
 body_ends bytes content place body s =
     let p = line_leads s.front s.begins in
-    let leads = leads_behind s.front s.begun Line p.0 Done p.1
+    let leads = leads_after s.front s.begun Line p.0 Done p.1
     (subst (λ (l : List ℕ). Leads Line l Done) s.split (body_leads bytes content body)) in
     ends s.begun p.0 p.2 s.inside leads
   where

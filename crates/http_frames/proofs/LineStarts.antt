@@ -9,7 +9,7 @@ use Rattle.std.specs.Char.{is_ascii_hexdigit, digit_value}
 use Rattle.std.specs.Prelude.{◌==◌, nat_lt}
 use Rattle.std.proofs.Common.{◌-◌, ◌*◌, not}
 use Rattle.httparse.specs.Grammar.{is_ows}
-use Rattle.http_frames.specs.Phases.{behind_size, behind_line}
+use Rattle.http_frames.specs.Phases.{after_size, after_chunk_line}
 use Rattle.http_frames.specs.Walks.{line_start}
 use Rattle.http_frames.specs.declared.limits.Limits.{Limits}
 use Rattle.http_frames.specs.declared.chunks.Phase.{Phase}
@@ -55,14 +55,14 @@ other_byte test b ten passes = elim (eqb_tells b 10) [
 abbrev Goes : Phase → ℕ → Phase → Type 0
 Goes phase b next = in_line next ≡ true → ((next ≡ Line) ⊎ (next ≡ DataEnd)) ⊎ ((in_line phase ≡ true) × (is_trailer_byte b ≡ true))
 
-behind_goes : (phase : Phase) (size b : ℕ) → in_line phase ≡ true → AllSome (behind_size size b) (Goes phase b)
-behind_goes phase size b line =
+after_goes : (phase : Phase) (size b : ℕ) → in_line phase ≡ true → AllSome (after_size size b) (Goes phase b)
+after_goes phase size b line =
     all_if_eq (is_ows b) (Some (Pad size)) _ (Goes phase b) (λ h _. inr (line, other_byte is_ows b refl h))
     (λ _. all_if_eq (b == 59) (Some (Extension size)) _ (Goes phase b) (λ h _. inr (line, other_byte (λ x. x == 59) b refl h))
     (λ _. all_if_eq (b == 13) (Some (SizeReturn size)) None (Goes phase b) (λ h _. inr (line, other_byte (λ x. x == 13) b refl h)) (λ _. tt)))
 
-behind_line_goes : (size b : ℕ) → Goes (SizeReturn size) b (behind_line size)
-behind_line_goes size b = elim (size == 0) as (λ t. Goes (SizeReturn size) b (if t then TrailerStart else Data size)) [
+after_line_goes : (size b : ℕ) → Goes (SizeReturn size) b (after_chunk_line size)
+after_line_goes size b = elim (size == 0) as (λ t. Goes (SizeReturn size) b (if t then TrailerStart else Data size)) [
   | true ↦ λ h. absurd (false≢true h)
   | false ↦ λ h. absurd (false≢true h)
 ]
@@ -71,15 +71,15 @@ step_goes : (phase : Phase) (b : ℕ) → AllSome (next_phase phase b) (Goes pha
 unfolding next_phase
 step_goes Line b = all_if_eq (is_ascii_hexdigit b) (Some (Size 1 (digit_value b))) None (Goes Line b)
     (λ h _. inr (refl, other_byte is_ascii_hexdigit b refl h)) (λ _. tt)
-step_goes (Size digits size) b = all_if_eq (is_ascii_hexdigit b) _ (behind_size size b) (Goes (Size digits size) b)
+step_goes (Size digits size) b = all_if_eq (is_ascii_hexdigit b) _ (after_size size b) (Goes (Size digits size) b)
     (λ h. all_if_eq (nat_lt digits 16) (Some (Size (digits + 1) (size * 16 + digit_value b))) None (Goes (Size digits size) b)
     (λ _ _. inr (refl, other_byte is_ascii_hexdigit b refl h)) (λ _. tt))
-    (λ _. behind_goes (Size digits size) size b refl)
-step_goes (Pad size) b = behind_goes (Pad size) size b refl
+    (λ _. after_goes (Size digits size) size b refl)
+step_goes (Pad size) b = after_goes (Pad size) size b refl
 step_goes (Extension size) b = all_if_eq (b == 13) (Some (SizeReturn size)) _ (Goes (Extension size) b)
     (λ h _. inr (refl, other_byte (λ x. x == 13) b refl h))
     (λ _. all_if_eq (b == 10) None (Some (Extension size)) (Goes (Extension size) b) (λ _. tt) (λ h _. inr (refl, ap not h)))
-step_goes (SizeReturn size) b = all_if_eq (b == 10) (Some (behind_line size)) None (Goes (SizeReturn size) b) (λ _. behind_line_goes size b) (λ _. tt)
+step_goes (SizeReturn size) b = all_if_eq (b == 10) (Some (after_chunk_line size)) None (Goes (SizeReturn size) b) (λ _. after_line_goes size b) (λ _. tt)
 step_goes (Data left) b = elim (left == 1) as (λ t. Goes (Data left) b (if t then DataEnd else Data (left - 1))) [
   | true ↦ λ h. inl (inr refl)
   | false ↦ λ h. absurd (false≢true h)
@@ -128,9 +128,9 @@ record Mark (seen : List ℕ) (walk : Walk) : Type 0 where
   begins : in_line walk.phase ≡ true → LineBegins front
   inside : in_line walk.phase ≡ true → AllPass is_trailer_byte begun
 
-chunks_behind : (limits : Limits) (front : ℕ) (seen : List ℕ) (walk : Walk) → Reached limits front start seen walk → walk.phase ≡ Line
+chunks_after : (limits : Limits) (front : ℕ) (seen : List ℕ) (walk : Walk) → Reached limits front start seen walk → walk.phase ≡ Line
     → AreChunks seen
-chunks_behind limits front seen walk over at = λ body content h.
+chunks_after limits front seen walk over at = λ body content h.
     let x = content_over limits front start seen in (
       x ++ content,
       from_start (seen ++ body) (x ++ content)
@@ -234,7 +234,7 @@ mark_next limits front seen b walk next fits over not_done there on mark =
             begun = [];
             split = sym (append-nil (seen ++ b ∷ []));
             place_is = stepped_line walk next ∙ ap (λ (p : Phase). line_start p (walk.length + 1) walk.line) h ∙ omega (arith, total, longer);
-            begins = λ _. inl (chunks_behind limits front (seen ++ b ∷ []) (stepped walk next) reached (phase ∙ h));
+            begins = λ _. inl (chunks_after limits front (seen ++ b ∷ []) (stepped walk next) reached (phase ∙ h));
             inside = λ _. All-nil (λ x. is_trailer_byte x ≡ true);
           }
       | at_end h ↦

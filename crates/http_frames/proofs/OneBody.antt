@@ -49,17 +49,17 @@ not_over limits bytes s z can =
 same_stop : (limits : Limits) (bytes : List ℕ) (s t : Stop limits bytes) → (s.before ≡ t.before) × (s.byte ≡ t.byte)
 same_stop limits bytes s t =
     elim (two_fronts s.before t.before (s.byte ∷ s.rest) (t.byte ∷ t.rest) (sym s.split ∙ t.split)) [
-      | inl w ↦ (let z = behind s t.before (t.byte ∷ t.rest) w.0 w.1 w.2 t.could_be in (sym z.0, head s.byte t.byte s.rest t.rest z.1))
-      | inr w ↦ (let z = behind t s.before (s.byte ∷ s.rest) w.0 w.1 w.2 s.could_be in (z.0, sym (head t.byte s.byte t.rest s.rest z.1)))
+      | inl w ↦ (let z = after s t.before (t.byte ∷ t.rest) w.0 w.1 w.2 t.could_be in (sym z.0, head s.byte t.byte s.rest t.rest z.1))
+      | inr w ↦ (let z = after t s.before (s.byte ∷ s.rest) w.0 w.1 w.2 s.could_be in (z.0, sym (head t.byte s.byte t.rest s.rest z.1)))
     ]
   where
     head : (b c : ℕ) (xs ys : List ℕ) → b ∷ xs ≡ c ∷ ys → b ≡ c
     head b c xs ys e = cc
 
-    behind : (u : Stop limits bytes) (later rest z : List ℕ) → later ≡ u.before ++ z → u.byte ∷ u.rest ≡ z ++ rest
+    after : (u : Stop limits bytes) (later rest z : List ℕ) → later ≡ u.before ++ z → u.byte ∷ u.rest ≡ z ++ rest
         → CanBeBody limits later → (later ≡ u.before) × (u.byte ∷ u.rest ≡ rest)
-    behind u later rest [] e f can = (e ∙ append-nil u.before, f)
-    behind u later rest (b ∷ z) e f can =
+    after u later rest [] e f can = (e ∙ append-nil u.before, f)
+    after u later rest (b ∷ z) e f can =
         let same : b ≡ u.byte = cc in
         let over : later ≡ u.before ++ u.byte ∷ z = e ∙ ap (λ (c : ℕ). u.before ++ c ∷ z) same in
         absurd (not_over limits bytes u z (subst (CanBeBody limits) over can))
@@ -177,8 +177,8 @@ same_front [] (d ∷ b) x y e l = absurd (omega (arith, l))
 same_front (c ∷ a) [] x y e l = absurd (omega (arith, l))
 same_front (c ∷ a) (d ∷ b) x y e l =
     let heads : c ≡ d = cc in
-    let behind : a ++ x ≡ b ++ y = cc in
-    ap₂ (λ (h : ℕ) (t : List ℕ). h ∷ t) heads (same_front a b x y behind (omega (arith, l)))
+    let after : a ++ x ≡ b ++ y = cc in
+    ap₂ (λ (h : ℕ) (t : List ℕ). h ∷ t) heads (same_front a b x y after (omega (arith, l)))
 
 one_sized : (limits : Limits) (front n : ℕ) (bytes : List ℕ) (x y : Reading) → BodyMeans limits front (Sized n) bytes x
     → BodyMeans limits front (Sized n) bytes y → x ≡ y

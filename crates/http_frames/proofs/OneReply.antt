@@ -60,7 +60,7 @@ last_stops bytes (Err e) h last = λ head rest at between. found_answer bytes he
 
 -- ---- one answer
 
--- the answer by what is read of the body, in a message of so many bytes
+-- the answer by what is read of the body, in a message of that many bytes
 abbrev reply_by : ℕ → ResponseHead → Reading → Result Reply FrameError
 reply_by n head (Ok (Some content)) = Ok (record { code = status_code head; headers = map header_of head.fields; body = content })
 reply_by n head (Ok None) = Err (Torn n)

@@ -32,7 +32,7 @@ use Rattle.http_frames.proofs.SentLines.{field_of, fields_print, fields_back, fi
 
 -- ---- the status line
 
--- the phrases of so many codes are texts of a status line
+-- the phrases of these codes are texts of a status line
 abbrev phrases_below : ℕ → Bool
 phrases_below zero = true
 phrases_below (suc n) = list_all is_value_byte (phrase_of n) && phrases_below n

@@ -8,14 +8,14 @@ use Rattle.http_frames.specs.Lines.{skip_breaks}
 use Rattle.http_frames.specs.HeadWalks.{IsTargetBegun, CanGoOn, start_line}
 use Rattle.http_frames.proofs.LineCounts.{blank_breaks, section_of}
 use Rattle.http_frames.proofs.RequestLines.{request_parts, inside_by_method, request_inside}
-use Rattle.http_frames.proofs.InTarget.{behind_blank, no_blank}
+use Rattle.http_frames.proofs.InTarget.{after_blank, no_blank}
 
 -- the bytes after the empty lines
 text_from : (bytes target more : List ℕ) (g : IsTargetBegun bytes target)
     → skip_breaks ((bytes ++ 32 ∷ []) ++ more) ≡ g.method ++ 32 ∷ (target ++ 32 ∷ more)
 text_from bytes target more g =
     ap skip_breaks (ap (λ (l : List ℕ). (l ++ 32 ∷ []) ++ more) g.is ∙ regroup (print_blank g.blank) g.method target)
-    ∙ behind_blank (print_blank g.blank) _ (blank_breaks g.blank) (inside_by_method g.method _ g.token.0 g.token.1)
+    ∙ after_blank (print_blank g.blank) _ (blank_breaks g.blank) (inside_by_method g.method _ g.token.0 g.token.1)
   where
     regroup : (x m t : List ℕ) → ((x ++ (m ++ 32 ∷ t)) ++ 32 ∷ []) ++ more ≡ x ++ (m ++ 32 ∷ (t ++ 32 ∷ more))
     regroup x m t = simp append_assoc
@@ -28,7 +28,7 @@ same_target bytes target more g h rest reads =
     let z = print_version h.minor ++ (print_end h.line_end ++ (flat_map print_field h.fields ++ (print_end h.last ++ rest))) in
     let other : skip_breaks ((bytes ++ 32 ∷ []) ++ more) ≡ h.method ++ 32 ∷ (h.target ++ 32 ∷ z) =
     ap skip_breaks (reads.1 ∙ request_parts h rest)
-    ∙ behind_blank (print_blank h.blank) (section_of (start_line h) h.fields h.last rest) (blank_breaks h.blank)
+    ∙ after_blank (print_blank h.blank) (section_of (start_line h) h.fields h.last rest) (blank_breaks h.blank)
     (request_inside h _ reads.0)
     ∙ regroup h.method h.target (print_version h.minor) (print_end h.line_end) (flat_map print_field h.fields) (print_end h.last ++ rest) in
     let whole : g.method ++ 32 ∷ (target ++ 32 ∷ more) ≡ h.method ++ 32 ∷ (h.target ++ 32 ∷ z) = sym (text_from bytes target more g) ∙ other in
@@ -45,7 +45,7 @@ ended_target : (bytes target : List ℕ) → IsTargetBegun bytes target → Ends
 ended_target bytes target g ends =
     let left : skip_breaks ((bytes ++ 32 ∷ []) ++ []) ≡ ends.1 ++ 32 ∷ ends.2 =
     ap skip_breaks (append-nil (bytes ++ 32 ∷ []) ∙ ends.5 ∙ append_assoc (print_blank ends.0) ends.1 (32 ∷ ends.2))
-    ∙ behind_blank (print_blank ends.0) (ends.1 ++ 32 ∷ ends.2) (blank_breaks ends.0)
+    ∙ after_blank (print_blank ends.0) (ends.1 ++ 32 ∷ ends.2) (blank_breaks ends.0)
     (inside_by_method ends.1 (32 ∷ ends.2) ends.3.0 ends.3.1) in
     no_blank ends.1 g.method ends.2 target [] ends.3.1 g.token.1 ends.4 (sym left ∙ text_from bytes target [] g)
 

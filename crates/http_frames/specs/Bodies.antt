@@ -30,7 +30,7 @@ pub record HasWalked (limits : Limits) (front : ℕ) (bytes : List ℕ) (walk : 
   pub fits : IsTrue (can_fit limits walk)
   pub line : walk.line ≤ walk.length
 
--- what was read is the reading, unless memory was refused
+-- what was read is the reading, unless it ran out of memory
 abbrev pub IsProgress : Limits → ℕ → Framing → List ℕ → Result Progress FrameError → Type 0
 IsProgress limits front framing bytes (Ok (More walk)) =
     (body_reading limits front framing bytes ≡ Ok None) × HasWalked limits front bytes walk

@@ -60,7 +60,7 @@ pub record IsLineStart (bytes : List ℕ) (place : ℕ) : Type 0 where
   pub begins : LineBegins front
   pub inside : AllPass is_trailer_byte begun
 
--- up to the byte that is wrong, in the line that begins at this place, the bytes could become a body within the limits, and with it they are the begin of none
+-- up to the byte that is wrong, in the line that begins at this place, the bytes could become a body within the limits, and with it they are the beginning of none
 pub record StopsWrong (limits : Limits) (bytes : List ℕ) (place : ℕ) : Type 0 where
   pub before : List ℕ
   pub wrong : ℕ
@@ -70,7 +70,7 @@ pub record StopsWrong (limits : Limits) (bytes : List ℕ) (place : ℕ) : Type 
   pub line : IsLineStart before place
   pub never : (more content : List ℕ) → ¬ (Chunked (before ++ wrong ∷ more) content)
 
--- up to that byte they could, and with it they are the begin of a body, but of none within the limits
+-- up to that byte they could, and with it they are the beginning of a body, but of none within the limits
 pub record StopsLong (limits : Limits) (bytes : List ℕ) : Type 0 where
   pub before : List ℕ
   pub last : ℕ

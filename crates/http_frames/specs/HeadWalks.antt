@@ -37,7 +37,7 @@ start_line h = h.method ++ 32 ∷ (h.target ++ 32 ∷ (print_version h.minor ++ 
 abbrev pub before_end : RequestHead → List ℕ
 before_end h = print_blank h.blank ++ (start_line h ++ flat_map print_field h.fields)
 
--- a head up to its last line, after which so many header lines may stand
+-- a head up to its last line, after which that many header lines may stand
 pub record AreLines (left : ℕ) (bytes : List ℕ) : Type 0 where
   pub head : RequestHead
   pub valid : IsRequestHead head

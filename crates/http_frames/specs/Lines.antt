@@ -11,7 +11,7 @@ unfoldable pub skip_breaks : List ℕ → List ℕ
 skip_breaks [] = []
 skip_breaks (b ∷ bytes) = if is_break b then skip_breaks bytes else b ∷ bytes
 
--- the bytes after so many line feeds
+-- the bytes after that many line feeds
 unfoldable pub skip_lines : ℕ → List ℕ → Option (List ℕ)
 skip_lines zero bytes = Some bytes
 skip_lines (suc n) [] = None

@@ -6,20 +6,20 @@ use Rattle.http_frames.specs.declared.chunks.Phase.{Phase}
 use Rattle.http_frames.specs.declared.chunks.Phase.TheVariants.{Line, Size, Pad, Extension, SizeReturn, Data, DataEnd, DataReturn, Trailer, TrailerReturn, TrailerText, Done}
 
 -- after the size of a chunk: blanks, an extension, or the line's end
-abbrev pub behind_size : ℕ → ℕ → Option Phase
-behind_size size b =
+abbrev pub after_size : ℕ → ℕ → Option Phase
+after_size size b =
     if is_ows b then Some (Pad size)
     else (if b == 59 then Some (Extension size) else (if b == 13 then Some (SizeReturn size) else None))
 
 -- after the line of a chunk; the one of size 0 is the last
-abbrev pub behind_line : ℕ → Phase
-behind_line size = if size == 0 then Trailer else Data size
+abbrev pub after_chunk_line : ℕ → Phase
+after_chunk_line size = if size == 0 then Trailer else Data size
 
 abbrev pub next_in_size : ℕ → ℕ → ℕ → Option Phase
 next_in_size digits size b =
     if is_ascii_hexdigit b
     then (if nat_lt digits 16 then Some (Size (digits + 1) (size * 16 + digit_value b)) else None)
-    else behind_size size b
+    else after_size size b
 
 abbrev pub next_in_extension : ℕ → ℕ → Option Phase
 next_in_extension size b =
@@ -32,9 +32,9 @@ next_in_trailer b = if b == 10 then Done else (if b == 13 then TrailerReturn els
 unfoldable pub next_phase : Phase → ℕ → Option Phase
 next_phase Line b = if is_ascii_hexdigit b then Some (Size 1 (digit_value b)) else None
 next_phase (Size digits size) b = next_in_size digits size b
-next_phase (Pad size) b = behind_size size b
+next_phase (Pad size) b = after_size size b
 next_phase (Extension size) b = next_in_extension size b
-next_phase (SizeReturn size) b = if b == 10 then Some (behind_line size) else None
+next_phase (SizeReturn size) b = if b == 10 then Some (after_chunk_line size) else None
 next_phase (Data left) b = Some (if left == 1 then DataEnd else Data (left - 1))
 next_phase DataEnd b = if b == 13 then Some DataReturn else None
 next_phase DataReturn b = if b == 10 then Some Line else None
@@ -88,16 +88,16 @@ begun_content TrailerText = 0
 begun_content Done = 0
 
 -- the shortest rest after a size, from the line's end on
-abbrev pub least_behind : ℕ → ℕ
-least_behind size = if size == 0 then 1 else size + 6
+abbrev pub least_after : ℕ → ℕ
+least_after size = if size == 0 then 1 else size + 6
 
 -- the length of the shortest rest of the body
 unfoldable pub least_rest : Phase → ℕ
 least_rest Line = 4
-least_rest (Size digits size) = 2 + least_behind size
-least_rest (Pad size) = 2 + least_behind size
-least_rest (Extension size) = 2 + least_behind size
-least_rest (SizeReturn size) = 1 + least_behind size
+least_rest (Size digits size) = 2 + least_after size
+least_rest (Pad size) = 2 + least_after size
+least_rest (Extension size) = 2 + least_after size
+least_rest (SizeReturn size) = 1 + least_after size
 least_rest (Data left) = left + 6
 least_rest DataEnd = 6
 least_rest DataReturn = 5

@@ -8,7 +8,7 @@ use Rattle.http_frames.specs.declared.frame_error.FrameError.{FrameError}
 use Rattle.http_frames.specs.declared.frame_error.FrameError.TheVariants.{BodyTooLong, Chunk}
 use Rattle.http_frames.specs.Phases.{next_phase, is_data, is_done, begun_content, least_rest}
 
--- limits that leave numbers of 64 bits room
+-- limits under which the numbers fit 64 bits
 abbrev pub AreSmall : Limits → Type 0
 AreSmall limits = (limits.content < 2 ^ 32) × (limits.chunked < 2 ^ 32)
 

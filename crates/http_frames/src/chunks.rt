@@ -1,7 +1,7 @@
 //! Bodies in chunks (RFC 9112, section 7.1), walked over byte by byte.
 ghost use Rattle.std.specs.Prelude.{◌≡◌, ◌+◌, ◌*◌, ◌<◌, ◌≤◌, ◌^◌, ℕ, List, [], length, IfOk, IfSome, IsTrue};
 ghost use Rattle.std.specs.Char.{digit_value, is_ascii_hexdigit};
-ghost use Rattle.http_frames.specs.Phases.{behind_size, behind_line, next_in_size, next_in_extension, next_in_trailer, next_phase, is_data, is_done, begun_content, least_behind, least_rest};
+ghost use Rattle.http_frames.specs.Phases.{after_size, after_chunk_line, next_in_size, next_in_extension, next_in_trailer, next_phase, is_data, is_done, begun_content, least_after, least_rest};
 ghost use Rattle.http_frames.specs.Walks.{AreSmall, can_fit, line_start, stepped, within, step, walk_over, content_over, start};
 
 use crate::FrameError;
@@ -14,7 +14,7 @@ pub(crate) enum Phase {
     /// At the front of a chunk line.
     Line,
 
-    /// After so many digits, which write this size.
+    /// After that many digits, which write this size.
     Size(u8, u64),
 
     /// After blanks after the size.
@@ -26,7 +26,7 @@ pub(crate) enum Phase {
     /// After the CR of a chunk line.
     SizeReturn(u64),
 
-    /// In front of so many bytes of a chunk, one or more.
+    /// In front of that many bytes of a chunk, one or more.
     Data(u64),
 
     /// After a chunk.
@@ -191,7 +191,7 @@ pub(crate) fn content(
     Ok(content)
 }
 
-// Where the line begins in which a phase stands after so many bytes, if the one before began at `start`.
+// Where the line begins in which a phase stands after that many bytes, if the one before began at `start`.
 fn line_start(phase: Phase, length: u64, start: u64) -> u64
     ensures { result ≡ line_start phase length start }
 {
@@ -210,10 +210,10 @@ fn next_phase(phase: Phase, byte: u8) -> Option<Phase>
     match phase {
         Phase::Line => first_digit(byte),
         Phase::Size(digits, size) => next_in_size(digits, size, byte),
-        Phase::Pad(size) => behind_size(size, byte),
+        Phase::Pad(size) => after_size(size, byte),
         Phase::Extension(size) => next_in_extension(size, byte),
         Phase::SizeReturn(size) => if byte == b'\n' {
-            Some(behind_line(size))
+            Some(after_chunk_line(size))
         } else {
             None
         },
@@ -266,7 +266,7 @@ fn next_in_size(digits: u8, size: u64, byte: u8) -> Option<Phase>
     ensures small { IfSome result (λ next. begun_content next < 2 ^ 40) }
 {
     if !byte.is_ascii_hexdigit() {
-        return behind_size(size, byte);
+        return after_size(size, byte);
     }
     if digits < 16 {
         Some(Phase::Size(digits + 1, size * 16 + hex_value(byte)))
@@ -276,8 +276,8 @@ fn next_in_size(digits: u8, size: u64, byte: u8) -> Option<Phase>
 }
 
 #[tactic(auto, unfolding(crate::specs::Phases::next_phase, crate::specs::Phases::begun_content, crate::specs::Phases::least_rest))]
-fn behind_size(size: u64, byte: u8) -> Option<Phase>
-    ensures value { result ≡ behind_size size byte }
+fn after_size(size: u64, byte: u8) -> Option<Phase>
+    ensures value { result ≡ after_size size byte }
     ensures same { IfSome result (λ next. begun_content next ≡ size) }
 {
     match byte {
@@ -302,8 +302,8 @@ fn next_in_extension(size: u64, byte: u8) -> Option<Phase>
 
 // After the line of a chunk; the one of size 0 is the last.
 #[tactic(auto, unfolding(crate::specs::Phases::next_phase, crate::specs::Phases::begun_content, crate::specs::Phases::least_rest))]
-fn behind_line(size: u64) -> Phase
-    ensures value { result ≡ behind_line size }
+fn after_chunk_line(size: u64) -> Phase
+    ensures value { result ≡ after_chunk_line size }
     ensures same { begun_content result ≡ size }
 {
     if size == 0 {
@@ -367,9 +367,9 @@ fn begun_content(phase: Phase) -> u64
 }
 
 // The shortest rest after the line of a chunk of that size.
-fn least_behind(size: u64) -> u64
+fn least_after(size: u64) -> u64
     requires { size < 2 ^ 63 }
-    ensures { result ≡ least_behind size }
+    ensures { result ≡ least_after size }
 {
     if size == 0 { 1 } else { size + 6 }
 }
@@ -383,8 +383,8 @@ fn least_rest(phase: Phase) -> u64
 {
     match phase {
         Phase::Line => 4,
-        Phase::Size(_, size) | Phase::Pad(size) | Phase::Extension(size) => 2 + least_behind(size),
-        Phase::SizeReturn(size) => 1 + least_behind(size),
+        Phase::Size(_, size) | Phase::Pad(size) | Phase::Extension(size) => 2 + least_after(size),
+        Phase::SizeReturn(size) => 1 + least_after(size),
         Phase::Data(left) => left + 6,
         Phase::DataEnd => 6,
         Phase::DataReturn => 5,

@@ -13,7 +13,7 @@ use crate::{FrameError, Header};
 /// Where a body ends.
 #[derive(Clone, Copy, Debug, PartialEq, Eq)]
 pub(crate) enum Framing {
-    /// After so many bytes.
+    /// After that many bytes.
     Sized(u64),
 
     /// With its last chunk and the trailer.

@@ -216,7 +216,7 @@ fn skip_breaks(bytes: &[u8]) -> &[u8]
     left
 }
 
-// The bytes after so many line feeds, or none where there are fewer.
+// The bytes after that many line feeds, or none where there are fewer.
 #[tactic(auto, unfolding(crate::specs::Lines::skip_lines))]
 fn skip_lines(bytes: &[u8], count: usize) -> Option<&[u8]>
     ensures { option_map (λ rest. rest.now) result ≡ skip_lines count bytes.now }

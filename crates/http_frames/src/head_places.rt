@@ -21,7 +21,7 @@ pub(crate) enum Place {
 
     Target,
 
-    /// After so many bytes of `HTTP/1.`.
+    /// After that many bytes of `HTTP/1.`.
     Version(usize),
 
     VersionEnd,
@@ -29,13 +29,13 @@ pub(crate) enum Place {
     /// After the CR of the start line.
     StartReturn,
 
-    /// At the front of a line, where so many more header lines may stand.
+    /// At the front of a line, where that many more header lines may stand.
     Line(usize),
 
     /// After the CR of the empty line that ends the head.
     LastReturn,
 
-    /// In a header's name; after it so many more lines may stand.
+    /// In a header's name; after it that many more lines may stand.
     Name(usize),
 
     Value(usize),
@@ -144,7 +144,7 @@ fn when_byte(wanted: u8, byte: u8, place: Place) -> Option<Place>
     if byte == wanted { Some(place) } else { None }
 }
 
-// After so many bytes of `HTTP/1.`, and after all of them 0 or 1.
+// After that many bytes of `HTTP/1.`, and after all of them 0 or 1.
 fn next_in_version(matched: usize, byte: u8) -> Option<Place>
     ensures { result ≡ next_in_version matched byte }
 {

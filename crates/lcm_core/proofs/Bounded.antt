@@ -47,7 +47,7 @@ no_set r (Set place answer) apart = apart
 never_set : (r : ℕ) (t : List Entry) → ((front : List Entry) (answer : SetAnswer) (rest : List Entry) → t ≡ front ++ Set r answer ∷ rest → ⊥) → sets_of t r ≡ 0
 never_set r [] none = refl
 never_set r (e ∷ t) none =
-    let rest = never_set r t (λ front answer behind p. none (e ∷ front) answer behind (ap (λ (l : List Entry). e ∷ l) p)) in
+    let rest = never_set r t (λ front answer after p. none (e ∷ front) answer after (ap (λ (l : List Entry). e ∷ l) p)) in
     omega (arith, sum_by-cons (λ x. cond (is_set_of r x) 1 0) e t, ap {B = ℕ} (λ (b : Bool). cond b 1 0) (not_here e (λ answer is. none [] answer t (ap (λ (x : Entry). x ∷ t) is))), rest)
   where
     not_here : (e : Entry) → ((answer : SetAnswer) → e ≡ Set r answer → ⊥) → is_set_of r e ≡ false
@@ -62,7 +62,7 @@ never_set r (e ∷ t) none =
 record Counted (t : List Entry) (r : ℕ) : Type 0 where
   sets : sets_of t r ≤ 1
   tests : tests_of t r ≤ sets_of t r + 1
-  behind : (answer : SetAnswer) → EndsWith t (Set r answer) → tests_of t r ≤ sets_of t r
+  follows : (answer : SetAnswer) → EndsWith t (Set r answer) → tests_of t r ≤ sets_of t r
 
 module _ (document : Document) (mode : RunMode) (order : List ℕ) (t : List Entry) (r : ℕ) (so_far : Counted t r) where
   counted_push : (e : Entry) → MayFollow document mode order t e → Counted (t ++ e ∷ []) r
@@ -73,21 +73,21 @@ module _ (document : Document) (mode : RunMode) (order : List ℕ) (t : List Ent
         record {
           sets = omega (arith, so_far.sets, made);
           tests = omega (arith, so_far.tests, tested, made);
-          behind = λ other ends. absurd (is_no_set place answer other (ends_with_push t (Tested place answer) (Set r other) ends));
+          follows = λ other ends. absurd (is_no_set place answer other (ends_with_push t (Tested place answer) (Set r other) ends));
         }
     | inl same ↦
         let tested = count_push (is_test_of r) t (Tested place answer) ∙ ap (λ (b : Bool). tests_of t r + cond b 1 0) (eq-eqb place r same.1) in
         let made = count_push (is_set_of r) t (Tested place answer) in
-        let room : tests_of t r ≤ sets_of t r = elim may.in_turn [
+        let capacity : tests_of t r ≤ sets_of t r = elim may.in_turn [
           | inl first ↦
               let none = subst (λ (q : ℕ). HasEntry t q → ⊥) same.1 first.once in
               omega (arith, no_count (is_test_of r) r (no_test r) t none)
-          | inr again ↦ so_far.behind sets.Done (subst (λ (q : ℕ). EndsWith t (Set q sets.Done)) same.1 again)
+          | inr again ↦ so_far.follows sets.Done (subst (λ (q : ℕ). EndsWith t (Set q sets.Done)) same.1 again)
         ] in
         record {
           sets = omega (arith, so_far.sets, made);
-          tests = omega (arith, room, tested, made);
-          behind = λ other ends. absurd (is_no_set place answer other (ends_with_push t (Tested place answer) (Set r other) ends));
+          tests = omega (arith, capacity, tested, made);
+          follows = λ other ends. absurd (is_no_set place answer other (ends_with_push t (Tested place answer) (Set r other) ends));
         }
   ]
     where
@@ -100,7 +100,7 @@ module _ (document : Document) (mode : RunMode) (order : List ℕ) (t : List Ent
         record {
           sets = omega (arith, so_far.sets, made);
           tests = omega (arith, so_far.tests, tested, made);
-          behind = λ other ends. absurd (apart.1 (ap place_of (ends_with_push t (Set place answer) (Set r other) ends)));
+          follows = λ other ends. absurd (apart.1 (ap place_of (ends_with_push t (Set place answer) (Set r other) ends)));
         }
     | inl same ↦
         let tested = count_push (is_test_of r) t (Set place answer) in
@@ -109,7 +109,7 @@ module _ (document : Document) (mode : RunMode) (order : List ℕ) (t : List Ent
         record {
           sets = omega (arith, made, none);
           tests = omega (arith, so_far.tests, tested, made, none);
-          behind = λ other ends. omega (arith, so_far.tests, tested, made, none);
+          follows = λ other ends. omega (arith, so_far.tests, tested, made, none);
         }
   ]
 
@@ -117,7 +117,7 @@ counted_front : (document : Document) (mode : RunMode) (order : List ℕ) (t : L
 counted_front document mode order t r legal d zero within = record {
   sets = omega arith;
   tests = omega arith;
-  behind = λ answer ends. absurd (nothing ends.0 (Set r answer) ends.1);
+  follows = λ answer ends. absurd (nothing ends.0 (Set r answer) ends.1);
 }
   where
     nothing : (front : List Entry) (e : Entry) → [] ≡ front ++ e ∷ [] → ⊥

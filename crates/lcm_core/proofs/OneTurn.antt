@@ -174,13 +174,13 @@ chain_turn {S} does still document a t b r turn c joins is one other = begun is
     begun (inr (inl set)) = at (Tested r tests.No) (Set r set.answer ∷ []) set.is
     begun (inr (inr again)) = at (Tested r tests.No) (Set r sets.Done ∷ Tested r again.answer ∷ []) again.is
 
-pub ends_behind : (t turn : List Entry) (last : Entry) → EndsWith turn last → EndsWith (t ++ turn) last
-ends_behind t turn last ends = (t ++ ends.0, ap (λ (l : List Entry). t ++ l) ends.1 ∙ sym (append_assoc t ends.0 (last ∷ [])))
+pub ends_after : (t turn : List Entry) (last : Entry) → EndsWith turn last → EndsWith (t ++ turn) last
+ends_after t turn last ends = (t ++ ends.0, ap (λ (l : List Entry). t ++ l) ends.1 ∙ sym (append_assoc t ends.0 (last ∷ [])))
 
 -- a trace that ends with an entry that is not final goes on
-pub goes_on_behind : (t turn : List Entry) (last : Entry) → EndsWith turn last → (IsFinal last → ⊥) → GoesOn (t ++ turn)
-goes_on_behind t turn last ends more e others final =
-    let end = ends_behind t turn last ends in
+pub goes_on_after : (t turn : List Entry) (last : Entry) → EndsWith turn last → (IsFinal last → ⊥) → GoesOn (t ++ turn)
+goes_on_after t turn last ends more e others final =
+    let end = ends_after t turn last ends in
     more (subst IsFinal (sym (ends_with_push end.0 last e (others.0, sym end.1 ∙ others.1))) final)
 
 wants_is_final : (e : Entry) → WantsMemory e → IsFinal e
@@ -191,8 +191,8 @@ pub stop_is_final : (stop : Stop) (last : Entry) (r : ℕ) → Shows last (Err s
 stop_is_final (stops.RebootAsked place) last r shows = subst IsFinal (sym shows.1) tt
 stop_is_final stops.Memory last r shows = wants_is_final last shows
 
-pub stops_behind : (t turn : List Entry) (last : Entry) (stop : Stop) (r : ℕ) → EndsWith turn last → Shows last (Err stop) r → IsStop (Err stop) (t ++ turn)
-stops_behind t turn last (stops.RebootAsked place) r ends shows =
+pub stops_after : (t turn : List Entry) (last : Entry) (stop : Stop) (r : ℕ) → EndsWith turn last → Shows last (Err stop) r → IsStop (Err stop) (t ++ turn)
+stops_after t turn last (stops.RebootAsked place) r ends shows =
     let same : last ≡ Set place sets.Reboot = shows.1 ∙ ap (λ (p : ℕ). Set p sets.Reboot) (sym shows.0) in
-    subst (EndsWith (t ++ turn)) same (ends_behind t turn last ends)
-stops_behind t turn last stops.Memory r ends shows = (last, ends_behind t turn last ends, shows)
+    subst (EndsWith (t ++ turn)) same (ends_after t turn last ends)
+stops_after t turn last stops.Memory r ends shows = (last, ends_after t turn last ends, shows)

@@ -40,7 +40,7 @@ pub record IsNextOf (document : Document) (order past : List ℕ) (r : ℕ) : Ty
   pub is_place : r < length document.resources
   pub listed : Contains order r
   pub new : Contains past r → ⊥
-  pub behind : (q : ℕ) → Contains past q → Precedes order q r
+  pub follows : (q : ℕ) → Contains past q → Precedes order q r
   pub front : (q : ℕ) → Precedes order q r → Contains past q
   pub met : (q : ℕ) → IsDependency document r q → Contains past q
 
@@ -53,7 +53,7 @@ next_of document order i is lt =
       is_place = ready.is_place;
       listed = subst (λ (l : List ℕ). Contains l r) (sym at) (contains_front r (take i order) (drop (i + 1) order));
       new = ready.absent;
-      behind = λ q has. precedes order i q lt has;
+      follows = λ q has. precedes order i q lt has;
       front = λ q before. precedes_front order i q lt is.once before;
       met = ready.met;
     }
@@ -91,7 +91,7 @@ module _ (document : Document) (order past : List ℕ) (t : List Entry) (r : ℕ
   may_test_first : GoesOn t → IsReady document Repair t r → MayTest document Repair order t r
   may_test_first goes_on ready = record {
     is_place = next.is_place;
-    in_turn = inl (record { listed = next.listed; once = fresh; in_order = λ q has. next.behind q (so_far.within q has) });
+    in_turn = inl (record { listed = next.listed; once = fresh; in_order = λ q has. next.follows q (so_far.within q has) });
     ready = ready;
     goes_on = goes_on;
   }

@@ -23,10 +23,10 @@ not_all p [] none = absurd (false≢true (sym none))
 not_all p (x ∷ xs) none = at (p x) refl (not_all p xs)
   where
     at : (b : Bool) → p x ≡ b → (list_all p xs ≡ false → (k : ℕ) × (k < length xs) × (p (get_or xs k 0) ≡ false)) → (k : ℕ) × (k < length (x ∷ xs)) × (p (get_or (x ∷ xs) k 0) ≡ false)
-    at true marked behind =
-        let rest = behind (sym (ap (λ (b : Bool). b && list_all p xs) marked) ∙ none) in
+    at true marked after =
+        let rest = after (sym (ap (λ (b : Bool). b && list_all p xs) marked) ∙ none) in
         (suc rest.0, omega (arith, rest.1), rest.2)
-    at false unmarked behind = (0, omega arith, unmarked)
+    at false unmarked after = (0, omega arith, unmarked)
 
 module _ (document : Document) (depends : List (Vec ℕ)) (are : AreDependencies document depends) (t : List Entry) (held : List Bool)
     (marks : (q : ℕ) → q < length document.resources → get_or held q false ≡ has_succeeded t q)

@@ -88,10 +88,10 @@ blameless (f ∷ front) e rest spared =
 never_no : (document : Document) (a b : HostState) (front : List Entry) (p : ℕ) (rest : List Entry) (wanted : Wanted) → SetMakesHold → wanted_at document p ≡ Some wanted
     → True document a (front ++ Set p sets.Done ∷ Tested p tests.No ∷ rest) b → ⊥
 never_no document a b front p rest wanted makes asks chain =
-    let (x, y, step, behind_set) = true_split document a b front (Set p sets.Done) (Tested p tests.No ∷ rest) chain in
+    let (x, y, step, after_set) = true_split document a b front (Set p sets.Done) (Tested p tests.No ∷ rest) chain in
     let set = set_known document x y p wanted sets.Done asks step in
     let holds = subst (λ (h : HostState). Holds h wanted) (sym set.1.0.applied) (makes x wanted) in
-    answer_known document y behind_set.0 p wanted tests.No asks behind_set.1 holds
+    answer_known document y after_set.0 p wanted tests.No asks after_set.1 holds
 
 -- ---- one resource
 

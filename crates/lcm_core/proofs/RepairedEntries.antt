@@ -27,8 +27,8 @@ pub record IsLastOf (trace : List Entry) (r : ℕ) : Type 0 where
   pub of : place_of entry ≡ r
   pub last : HasEntry rest r → ⊥
 
-behind : (x : Entry) (xs : List Entry) (r : ℕ) → IsLastOf xs r → IsLastOf (x ∷ xs) r
-behind x xs r l = record {
+last_after : (x : Entry) (xs : List Entry) (r : ℕ) → IsLastOf xs r → IsLastOf (x ∷ xs) r
+last_after x xs r l = record {
   front = x ∷ l.front;
   entry = l.entry;
   rest = l.rest;
@@ -40,7 +40,7 @@ behind x xs r l = record {
 pub last_of : (trace : List Entry) (r : ℕ) → IsLastOf trace r ⊎ (HasEntry trace r → ⊥)
 last_of [] r = inr (λ has. omega (arith, has.1))
 last_of (x ∷ xs) r = elim (last_of xs r) [
-  | inl later ↦ inl (behind x xs r later)
+  | inl later ↦ inl (last_after x xs r later)
   | inr none ↦ elim (eqb_tells (place_of x) r) [
     | inl same ↦ inl (record { front = []; entry = x; rest = xs; is = refl; of = same.1; last = none })
     | inr apart ↦ inr (λ has. none (Contains-tail (place_of x) (map place_of xs) r apart.1 has))

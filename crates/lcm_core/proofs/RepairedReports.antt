@@ -1,4 +1,4 @@
--- Why the trace of a run to which no memory was refused can be reported.
+-- Why the trace of a run that was never out of memory can be reported.
 use Rattle.std.proofs.Common.{◌≡◌, inl, inr, ℕ, ◌+◌, ◌<◌, List, [], ◌∷◌, ◌++◌, length, take, drop, get_or, Some, refl, sym, ◌∙◌, ap, subst}
 use Rattle.std.specs.Prelude.{◌≢◌}
 use Rattle.std.proofs.lemmas.Option.{none-some, same_Some}
@@ -78,7 +78,7 @@ traces_reportable document mode order trace legal whole fed = record {
   settled = settled document mode order trace legal fed whole;
 }
 
--- the end of a run says whether its last entry is a lack of memory
+-- the end of a run says whether its last entry is out of memory
 end_tells : (mode : RunMode) (end : RunEnd) (trace : List Entry) → end ≢ ends.Memory → IsEnd mode end trace → EndsInMemory trace → ⊥
 end_tells mode ends.Finished trace other goes_on (e, last, wants) = goes_on e last (wants_final e wants)
 end_tells mode (ends.RebootAsked r) trace other (front, is) (e, last, wants) =

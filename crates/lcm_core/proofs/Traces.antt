@@ -100,8 +100,8 @@ SetsNothing t = (before : List Entry) (r : ℕ) (answer : _) (after : List Entry
 true_keeps : (document : Document) (t : List Entry) (a b : HostState) → SetsNothing t → True document a t b → b ≡ a
 true_keeps document [] a b none chain = sym chain
 true_keeps document (Tested place answer ∷ t) a b none chain =
-    let behind : SetsNothing t = λ before r given after e. none (Tested place answer ∷ before) r given after (ap (λ (l : List Entry). Tested place answer ∷ l) e) in
-    true_keeps document t chain.0 b behind chain.2 ∙ chain.1.0
+    let rest : SetsNothing t = λ before r given after e. none (Tested place answer ∷ before) r given after (ap (λ (l : List Entry). Tested place answer ∷ l) e) in
+    true_keeps document t chain.0 b rest chain.2 ∙ chain.1.0
 true_keeps document (Set place answer ∷ t) a b none chain = absurd (none [] place answer t refl)
 
 tells_keeps : (document : Document) (t : List Entry) (a b : Option HostState) → SetsNothing t → TellsTrue document a t b → b ≡ a

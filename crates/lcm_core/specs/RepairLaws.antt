@@ -75,7 +75,7 @@ IsSpared trace r = All (λ e. place_of e ≡ r → EntryBlames e → ⊥) trace
 
 -- ---- repairs that succeed
 
--- a repair that came to its last resource, on a host that exposes what it holds
+-- a repair that came to its last resource, on a host that shows what it holds
 pub record IsFullRepair (document : Document) (order : List ℕ) (before : HostState) (trace : List Entry) (after : HostState) : Type 0 where
   pub ordered : IsOrderOfDocument document order
   pub legal : Legal document Repair order trace
@@ -104,7 +104,7 @@ pub record IsReportable (document : Document) (trace : List Entry) : Type 0 wher
   pub memory : All (λ e. WantsMemory e → ⊥) trace
   pub settled : (r place : ℕ) → last_entry trace r ≡ Some (Set place sets.Done) → ⊥
 
--- so is each whole trace that does not end in a lack of memory
+-- so is each whole trace that does not end out of memory
 abbrev pub TracesAreReportable : Type 0
 TracesAreReportable =
     (document : Document) (mode : RunMode) (order : List ℕ) (trace : List Entry)

@@ -52,29 +52,29 @@ abbrev pub all_held : List Bool → List ℕ → Bool
 all_held held places = list_all (λ q. get_or held q false) places
 
 -- the entries of a turn are after those that were there, by steps from the one value to the other
-pub record TookTurn {S : Type 0} (kept : S → List Entry) (spare : S → ℕ) (does : S → Document → Entry → S → Type 0) (still : S → S → Type 0) (faults : S → ℕ)
+pub record TookTurn {S : Type 0} (trace : S → List Entry) (spare : S → ℕ) (does : S → Document → Entry → S → Type 0) (still : S → S → Type 0) (faults : S → ℕ)
     (document : Document) (r : ℕ) (before after : S) (result : Result Bool Stop) : Type 0 where
   pub turn : List Entry
   pub is_turn : IsTurn r turn
-  pub behind : kept after ≡ kept before ++ turn
+  pub follows : trace after ≡ trace before ++ turn
   pub last : Entry
   pub ends : EndsWith turn last
   pub shows : Shows last result r
   pub chain : Chain does still document before turn after
   pub failures : RoseBy (host_failures turn) (faults before) (faults after)
   pub later : faults before ≤ faults after
-  pub room : spare before ≤ spare after + length turn
+  pub capacity : spare before ≤ spare after + length turn
 
 -- the same of what follows the first Test, which answered no
-pub record TookRest {S : Type 0} (kept : S → List Entry) (spare : S → ℕ) (does : S → Document → Entry → S → Type 0) (still : S → S → Type 0) (faults : S → ℕ)
+pub record TookRest {S : Type 0} (trace : S → List Entry) (spare : S → ℕ) (does : S → Document → Entry → S → Type 0) (still : S → S → Type 0) (faults : S → ℕ)
     (document : Document) (r : ℕ) (before after : S) (result : Result Bool Stop) : Type 0 where
   pub rest : List Entry
   pub is_turn : IsTurn r (Tested r tests.No ∷ rest)
-  pub behind : kept after ≡ kept before ++ rest
+  pub follows : trace after ≡ trace before ++ rest
   pub last : Entry
   pub ends : EndsWith rest last
   pub shows : Shows last result r
   pub chain : Chain does still document before rest after
   pub failures : RoseBy (host_failures rest) (faults before) (faults after)
   pub later : faults before ≤ faults after
-  pub room : spare before ≤ spare after + length rest
+  pub capacity : spare before ≤ spare after + length rest

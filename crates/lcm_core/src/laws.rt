@@ -4,7 +4,7 @@ ghost use Rattle.lcm_core.specs.RunLaws.{CompliantHold, LegalEndsAtYes, LegalKno
 
 use resource_kinds::set_laws;
 
-/// In a repair that came to its last resource, on a host that exposes what it holds, where no entry blames the host and none says
+/// In a repair that came to its last resource, on a host that shows what it holds, where no entry blames the host and none says
 /// that something is in the way, each resource ends with a Test that answered yes, unless it or one of its dependencies, followed
 /// down, has a fault of its own. Where entries do blame the machine, this still holds of each resource of which, and of whose dependencies,
 /// followed down, none does.

@@ -34,21 +34,22 @@ pub fn run<R: Resources>(
     requires known { NamesResources document.now }
     requires distinct { HasDistinctIds document.now }
     requires order { IsOrderOfDocument document.now order.now }
-    requires fresh { R.kept resources.old ≡ [] }
-    requires room { 3 * length document.now.resources ≤ R.spare resources.old }
+    requires fresh { R.trace resources.old ≡ [] }
+    requires capacity { 3 * length document.now.resources ≤ R.spare resources.old }
 
-    ensures legal { Legal document.now mode order.now (R.kept resources.new) }
-    ensures whole { Whole document.now mode order.now (R.kept resources.new)
-        ⊎ IsUnbegun mode result (R.kept resources.new) }
-    ensures end { IsEnd mode result (R.kept resources.new) }
+    ensures legal { Legal document.now mode order.now (R.trace resources.new) }
+    ensures whole { Whole document.now mode order.now (R.trace resources.new)
+        ⊎ IsUnbegun mode result (R.trace resources.new) }
+    ensures end { IsEnd mode result (R.trace resources.new) }
     ensures chain { Chain R.does R.still document.now resources.old
-        (R.kept resources.new) resources.new }
-    ensures faults { RoseBy (host_failures (R.kept resources.new)) (R.faults resources.old)
+        (R.trace resources.new) resources.new }
+    ensures faults { RoseBy (host_failures (R.trace resources.new)) (R.faults resources.old)
         (R.faults resources.new) }
     ensures later { R.faults resources.old ≤ R.faults resources.new }
-    ensures room { R.spare resources.old ≤ R.spare resources.new + length (R.kept resources.new) }
-    ensures bound { (r : ℕ) → (tests_of (R.kept resources.new) r ≤ 2)
-        × (sets_of (R.kept resources.new) r ≤ 1) }
+    ensures capacity { R.spare resources.old
+        ≤ R.spare resources.new + length (R.trace resources.new) }
+    ensures bound { (r : ℕ) → (tests_of (R.trace resources.new) r ≤ 2)
+        × (sets_of (R.trace resources.new) r ≤ 1) }
 {
     match mode {
         RunMode::Monitor => monitor(document, order, resources),
@@ -64,21 +65,22 @@ pub fn run_ordered<R: Resources>(
     resources: &mut R,
 ) -> RunEnd
     requires ordered { IsOrdered ordered.now }
-    requires fresh { R.kept resources.old ≡ [] }
-    requires room { 3 * length ordered.now.document.resources ≤ R.spare resources.old }
+    requires fresh { R.trace resources.old ≡ [] }
+    requires capacity { 3 * length ordered.now.document.resources ≤ R.spare resources.old }
 
-    ensures legal { Legal ordered.now.document mode ordered.now.order (R.kept resources.new) }
-    ensures whole { Whole ordered.now.document mode ordered.now.order (R.kept resources.new)
-        ⊎ IsUnbegun mode result (R.kept resources.new) }
-    ensures end { IsEnd mode result (R.kept resources.new) }
+    ensures legal { Legal ordered.now.document mode ordered.now.order (R.trace resources.new) }
+    ensures whole { Whole ordered.now.document mode ordered.now.order (R.trace resources.new)
+        ⊎ IsUnbegun mode result (R.trace resources.new) }
+    ensures end { IsEnd mode result (R.trace resources.new) }
     ensures chain { Chain R.does R.still ordered.now.document resources.old
-        (R.kept resources.new) resources.new }
-    ensures faults { RoseBy (host_failures (R.kept resources.new)) (R.faults resources.old)
+        (R.trace resources.new) resources.new }
+    ensures faults { RoseBy (host_failures (R.trace resources.new)) (R.faults resources.old)
         (R.faults resources.new) }
     ensures later { R.faults resources.old ≤ R.faults resources.new }
-    ensures room { R.spare resources.old ≤ R.spare resources.new + length (R.kept resources.new) }
-    ensures bound { (r : ℕ) → (tests_of (R.kept resources.new) r ≤ 2)
-        × (sets_of (R.kept resources.new) r ≤ 1) }
+    ensures capacity { R.spare resources.old
+        ≤ R.spare resources.new + length (R.trace resources.new) }
+    ensures bound { (r : ℕ) → (tests_of (R.trace resources.new) r ≤ 2)
+        × (sets_of (R.trace resources.new) r ≤ 1) }
 {
     let OrderedDocument {
         document,
@@ -97,18 +99,19 @@ pub fn run_ordered<R: Resources>(
 // Tests the resources in order, and changes nothing.
 fn monitor<R: Resources>(document: &Document, order: &[u32], resources: &mut R) -> RunEnd
     requires order { IsOrderOfDocument document.now order.now }
-    requires fresh { R.kept resources.old ≡ [] }
-    requires room { 3 * length document.now.resources ≤ R.spare resources.old }
+    requires fresh { R.trace resources.old ≡ [] }
+    requires capacity { 3 * length document.now.resources ≤ R.spare resources.old }
 
-    ensures legal { Legal document.now RunMode.Monitor order.now (R.kept resources.new) }
-    ensures whole { Whole document.now RunMode.Monitor order.now (R.kept resources.new) }
-    ensures end { IsEnd RunMode.Monitor result (R.kept resources.new) }
+    ensures legal { Legal document.now RunMode.Monitor order.now (R.trace resources.new) }
+    ensures whole { Whole document.now RunMode.Monitor order.now (R.trace resources.new) }
+    ensures end { IsEnd RunMode.Monitor result (R.trace resources.new) }
     ensures chain { Chain R.does R.still document.now resources.old
-        (R.kept resources.new) resources.new }
-    ensures faults { RoseBy (host_failures (R.kept resources.new)) (R.faults resources.old)
+        (R.trace resources.new) resources.new }
+    ensures faults { RoseBy (host_failures (R.trace resources.new)) (R.faults resources.old)
         (R.faults resources.new) }
     ensures later { R.faults resources.old ≤ R.faults resources.new }
-    ensures room { R.spare resources.old ≤ R.spare resources.new + length (R.kept resources.new) }
+    ensures capacity { R.spare resources.old
+        ≤ R.spare resources.new + length (R.trace resources.new) }
 {
     for place in order {
         if let TestAnswer::Memory = resources.test(document, *place) {
@@ -129,19 +132,20 @@ fn repair_by_names<R: Resources>(
     requires known { NamesResources document.now }
     requires distinct { HasDistinctIds document.now }
     requires order { IsOrderOfDocument document.now order.now }
-    requires fresh { R.kept resources.old ≡ [] }
-    requires room { 3 * length document.now.resources ≤ R.spare resources.old }
+    requires fresh { R.trace resources.old ≡ [] }
+    requires capacity { 3 * length document.now.resources ≤ R.spare resources.old }
 
-    ensures legal { Legal document.now RunMode.Repair order.now (R.kept resources.new) }
-    ensures whole { Whole document.now RunMode.Repair order.now (R.kept resources.new)
-        ⊎ IsUnbegun RunMode.Repair result (R.kept resources.new) }
-    ensures end { IsEnd RunMode.Repair result (R.kept resources.new) }
+    ensures legal { Legal document.now RunMode.Repair order.now (R.trace resources.new) }
+    ensures whole { Whole document.now RunMode.Repair order.now (R.trace resources.new)
+        ⊎ IsUnbegun RunMode.Repair result (R.trace resources.new) }
+    ensures end { IsEnd RunMode.Repair result (R.trace resources.new) }
     ensures chain { Chain R.does R.still document.now resources.old
-        (R.kept resources.new) resources.new }
-    ensures faults { RoseBy (host_failures (R.kept resources.new)) (R.faults resources.old)
+        (R.trace resources.new) resources.new }
+    ensures faults { RoseBy (host_failures (R.trace resources.new)) (R.faults resources.old)
         (R.faults resources.new) }
     ensures later { R.faults resources.old ≤ R.faults resources.new }
-    ensures room { R.spare resources.old ≤ R.spare resources.new + length (R.kept resources.new) }
+    ensures capacity { R.spare resources.old
+        ≤ R.spare resources.new + length (R.trace resources.new) }
 {
     match dependencies(alloc, document) {
         Ok(depends) => repair(alloc, document, order, &depends, resources),
@@ -159,19 +163,20 @@ fn repair<R: Resources>(
 ) -> RunEnd
     requires order { IsOrderOfDocument document.now order.now }
     requires depends { AreDependencies document.now depends.now }
-    requires fresh { R.kept resources.old ≡ [] }
-    requires room { 3 * length document.now.resources ≤ R.spare resources.old }
+    requires fresh { R.trace resources.old ≡ [] }
+    requires capacity { 3 * length document.now.resources ≤ R.spare resources.old }
 
-    ensures legal { Legal document.now RunMode.Repair order.now (R.kept resources.new) }
-    ensures whole { Whole document.now RunMode.Repair order.now (R.kept resources.new)
-        ⊎ IsUnbegun RunMode.Repair result (R.kept resources.new) }
-    ensures end { IsEnd RunMode.Repair result (R.kept resources.new) }
+    ensures legal { Legal document.now RunMode.Repair order.now (R.trace resources.new) }
+    ensures whole { Whole document.now RunMode.Repair order.now (R.trace resources.new)
+        ⊎ IsUnbegun RunMode.Repair result (R.trace resources.new) }
+    ensures end { IsEnd RunMode.Repair result (R.trace resources.new) }
     ensures chain { Chain R.does R.still document.now resources.old
-        (R.kept resources.new) resources.new }
-    ensures faults { RoseBy (host_failures (R.kept resources.new)) (R.faults resources.old)
+        (R.trace resources.new) resources.new }
+    ensures faults { RoseBy (host_failures (R.trace resources.new)) (R.faults resources.old)
         (R.faults resources.new) }
     ensures later { R.faults resources.old ≤ R.faults resources.new }
-    ensures room { R.spare resources.old ≤ R.spare resources.new + length (R.kept resources.new) }
+    ensures capacity { R.spare resources.old
+        ≤ R.spare resources.new + length (R.trace resources.new) }
 {
     let mut held = match vec![in alloc; false; depends.len()] {
         Ok(held) => held,
@@ -195,18 +200,19 @@ fn take_turns<R: Resources>(
     requires depends { AreDependencies document.now depends.now }
     requires none { held.old ≡ replicate (length document.now.resources) false }
     requires order { IsOrderOfDocument document.now order.now }
-    requires fresh { R.kept resources.old ≡ [] }
-    requires room { 3 * length document.now.resources ≤ R.spare resources.old }
+    requires fresh { R.trace resources.old ≡ [] }
+    requires capacity { 3 * length document.now.resources ≤ R.spare resources.old }
 
-    ensures legal { Legal document.now RunMode.Repair order.now (R.kept resources.new) }
-    ensures whole { Whole document.now RunMode.Repair order.now (R.kept resources.new) }
-    ensures end { IsStop result (R.kept resources.new) }
+    ensures legal { Legal document.now RunMode.Repair order.now (R.trace resources.new) }
+    ensures whole { Whole document.now RunMode.Repair order.now (R.trace resources.new) }
+    ensures end { IsStop result (R.trace resources.new) }
     ensures chain { Chain R.does R.still document.now resources.old
-        (R.kept resources.new) resources.new }
-    ensures faults { RoseBy (host_failures (R.kept resources.new)) (R.faults resources.old)
+        (R.trace resources.new) resources.new }
+    ensures faults { RoseBy (host_failures (R.trace resources.new)) (R.faults resources.old)
         (R.faults resources.new) }
     ensures later { R.faults resources.old ≤ R.faults resources.new }
-    ensures room { R.spare resources.old ≤ R.spare resources.new + length (R.kept resources.new) }
+    ensures capacity { R.spare resources.old
+        ≤ R.spare resources.new + length (R.trace resources.new) }
 {
     for place in order {
         let at = *place as usize;

@@ -21,10 +21,10 @@ pub fn take_turn<R: Resources>(
     resources: &mut R,
 ) -> Result<bool, Stop>
     requires place { place < length document.now.resources }
-    requires room { 3 ≤ R.spare resources.old }
-    ensures turn { TookTurn R.kept R.spare R.does R.still R.faults document.now place resources.old
+    requires capacity { 3 ≤ R.spare resources.old }
+    ensures turn { TookTurn R.trace R.spare R.does R.still R.faults document.now place resources.old
         resources.new result }
-    ensures room { R.spare resources.old ≤ R.spare resources.new + 3 }
+    ensures capacity { R.spare resources.old ≤ R.spare resources.new + 3 }
 {
     match resources.test(document, place) {
         TestAnswer::No => set_and_test(document, place, resources),
@@ -39,10 +39,10 @@ fn set_and_test<R: Resources>(
     resources: &mut R,
 ) -> Result<bool, Stop>
     requires place { place < length document.now.resources }
-    requires room { 2 ≤ R.spare resources.old }
-    ensures rest { TookRest R.kept R.spare R.does R.still R.faults document.now place resources.old
+    requires capacity { 2 ≤ R.spare resources.old }
+    ensures rest { TookRest R.trace R.spare R.does R.still R.faults document.now place resources.old
         resources.new result }
-    ensures room { R.spare resources.old ≤ R.spare resources.new + 2 }
+    ensures capacity { R.spare resources.old ≤ R.spare resources.new + 2 }
 {
     match resources.set(document, place) {
         SetAnswer::Done => shown_by_test(resources.test(document, place), place),

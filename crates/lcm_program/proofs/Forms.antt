@@ -16,11 +16,11 @@ abbrev letter : List ℕ → ℕ
 letter word = get_or word 0 0
 
 abbrev first_letter : List (List ℕ) → ℕ
-first_letter words = letter (get_or words 0 [])
+first_letter arguments = letter (get_or arguments 0 [])
 
 -- its length, where that letter does not
 abbrev first_length : List (List ℕ) → ℕ
-first_length words = length (get_or words 0 [])
+first_length arguments = length (get_or arguments 0 [])
 
 -- the stage that an argument names
 stage_of : List ℕ → Stage
@@ -42,8 +42,8 @@ plain command = command
 
 -- the command that arguments in a form ask for, so
 asked : List (List ℕ) → Command
-asked words =
-    let first = get_or words 0 [] in
+asked arguments =
+    let first = get_or arguments 0 [] in
     if bytes_eq first (codes "test") then Test else
     if bytes_eq first (codes "check") then Check else
     if bytes_eq first (codes "order") then Order else
@@ -57,54 +57,54 @@ asked words =
     if bytes_eq first (codes "get") then Get else
     if bytes_eq first (codes "restore") then Restore else
     if bytes_eq first (codes "reports") then Reports else
-    if bytes_eq first (codes "register") then Register (record { ref_ptr = (0, 0); now = get_or words 1 [] }) else
-    if bytes_eq first (codes "remove") then Remove (stage_of (get_or words 1 [])) else
-    if bytes_eq first (codes "init") then Init (unwrap_or (agent_of (get_or words 1 [])) 0) else
-    Generate (digits_value 10 (get_or words 1 []))
+    if bytes_eq first (codes "register") then Register (record { ref_ptr = (0, 0); now = get_or arguments 1 [] }) else
+    if bytes_eq first (codes "remove") then Remove (stage_of (get_or arguments 1 [])) else
+    if bytes_eq first (codes "init") then Init (unwrap_or (agent_of (get_or arguments 1 [])) 0) else
+    Generate (digits_value 10 (get_or arguments 1 []))
 
-form_asks : (command : Command) (words : List (List ℕ)) → IsForm command words → asked words ≡ plain command
+form_asks : (command : Command) (arguments : List (List ℕ)) → IsForm command arguments → asked arguments ≡ plain command
 unfolding asked
-form_asks Test words form = ap asked form
-form_asks Check words form = ap asked form
-form_asks Order words form = ap asked form
-form_asks Canon words form = ap asked form
-form_asks Checksum words form = ap asked form
-form_asks (Generate count) words (word, is, counted) =
+form_asks Test arguments form = ap asked form
+form_asks Check arguments form = ap asked form
+form_asks Order arguments form = ap asked form
+form_asks Canon arguments form = ap asked form
+form_asks Checksum arguments form = ap asked form
+form_asks (Generate count) arguments (word, is, counted) =
     ap asked is ∙ ap (λ (n : ℕ). Generate n) (ap (digits_value 10) counted.0 ∙ digits_value-decimal (numerals_by_value _ tells_digits) count (omega (arith, counted.2)))
-form_asks (Init agent) words (word, is, named) = ap asked is ∙ ap (λ found. Init (unwrap_or found 0)) named
-form_asks Meta words form = ap asked form
-form_asks (Register name) words (is, named) = ap asked is
-form_asks Pull words form = ap asked form
-form_asks Push words form = ap asked form
-form_asks Consistency words form = ap asked form
-form_asks Boot words form = ap asked form
-form_asks Get words form = ap asked form
-form_asks Restore words form = ap asked form
-form_asks (Remove stage) words (word, is, named) = ap asked is ∙ ap (λ (s : Stage). Remove s) (named_stage word stage named)
-form_asks Reports words form = ap asked form
+form_asks (Init agent) arguments (word, is, named) = ap asked is ∙ ap (λ found. Init (unwrap_or found 0)) named
+form_asks Meta arguments form = ap asked form
+form_asks (Register name) arguments (is, named) = ap asked is
+form_asks Pull arguments form = ap asked form
+form_asks Push arguments form = ap asked form
+form_asks Consistency arguments form = ap asked form
+form_asks Boot arguments form = ap asked form
+form_asks Get arguments form = ap asked form
+form_asks Restore arguments form = ap asked form
+form_asks (Remove stage) arguments (word, is, named) = ap asked is ∙ ap (λ (s : Stage). Remove s) (named_stage word stage named)
+form_asks Reports arguments form = ap asked form
 
 -- the arguments ask for one command
-pub one_form : (a b : Command) (words : List (List ℕ)) → IsForm a words → IsForm b words → plain a ≡ plain b
-one_form a b words p q = sym (form_asks a words p) ∙ form_asks b words q
+pub one_form : (a b : Command) (arguments : List (List ℕ)) → IsForm a arguments → IsForm b arguments → plain a ≡ plain b
+one_form a b arguments p q = sym (form_asks a arguments p) ∙ form_asks b arguments q
 
-pub in_range : (command : Command) (words : List (List ℕ)) → IsForm command words → IsInRange command
-in_range Test words form = tt
-in_range Check words form = tt
-in_range Order words form = tt
-in_range Canon words form = tt
-in_range Checksum words form = tt
-in_range (Generate count) words form = (form.2.1, form.2.2)
-in_range (Init agent) words form = tt
-in_range Meta words form = tt
-in_range (Register name) words form = tt
-in_range Pull words form = tt
-in_range Push words form = tt
-in_range Consistency words form = tt
-in_range Boot words form = tt
-in_range Get words form = tt
-in_range Restore words form = tt
-in_range (Remove stage) words form = tt
-in_range Reports words form = tt
+pub in_range : (command : Command) (arguments : List (List ℕ)) → IsForm command arguments → IsInRange command
+in_range Test arguments form = tt
+in_range Check arguments form = tt
+in_range Order arguments form = tt
+in_range Canon arguments form = tt
+in_range Checksum arguments form = tt
+in_range (Generate count) arguments form = (form.2.1, form.2.2)
+in_range (Init agent) arguments form = tt
+in_range Meta arguments form = tt
+in_range (Register name) arguments form = tt
+in_range Pull arguments form = tt
+in_range Push arguments form = tt
+in_range Consistency arguments form = tt
+in_range Boot arguments form = tt
+in_range Get arguments form = tt
+in_range Restore arguments form = tt
+in_range (Remove stage) arguments form = tt
+in_range Reports arguments form = tt
 
 -- ---- arguments alone
 
@@ -120,17 +120,17 @@ form_parts Check first rest form = inl (ap (take 1) form, ap (drop 1) form)
 form_parts Order first rest form = inl (ap (take 1) form, ap (drop 1) form)
 form_parts Canon first rest form = inl (ap (take 1) form, ap (drop 1) form)
 form_parts Checksum first rest form = inl (ap (take 1) form, ap (drop 1) form)
-form_parts (Generate count) first rest (word, is, counted) = inr (inl (ap (λ words. get_or words 0 []) is))
-form_parts (Init agent) first rest (word, is, named) = inr (inr (inl (ap (λ words. get_or words 0 []) is)))
+form_parts (Generate count) first rest (word, is, counted) = inr (inl (ap (λ arguments. get_or arguments 0 []) is))
+form_parts (Init agent) first rest (word, is, named) = inr (inr (inl (ap (λ arguments. get_or arguments 0 []) is)))
 form_parts Meta first rest form = inl (ap (take 1) form, ap (drop 1) form)
-form_parts (Register name) first rest (is, named) = inr (inr (inr (inr (ap (λ words. get_or words 0 []) is))))
+form_parts (Register name) first rest (is, named) = inr (inr (inr (inr (ap (λ arguments. get_or arguments 0 []) is))))
 form_parts Pull first rest form = inl (ap (take 1) form, ap (drop 1) form)
 form_parts Push first rest form = inl (ap (take 1) form, ap (drop 1) form)
 form_parts Consistency first rest form = inl (ap (take 1) form, ap (drop 1) form)
 form_parts Boot first rest form = inl (ap (take 1) form, ap (drop 1) form)
 form_parts Get first rest form = inl (ap (take 1) form, ap (drop 1) form)
 form_parts Restore first rest form = inl (ap (take 1) form, ap (drop 1) form)
-form_parts (Remove stage) first rest (word, is, named) = inr (inr (inr (inl (ap (λ words. get_or words 0 []) is))))
+form_parts (Remove stage) first rest (word, is, named) = inr (inr (inr (inl (ap (λ arguments. get_or arguments 0 []) is))))
 form_parts Reports first rest form = inl (ap (take 1) form, ap (drop 1) form)
 
 -- a command whose argument stands alone takes no other
@@ -192,24 +192,24 @@ alone_takes_none Reports first form (inr (inl is)) = omega (arith, ap first_lett
 alone_takes_none Reports first form (inr (inr (inl is))) = omega (arith, ap first_length form, ap length is)
 alone_takes_none Reports first form (inr (inr (inr is))) = omega (arith, ap first_length form, ap length is)
 
-some_word : (command : Command) (words : List (List ℕ)) → IsForm command words → 0 < length words
-some_word Test words form = omega (arith, ap length form)
-some_word Check words form = omega (arith, ap length form)
-some_word Order words form = omega (arith, ap length form)
-some_word Canon words form = omega (arith, ap length form)
-some_word Checksum words form = omega (arith, ap length form)
-some_word (Generate count) words (word, is, counted) = omega (arith, ap length is)
-some_word (Init agent) words (word, is, named) = omega (arith, ap length is)
-some_word Meta words form = omega (arith, ap length form)
-some_word (Register name) words (is, named) = omega (arith, ap length is)
-some_word Pull words form = omega (arith, ap length form)
-some_word Push words form = omega (arith, ap length form)
-some_word Consistency words form = omega (arith, ap length form)
-some_word Boot words form = omega (arith, ap length form)
-some_word Get words form = omega (arith, ap length form)
-some_word Restore words form = omega (arith, ap length form)
-some_word (Remove stage) words (word, is, named) = omega (arith, ap length is)
-some_word Reports words form = omega (arith, ap length form)
+some_word : (command : Command) (arguments : List (List ℕ)) → IsForm command arguments → 0 < length arguments
+some_word Test arguments form = omega (arith, ap length form)
+some_word Check arguments form = omega (arith, ap length form)
+some_word Order arguments form = omega (arith, ap length form)
+some_word Canon arguments form = omega (arith, ap length form)
+some_word Checksum arguments form = omega (arith, ap length form)
+some_word (Generate count) arguments (word, is, counted) = omega (arith, ap length is)
+some_word (Init agent) arguments (word, is, named) = omega (arith, ap length is)
+some_word Meta arguments form = omega (arith, ap length form)
+some_word (Register name) arguments (is, named) = omega (arith, ap length is)
+some_word Pull arguments form = omega (arith, ap length form)
+some_word Push arguments form = omega (arith, ap length form)
+some_word Consistency arguments form = omega (arith, ap length form)
+some_word Boot arguments form = omega (arith, ap length form)
+some_word Get arguments form = omega (arith, ap length form)
+some_word Restore arguments form = omega (arith, ap length form)
+some_word (Remove stage) arguments (word, is, named) = omega (arith, ap length is)
+some_word Reports arguments form = omega (arith, ap length form)
 
 -- there is no argument
 pub no_word : IsUsage [] 0
@@ -282,7 +282,7 @@ module _ (name : List ℕ) (P : List ℕ → Type 0)
       never : (command : Command) (more : List (List ℕ)) → IsForm command (name ∷ word ∷ more) → ⊥
       never command more form =
           let parts = other command (word ∷ more) form in
-          let same : parts.0 ≡ word = ap (λ words. get_or words 0 []) (sym parts.1) in
+          let same : parts.0 ≡ word = ap (λ arguments. get_or arguments 0 []) (sym parts.1) in
           not (subst P same parts.2)
 
   -- a third argument follows

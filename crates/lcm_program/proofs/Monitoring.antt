@@ -23,14 +23,14 @@ use Rattle.lcm_program.proofs.Readings.{document_decides, each_failed, each_memo
 
 -- ---- a run that only monitors
 
--- it comes to its last resource, where no memory was refused
+-- it comes to its last resource, where it was never out of memory
 pub monitored_all : {M : Type 0} (machine : resources.Ghosts M) (document : Document) (end : RunEnd) (before after : M)
     → (end ≡ ends.Finished) ⊎ ((r : ℕ) × (end ≡ ends.RebootAsked r))
     → Monitored machine nothing_further_of_runs document end before after → Monitored machine nothing_further_of_runs document ends.Finished before after
 monitored_all machine document end before after (inl is) run = subst (λ (e : RunEnd). Monitored machine nothing_further_of_runs document e before after) is run
 monitored_all machine document end before after (inr (r, is)) run =
     let asked = subst (λ (e : RunEnd). Monitored machine nothing_further_of_runs document e before after) is run in
-    absurd (monitor_sets_nothing document run.order (machine.kept after) asked.ended.0 r _ [] run.legal asked.ended.1)
+    absurd (monitor_sets_nothing document run.order (machine.trace after) asked.ended.0 r _ [] run.legal asked.ended.1)
 
 -- the lines of a run are its text, with what was found of overlaps
 pub is_run_text : (document : Document) (trace : List Entry) (text : List ℕ) (overlaps : Bool) → (overlaps ≡ false → Apart document) → (overlaps ≡ true → Overlap document)

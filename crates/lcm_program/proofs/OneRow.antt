@@ -31,7 +31,7 @@ module _ {S K D M L C : Type 0} (o : Known S K D M L C) (further : Further D M C
   same_row Reports = refl
 
   -- the rows of two commands for which the arguments ask are one
-  pub one_row : (a b : Command) (words : List (List ℕ)) → IsForm a words → IsForm b words → Did o further a status before after → Did o further b status before after
-  one_row a b words p q did =
+  pub one_row : (a b : Command) (arguments : List (List ℕ)) → IsForm a arguments → IsForm b arguments → Did o further a status before after → Did o further b status before after
+  one_row a b arguments p q did =
       subst (λ (X : Type 0). X) (same_row b)
-      (subst (λ (x : Command). Did o further x status before after) (one_form a b words p q) (subst (λ (X : Type 0). X) (sym (same_row a)) did))
+      (subst (λ (x : Command). Did o further x status before after) (one_form a b arguments p q) (subst (λ (X : Type 0). X) (sym (same_row a)) did))

@@ -97,12 +97,12 @@ module _ {S K D M L C : Type 0} (o : Known S K D M L C) (before after : Objects 
   generated count text status input untouched made prints =
       record { input = input; untouched = untouched; ends = generated_ends count text status made prints }
 
-  nothing_ends : (words : List (List ℕ)) (place : ℕ) (status : Status) → IsUsage words place
-      → RefusalEnds o.sink (Usage place) status before.output after.output → UsageEnds o words status before after
-  nothing_ends words place status usage (inl printed) = subst (λ (s : Status). UsageEnds o words s before after) (sym printed.0) (usage, printed.1)
-  nothing_ends words place status usage (inr silent) = subst (λ (s : Status). UsageEnds o words s before after) (sym silent.0) silent.1
+  nothing_ends : (arguments : List (List ℕ)) (place : ℕ) (status : Status) → IsUsage arguments place
+      → RefusalEnds o.sink (Usage place) status before.output after.output → UsageEnds o arguments status before after
+  nothing_ends arguments place status usage (inl printed) = subst (λ (s : Status). UsageEnds o arguments s before after) (sym printed.0) (usage, printed.1)
+  nothing_ends arguments place status usage (inr silent) = subst (λ (s : Status). UsageEnds o arguments s before after) (sym silent.0) silent.1
 
-  pub did_nothing : (words : List (List ℕ)) (place : ℕ) (status : Status) → after.input ≡ before.input → IsUntouched before after → IsUsage words place
-      → RefusalEnds o.sink (Usage place) status before.output after.output → DidNothing o words status before after
-  did_nothing words place status input untouched usage ends =
-      record { input = input; untouched = untouched; ends = nothing_ends words place status usage ends }
+  pub did_nothing : (arguments : List (List ℕ)) (place : ℕ) (status : Status) → after.input ≡ before.input → IsUntouched before after → IsUsage arguments place
+      → RefusalEnds o.sink (Usage place) status before.output after.output → DidNothing o arguments status before after
+  did_nothing arguments place status input untouched usage ends =
+      record { input = input; untouched = untouched; ends = nothing_ends arguments place status usage ends }

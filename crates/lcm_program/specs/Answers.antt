@@ -26,6 +26,6 @@ abbrev pub Allows : {A : Type 0} → Result A InputError → Status → ℕ → 
 Allows (Ok value) status before now = UsesInput status before now
 Allows (Err error) status before now = RefusesInput error status before now
 
--- whatever the input, where it is exposed, is read as allows the status
+-- whatever the input, where it is shown, is read as allows the status
 abbrev pub EachAllows : {A : Type 0} → Reading A → Option (List ℕ) → Status → ℕ → ℕ → Type 0
 EachAllows {A} reads input status before now = IfSome input (λ all. (answer : Result A InputError) → reads all answer → Allows answer status before now)

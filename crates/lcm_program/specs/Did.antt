@@ -40,12 +40,12 @@ Did o further Reports status before after = Started commands.Reports o further s
 
 -- arguments in no form are refused with the place of the first argument that does not fit; or memory ran out and nothing is printed
 abbrev pub UsageEnds : {S K D M L C : Type 0} → Known S K D M L C → List (List ℕ) → Status → Objects S K D M L C → Objects S K D M L C → Type 0
-UsageEnds o words (Usage place) before after = IsUsage words place × PrintsRefusal o.sink (Usage place) before.output after.output
-UsageEnds o words Memory before after = after.output ≡ before.output
-UsageEnds o words _ before after = ⊥
+UsageEnds o arguments (Usage place) before after = IsUsage arguments place × PrintsRefusal o.sink (Usage place) before.output after.output
+UsageEnds o arguments Memory before after = after.output ≡ before.output
+UsageEnds o arguments _ before after = ⊥
 
 -- nothing was done
-pub record DidNothing {S K D M L C : Type 0} (o : Known S K D M L C) (words : List (List ℕ)) (status : Status) (before after : Objects S K D M L C) : Type 0 where
+pub record DidNothing {S K D M L C : Type 0} (o : Known S K D M L C) (arguments : List (List ℕ)) (status : Status) (before after : Objects S K D M L C) : Type 0 where
   pub input : after.input ≡ before.input
   pub untouched : IsUntouched before after
-  pub ends : UsageEnds o words status before after
+  pub ends : UsageEnds o arguments status before after

@@ -99,7 +99,7 @@ ReadsMeta all (Err (Parts walk)) = IsUnordered all walk
 
 -- ---- inputs
 
--- the whole input, that of the source where it is exposed, is read so
+-- the whole input, that of the source where it is shown, is read so
 pub record IsInput {A : Type 0} (reads : List ℕ → A → Type 0) (input : Option (List ℕ)) (answer : A) : Type 0 where
   pub all : List ℕ
   pub input_is : IfSome input (λ shown. shown ≡ all)

@@ -28,11 +28,11 @@ use Rattle.lcm_program.specs.Further.{Further, FurtherOfRuns}
 pub record Monitored {M : Type 0} (machine : resources.Ghosts M) (further : FurtherOfRuns M) (document : Document) (end : RunEnd) (before after : M) : Type 0 where
   pub order : List ℕ
   pub is_order : IsOrderOfDocument document order
-  pub legal : Legal document Monitor order (machine.kept after)
-  pub whole : IsWholeOrNone document Monitor order end (machine.kept after)
-  pub ended : EndsAs end (machine.kept after)
-  pub chain : Chain machine.does machine.still document before (machine.kept after) after
-  pub failures : RoseBy (host_failures (machine.kept after)) (machine.faults before) (machine.faults after)
+  pub legal : Legal document Monitor order (machine.trace after)
+  pub whole : IsWholeOrNone document Monitor order end (machine.trace after)
+  pub ended : EndsAs end (machine.trace after)
+  pub chain : Chain machine.does machine.still document before (machine.trace after) after
+  pub failures : RoseBy (host_failures (machine.trace after)) (machine.faults before) (machine.faults after)
   pub later : machine.faults before ≤ machine.faults after
   pub more : further document before after
 
@@ -48,8 +48,8 @@ pub record IsRunOf {M : Type 0} (machine : resources.Ghosts M) (further : Furthe
   pub document : Document
   pub input_is : IsInput ReadsDocument input (Ok document)
   pub run : Monitored machine further document Finished before after
-  pub text_is : IsRunText document (machine.kept after) text
-  pub missed_is : missed ≡ missed_count document (machine.kept after)
+  pub text_is : IsRunText document (machine.trace after) text
+  pub missed_is : missed ≡ missed_count document (machine.trace after)
 
 -- the input's document was run as far as memory went
 pub record IsFrontOf {M : Type 0} (machine : resources.Ghosts M) (further : FurtherOfRuns M) (input : Option (List ℕ)) (before after : M) : Type 0 where

@@ -36,23 +36,23 @@ IsStage word stage = word ≡ stage_name stage
 
 -- the arguments, each in UTF-8, ask for the command
 abbrev pub IsForm : Command → List (List ℕ) → Type 0
-IsForm Test words = words ≡ codes "test" ∷ []
-IsForm Check words = words ≡ codes "check" ∷ []
-IsForm Order words = words ≡ codes "order" ∷ []
-IsForm Canon words = words ≡ codes "canon" ∷ []
-IsForm Checksum words = words ≡ codes "checksum" ∷ []
-IsForm (Generate count) words = (word : List ℕ) × (words ≡ codes "generate" ∷ word ∷ []) × IsCount word count
-IsForm (Init agent) words = (word : List ℕ) × (words ≡ codes "init" ∷ word ∷ []) × IsAgent word agent
-IsForm Meta words = words ≡ codes "meta" ∷ []
-IsForm (Register name) words = (words ≡ codes "register" ∷ name.now ∷ []) × IsName name.now
-IsForm Pull words = words ≡ codes "pull" ∷ []
-IsForm Push words = words ≡ codes "push" ∷ []
-IsForm Consistency words = words ≡ codes "consistency" ∷ []
-IsForm Boot words = words ≡ codes "boot" ∷ []
-IsForm Get words = words ≡ codes "get" ∷ []
-IsForm Restore words = words ≡ codes "restore" ∷ []
-IsForm (Remove stage) words = (word : List ℕ) × (words ≡ codes "remove" ∷ word ∷ []) × IsStage word stage
-IsForm Reports words = words ≡ codes "reports" ∷ []
+IsForm Test arguments = arguments ≡ codes "test" ∷ []
+IsForm Check arguments = arguments ≡ codes "check" ∷ []
+IsForm Order arguments = arguments ≡ codes "order" ∷ []
+IsForm Canon arguments = arguments ≡ codes "canon" ∷ []
+IsForm Checksum arguments = arguments ≡ codes "checksum" ∷ []
+IsForm (Generate count) arguments = (word : List ℕ) × (arguments ≡ codes "generate" ∷ word ∷ []) × IsCount word count
+IsForm (Init agent) arguments = (word : List ℕ) × (arguments ≡ codes "init" ∷ word ∷ []) × IsAgent word agent
+IsForm Meta arguments = arguments ≡ codes "meta" ∷ []
+IsForm (Register name) arguments = (arguments ≡ codes "register" ∷ name.now ∷ []) × IsName name.now
+IsForm Pull arguments = arguments ≡ codes "pull" ∷ []
+IsForm Push arguments = arguments ≡ codes "push" ∷ []
+IsForm Consistency arguments = arguments ≡ codes "consistency" ∷ []
+IsForm Boot arguments = arguments ≡ codes "boot" ∷ []
+IsForm Get arguments = arguments ≡ codes "get" ∷ []
+IsForm Restore arguments = arguments ≡ codes "restore" ∷ []
+IsForm (Remove stage) arguments = (word : List ℕ) × (arguments ≡ codes "remove" ∷ word ∷ []) × IsStage word stage
+IsForm Reports arguments = arguments ≡ codes "reports" ∷ []
 
 -- the number of a command is one that its arguments can give
 abbrev pub IsInRange : Command → Type 0
@@ -61,11 +61,11 @@ IsInRange _ = ⊤
 
 -- some form begins with these arguments
 abbrev pub BeginsForm : List (List ℕ) → Type 0
-BeginsForm words = (command : Command) × (more : List (List ℕ)) × IsForm command (words ++ more)
+BeginsForm arguments = (command : Command) × (more : List (List ℕ)) × IsForm command (arguments ++ more)
 
 -- the arguments are in no form; the front before that place begins one, and no form goes on with the argument there
-pub record IsUsage (words : List (List ℕ)) (place : ℕ) : Type 0 where
-  pub no_form : (command : Command) → IsForm command words → ⊥
-  pub within : place ≤ length words
-  pub begins : BeginsForm (take place words)
-  pub stops : place < length words → BeginsForm (take (place + 1) words) → ⊥
+pub record IsUsage (arguments : List (List ℕ)) (place : ℕ) : Type 0 where
+  pub no_form : (command : Command) → IsForm command arguments → ⊥
+  pub within : place ≤ length arguments
+  pub begins : BeginsForm (take place arguments)
+  pub stops : place < length arguments → BeginsForm (take (place + 1) arguments) → ⊥

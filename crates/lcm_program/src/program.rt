@@ -35,7 +35,7 @@ use std::alloc::Global;
 /// Where the command takes an input, it is read to its end first. The output is written after all other work.
 pub fn node<S: Source, K: Sink, D: Disk, H: Host, L: Link, C: Clock>(
     alloc: Global,
-    words: &[String],
+    arguments: &[String],
     input: &mut S,
     output: &mut K,
     disk: &mut D,
@@ -46,17 +46,17 @@ pub fn node<S: Source, K: Sink, D: Disk, H: Host, L: Link, C: Clock>(
     requires fresh { calls_of kinds.old ≡ [] }
 
     // What the arguments ask for was done, by the table of commands.
-    ensures did { (command : Command) → IsForm command (map string_bytes words.now)
+    ensures did { (command : Command) → IsForm command (map string_bytes arguments.now)
         → Did (known S.Ends K.Ends D.Disk (kinds_of H.Host) (machine_of H.Host) L.Link C.Clock)
         (further_of_host D.Disk H.Host C.Clock) command result
         (objects input.old output.old disk.old kinds.old link.old clock.old)
         (objects input.new output.new disk.new kinds.new link.new clock.new) }
 
     // Arguments in no form ask for nothing, and are refused.
-    ensures nothing { ((command : Command) → IsForm command (map string_bytes words.now) → ⊥)
+    ensures nothing { ((command : Command) → IsForm command (map string_bytes arguments.now) → ⊥)
         → DidNothing (known S.Ends K.Ends D.Disk (kinds_of H.Host) (machine_of H.Host) L.Link
         C.Clock)
-        (map string_bytes words.now) result
+        (map string_bytes arguments.now) result
         (objects input.old output.old disk.old kinds.old link.old clock.old)
         (objects input.new output.new disk.new kinds.new link.new clock.new) }
 
@@ -66,7 +66,7 @@ pub fn node<S: Source, K: Sink, D: Disk, H: Host, L: Link, C: Clock>(
 {
     repair_laws();
     trace_laws();
-    node_over(alloc, words, input, output, disk, kinds, link, clock)
+    node_over(alloc, arguments, input, output, disk, kinds, link, clock)
 }
 
 /// Does what the arguments ask for on any machine, and answers how it ended.
@@ -74,7 +74,7 @@ pub fn node<S: Source, K: Sink, D: Disk, H: Host, L: Link, C: Clock>(
 /// Where the command takes an input, it is read to its end first. The output is written after all other work.
 pub fn node_over<S: Source, K: Sink, D: Disk, M: Machine, L: Link, C: Clock>(
     alloc: Global,
-    words: &[String],
+    arguments: &[String],
     input: &mut S,
     output: &mut K,
     disk: &mut D,
@@ -82,19 +82,19 @@ pub fn node_over<S: Source, K: Sink, D: Disk, M: Machine, L: Link, C: Clock>(
     link: &mut L,
     clock: &mut C,
 ) -> Status
-    requires fresh { M.kept machine.old ≡ [] }
+    requires fresh { M.trace machine.old ≡ [] }
 
     // What the arguments ask for was done, by the table of commands.
-    ensures did { (command : Command) → IsForm command (map string_bytes words.now)
+    ensures did { (command : Command) → IsForm command (map string_bytes arguments.now)
         → Did (known S.Ends K.Ends D.Disk M.Resources M.Machine.own L.Link C.Clock) nothing_further
         command result
         (objects input.old output.old disk.old machine.old link.old clock.old)
         (objects input.new output.new disk.new machine.new link.new clock.new) }
 
     // Arguments in no form ask for nothing, and are refused.
-    ensures nothing { ((command : Command) → IsForm command (map string_bytes words.now) → ⊥)
+    ensures nothing { ((command : Command) → IsForm command (map string_bytes arguments.now) → ⊥)
         → DidNothing (known S.Ends K.Ends D.Disk M.Resources M.Machine.own L.Link C.Clock)
-        (map string_bytes words.now) result
+        (map string_bytes arguments.now) result
         (objects input.old output.old disk.old machine.old link.old clock.old)
         (objects input.new output.new disk.new machine.new link.new clock.new) }
 
@@ -102,7 +102,7 @@ pub fn node_over<S: Source, K: Sink, D: Disk, M: Machine, L: Link, C: Clock>(
     ensures becomes { L.may_become link.old link.new }
     ensures goes_on { GoesOn (view_of L.Link link.old) (view_of L.Link link.new) }
 {
-    match read_words(words) {
+    match read_words(arguments) {
         Ok(command) => do_command(alloc, command, input, output, disk, machine, link, clock),
         Err(UsageError { word }) => print_status(alloc, output, Status::Usage { word }),
     }
@@ -119,7 +119,7 @@ fn do_command<S: Source, K: Sink, D: Disk, M: Machine, L: Link, C: Clock>(
     link: &mut L,
     clock: &mut C,
 ) -> Status
-    requires fresh { M.kept machine.old ≡ [] }
+    requires fresh { M.trace machine.old ≡ [] }
     requires range { IsInRange command }
     ensures did { Did (known S.Ends K.Ends D.Disk M.Resources M.Machine.own L.Link C.Clock)
         nothing_further

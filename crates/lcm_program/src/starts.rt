@@ -27,7 +27,7 @@ pub fn start_node<K: Sink, D: Disk, M: Machine, L: Link, C: Clock>(
     clock: &mut C,
 ) -> Status
     requires taken { IsTaken command }
-    requires fresh { M.kept machine.old ≡ [] }
+    requires fresh { M.trace machine.old ≡ [] }
     ensures starts { IsStart K.Ends (known D.Disk M.Resources M.Machine.own C.Clock) nothing_further
         command result output.old output.new
         (outside disk.old machine.old (view_of L.Link link.old) clock.old)
@@ -52,7 +52,7 @@ pub fn register<K: Sink, D: Disk, M: Machine, L: Link, C: Clock>(
     link: &mut L,
     clock: &mut C,
 ) -> Status
-    requires fresh { M.kept machine.old ≡ [] }
+    requires fresh { M.trace machine.old ≡ [] }
     ensures ends { RegisterEnds K.Ends (known D.Disk M.Resources M.Machine.own C.Clock)
         nothing_further name.now result output.old output.new
         (outside disk.old machine.old (view_of L.Link link.old) clock.old)
@@ -85,7 +85,7 @@ pub fn push<S: Source, K: Sink, D: Disk, M: Machine, L: Link, C: Clock>(
     link: &mut L,
     clock: &mut C,
 ) -> Status
-    requires fresh { M.kept machine.old ≡ [] }
+    requires fresh { M.trace machine.old ≡ [] }
     ensures ends { PushEnds S.Ends K.Ends (known D.Disk M.Resources M.Machine.own C.Clock)
         nothing_further result input.old input.new output.old output.new
         (outside disk.old machine.old (view_of L.Link link.old) clock.old)
@@ -118,7 +118,7 @@ pub fn set_meta<S: Source, K: Sink, D: Disk, M: Machine, L: Link, C: Clock>(
     link: &mut L,
     clock: &mut C,
 ) -> Status
-    requires fresh { M.kept machine.old ≡ [] }
+    requires fresh { M.trace machine.old ≡ [] }
     ensures ends { MetaEnds S.Ends K.Ends (known D.Disk M.Resources M.Machine.own C.Clock)
         nothing_further result input.old input.new output.old output.new
         (outside disk.old machine.old (view_of L.Link link.old) clock.old)

@@ -36,7 +36,7 @@ pub fn read_and_monitor<S: Source, M: Machine>(
     input: &mut S,
     machine: &mut M,
 ) -> Result<Outcome, Unread>
-    requires fresh { M.kept machine.old ≡ [] }
+    requires fresh { M.trace machine.old ≡ [] }
     ensures ok { IfOk result (λ outcome. IsRunOf M.Resources nothing_further_of_runs
         (S.left input.old) machine.old machine.new (string_bytes outcome.lines) outcome.missed) }
     ensures err { IfErr result (λ e. IsUntested M.Resources nothing_further_of_runs e
@@ -60,7 +60,7 @@ fn monitor_document<M: Machine>(
     ordered: &OrderedDocument,
     machine: &mut M,
 ) -> Result<Outcome, Memory>
-    requires fresh { M.kept machine.old ≡ [] }
+    requires fresh { M.trace machine.old ≡ [] }
     requires merged { (parts : List Part) × Merged parts ordered.now.document }
     requires ordered { IsOrdered ordered.now }
 
@@ -68,10 +68,10 @@ fn monitor_document<M: Machine>(
         nothing_further_of_runs ordered.now.document end machine.old machine.new) }
     ensures ok { OnOk result (Monitored M.Resources nothing_further_of_runs ordered.now.document
         RunEnd.Finished machine.old machine.new) }
-    ensures lines { IfOk result (λ outcome. IsRunText ordered.now.document (M.kept machine.new)
+    ensures lines { IfOk result (λ outcome. IsRunText ordered.now.document (M.trace machine.new)
         (string_bytes outcome.lines)) }
     ensures missed { IfOk result (λ outcome. outcome.missed
-        ≡ missed_count ordered.now.document (M.kept machine.new)) }
+        ≡ missed_count ordered.now.document (M.trace machine.new)) }
 {
     let document = &ordered.document;
     let overlap = overlaps(alloc, document)?;

@@ -69,11 +69,11 @@ pub struct UsageError {
 }
 
 /// The command that the arguments ask for.
-pub fn read_words<'a>(words: &'a [String]) -> Result<Command<'a>, UsageError>
-    ensures ok { IfOk result (λ command. IsForm command (map string_bytes words.now)) }
-    ensures usage { IfErr result (λ error. IsUsage (map string_bytes words.now) error.word) }
+pub fn read_words<'a>(arguments: &'a [String]) -> Result<Command<'a>, UsageError>
+    ensures ok { IfOk result (λ command. IsForm command (map string_bytes arguments.now)) }
+    ensures usage { IfErr result (λ error. IsUsage (map string_bytes arguments.now) error.word) }
 {
-    let [first, rest @ ..] = words else {
+    let [first, rest @ ..] = arguments else {
         return Err(UsageError { word: 0 });
     };
     if first.as_str() == "generate" {

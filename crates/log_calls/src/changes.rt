@@ -5,7 +5,7 @@ ghost use Rattle.gate_log.specs.Log.{IsReady};
 use dsc_outside::Disk;
 use gate_log::{Log, LogError};
 
-/// Appends a body so many times, as long as it has room.
+/// Appends a body that many times, as long as it fits.
 pub fn append_all<D: Disk>(
     log: &mut Log,
     disk: &mut D,
@@ -30,7 +30,7 @@ pub fn append_all<D: Disk>(
     Ok(())
 }
 
-/// Puts a body so many times in place of all that was there, as long as it has room.
+/// Puts a body that many times in place of all that was there, as long as it fits.
 pub fn rewrite_all<D: Disk>(
     log: &mut Log,
     disk: &mut D,

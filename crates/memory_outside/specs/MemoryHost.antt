@@ -94,7 +94,7 @@ AreMissing path old missing = (other : List ℕ) → kind_at missing other ≡ f
 abbrev pub Adds : List ℕ → List PathEntry → PathKind → List PathEntry → Type 0
 Adds path old kind added = (other : List ℕ) → kind_at added other ≡ first_kind (folder_if (is_below other path && kinds.is_nothing (kind_at old other))) (if bytes_eq path other then kind else kinds.Nothing)
 
--- what a host in memory exposes
+-- what a host in memory shows
 abbrev pub shown_of : HostInMemory → HostState
 shown_of host = record { path = kind_at host.paths; variable = value_of host.variables; log = host.log; packages = host.packages; wanting = host.wanting }
 

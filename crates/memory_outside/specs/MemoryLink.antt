@@ -63,7 +63,7 @@ Appends (Answered bytes) old new = new ≡ old ++ bytes
 Appends Failed old new = new ≡ old
 Appends TooLong old new = new ≡ old
 
--- what comes is given and exposed; out of memory, nothing was done
+-- what comes is given and shown; out of memory, nothing was done
 abbrev pub Exchanges : LinkInMemory → Peer → List ℕ → Result (Unit {0}) LinkError → List ℕ → List ℕ → LinkInMemory → Type 0
 Exchanges before to request result old new after =
     ((result ≡ result_of (next_outcome before)) × Appends (next_outcome before) old new × (after ≡ exchanged before to request))

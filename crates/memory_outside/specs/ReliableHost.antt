@@ -10,7 +10,7 @@ use Rattle.memory_outside.specs.declared.stop.Course.TheVariants as courses
 abbrev pub unfailing : HostContents → HostInMemory
 unfailing contents = host_with contents [] None
 
--- what these contents expose
+-- what these contents show
 abbrev pub shown_by : HostContents → HostState
 shown_by contents = shown_of (unfailing contents)
 
@@ -18,7 +18,7 @@ shown_by contents = shown_of (unfailing contents)
 abbrev pub exposed_contents : HostContents → Option HostState
 exposed_contents contents = Some (shown_by contents)
 
--- a change that takes memory: done, or there was none, and what is exposed stays
+-- a change that takes memory: done, or there was none, and what is shown stays
 abbrev pub Changes : (whole : HostState → HostState) → HostContents → HostContents → Result (Unit {0}) HostError → Type 0
 Changes whole old new result = ChangesBy courses.Runs whole whole (unfailing old) (unfailing new) result
 

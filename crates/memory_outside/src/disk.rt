@@ -173,7 +173,7 @@ fn part_of(stop: Option<DiskStop>) -> DiskPart
 fn copy_from(bytes: &[u8], at: u64, into: &mut [u8]) -> usize
     ensures most { result ≡ min (length into.new) (length bytes.now - at) }
     ensures front { take result into.new ≡ take (length into.new) (drop at bytes.now) }
-    ensures behind { drop result into.new ≡ drop result into.old }
+    ensures after { drop result into.new ≡ drop result into.old }
 {
     let from = (at as usize).min(bytes.len());
     let count = into.len().min(bytes.len() - from);
@@ -235,7 +235,7 @@ impl Disk for MemoryDisk {
         ensures exact { TakesCall (calls.ReadAt at (length into.old)) self.old result self.new }
         ensures most { IfOk result (λ n.
             n ≡ min (length into.new) (length (held_by self.old) - at)) }
-        ensures behind { IfOk result (λ n. drop n into.new ≡ drop n into.old) }
+        ensures after { IfOk result (λ n. drop n into.new ≡ drop n into.old) }
         ensures nothing { OnErr result (into.new ≡ into.old) }
     {
         self.look(DiskCall::ReadAt {

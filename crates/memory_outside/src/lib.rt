@@ -1,4 +1,4 @@
-//! The outside in memory: forms of the traits of `dsc_outside` that expose what they hold.
+//! The outside in memory: forms of the traits of `dsc_outside` that show what they hold.
 //!
 //! `MemorySource`, `MemorySink`, `MemoryDisk`, `MemoryHost`, `MemoryLink` and `MemoryClock` are exact: they fail in the
 //! calls that they were set to fail in, the disk and the host also from their stop on, the link and the clock also

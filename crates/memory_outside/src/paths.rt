@@ -84,7 +84,7 @@ pub fn make_folder(paths: &mut Vec<PathEntry>, path: &[u8]) -> Result<(), AllocE
 /// Takes the path and all below it away.
 pub fn remove(paths: &mut Vec<PathEntry>, path: &[u8])
     ensures removed { kind_at paths.new.items ≡ removed path.now (kind_at paths.old.items) }
-    ensures room { vec_len paths.new ≤ vec_len paths.old }
+    ensures count { vec_len paths.new ≤ vec_len paths.old }
     ensures capacity { vec_capacity paths.new ≡ vec_capacity paths.old }
 {
     paths.retain(|entry| !stands_within(path, entry.path.as_slice()));

@@ -66,7 +66,7 @@ impl Source for MemorySource {
         ensures fails { IsErr result ↔ IsTrue (is_to_fail self.old.calls) }
         ensures count { self.new.calls ≡ counted self.old.calls }
         ensures most { IfOk result (λ n. n ≡ min (length self.old.left) (length into.new)) }
-        ensures behind { IfOk result (λ n. drop n into.new ≡ drop n into.old) }
+        ensures after { IfOk result (λ n. drop n into.new ≡ drop n into.old) }
         ensures nothing { OnErr result (into.new ≡ into.old) }
     {
         self.calls.begin()?;
@@ -80,7 +80,7 @@ impl Source for MemorySource {
 fn copy_front(from: &[u8], into: &mut [u8]) -> usize
     ensures most { result ≡ min (length from.now) (length into.new) }
     ensures front { take result into.new ≡ take result from.now }
-    ensures behind { drop result into.new ≡ drop result into.old }
+    ensures after { drop result into.new ≡ drop result into.old }
 {
     let count = from.len().min(into.len());
     into[..count].copy_from_slice(&from[..count]);

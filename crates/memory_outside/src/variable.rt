@@ -46,7 +46,7 @@ pub fn put_value(variables: &mut Vec<Variable>, name: &[u8], value: &[u8]) -> Re
 pub fn remove_value(variables: &mut Vec<Variable>, name: &[u8])
     ensures removed { value_of variables.new.items ≡
         update bytes_eq (value_of variables.old.items) name.now None }
-    ensures room { vec_len variables.new ≤ vec_len variables.old }
+    ensures count { vec_len variables.new ≤ vec_len variables.old }
     ensures capacity { vec_capacity variables.new ≡ vec_capacity variables.old }
 {
     variables.retain(|variable| variable.name.as_slice() != name);

@@ -71,8 +71,8 @@ once_at earlier i true e none is = parts_apart (partial_name i.properties) earli
 once_at earlier i false e none is = cc
 
 -- the first instances of a list, and the place after them
-behind : (earlier rest : List Instance) (i : Instance) → earlier ++ i ∷ rest ≡ (earlier ++ i ∷ []) ++ rest
-behind earlier rest i = sym (append_assoc earlier (i ∷ []) rest)
+split_after : (earlier rest : List Instance) (i : Instance) → earlier ++ i ∷ rest ≡ (earlier ++ i ∷ []) ++ rest
+split_after earlier rest i = sym (append_assoc earlier (i ∷ []) rest)
 
 place : (earlier : List Instance) (i : Instance) → length earlier + 1 ≡ length (earlier ++ i ∷ [])
 place earlier i = sym (length-append earlier (i ∷ []))
@@ -95,7 +95,7 @@ apart_from earlier (i ∷ rest) all n is at none =
     let here = map_none (before n) (earlier_of (take n all) i) o.0 in
     next_at earlier rest i (is_of classes.Partial i) refl
     (once_at earlier i (is_of classes.Partial i) refl (ap (λ l. earlier_of l i) (sym front) ∙ here))
-    (apart_from (earlier ++ i ∷ []) rest all (n + 1) (is ∙ behind earlier rest i) (ap (λ k. k + 1) at ∙ place earlier i) o.1)
+    (apart_from (earlier ++ i ∷ []) rest all (n + 1) (is ∙ split_after earlier rest i) (ap (λ k. k + 1) at ∙ place earlier i) o.1)
 
 -- conversely
 before_at : (earlier rest : List Instance) (i : Instance) (b : Bool) → is_of classes.Partial i ≡ b
@@ -116,7 +116,7 @@ no_duplicate earlier (i ∷ rest) all n is at apart =
     let front : take n all ≡ earlier = (λ k. take (at k) (is k)) ∙ take-append_seam earlier (i ∷ rest) in
     let h = before_at earlier rest i (is_of classes.Partial i) refl apart in
     ap (λ o. option_or (option_map (before n) o) (duplicate_from all (n + 1) rest)) (ap (λ l. earlier_of l i) front ∙ h.0)
-    ∙ no_duplicate (earlier ++ i ∷ []) rest all (n + 1) (is ∙ behind earlier rest i) (ap (λ k. k + 1) at ∙ place earlier i) h.1
+    ∙ no_duplicate (earlier ++ i ∷ []) rest all (n + 1) (is ∙ split_after earlier rest i) (ap (λ k. k + 1) at ∙ place earlier i) h.1
 
 -- ---- names that are known
 

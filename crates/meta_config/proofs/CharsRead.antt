@@ -24,9 +24,9 @@ use Rattle.std.proofs.lemmas.Option.{same_Some}
 
 -- ---- characters
 
-pub chars_behind : (front rest : List ℕ) → AreChars (front ++ rest) → AreChars rest
-chars_behind [] rest all = all
-chars_behind (c ∷ cs) rest all = chars_behind cs rest (and_parts (scalar c) (all_scalars (cs ++ rest)) all).1
+pub chars_after : (front rest : List ℕ) → AreChars (front ++ rest) → AreChars rest
+chars_after [] rest all = all
+chars_after (c ∷ cs) rest all = chars_after cs rest (and_parts (scalar c) (all_scalars (cs ++ rest)) all).1
 
 pub chars_join : (a b : List ℕ) → AreChars a → AreChars b → AreChars (a ++ b)
 chars_join [] b one other = other
@@ -35,7 +35,7 @@ chars_join (c ∷ a) b one other =
     ap (λ t. t && all_scalars (a ++ b)) p.0 ∙ chars_join a b p.1 other
 
 chars_end : (cs rest : List ℕ) → EndsWith cs rest → AreChars cs → AreChars rest
-chars_end cs rest e all = chars_behind e.0 rest (subst AreChars e.1 all)
+chars_end cs rest e all = chars_after e.0 rest (subst AreChars e.1 all)
 
 -- ---- escapes
 
@@ -52,7 +52,7 @@ short_is_small c value e =
 digit_small : (d : ℕ) → digit_of 16 d ≡ true → digit_value d < 16
 digit_small d e = grind (arith, nat_tests)
 
--- how large a number may be before so many further digits
+-- how large a number may be before that many further digits
 abbrev Fits : ℕ → ℕ → Type 0
 Fits zero value = value < 65536
 Fits (suc zero) value = value < 4096
@@ -90,9 +90,9 @@ quoted_chars cs text rest (closed r) all = refl
 quoted_chars cs text rest (plain c us t r no_quote no_escape q) all =
     let p = and_parts (scalar c) (all_scalars us) all in
     ap (λ b. b && all_scalars t) p.0 ∙ quoted_chars us t r q p.1
-quoted_chars cs text rest (escaped v us behind t r e q) all =
-    ap (λ b. b && all_scalars t) (escape_scalar us v behind e)
-    ∙ quoted_chars behind t r q (chars_end us behind (weak us behind (escape_ends us v behind e)) all)
+quoted_chars cs text rest (escaped v us after t r e q) all =
+    ap (λ b. b && all_scalars t) (escape_scalar us v after e)
+    ∙ quoted_chars after t r q (chars_end us after (weak us after (escape_ends us v after e)) all)
 
 abbrev LexemeText : Lexeme → Type 0
 LexemeText (Literal text) = AreChars text
@@ -131,54 +131,54 @@ InstanceTexts i = AllByRecursion (λ (p : Property). ValueTexts p.value) i.prope
 -- what holds of a value that is read, and the texts of the tokens after it
 record Has (P : Type 0) (rest : List Lexeme) : Type 0 where
   texts : P
-  behind : AllByRecursion LexemeText rest
+  after : AllByRecursion LexemeText rest
 
 string_texts : (ts : List Lexeme) (text : List ℕ) (rest : List Lexeme) → StringValue ts text rest → AllByRecursion LexemeText ts → Has (AreChars text) rest
-string_texts ts text rest (last t r) all = record { texts = all.0; behind = all.1 }
+string_texts ts text rest (last t r) all = record { texts = all.0; after = all.1 }
 string_texts ts text rest (joined t more us r s) all =
     let h = string_texts us more r s all.1 in
-    record { texts = chars_join t more all.0 h.texts; behind = h.behind }
+    record { texts = chars_join t more all.0 h.texts; after = h.after }
 
 constant_texts : (ts : List Lexeme) (s : Scalar) (rest : List Lexeme) → ConstantValue ts s rest → AllByRecursion LexemeText ts → Has (ScalarText s) rest
 constant_texts ts s rest (string_value us r text v) all = string_texts us text r v all
-constant_texts ts s rest (integer_value z r) all = record { texts = tt; behind = all.1 }
-constant_texts ts s rest (true_value w r e) all = record { texts = tt; behind = all.1 }
-constant_texts ts s rest (false_value w r e) all = record { texts = tt; behind = all.1 }
-constant_texts ts s rest (null_value w r e) all = record { texts = tt; behind = all.1 }
-constant_texts ts s rest (alias_identifier name r) all = record { texts = tt; behind = all.1 }
+constant_texts ts s rest (integer_value z r) all = record { texts = tt; after = all.1 }
+constant_texts ts s rest (true_value w r e) all = record { texts = tt; after = all.1 }
+constant_texts ts s rest (false_value w r e) all = record { texts = tt; after = all.1 }
+constant_texts ts s rest (null_value w r e) all = record { texts = tt; after = all.1 }
+constant_texts ts s rest (alias_identifier name r) all = record { texts = tt; after = all.1 }
 
 element_texts : (ts : List Lexeme) (ss : List Scalar) (rest : List Lexeme) → Elements ts ss rest → AllByRecursion LexemeText ts → Has (AllByRecursion ScalarText ss) rest
-element_texts ts ss rest (closing r) all = record { texts = tt; behind = all.1 }
-element_texts ts ss rest (element us behind r s more c e) all =
-    let one = constant_texts us s behind c all.1 in
-    let others = element_texts behind more r e one.behind in
-    record { texts = (one.texts, others.texts); behind = others.behind }
+element_texts ts ss rest (closing r) all = record { texts = tt; after = all.1 }
+element_texts ts ss rest (element us after r s more c e) all =
+    let one = constant_texts us s after c all.1 in
+    let others = element_texts after more r e one.after in
+    record { texts = (one.texts, others.texts); after = others.after }
 
 value_texts : (ts : List Lexeme) (v : Value) (rest : List Lexeme) → Initializer ts v rest → AllByRecursion LexemeText ts → Has (ValueTexts v) rest
 value_texts ts v rest (constant us r s c) all = constant_texts us s r c all
-value_texts ts v rest (empty_array r) all = record { texts = tt; behind = all.1.1 }
-value_texts ts v rest (array us behind r s more c e) all =
-    let one = constant_texts us s behind c all.1 in
-    let others = element_texts behind more r e one.behind in
-    record { texts = (one.texts, others.texts); behind = others.behind }
+value_texts ts v rest (empty_array r) all = record { texts = tt; after = all.1.1 }
+value_texts ts v rest (array us after r s more c e) all =
+    let one = constant_texts us s after c all.1 in
+    let others = element_texts after more r e one.after in
+    record { texts = (one.texts, others.texts); after = others.after }
 
 property_texts : (ts : List Lexeme) (ps : List Property) (rest : List Lexeme) → ValueInitializers ts ps rest → AllByRecursion LexemeText ts
     → Has (AllByRecursion (λ (p : Property). ValueTexts p.value) ps) rest
-property_texts ts ps rest (done r) all = record { texts = tt; behind = all.1 }
-property_texts ts ps rest (value_initializer name us behind r v more i is) all =
-    let one = value_texts us v (Semicolon ∷ behind) i all.1.1 in
-    let others = property_texts behind more r is one.behind.1 in
-    record { texts = (one.texts, others.texts); behind = others.behind }
+property_texts ts ps rest (done r) all = record { texts = tt; after = all.1 }
+property_texts ts ps rest (value_initializer name us after r v more i is) all =
+    let one = value_texts us v (Semicolon ∷ after) i all.1.1 in
+    let others = property_texts after more r is one.after.1 in
+    record { texts = (one.texts, others.texts); after = others.after }
 
-alias_behind : (ts : List Lexeme) (a : Option (List ℕ)) (rest : List Lexeme) → AliasClause ts a rest → AllByRecursion LexemeText ts → AllByRecursion LexemeText rest
-alias_behind ts a rest (unnamed r) all = all
-alias_behind ts a rest (named w name r e) all = all.1.1
+alias_after : (ts : List Lexeme) (a : Option (List ℕ)) (rest : List Lexeme) → AliasClause ts a rest → AllByRecursion LexemeText ts → AllByRecursion LexemeText rest
+alias_after ts a rest (unnamed r) all = all
+alias_after ts a rest (named w name r e) all = all.1.1
 
 instance_texts : (ts : List Lexeme) (is : List Instance) → InstanceDeclarations ts is → AllByRecursion LexemeText ts → AllByRecursion InstanceTexts is
 instance_texts ts is nothing all = tt
-instance_texts ts is (instance_declaration i o class name us body behind ps more one two a p d) all =
-    let h = property_texts body ps (Semicolon ∷ behind) p (alias_behind us name (LeftBrace ∷ body) a all.1.1.1).1 in
-    (h.texts, instance_texts behind more d h.behind.1)
+instance_texts ts is (instance_declaration i o class name us body rest ps more one two a p d) all =
+    let h = property_texts body ps (Semicolon ∷ rest) p (alias_after us name (LeftBrace ∷ body) a all.1.1.1).1 in
+    (h.texts, instance_texts rest more d h.after.1)
 
 -- the texts of instances that are read
 pub texts_read : (bytes : List ℕ) (is : List Instance) → Reads bytes is → AllByRecursion InstanceTexts is

@@ -74,7 +74,7 @@ module _ (partials : List Partial) (apart : AreApart [] partials) where
     | inl same ↦ same
     | inr other ↦ elim (cases_lt q s) [
       | inl before ↦ absurd (differ name q s before first second)
-      | inr behind ↦ absurd (differ name s q (omega arith) second first)
+      | inr after ↦ absurd (differ name s q (omega arith) second first)
     ]
   ]
 

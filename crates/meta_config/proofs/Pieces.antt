@@ -49,6 +49,6 @@ stops_at p x xs true e more c cs is = more c cs (sym (ap (λ n. drop n (x ∷ xs
 stops_at p x xs false e more c cs is = let same : x ≡ c = cc in sym (ap p same) ∙ e
 
 -- after it stands nothing, or what does not pass
-pub stops_behind : (p : ℕ → Bool) (xs : List ℕ) → StopsAt p (drop (prefix_len p xs) xs)
-stops_behind p [] c cs is = absurd (nothing_is_more c cs is)
-stops_behind p (x ∷ xs) c cs is = stops_at p x xs (p x) refl (stops_behind p xs) c cs is
+pub stops_after : (p : ℕ → Bool) (xs : List ℕ) → StopsAt p (drop (prefix_len p xs) xs)
+stops_after p [] c cs is = absurd (nothing_is_more c cs is)
+stops_after p (x ∷ xs) c cs is = stops_at p x xs (p x) refl (stops_after p xs) c cs is

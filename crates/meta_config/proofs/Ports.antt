@@ -6,7 +6,7 @@ use Rattle.std.specs.Str.Parse.{AllDigits, digits_value, digits_value_after}
 use Rattle.std.proofs.lemmas.Bool.Decides.{nat_tests}
 use Rattle.std.proofs.lemmas.Fmt.{decimal_digit, decimal_is_IsNumeral, decimal-digits_value, first_decimal}
 use Rattle.std.proofs.lemmas.Str.Parse.{IsNumeralModel}
-use Rattle.meta_config.specs.Urls.{number_after, port_of, port_behind, default_port, SpellsPort}
+use Rattle.meta_config.specs.Urls.{number_after, port_of, port_after, default_port, SpellsPort}
 use Rattle.meta_config.specs.Urls.SpellsPort.{default, written}
 use Rattle.meta_config.proofs.Pieces.{both}
 
@@ -99,12 +99,12 @@ port_spelled (c ∷ cs) p h =
     let spelled : c ∷ cs ≡ decimal p = sym is ∙ ap decimal w.value in
     record { spelled = spelled; some = positive_first c cs p spelled z.0; small = w.small }
 
-behind_zero : (c : ℕ) (cs : List ℕ) → (c ≡ 48 → ⊥) → port_of (c ∷ cs) ≡ number_after 0 (c ∷ cs)
-behind_zero c cs differs = ap (λ t. cond t None (number_after 0 (c ∷ cs))) (not_48 c differs)
+after_zero : (c : ℕ) (cs : List ℕ) → (c ≡ 48 → ⊥) → port_of (c ∷ cs) ≡ number_after 0 (c ∷ cs)
+after_zero c cs differs = ap (λ t. cond t None (number_after 0 (c ∷ cs))) (not_48 c differs)
 
 no_first : (ds : List ℕ) → 48 < get_or ds 0 0 → port_of ds ≡ number_after 0 ds
 no_first [] h = absurd (omega arith)
-no_first (c ∷ cs) h = behind_zero c cs (λ e. omega arith)
+no_first (c ∷ cs) h = after_zero c cs (λ e. omega arith)
 
 pub port_read : (p : ℕ) → 0 < p → p ≤ 65535 → port_of (decimal p) ≡ Some p
 port_read p some small =
@@ -120,10 +120,10 @@ colon_first https c cs p true e h =
     subst (λ l. SpellsPort https l p) (ap (λ x. x ∷ decimal p) (sym colon) ∙ ap (λ l. c ∷ l) (sym port.spelled)) (written p port.some port.small)
 colon_first https c cs p false e h = absurd (nothing_some p h)
 
-pub behind_spelled : (https : Bool) (cs : List ℕ) (p : ℕ) → port_behind https cs ≡ Some p → SpellsPort https cs p
-behind_spelled https [] p h = subst (λ q. SpellsPort https [] q) (same_some (default_port https) p h) default
-behind_spelled https (c ∷ cs) p h = colon_first https c cs p (c == 58) refl h
+pub after_spelled : (https : Bool) (cs : List ℕ) (p : ℕ) → port_after https cs ≡ Some p → SpellsPort https cs p
+after_spelled https [] p h = subst (λ q. SpellsPort https [] q) (same_some (default_port https) p h) default
+after_spelled https (c ∷ cs) p h = colon_first https c cs p (c == 58) refl h
 
-pub behind_read : (https : Bool) (cs : List ℕ) (p : ℕ) → SpellsPort https cs p → port_behind https cs ≡ Some p
-behind_read https cs p default = refl
-behind_read https cs p (written port some small) = port_read port some small
+pub after_read : (https : Bool) (cs : List ℕ) (p : ℕ) → SpellsPort https cs p → port_after https cs ≡ Some p
+after_read https cs p default = refl
+after_read https cs p (written port some small) = port_read port some small

@@ -12,11 +12,11 @@ use Rattle.std.proofs.lemmas.List.{take-append-drop, take-append-le, length-map,
 use Rattle.std.proofs.lemmas.Slice.Eq.{bytes_eq-Decides}
 use Rattle.mof_values.specs.Fold.{fold_case, SameName, same_name}
 use Rattle.meta_config.specs.declared.server.Site.{Site}
-use Rattle.meta_config.specs.Urls.{SpellsPort, SpellsUrl, is_empty_text, is_host_char, is_in_name, is_path_char, is_slash, port_behind, scheme_of, site_at, site_behind, site_in, site_of, without_slashes}
+use Rattle.meta_config.specs.Urls.{SpellsPort, SpellsUrl, is_empty_text, is_host_char, is_in_name, is_path_char, is_slash, port_after, scheme_of, site_at, site_after, site_in, site_of, without_slashes}
 use Rattle.meta_config.specs.Urls.SpellsPort.{default, written}
-use Rattle.meta_config.proofs.Pieces.{all_front, all_taken, both, prefix_all, stops_behind}
+use Rattle.meta_config.proofs.Pieces.{all_front, all_taken, both, prefix_all, stops_after}
 use Rattle.meta_config.proofs.Slashes.{cut, ends_in_no_slash, slash, slashes_dropped}
-use Rattle.meta_config.proofs.Ports.{behind_read, behind_spelled}
+use Rattle.meta_config.proofs.Ports.{after_read, after_spelled}
 
 -- ---- from the site of a text to the grammar
 
@@ -47,16 +47,16 @@ no_to_yes : (b : Bool) → not b ≡ false → b ≡ true
 no_to_yes true h = refl
 no_to_yes false h = sym h
 
-spelled_behind : (https : Bool) (scheme rest : List ℕ) → SameName scheme (scheme_of https) → (site : Site) → site_behind https rest ≡ Some site
+spelled_after : (https : Bool) (scheme rest : List ℕ) → SameName scheme (scheme_of https) → (site : Site) → site_after https rest ≡ Some site
     → SpellsUrl (scheme ++ rest) site
-spelled_behind https scheme rest same site h =
+spelled_after https scheme rest same site h =
     let n : ℕ = prefix_len is_in_name rest in
     let authority : List ℕ = take n rest in
     let path : List ℕ = drop n rest in
     let m : ℕ = prefix_len is_host_char authority in
     let host : List ℕ = take m authority in
     let port : List ℕ = drop m authority in
-    let f = made_of (is_empty_text host) (list_all is_path_char path) (port_behind https port) (site_made https host path) site h in
+    let f = made_of (is_empty_text host) (list_all is_path_char path) (port_after https port) (site_made https host path) site h in
     let c = cut path in
     let whole : rest ≡ host ++ (port ++ (without_slashes path ++ c.slashes)) =
     sym (take-append-drop n rest)
@@ -73,20 +73,20 @@ spelled_behind https scheme rest same site h =
       some_host = λ e. false≢true (sym f.filled ∙ ap is_empty_text e);
       host_chars = all_taken is_host_char authority;
       folded = refl;
-      port_number = behind_spelled https port f.port f.is;
+      port_number = after_spelled https port f.port f.is;
       path_chars = all_front is_path_char (without_slashes path) c.slashes (ap (list_all is_path_char) (sym c.whole) ∙ f.path);
-      rooted = λ first more e. slash first (no_to_yes (is_slash first) (stops_behind is_in_name rest first (more ++ c.slashes) (c.whole ∙ ap (λ p. p ++ c.slashes) e)));
+      rooted = λ first more e. slash first (no_to_yes (is_slash first) (stops_after is_in_name rest first (more ++ c.slashes) (c.whole ∙ ap (λ p. p ++ c.slashes) e)));
       ends = ends_in_no_slash path;
       all_slashes = c.all;
     } in
     subst (SpellsUrl (scheme ++ rest)) (sym f.made) spells
 
 spelled_at : (text : List ℕ) (site : Site) (one other : Bool) → same_name (take 7 text) (codes "http://") ≡ one → same_name (take 8 text) (codes "https://") ≡ other
-    → cond one (site_behind false (drop 7 text)) (cond other (site_behind true (drop 8 text)) None) ≡ Some site → SpellsUrl text site
+    → cond one (site_after false (drop 7 text)) (cond other (site_after true (drop 8 text)) None) ≡ Some site → SpellsUrl text site
 spelled_at text site true other e f h =
-    subst (λ t. SpellsUrl t site) (take-append-drop 7 text) (spelled_behind false (take 7 text) (drop 7 text) ((bytes_eq-Decides _ _).0 e) site h)
+    subst (λ t. SpellsUrl t site) (take-append-drop 7 text) (spelled_after false (take 7 text) (drop 7 text) ((bytes_eq-Decides _ _).0 e) site h)
 spelled_at text site false true e f h =
-    subst (λ t. SpellsUrl t site) (take-append-drop 8 text) (spelled_behind true (take 8 text) (drop 8 text) ((bytes_eq-Decides _ _).0 f) site h)
+    subst (λ t. SpellsUrl t site) (take-append-drop 8 text) (spelled_after true (take 8 text) (drop 8 text) ((bytes_eq-Decides _ _).0 f) site h)
 spelled_at text site false false e f h = absurd (no_site site h)
 
 pub site_is_spelled : (text : List ℕ) (site : Site) → site_of text ≡ Some site → SpellsUrl text site
@@ -145,9 +145,9 @@ path_stops (c ∷ cs) slashes rooted all = slash_stops c (cs ++ slashes) (ap is_
 slash_in_path : (c : ℕ) → is_slash c ≡ true → is_path_char c ≡ true
 slash_in_path c e = ap is_path_char (slash c e)
 
-behind_joined : (https : Bool) (authority path : List ℕ) → list_all is_in_name authority ≡ true → prefix_len is_in_name path ≡ 0
-    → site_behind https (authority ++ path) ≡ site_in https authority path
-behind_joined https authority path all stops =
+after_joined : (https : Bool) (authority path : List ℕ) → list_all is_in_name authority ≡ true → prefix_len is_in_name path ≡ 0
+    → site_after https (authority ++ path) ≡ site_in https authority path
+after_joined https authority path all stops =
     ap (λ n. site_in https (take n (authority ++ path)) (drop n (authority ++ path))) (prefix_all is_in_name authority path all stops)
     ∙ (λ i. site_in https (take-append_seam authority path i) (drop-append_seam authority path i))
 
@@ -161,25 +161,25 @@ filled : (host : List ℕ) → host ≢ [] → is_empty_text host ≡ false
 filled [] some = absurd (some refl)
 filled (c ∷ cs) some = refl
 
-at_parts : (https : Bool) (host port path : List ℕ) (p : ℕ) → is_empty_text host ≡ false → list_all is_path_char path ≡ true → port_behind https port ≡ Some p
+at_parts : (https : Bool) (host port path : List ℕ) (p : ℕ) → is_empty_text host ≡ false → list_all is_path_char path ≡ true → port_after https port ≡ Some p
     → site_at https host port path ≡ Some (site_made https host path p)
 at_parts https host port path p some chars is =
-    ap (λ t. cond t None (cond (list_all is_path_char path) (option_map (site_made https host path) (port_behind https port)) None)) some
-    ∙ ap (λ t. cond t (option_map (site_made https host path) (port_behind https port)) None) chars
+    ap (λ t. cond t None (cond (list_all is_path_char path) (option_map (site_made https host path) (port_after https port)) None)) some
+    ∙ ap (λ t. cond t (option_map (site_made https host path) (port_after https port)) None) chars
     ∙ ap (option_map (site_made https host path)) is
 
-site_behind_spelled : (text : List ℕ) (site : Site) (s : SpellsUrl text site)
-    → site_behind site.https (s.host ++ (s.port ++ (site.prefix ++ s.slashes))) ≡ Some site
-site_behind_spelled text site s =
+site_after_spelled : (text : List ℕ) (site : Site) (s : SpellsUrl text site)
+    → site_after site.https (s.host ++ (s.port ++ (site.prefix ++ s.slashes))) ≡ Some site
+site_after_spelled text site s =
     let path : List ℕ = site.prefix ++ s.slashes in
-    ap (site_behind site.https) (sym (append_assoc s.host s.port path))
-    ∙ behind_joined site.https (s.host ++ s.port) path
+    ap (site_after site.https) (sym (append_assoc s.host s.port path))
+    ∙ after_joined site.https (s.host ++ s.port) path
     (joined is_in_name s.host s.port (implied is_host_char is_in_name host_in_name s.host s.host_chars) (port_in_name site.https s.port site.peer.port s.port_number))
     (path_stops site.prefix s.slashes s.rooted s.all_slashes)
     ∙ in_joined site.https s.host s.port path s.host_chars (port_stops site.https s.port site.peer.port s.port_number)
     ∙ at_parts site.https s.host s.port path site.peer.port (filled s.host s.some_host)
     (joined is_path_char site.prefix s.slashes s.path_chars (implied is_slash is_path_char slash_in_path s.slashes s.all_slashes))
-    (behind_read site.https s.port site.peer.port s.port_number)
+    (after_read site.https s.port site.peer.port s.port_number)
     ∙ (λ i. Some (record {
       https = site.https;
       peer = record { host = sym s.folded i; port = site.peer.port };
@@ -195,25 +195,25 @@ taken n scheme rest e = ap (λ k. take k (scheme ++ rest)) (sym e) ∙ take-appe
 dropped : (n : ℕ) (scheme rest : List ℕ) → length scheme ≡ n → drop n (scheme ++ rest) ≡ rest
 dropped n scheme rest e = ap (λ k. drop k (scheme ++ rest)) (sym e) ∙ drop-append_seam scheme rest
 
-by_scheme : (https : Bool) (scheme rest : List ℕ) → SameName scheme (scheme_of https) → site_of (scheme ++ rest) ≡ site_behind https rest
+by_scheme : (https : Bool) (scheme rest : List ℕ) → SameName scheme (scheme_of https) → site_of (scheme ++ rest) ≡ site_after https rest
 by_scheme false scheme rest same =
     let n : length scheme ≡ 7 = length_of_scheme scheme (codes "http://") same in
-    ap (λ t. cond (same_name t (codes "http://")) (site_behind false (drop 7 (scheme ++ rest))) (cond (same_name (take 8 (scheme ++ rest)) (codes "https://")) (site_behind true (drop 8 (scheme ++ rest))) None)) (taken 7 scheme rest n)
-    ∙ ap (λ b. cond b (site_behind false (drop 7 (scheme ++ rest))) (cond (same_name (take 8 (scheme ++ rest)) (codes "https://")) (site_behind true (drop 8 (scheme ++ rest))) None)) ((bytes_eq-Decides _ _).1 same)
-    ∙ ap (site_behind false) (dropped 7 scheme rest n)
+    ap (λ t. cond (same_name t (codes "http://")) (site_after false (drop 7 (scheme ++ rest))) (cond (same_name (take 8 (scheme ++ rest)) (codes "https://")) (site_after true (drop 8 (scheme ++ rest))) None)) (taken 7 scheme rest n)
+    ∙ ap (λ b. cond b (site_after false (drop 7 (scheme ++ rest))) (cond (same_name (take 8 (scheme ++ rest)) (codes "https://")) (site_after true (drop 8 (scheme ++ rest))) None)) ((bytes_eq-Decides _ _).1 same)
+    ∙ ap (site_after false) (dropped 7 scheme rest n)
 by_scheme true scheme rest same =
     let n : length scheme ≡ 8 = length_of_scheme scheme (codes "https://") same in
     let front : fold_case (take 7 (scheme ++ rest)) ≡ codes "https:/" =
     ap fold_case (take-append-le 7 scheme rest (omega (arith, n)))
     ∙ sym (take-map to_ascii_lowercase 7 scheme)
     ∙ ap (take 7) same in
-    ap (λ f. cond (bytes_eq f (fold_case (codes "http://"))) (site_behind false (drop 7 (scheme ++ rest))) (cond (same_name (take 8 (scheme ++ rest)) (codes "https://")) (site_behind true (drop 8 (scheme ++ rest))) None)) front
-    ∙ ap (λ t. cond (same_name t (codes "https://")) (site_behind true (drop 8 (scheme ++ rest))) None) (taken 8 scheme rest n)
-    ∙ ap (λ b. cond b (site_behind true (drop 8 (scheme ++ rest))) None) ((bytes_eq-Decides _ _).1 same)
-    ∙ ap (site_behind true) (dropped 8 scheme rest n)
+    ap (λ f. cond (bytes_eq f (fold_case (codes "http://"))) (site_after false (drop 7 (scheme ++ rest))) (cond (same_name (take 8 (scheme ++ rest)) (codes "https://")) (site_after true (drop 8 (scheme ++ rest))) None)) front
+    ∙ ap (λ t. cond (same_name t (codes "https://")) (site_after true (drop 8 (scheme ++ rest))) None) (taken 8 scheme rest n)
+    ∙ ap (λ b. cond b (site_after true (drop 8 (scheme ++ rest))) None) ((bytes_eq-Decides _ _).1 same)
+    ∙ ap (site_after true) (dropped 8 scheme rest n)
 
 pub spelled_is_site : (text : List ℕ) (site : Site) → SpellsUrl text site → site_of text ≡ Some site
 spelled_is_site text site s =
     ap site_of s.spelled
     ∙ by_scheme site.https s.scheme (s.host ++ (s.port ++ (site.prefix ++ s.slashes))) s.by_fold
-    ∙ site_behind_spelled text site s
+    ∙ site_after_spelled text site s

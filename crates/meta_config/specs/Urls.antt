@@ -70,9 +70,9 @@ port_of [] = None
 port_of (c ∷ cs) = if c == 48 then None else number_after 0 (c ∷ cs)
 
 -- the port of what stands after the host
-abbrev pub port_behind : Bool → List ℕ → Option ℕ
-port_behind https [] = Some (default_port https)
-port_behind https (c ∷ cs) = if c == 58 then port_of cs else None
+abbrev pub port_after : Bool → List ℕ → Option ℕ
+port_after https [] = Some (default_port https)
+port_after https (c ∷ cs) = if c == 58 then port_of cs else None
 
 -- without the slashes at its end
 abbrev pub put_before : ℕ → List ℕ → List ℕ
@@ -92,10 +92,10 @@ is_empty_text (c ∷ cs) = false
 
 -- the site of a host, of what stands after it, and of a path
 abbrev pub site_at : Bool → List ℕ → List ℕ → List ℕ → Option Site
-site_at https host behind path =
+site_at https host after path =
     if is_empty_text host then None
     else if list_all is_path_char path
-    then option_map (λ port. record { https = https; peer = record { host = fold_case host; port = port }; prefix = without_slashes path }) (port_behind https behind)
+    then option_map (λ port. record { https = https; peer = record { host = fold_case host; port = port }; prefix = without_slashes path }) (port_after https after)
     else None
 
 -- the site of an authority, which is a host and what stands after it, and of a path
@@ -104,14 +104,14 @@ site_in https authority path =
     site_at https (take (prefix_len is_host_char authority) authority) (drop (prefix_len is_host_char authority) authority) path
 
 -- the site of what stands after the scheme
-abbrev pub site_behind : Bool → List ℕ → Option Site
-site_behind https rest = site_in https (take (prefix_len is_in_name rest) rest) (drop (prefix_len is_in_name rest) rest)
+abbrev pub site_after : Bool → List ℕ → Option Site
+site_after https rest = site_in https (take (prefix_len is_in_name rest) rest) (drop (prefix_len is_in_name rest) rest)
 
 -- the site that a URL spells
 abbrev pub site_of : List ℕ → Option Site
 site_of text =
-    if same_name (take 7 text) (codes "http://") then site_behind false (drop 7 text)
-    else if same_name (take 8 text) (codes "https://") then site_behind true (drop 8 text)
+    if same_name (take 7 text) (codes "http://") then site_after false (drop 7 text)
+    else if same_name (take 8 text) (codes "https://") then site_after true (drop 8 text)
     else None
 
 -- ---- the canonical URL

@@ -57,7 +57,7 @@ fn first_two(class: Class, instances: &[Instance]) -> Option<(u32, u32)>
     ensures { result ≡ first_two (is_of class) instances.now }
 {
     let first = place_from(class, instances, 0)?;
-    let second = place_from(class, behind(instances, first), first + 1)?;
+    let second = place_from(class, after(instances, first), first + 1)?;
     Some((first, second))
 }
 
@@ -78,7 +78,7 @@ fn place_from(class: Class, instances: &[Instance], from: u32) -> Option<u32>
 }
 
 // The instances after a place.
-fn behind(instances: &[Instance], place: u32) -> &[Instance]
+fn after(instances: &[Instance], place: u32) -> &[Instance]
     requires { place < length instances.now }
     ensures { result.now ≡ drop (place + 1) instances.now }
 {
@@ -130,7 +130,7 @@ pub fn check_one_server(alloc: Global, instances: &[Instance]) -> Result<(), Met
     let Some((first, site)) = first_site(alloc, instances)? else {
         return Ok(());
     };
-    match other_site_from(alloc, &site, behind(instances, first), first + 1)? {
+    match other_site_from(alloc, &site, after(instances, first), first + 1)? {
         Some(second) => Err(MetaError::TwoServers { first, second }),
         None => Ok(()),
     }

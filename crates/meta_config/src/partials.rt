@@ -8,7 +8,7 @@ ghost use Rattle.meta_config.specs.Words.{name_of_reference, refresh_of};
 use crate::making::texts_given;
 use crate::properties::{given, text_given};
 use crate::tables::{Class, is_of};
-use crate::words::{behind, refresh_of};
+use crate::words::{after, refresh_of};
 use crate::{Partial, RefreshMode};
 use mof_values::{Instance, Items, Property, Text};
 use std::alloc::{AllocError, Global};
@@ -69,7 +69,7 @@ pub fn partial_name(properties: &[Property]) -> &[char]
     ensures { result.now ≡ partial_name properties.now }
 {
     match text_given(properties, "ResourceID") {
-        Some(id) => behind(id.as_slice(), 22),
+        Some(id) => after(id.as_slice(), 22),
         None => &[],
     }
 }
@@ -97,5 +97,5 @@ fn names_in(alloc: Global, references: &[Text]) -> Result<Vec<Text>, AllocError>
 fn name_in(alloc: Global, reference: &Text) -> Result<Text, AllocError>
     ensures { IfOk result (λ name. name ≡ name_of_reference reference.now) }
 {
-    Ok(Text::of(behind(reference.as_slice(), 22).to_vec(alloc)?))
+    Ok(Text::of(after(reference.as_slice(), 22).to_vec(alloc)?))
 }

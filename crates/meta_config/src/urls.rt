@@ -2,11 +2,11 @@
 ghost use Rattle.std.specs.Prelude.{◌≡◌, ◌≤◌, ◌++◌, IfOk, OnOk, length};
 ghost use Rattle.std.specs.List.{list_all, prefix_len};
 ghost use Rattle.mof_values.specs.Fold.{fold_case};
-ghost use Rattle.meta_config.specs.Urls.{default_port, if_short, is_host_char, is_in_name, is_path_char, number_after, port_behind, port_of, same_site, scheme_of, site_at, site_behind, site_in, site_named, site_of, url_of, without_slashes};
+ghost use Rattle.meta_config.specs.Urls.{default_port, if_short, is_host_char, is_in_name, is_path_char, number_after, port_after, port_of, same_site, scheme_of, site_at, site_after, site_in, site_named, site_of, url_of, without_slashes};
 
 use crate::Site;
 use crate::limits::MAX_URL;
-use crate::words::{behind, front};
+use crate::words::{after, front};
 use dsc_outside::Peer;
 use mof_values::{Text, is_named};
 use std::alloc::{AllocError, Global};
@@ -39,17 +39,17 @@ fn site_of(alloc: Global, text: &[char]) -> Result<Option<Site>, AllocError>
     ensures { IfOk result (λ site. site ≡ site_of text.now) }
 {
     if is_named(front(text, 7), "http://") {
-        site_behind(alloc, false, behind(text, 7))
+        site_after(alloc, false, after(text, 7))
     } else if is_named(front(text, 8), "https://") {
-        site_behind(alloc, true, behind(text, 8))
+        site_after(alloc, true, after(text, 8))
     } else {
         Ok(None)
     }
 }
 
 // The site of what stands after the scheme.
-fn site_behind(alloc: Global, https: bool, rest: &[char]) -> Result<Option<Site>, AllocError>
-    ensures { IfOk result (λ site. site ≡ site_behind https rest.now) }
+fn site_after(alloc: Global, https: bool, rest: &[char]) -> Result<Option<Site>, AllocError>
+    ensures { IfOk result (λ site. site ≡ site_after https rest.now) }
 {
     let (authority, path) = rest.split_at(name_len(rest));
     site_in(alloc, https, authority, path)
@@ -79,7 +79,7 @@ fn site_at(
     if host.is_empty() || !are_path_chars(path) {
         return Ok(None);
     }
-    match port_behind(https, port) {
+    match port_after(https, port) {
         Some(port) => Ok(Some(Site {
             https,
             peer: Peer {
@@ -148,8 +148,8 @@ fn is_path_char(c: char) -> bool
 }
 
 // The port of what stands after the host.
-fn port_behind(https: bool, chars: &[char]) -> Option<u16>
-    ensures { result ≡ port_behind https chars.now }
+fn port_after(https: bool, chars: &[char]) -> Option<u16>
+    ensures { result ≡ port_after https chars.now }
 {
     match chars {
         [] => Some(if https { 443 } else { 80 }),

@@ -181,7 +181,7 @@ fn is_name(chars: &[char]) -> bool
 fn is_reference(chars: &[char]) -> bool
     ensures { result ≡ is_reference chars.now }
 {
-    begins_reference(chars) && is_name(behind(chars, 22))
+    begins_reference(chars) && is_name(after(chars, 22))
 }
 
 fn begins_reference(chars: &[char]) -> bool
@@ -208,7 +208,7 @@ pub fn front(chars: &[char], count: usize) -> &[char]
 }
 
 /// The characters but the first `count`.
-pub fn behind(chars: &[char], count: usize) -> &[char]
+pub fn after(chars: &[char], count: usize) -> &[char]
     ensures { result.now ≡ drop count chars.now }
 {
     if chars.len() <= count {

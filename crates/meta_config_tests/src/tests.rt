@@ -209,7 +209,7 @@ fn long_text(
     Ok(text)
 }
 
-// A download manager with so many names, and so many partial configurations with so many resources each.
+// A download manager with that many names, and that many partial configurations with that many resources each.
 fn sized_text(
     alloc: Global,
     names: u32,

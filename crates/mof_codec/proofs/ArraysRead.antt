@@ -29,44 +29,44 @@ pub record ArraySoFar (cs : List ℕ) (done : List Scalar) (left : List ℕ) : T
 
 data ArrayCase (us : List Lexeme) (all : List Scalar) (rest : List Lexeme) : Type 0 where
   at_closing : us ≡ RightBrace ∷ rest → all ≡ [] → ArrayCase us all rest
-  at_element : (s : Scalar) (more : List Scalar) (behind : List Lexeme) → ConstantValue us s behind → Elements behind more rest → all ≡ s ∷ more → ArrayCase us all rest
+  at_element : (s : Scalar) (more : List Scalar) (after : List Lexeme) → ConstantValue us s after → Elements after more rest → all ≡ s ∷ more → ArrayCase us all rest
 
 array_case : (us : List Lexeme) (all : List Scalar) (rest : List Lexeme) → IsArray us all rest → ArrayCase us all rest
 array_case us all rest (empty_array r) = at_closing refl refl
-array_case us all rest (array xs behind r s ss c e) = at_element s ss behind c e refl
+array_case us all rest (array xs after r s ss c e) = at_element s ss after c e refl
 
 elements_start : (us : List Lexeme) (s : Scalar) (ts : List Lexeme) → Only ConstantValue us s ts → ElementsOn us (s ∷ []) ts
 elements_start us s ts o = record { on = λ more rest e. array us ts rest s more o.holds e; only = λ all rest i. goes all rest (array_case us all rest i) }
   where
     goes : (all : List Scalar) (rest : List Lexeme) → ArrayCase us all rest → (more : List Scalar) × (all ≡ s ∷ more) × Elements ts more rest
     goes all rest (at_closing e f) = absurd (no_closing_constant rest s ts (subst (λ (xs : List Lexeme). ConstantValue xs s ts) e o.holds))
-    goes all rest (at_element x more behind c e f) =
-        let same = o.only x behind (elements_first behind more rest e) c in
+    goes all rest (at_element x more after c e f) =
+        let same = o.only x after (elements_first after more rest e) c in
         (more, f ∙ ap (λ (y : Scalar). y ∷ more) same.0, subst (λ (xs : List Lexeme). Elements xs more rest) same.1 e)
 
 -- what goes on after an element
 
 data ElementsCase (vs : List Lexeme) (more : List Scalar) (rest : List Lexeme) : Type 0 where
   is_closing : vs ≡ RightBrace ∷ rest → more ≡ [] → ElementsCase vs more rest
-  is_element : (ws : List Lexeme) (s : Scalar) (others : List Scalar) (behind : List Lexeme) → vs ≡ Comma ∷ ws → ConstantValue ws s behind → Elements behind others rest
+  is_element : (ws : List Lexeme) (s : Scalar) (others : List Scalar) (after : List Lexeme) → vs ≡ Comma ∷ ws → ConstantValue ws s after → Elements after others rest
       → more ≡ s ∷ others → ElementsCase vs more rest
 
 elements_case : (vs : List Lexeme) (more : List Scalar) (rest : List Lexeme) → Elements vs more rest → ElementsCase vs more rest
 elements_case vs more rest (closing r) = is_closing refl refl
-elements_case vs more rest (element ws behind r s ss c e) = is_element ws s ss behind refl c e refl
+elements_case vs more rest (element ws after r s ss c e) = is_element ws s ss after refl c e refl
 
 apart_marks : (ts us : List Lexeme) → Comma ∷ ts ≡ RightBrace ∷ us → ⊥
 apart_marks ts us e = cc
 
-elements_behind_comma : (vs ws : List Lexeme) (more : List Scalar) (rest : List Lexeme) → vs ≡ Comma ∷ ws → ElementsCase vs more rest
-    → (s : Scalar) × (others : List Scalar) × (behind : List Lexeme) × ConstantValue ws s behind × Elements behind others rest × (more ≡ s ∷ others)
-elements_behind_comma vs ws more rest e (is_closing f g) = absurd (apart_marks ws rest (sym e ∙ f))
-elements_behind_comma vs ws more rest e (is_element xs s others behind f c r g) =
-    (s, others, behind, subst (λ (ys : List Lexeme). ConstantValue ys s behind) (tail_same Comma Comma xs ws (sym f ∙ e)) c, r, g)
+elements_after_comma : (vs ws : List Lexeme) (more : List Scalar) (rest : List Lexeme) → vs ≡ Comma ∷ ws → ElementsCase vs more rest
+    → (s : Scalar) × (others : List Scalar) × (after : List Lexeme) × ConstantValue ws s after × Elements after others rest × (more ≡ s ∷ others)
+elements_after_comma vs ws more rest e (is_closing f g) = absurd (apart_marks ws rest (sym e ∙ f))
+elements_after_comma vs ws more rest e (is_element xs s others after f c r g) =
+    (s, others, after, subst (λ (ys : List Lexeme). ConstantValue ys s after) (tail_same Comma Comma xs ws (sym f ∙ e)) c, r, g)
 
-elements_behind_closing : (vs ts : List Lexeme) (more : List Scalar) (rest : List Lexeme) → vs ≡ RightBrace ∷ ts → ElementsCase vs more rest → (more ≡ []) × (rest ≡ ts)
-elements_behind_closing vs ts more rest e (is_closing f g) = (g, tail_same RightBrace RightBrace rest ts (sym f ∙ e))
-elements_behind_closing vs ts more rest e (is_element xs s others behind f c r g) = absurd (apart_marks xs ts (sym f ∙ e))
+elements_after_closing : (vs ts : List Lexeme) (more : List Scalar) (rest : List Lexeme) → vs ≡ RightBrace ∷ ts → ElementsCase vs more rest → (more ≡ []) × (rest ≡ ts)
+elements_after_closing vs ts more rest e (is_closing f g) = (g, tail_same RightBrace RightBrace rest ts (sym f ∙ e))
+elements_after_closing vs ts more rest e (is_element xs s others after f c r g) = absurd (apart_marks xs ts (sym f ∙ e))
 
 elements_next : (us : List Lexeme) (done : List Scalar) (vs ws : List Lexeme) (s : Scalar) (ts : List Lexeme) → ElementsOn us done vs → vs ≡ Comma ∷ ws → Only ConstantValue ws s ts
     → ElementsOn us (done ++ s ∷ []) ts
@@ -76,7 +76,7 @@ elements_next us done vs ws s ts x e o = record {
       (x.on (s ∷ more) rest (subst (λ (ys : List Lexeme). Elements ys (s ∷ more) rest) (sym e) (element ws ts rest s more o.holds h)));
   only = λ all rest i.
       let y = x.only all rest i in
-      let z = elements_behind_comma vs ws y.0 rest e (elements_case vs y.0 rest y.2) in
+      let z = elements_after_comma vs ws y.0 rest e (elements_case vs y.0 rest y.2) in
       let same = o.only z.0 z.2 (elements_first z.2 z.1 rest z.4) z.3 in (
         z.1,
         y.1 ∙ ap (λ (ss : List Scalar). done ++ ss) (z.5 ∙ ap (λ (q : Scalar). q ∷ z.1) same.0) ∙ sym (append_assoc done (s ∷ []) z.1),
@@ -89,7 +89,7 @@ elements_end us done vs ts x e = record {
   holds = subst (λ (ss : List Scalar). IsArray us ss ts) (append-nil done) (x.on [] ts (subst (λ (ys : List Lexeme). Elements ys [] ts) (sym e) (closing ts)));
   only = λ all rest n i.
       let y = x.only all rest i in
-      let z = elements_behind_closing vs ts y.0 rest e (elements_case vs y.0 rest y.2) in
+      let z = elements_after_closing vs ts y.0 rest e (elements_case vs y.0 rest y.2) in
       (y.1 ∙ ap (λ (ss : List Scalar). done ++ ss) z.0 ∙ append-nil done, z.1);
 }
 
@@ -110,7 +110,7 @@ only_empty us ts e = record {
   where
     goes : (all : List Scalar) (rest : List Lexeme) → ArrayCase us all rest → (all ≡ []) × (rest ≡ ts)
     goes all rest (at_closing f g) = (g, tail_same RightBrace RightBrace rest ts (sym f ∙ e))
-    goes all rest (at_element s more behind c f g) = absurd (no_closing_constant ts s behind (subst (λ (xs : List Lexeme). ConstantValue xs s behind) e c))
+    goes all rest (at_element s more after c f g) = absurd (no_closing_constant ts s after (subst (λ (xs : List Lexeme). ConstantValue xs s after) e c))
 
 pub reads_empty : (cs rest : List ℕ) → Begins (IsMark marks.RightBrace) cs rest → BeginsWith IsArray ArrayFits cs [] rest
 reads_empty cs rest b = record {
@@ -126,7 +126,7 @@ lacks_first cs no_brace no_constant us ts all n l i f = goes (array_case us all 
 
     goes : ArrayCase us all ts → ⊥
     goes (at_closing e g) = no_brace us ts l e
-    goes (at_element s more behind c e g) = no_constant us behind s (elements_first behind more ts e) l c (fits s more g)
+    goes (at_element s more after c e g) = no_constant us after s (elements_first after more ts e) l c (fits s more g)
 
 module _ (cs : List ℕ) (done : List Scalar) (left : List ℕ) (so_far : ArraySoFar cs done left) where
   pub reads_array : (rest : List ℕ) → Begins (IsMark marks.RightBrace) left rest → BeginsWith IsArray ArrayFits cs done rest
@@ -155,23 +155,23 @@ module _ (cs : List ℕ) (done : List Scalar) (left : List ℕ) (so_far : ArrayS
     where
       goes : (vs : List Lexeme) (more : List Scalar) → Lexes left vs → ElementsCase vs more ts → ⊥
       goes vs more m (is_closing e g) = no_brace vs ts m e
-      goes vs more m (is_element ws s others behind e c r g) = no_comma vs ws m e
+      goes vs more m (is_element ws s others after e c r g) = no_comma vs ws m e
 
   module _ (mid : List ℕ) (b : Begins (IsMark marks.Comma) left mid) where
     -- the element after the comma is in each array that the characters begin with
     abbrev FurtherElement : List Scalar → Type 0
-    FurtherElement all = (ws : List Lexeme) × (s : Scalar) × (others : List Scalar) × (behind : List Lexeme) × Lexes mid ws × ConstantValue ws s behind × NoLiteral behind × (all ≡ done ++ s ∷ others)
+    FurtherElement all = (ws : List Lexeme) × (s : Scalar) × (others : List Scalar) × (after : List Lexeme) × Lexes mid ws × ConstantValue ws s after × NoLiteral after × (all ≡ done ++ s ∷ others)
 
     further : (us ts : List Lexeme) (all : List Scalar) → Lexes cs us → IsArray us all ts → FurtherElement all
     further us ts all l i =
         let x = so_far.begins.only us l in
         let y = x.2.only all ts i in
         let w = b.only x.0 x.1 in
-        let z = elements_behind_comma x.0 w.0 y.0 ts w.2 (elements_case x.0 y.0 ts y.2) in
+        let z = elements_after_comma x.0 w.0 y.0 ts w.2 (elements_case x.0 y.0 ts y.2) in
         (w.0, z.0, z.1, z.2, w.1, z.3, elements_first z.2 z.1 ts z.4, y.1 ∙ ap (λ (ss : List Scalar). done ++ ss) z.5)
 
-    pub lacks_room : length done ≡ elements_limit → Lacks IsArray ArrayFits cs
-    lacks_room filled us ts all n l i f =
+    pub lacks_capacity : length done ≡ elements_limit → Lacks IsArray ArrayFits cs
+    lacks_capacity filled us ts all n l i f =
         let x = further us ts all l i in
         let more : length done < length all = subst (λ (ss : List Scalar). length done < length ss) (sym x.7) (more_than done x.1 x.2) in
         let few = f.0 in
@@ -187,7 +187,7 @@ module _ (cs : List ℕ) (done : List Scalar) (left : List ℕ) (so_far : ArrayS
 brace_many : (vs : List Lexeme) (v : Value) (ts : List Lexeme) → Initializer (LeftBrace ∷ vs) v ts → (ss : List Scalar) × (v ≡ Many ss) × IsArray vs ss ts
 brace_many vs v ts (constant xs r s c) = absurd (no_brace_constant vs s r c)
 brace_many vs v ts (empty_array r) = ([], refl, empty_array r)
-brace_many vs v ts (array xs behind r s ss c e) = (s ∷ ss, refl, array xs behind r s ss c e)
+brace_many vs v ts (array xs after r s ss c e) = (s ∷ ss, refl, array xs after r s ss c e)
 
 only_many : (us vs : List Lexeme) (ss : List Scalar) (ts : List Lexeme) → us ≡ LeftBrace ∷ vs → Only IsArray vs ss ts → Only Initializer us (Many ss) ts
 only_many us vs ss ts e o = subst (λ (xs : List Lexeme). Only Initializer xs (Many ss) ts) (sym e) (record {
@@ -215,7 +215,7 @@ data ValueCase (us : List Lexeme) (v : Value) (ts : List Lexeme) : Type 0 where
 value_case : (us : List Lexeme) (v : Value) (ts : List Lexeme) → Initializer us v ts → ValueCase us v ts
 value_case us v ts (constant xs r s c) = is_one s c refl
 value_case us v ts (empty_array r) = is_many (RightBrace ∷ r) refl
-value_case us v ts (array xs behind r s ss c e) = is_many xs refl
+value_case us v ts (array xs after r s ss c e) = is_many xs refl
 
 only_one : (us : List Lexeme) (s : Scalar) (ts : List Lexeme) → Only ConstantValue us s ts → Only Initializer us (One s) ts
 only_one us s ts o = record { holds = constant us ts s o.holds; only = λ v rest n i. goes v rest n (value_case us v rest i) }

@@ -55,34 +55,34 @@ module _ (cs : List ℕ) where
   lacks_head lacks us ts i n l d f = lacks us d.0 i.class (naming_first d.0 d.1 i.alias d.3) l d.2 f.class
 
   module _ (class mid : List ℕ) (h : BeginsWith IsHead IsShortName cs class mid) where
-    behind_head : (us ts : List Lexeme) (i : Instance) → Lexes cs us → IsDeclaration us i ts
+    after_head : (us ts : List Lexeme) (i : Instance) → Lexes cs us → IsDeclaration us i ts
         → (vs : List Lexeme) × (ws : List Lexeme) × Lexes mid vs × IsNaming vs i.alias ws × ValueInitializers ws i.properties (Semicolon ∷ ts)
-    behind_head us ts i l d =
+    after_head us ts i l d =
         let x = h.begins.only us l in
         let same = x.2.only i.class d.0 (naming_first d.0 d.1 i.alias d.3) d.2 in
         (d.0, d.1, subst (λ (ys : List Lexeme). Lexes mid ys) (sym same.1) x.1, d.3, d.4)
 
     pub lacks_naming : Lacks IsNaming NamingFits mid → Lacks IsDeclaration InstanceFits cs
-    lacks_naming lacks us ts i n l d f = let x = behind_head us ts i l d in lacks x.0 x.1 i.alias (body_first x.1 i.properties (Semicolon ∷ ts) x.4) x.2 x.3 f.alias
+    lacks_naming lacks us ts i n l d f = let x = after_head us ts i l d in lacks x.0 x.1 i.alias (body_first x.1 i.properties (Semicolon ∷ ts) x.4) x.2 x.3 f.alias
 
     module _ (alias : Option (List ℕ)) (body : List ℕ) (a : BeginsWith IsNaming NamingFits mid alias body) where
-      behind_naming : (us ts : List Lexeme) (i : Instance) → Lexes cs us → IsDeclaration us i ts
+      after_naming : (us ts : List Lexeme) (i : Instance) → Lexes cs us → IsDeclaration us i ts
           → (ws : List Lexeme) × Lexes body ws × ValueInitializers ws i.properties (Semicolon ∷ ts)
-      behind_naming us ts i l d =
-          let x = behind_head us ts i l d in
+      after_naming us ts i l d =
+          let x = after_head us ts i l d in
           let y = a.begins.only x.0 x.2 in
           let same = y.2.only i.alias x.1 (body_first x.1 i.properties (Semicolon ∷ ts) x.4) x.3 in
           (x.1, subst (λ (ys : List Lexeme). Lexes body ys) (sym same.1) y.1, x.4)
 
       pub lacks_body : Lacks ValueInitializers PropertiesFit body → Lacks IsDeclaration InstanceFits cs
       lacks_body lacks us ts i n l d f =
-          let x = behind_naming us ts i l d in
+          let x = after_naming us ts i l d in
           lacks x.0 (Semicolon ∷ ts) i.properties tt x.1 x.2 (record { count = f.count; each = f.each })
 
       module _ (ps : List Property) (last : List ℕ) (p : BeginsWith ValueInitializers PropertiesFit body ps last) where
         pub lacks_end : BeginsNo (IsMark marks.Semicolon) last → Lacks IsDeclaration InstanceFits cs
         lacks_end absent us ts i n l d f =
-            let x = behind_naming us ts i l d in
+            let x = after_naming us ts i l d in
             let y = p.begins.only x.0 x.1 in
             let same = y.2.only i.properties (Semicolon ∷ ts) tt x.2 in
             absent y.0 ts y.1 (sym same.1)
@@ -122,25 +122,25 @@ text_start cs left s e = record {
 
 data TextCase (vs : List Lexeme) (more : List Instance) : Type 0 where
   at_end : vs ≡ [] → more ≡ [] → TextCase vs more
-  at_declaration : (i : Instance) (others : List Instance) (behind : List Lexeme) → IsDeclaration vs i behind → InstanceDeclarations behind others → more ≡ i ∷ others → TextCase vs more
+  at_declaration : (i : Instance) (others : List Instance) (rest : List Lexeme) → IsDeclaration vs i rest → InstanceDeclarations rest others → more ≡ i ∷ others → TextCase vs more
 
 text_case : (vs : List Lexeme) (more : List Instance) → InstanceDeclarations vs more → TextCase vs more
 text_case vs more nothing = at_end refl refl
-text_case vs more (instance_declaration i o class alias ts body behind ps others hi ho ha hp hd) =
-    at_declaration (declared class alias ps) others behind (ts, body, (i, o, refl, hi, ho), ha, hp) hd refl
+text_case vs more (instance_declaration i o class alias ts body after ps others hi ho ha hp hd) =
+    at_declaration (declared class alias ps) others after (ts, body, (i, o, refl, hi, ho), ha, hp) hd refl
 
 text_first : (vs : List Lexeme) (more : List Instance) → InstanceDeclarations vs more → NoLiteral vs
 text_first vs more nothing = tt
-text_first vs more (instance_declaration i o class alias ts body behind ps others hi ho ha hp hd) = tt
+text_first vs more (instance_declaration i o class alias ts body after ps others hi ho ha hp hd) = tt
 
 some_tokens : (t : Lexeme) (ts : List Lexeme) → t ∷ ts ≡ [] → ⊥
 some_tokens t ts e = cc
 
-behind_declaration : (vs : List Lexeme) (i : Instance) (ts : List Lexeme) (more : List Instance) → Only IsDeclaration vs i ts → TextCase vs more
+after_declaration : (vs : List Lexeme) (i : Instance) (ts : List Lexeme) (more : List Instance) → Only IsDeclaration vs i ts → TextCase vs more
     → (others : List Instance) × (more ≡ i ∷ others) × InstanceDeclarations ts others
-behind_declaration vs i ts more o (at_end e f) = absurd (some_tokens _ _ (sym o.holds.2.2 ∙ e))
-behind_declaration vs i ts more o (at_declaration j others behind d h f) =
-    let same = o.only j behind (text_first behind others h) d in
+after_declaration vs i ts more o (at_end e f) = absurd (some_tokens _ _ (sym o.holds.2.2 ∙ e))
+after_declaration vs i ts more o (at_declaration j others after d h f) =
+    let same = o.only j after (text_first after others h) d in
     (others, f ∙ ap (λ (x : Instance). x ∷ others) same.0, subst (λ (ys : List Lexeme). InstanceDeclarations ys others) same.1 h)
 
 with_declaration : (vs : List Lexeme) (i : Instance) (ts : List Lexeme) (more : List Instance) → IsDeclaration vs i ts → InstanceDeclarations ts more → InstanceDeclarations vs (i ∷ more)
@@ -154,7 +154,7 @@ declarations_next us read vs i ts x o = record {
   on = λ more h. subst (λ (is : List Instance). InstanceDeclarations us is) (sym (append_assoc read (i ∷ []) more)) (x.on (i ∷ more) (with_declaration vs i ts more o.holds h));
   only = λ all h.
       let y = x.only all h in
-      let z = behind_declaration vs i ts y.0 o (text_case vs y.0 y.2) in
+      let z = after_declaration vs i ts y.0 o (text_case vs y.0 y.2) in
       (z.0, y.1 ∙ ap (λ (is : List Instance). read ++ is) z.1 ∙ sym (append_assoc read (i ∷ []) z.0), z.2);
 }
 
@@ -163,9 +163,9 @@ nothing_left cs n end = refl
 nothing_left cs n (separator ds r vs s l) = absurd (n r s)
 
 module _ (cs : List ℕ) (read : List Instance) (left : List ℕ) (so_far : TextSoFar cs read left) where
-  pub text_next : (i : Instance) (rest behind : List ℕ) → (length read ≡ instances_limit → ⊥) → BeginsWith IsDeclaration InstanceFits left i rest → Separators rest behind
-      → separator_rest behind ≡ None → TextSoFar cs (read ++ i ∷ []) behind
-  text_next i rest behind below r s e = record {
+  pub text_next : (i : Instance) (rest after : List ℕ) → (length read ≡ instances_limit → ⊥) → BeginsWith IsDeclaration InstanceFits left i rest → Separators rest after
+      → separator_rest after ≡ None → TextSoFar cs (read ++ i ∷ []) after
+  text_next i rest after below r s e = record {
     begins = joined;
     each = all_push InstanceFits read i so_far.each r.fits;
     few = let more : length (read ++ i ∷ []) ≡ length read + 1 = length-append read (i ∷ []) in let some = so_far.few in omega (arith, some, below);
@@ -176,10 +176,10 @@ module _ (cs : List ℕ) (read : List Instance) (left : List ℕ) (so_far : Text
       on_to_rest = begins_as (Joined (λ us ts. DeclarationsOn us read ts) (λ us ts. Only IsDeclaration us i ts)) (λ us ts. DeclarationsOn us (read ++ i ∷ []) ts) cs rest
           (λ us ts j. declarations_next us read j.0 i ts j.1 j.2) (begins_join (λ us ts. DeclarationsOn us read ts) (λ us ts. Only IsDeclaration us i ts) cs left rest so_far.begins r.begins)
 
-      joined : Begins (λ us ts. DeclarationsOn us (read ++ i ∷ []) ts) cs behind
+      joined : Begins (λ us ts. DeclarationsOn us (read ++ i ∷ []) ts) cs after
       joined = record {
-        on = λ ts l. on_to_rest.on ts (skip_on rest behind ts s l);
-        only = λ us l. let x = on_to_rest.only us l in (x.0, skip_only rest behind x.0 s x.1, x.2);
+        on = λ ts l. on_to_rest.on ts (skip_on rest after ts s l);
+        only = λ us l. let x = on_to_rest.only us l in (x.0, skip_only rest after x.0 s x.1, x.2);
       }
 
   pub text_read : length left ≡ 0 → Spells cs read
@@ -196,13 +196,13 @@ module _ (cs : List ℕ) (read : List Instance) (left : List ℕ) (so_far : Text
 
   module _ (some : length left ≢ 0) where
     abbrev Further : List Instance → Type 0
-    Further all = (vs : List Lexeme) × (i : Instance) × (others : List Instance) × (behind : List Lexeme) × Lexes left vs × IsDeclaration vs i behind × NoLiteral behind × (all ≡ read ++ i ∷ others)
+    Further all = (vs : List Lexeme) × (i : Instance) × (others : List Instance) × (after : List Lexeme) × Lexes left vs × IsDeclaration vs i after × NoLiteral after × (all ≡ read ++ i ∷ others)
 
     further_by : (vs : List Lexeme) (more all : List Instance) → Lexes left vs → TextCase vs more → all ≡ read ++ more → Further all
     further_by vs more all l (at_end e f) same =
         absurd (some (nothing_left left (no_separator left so_far.stops) (subst (λ (ys : List Lexeme). Lexes left ys) e l)))
-    further_by vs more all l (at_declaration i others behind d h f) same =
-        (vs, i, others, behind, l, d, text_first behind others h, same ∙ ap (λ (is : List Instance). read ++ is) f)
+    further_by vs more all l (at_declaration i others after d h f) same =
+        (vs, i, others, after, l, d, text_first after others h, same ∙ ap (λ (is : List Instance). read ++ is) f)
 
     further : (all : List Instance) → Spells cs all → Further all
     further all s =

@@ -47,26 +47,26 @@ scalar_to v s = grind (arith, nat_tests)
 
 -- after an x
 
-pub hex_escape_there : (cs behind rest : List ℕ) (first value c : ℕ) → BeginsWithDigit cs first behind → value ≡ (hex_tail 3 first behind).0 → rest ≡ (hex_tail 3 first behind).1
+pub hex_escape_there : (cs after rest : List ℕ) (first value c : ℕ) → BeginsWithDigit cs first after → value ≡ (hex_tail 3 first after).0 → rest ≡ (hex_tail 3 first after).1
     → IsScalar value → c ≡ value → HexEscape cs c rest
-hex_escape_there cs behind rest first value c b is_value is_rest scalar same = record {
+hex_escape_there cs after rest first value c b is_value is_rest scalar same = record {
   digit = b.digit;
-  behind = behind;
+  after = after;
   split = b.split;
   is_digit = b.is_digit;
-  digits = subst (λ (n : ℕ). HexDigits 3 n behind c rest) (sym b.is_value)
-      (subst (λ (n : ℕ). HexDigits 3 first behind n rest) (sym (same ∙ is_value)) (subst (λ (xs : List ℕ). HexDigits 3 first behind (hex_tail 3 first behind).0 xs) (sym is_rest) (read-hex 3 first behind)));
+  digits = subst (λ (n : ℕ). HexDigits 3 n after c rest) (sym b.is_value)
+      (subst (λ (n : ℕ). HexDigits 3 first after n rest) (sym (same ∙ is_value)) (subst (λ (xs : List ℕ). HexDigits 3 first after (hex_tail 3 first after).0 xs) (sym is_rest) (read-hex 3 first after)));
   scalar = rw same (scalar_to value scalar);
 }
 
-pub hex_escape_absent : (cs behind : List ℕ) (first value : ℕ) → BeginsWithDigit cs first behind → value ≡ (hex_tail 3 first behind).0 → (IsScalar value → ⊥) → NoHexEscape cs
-hex_escape_absent cs behind first value b is_value other v rest h =
-    let at : h.digit ≡ b.digit = head_same h.digit b.digit h.behind behind (sym h.split ∙ b.split) in
-    let on : h.behind ≡ behind = tail_same h.digit b.digit h.behind behind (sym h.split ∙ b.split) in
+pub hex_escape_absent : (cs after : List ℕ) (first value : ℕ) → BeginsWithDigit cs first after → value ≡ (hex_tail 3 first after).0 → (IsScalar value → ⊥) → NoHexEscape cs
+hex_escape_absent cs after first value b is_value other v rest h =
+    let at : h.digit ≡ b.digit = head_same h.digit b.digit h.after after (sym h.split ∙ b.split) in
+    let on : h.after ≡ after = tail_same h.digit b.digit h.after after (sym h.split ∙ b.split) in
     let start : digit_value h.digit ≡ first = ap digit_value at ∙ b.is_value in
-    let total : (hex_tail 3 (digit_value h.digit) h.behind).0 ≡ v = (hex-read 3 (digit_value h.digit) v h.behind rest h.digits).0 in
-    let here : v ≡ value = sym total ∙ ap (λ (n : ℕ). (hex_tail 3 n h.behind).0) start ∙ ap (λ (xs : List ℕ). (hex_tail 3 first xs).0) on ∙ sym is_value in
-    other (subst IsScalar here (scalar_from v (hex_small h.digit h.behind v rest h.is_digit h.digits) h.scalar))
+    let total : (hex_tail 3 (digit_value h.digit) h.after).0 ≡ v = (hex-read 3 (digit_value h.digit) v h.after rest h.digits).0 in
+    let here : v ≡ value = sym total ∙ ap (λ (n : ℕ). (hex_tail 3 n h.after).0) start ∙ ap (λ (xs : List ℕ). (hex_tail 3 first xs).0) on ∙ sym is_value in
+    other (subst IsScalar here (scalar_from v (hex_small h.digit h.after v rest h.is_digit h.digits) h.scalar))
   where
     head_same : (x y : ℕ) (xs ys : List ℕ) → x ∷ xs ≡ y ∷ ys → x ≡ y
     head_same x y xs ys e = cc
@@ -81,7 +81,7 @@ escape_short cs rest c value e is = subst (λ (xs : List ℕ). Escape xs value r
 
 pub escape_hex : (cs others : List ℕ) (c value : ℕ) (rest : List ℕ) → cs ≡ c ∷ others → is_x c ≡ true → HexEscape others value rest → Escape cs value rest
 escape_hex cs others c value rest e is h =
-    subst (λ (xs : List ℕ). Escape xs value rest) (sym (e ∙ ap (λ (xs : List ℕ). c ∷ xs) h.split)) (hexadecimal c h.digit value h.behind rest is h.is_digit h.digits h.scalar)
+    subst (λ (xs : List ℕ). Escape xs value rest) (sym (e ∙ ap (λ (xs : List ℕ). c ∷ xs) h.split)) (hexadecimal c h.digit value h.after rest is h.is_digit h.digits h.scalar)
 
 data EscapeCase (c : ℕ) (others : List ℕ) (value : ℕ) (rest : List ℕ) : Type 0 where
   at_short : short_escape c ≡ Some value → EscapeCase c others value rest
@@ -89,7 +89,7 @@ data EscapeCase (c : ℕ) (others : List ℕ) (value : ℕ) (rest : List ℕ) : 
 
 escape_case : (c : ℕ) (others : List ℕ) (value : ℕ) (rest : List ℕ) → Escape (c ∷ others) value rest → EscapeCase c others value rest
 escape_case c others value rest (short d v r is) = at_short is
-escape_case c others value rest (hexadecimal x d v us r isx isd h ok) = at_hex isx (record { digit = d; behind = us; split = refl; is_digit = isd; digits = h; scalar = ok })
+escape_case c others value rest (hexadecimal x d v us r isx isd h ok) = at_hex isx (record { digit = d; after = us; split = refl; is_digit = isd; digits = h; scalar = ok })
 
 absent_case : (c : ℕ) (others : List ℕ) (value : ℕ) (rest : List ℕ) → short_escape c ≡ None → (is_x c ≡ true → NoHexEscape others) → EscapeCase c others value rest → ⊥
 absent_case c others value rest e absent (at_short is) = none-some value (sym e ∙ is)
@@ -107,8 +107,8 @@ x_absent c others e h = absurd (true≢false (sym h ∙ e))
 pub goes_on_by_plain : (cs rest : List ℕ) (c : ℕ) → cs ≡ c ∷ rest → (c == quote) ≡ false → (c == backslash) ≡ false → GoesOnByOne cs c rest
 goes_on_by_plain cs rest c e no_quote no_escape = subst (λ (xs : List ℕ). GoesOnByOne xs c rest) (sym e) (
   record {
-    on = λ text behind q. plain c rest text behind no_quote no_escape q;
-    only = λ text behind q. (goes_on_plain (c ∷ rest) rest c no_quote no_escape (SameLiteral-start (c ∷ rest))).only behind (text, q);
+    on = λ text after q. plain c rest text after no_quote no_escape q;
+    only = λ text after q. (goes_on_plain (c ∷ rest) rest c no_quote no_escape (SameLiteral-start (c ∷ rest))).only after (text, q);
   },
   omega arith,
 )
@@ -116,9 +116,9 @@ goes_on_by_plain cs rest c e no_quote no_escape = subst (λ (xs : List ℕ). Goe
 pub goes_on_by_escape : (cs others rest : List ℕ) (c value : ℕ) → cs ≡ c ∷ others → c ≡ backslash → Escape others value rest → GoesOnByOne cs value rest
 goes_on_by_escape cs others rest c value e is i = subst (λ (xs : List ℕ). GoesOnByOne xs value rest) (sym (e ∙ ap (λ (d : ℕ). d ∷ others) is)) (
   record {
-    on = λ text behind q. escaped value others rest text behind i q;
-    only = λ text behind q.
-        (goes_on_escaped (backslash ∷ others) others rest (escape-read others value rest i) (SameLiteral-start (backslash ∷ others))).only behind (text, q);
+    on = λ text after q. escaped value others rest text after i q;
+    only = λ text after q.
+        (goes_on_escaped (backslash ∷ others) others rest (escape-read others value rest i) (SameLiteral-start (backslash ∷ others))).only after (text, q);
   },
   (let less : length rest < length others = EndsWithin-length others rest (escape_ends others value rest i) in omega arith),
 )

@@ -17,7 +17,7 @@ use Rattle.mof_codec.specs.declared.machine.state.Event.{Event}
 use Rattle.mof_codec.specs.declared.machine.state.Event.TheVariants as events
 use Rattle.mof_codec.specs.declared.machine.counts.Counts.{Counts}
 use Rattle.mof_codec.specs.Machine.{begin, step}
-use Rattle.mof_codec.specs.Walked.{Behind, walk_from, start, walked}
+use Rattle.mof_codec.specs.Walked.{AfterWalk, walk_from, start, walked}
 use Rattle.mof_codec.specs.Events.{events_of}
 use Rattle.mof_codec.specs.Beginnings.{name_place, scalar_place, begins_declaration, begins_scalar, begins_identifier}
 use Rattle.mof_codec.specs.Counting.{declarations_in, properties_in, elements_in, Tells, is_excess}
@@ -53,13 +53,13 @@ closed_array InArray acc e = refl
 closed_array AfterComma acc e = refl
 closed_array p acc e = absurd cc
 
-same_behind : (b : Behind) (h : Half) (p : Place) → b.half ≡ h → b.place ≡ p → b ≡ record { half = h; place = p; begun = b.begun }
-same_behind b h p eh ep = subst (λ (x : Half). b ≡ record { half = x; place = p; begun = b.begun }) eh (subst (λ (x : Place). b ≡ record { half = b.half; place = x; begun = b.begun }) ep refl)
+same_after : (b : AfterWalk) (h : Half) (p : Place) → b.half ≡ h → b.place ≡ p → b ≡ record { half = h; place = p; begun = b.begun }
+same_after b h p eh ep = subst (λ (x : Half). b ≡ record { half = x; place = p; begun = b.begun }) eh (subst (λ (x : Place). b ≡ record { half = b.half; place = x; begun = b.begun }) ep refl)
 
-module _ (text : List ℕ) (at : ℕ) (b : Behind) (is : walked (take at text) ≡ Some b) where
-  walked_on : (cs : List ℕ) (h : Half) (p : Place) (to : Behind) → b.half ≡ h → b.place ≡ p → walk_from (Some (record { half = h; place = p; begun = b.begun })) cs ≡ Some to → walked (take at text ++ cs) ≡ Some to
+module _ (text : List ℕ) (at : ℕ) (b : AfterWalk) (is : walked (take at text) ≡ Some b) where
+  walked_on : (cs : List ℕ) (h : Half) (p : Place) (to : AfterWalk) → b.half ≡ h → b.place ≡ p → walk_from (Some (record { half = h; place = p; begun = b.begun })) cs ≡ Some to → walked (take at text ++ cs) ≡ Some to
   walked_on cs h p to eh ep on =
-      walk-append (Some start) (take at text) cs ∙ ap (λ (x : Option Behind). walk_from x cs) (is ∙ ap Some (same_behind b h p eh ep)) ∙ on
+      walk-append (Some start) (take at text) cs ∙ ap (λ (x : Option AfterWalk). walk_from x cs) (is ∙ ap Some (same_after b h p eh ep)) ∙ on
 
   body_closed : b.half ≡ halves.Gap → b.place ≡ Body → walked (take at text ++ codes "};") ≡ Some (record { half = halves.Gap; place = Start; begun = b.begun })
   body_closed eh ep = walked_on (codes "};") halves.Gap Body _ eh ep (closed_body b.begun)
@@ -140,14 +140,14 @@ front_of : (front : List ℕ) (is : List Instance) → WideSpells front is → I
 front_of front is w = ([], subst (λ (x : List ℕ). Wide x) (sym (append-nil front)) (is, w))
 
 -- either the counts show it, or a long identifier begins
-pub record LongName (text : List ℕ) (at : ℕ) (b : Behind) : Type 0 where
+pub record LongName (text : List ℕ) (at : ℕ) (b : AfterWalk) : Type 0 where
   pub begins : begins_identifier b.half b.place ≡ true
   pub name : List ℕ
   pub rest : List ℕ
   pub stands : Identifier (drop at text) name rest
   pub long : identifier_limit < length name
 
-module _ (text : List ℕ) (at : ℕ) (b : Behind) (is : walked (take at text) ≡ Some b) (n : Counts) (tells : Tells n b.begun) (t : State) (next : step b.half b.place (slice_index text at) ≡ Some t) where
+module _ (text : List ℕ) (at : ℕ) (b : AfterWalk) (is : walked (take at text) ≡ Some b) (n : Counts) (tells : Tells n b.begun) (t : State) (next : step b.half b.place (slice_index text at) ≡ Some t) where
   step_there : (h : Half) (p : Place) → b.half ≡ h → b.place ≡ p → step h p (slice_index text at) ≡ Some t
   step_there h p eh ep = subst (λ (x : Half). step x p (slice_index text at) ≡ Some t) eh (subst (λ (x : Place). step b.half x (slice_index text at) ≡ Some t) ep next)
 

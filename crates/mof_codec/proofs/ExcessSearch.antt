@@ -19,7 +19,7 @@ use Rattle.mof_codec.specs.declared.machine.state.Event.{Event}
 use Rattle.mof_codec.specs.declared.machine.state.Event.TheVariants as events
 use Rattle.mof_codec.specs.declared.machine.counts.Counts.{Counts}
 use Rattle.mof_codec.specs.Machine.{step}
-use Rattle.mof_codec.specs.Walked.{Behind, walked}
+use Rattle.mof_codec.specs.Walked.{AfterWalk, walked}
 use Rattle.mof_codec.specs.Events.{events_of}
 use Rattle.mof_codec.specs.Beginnings.{begins_identifier}
 use Rattle.mof_codec.specs.Counting.{Tells, WereWithin, counted, is_excess, name_length}
@@ -28,7 +28,7 @@ use Rattle.mof_codec.proofs.Walking.{walked-more}
 use Rattle.mof_codec.proofs.Fronts.{is_front, events_here}
 use Rattle.mof_codec.proofs.CountsFit.{declarations_counted, are_within, have_few_parts, tells-counted, within-counted}
 use Rattle.mof_codec.proofs.Excess.{counts_excess, long_excess, too_many_told, LongName}
-use Rattle.mof_codec.proofs.Stepping.{Stepped, stepped_none, stepped_more, behind_of, place_is, place_within, left_is, walked_there, char_is, stuck_fault, end_behind}
+use Rattle.mof_codec.proofs.Stepping.{Stepped, stepped_none, stepped_more, after_of, place_is, place_within, left_is, walked_there, char_is, stuck_fault, end_after}
 use Rattle.mof_values.specs.declared.limits.TheConstants.{MAX_IDENTIFIER}
 
 -- identifiers
@@ -112,8 +112,8 @@ module _ (chars : List ℕ) (x : ℕ) (rest : List ℕ) (state : State) (counts 
   at = length s.stepped.front
 
   module _ (next : State) (e : Some next ≡ step state.half state.place x) where
-    b : Behind
-    b = behind_of state s.stepped.begun
+    b : AfterWalk
+    b = after_of state s.stepped.begun
 
     step_at : step state.half state.place (slice_index chars at) ≡ Some next
     unfolding at
@@ -192,7 +192,7 @@ module _ (chars : List ℕ) (state : State) (counts : Counts) (s : Searched char
   end_none = λ end goes n t. s.before n end (omega (arith, too_many_before chars end n t, goes_within chars end goes)) t
 
   begun_is : (is : List Instance) → WideSpells chars is → s.stepped.begun ≡ events_of is []
-  begun_is is w = events_here chars (behind_of state s.stepped.begun) (end_behind chars state s.stepped) is w
+  begun_is is w = events_here chars (after_of state s.stepped.begun) (end_after chars state s.stepped) is w
 
   pub end_count : (is : List Instance) → WideSpells chars is → length is ≤ instances_limit
   end_count is w =
@@ -202,7 +202,7 @@ module _ (chars : List ℕ) (state : State) (counts : Counts) (s : Searched char
   pub end_parts : (is : List Instance) → WideSpells chars is → AllByRecursion HasFewParts is
   end_parts is w = (have_few_parts is [] (subst (λ (es : List Event). WereWithin es) (begun_is is w) s.within)).0
 
--- the same, where the next character is told by an equation
+-- the same, where the next character is given by an equation
 
 module _ (chars left rest : List ℕ) (state : State) (counts : Counts) (c : ℕ) where
   searched_here : left ≡ c ∷ rest → Searched chars left state counts → Searched chars (c ∷ rest) state counts

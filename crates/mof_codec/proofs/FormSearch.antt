@@ -16,7 +16,7 @@ use Rattle.mof_codec.specs.declared.machine.state.State.{State}
 use Rattle.mof_codec.specs.declared.refusing.scalar.Wanted.TheVariants.{Real}
 use Rattle.mof_codec.specs.Searching.{FirstOf, ScalarStands, StandsAfter, IsFirstForm, HasNoForm, BeginsWord, BeginsForm, pragma, qualifiers, class, qualifier, StandsForm, character, declared, begins_with}
 use Rattle.mof_codec.proofs.Standing.{scalar_begins, scalar_there, declaration_begins, begins_there}
-use Rattle.mof_codec.proofs.Stepping.{behind_of}
+use Rattle.mof_codec.proofs.Stepping.{after_of}
 
 -- places of a front
 
@@ -179,11 +179,11 @@ module _ (text : List ℕ) (fault : ℕ) (within : fault ≤ length text) where
   module _ (state : State) (s : StandsAfter (take fault text) state) (no_point_here : NoPoint) where
     -- a form that stands there is known by the state and the characters
     told : (at : ℕ) (what : Form) → OutOfProfile text fault at what → StandsForm state (drop fault text) what × (at ≡ fault)
-    told at what (profile.pragma b c) = (declared forms.Pragma (begins_there text fault (behind_of state s.begun) s.behind b) (pragma (is_indexed fault text 35 (omega arith) c)), refl)
-    told at what (profile.qualifiers b c) = (declared forms.Qualifiers (begins_there text fault (behind_of state s.begun) s.behind b) (qualifiers (is_indexed fault text 91 (omega arith) c)), refl)
-    told at what (profile.class b w) = (declared forms.Class (begins_there text fault (behind_of state s.begun) s.behind b) (class (stands_word text fault (codes "class") w)), refl)
-    told at what (profile.qualifier b w) = (declared forms.Qualifier (begins_there text fault (behind_of state s.begun) s.behind b) (qualifier (stands_word text fault (codes "qualifier") w)), refl)
-    told at what (profile.character b c) = (character (scalar_there text fault (behind_of state s.begun) s.behind b) (is_indexed fault text 39 (omega arith) c), refl)
+    told at what (profile.pragma b c) = (declared forms.Pragma (begins_there text fault (after_of state s.begun) s.after b) (pragma (is_indexed fault text 35 (omega arith) c)), refl)
+    told at what (profile.qualifiers b c) = (declared forms.Qualifiers (begins_there text fault (after_of state s.begun) s.after b) (qualifiers (is_indexed fault text 91 (omega arith) c)), refl)
+    told at what (profile.class b w) = (declared forms.Class (begins_there text fault (after_of state s.begun) s.after b) (class (stands_word text fault (codes "class") w)), refl)
+    told at what (profile.qualifier b w) = (declared forms.Qualifier (begins_there text fault (after_of state s.begun) s.after b) (qualifier (stands_word text fault (codes "qualifier") w)), refl)
+    told at what (profile.character b c) = (character (scalar_there text fault (after_of state s.begun) s.after b) (is_indexed fault text 39 (omega arith) c), refl)
     told at what (profile.real n le b r p) = absurd (no_point_here (is_indexed fault text 46 (omega arith) p))
 
     declared_stands : (form : Form) → BeginsDeclaration text fault → BeginsForm (drop fault text) form → OutOfProfile text fault fault form
@@ -193,8 +193,8 @@ module _ (text : List ℕ) (fault : ℕ) (within : fault ≤ length text) where
     declared_stands form b (qualifier w) = profile.qualifier b (word_stands text fault (codes "qualifier") w)
 
     stands : (form : Form) → StandsForm state (drop fault text) form → OutOfProfile text fault fault form
-    stands form (character b e) = profile.character (scalar_begins text fault (behind_of state s.begun) s.behind b) (index_of fault text 39 e)
-    stands form (declared f b e) = declared_stands f (declaration_begins text fault (behind_of state s.begun) s.behind b) e
+    stands form (character b e) = profile.character (scalar_begins text fault (after_of state s.begun) s.after b) (index_of fault text 39 e)
+    stands form (declared f b e) = declared_stands f (declaration_begins text fault (after_of state s.begun) s.after b) e
 
     pub here_found : (form : Form) → StandsForm state (drop fault text) form → IsFirstForm text fault fault form
     here_found form f = record { found = stands form f; first = λ other what o. omega (arith, (told other what o).1) }

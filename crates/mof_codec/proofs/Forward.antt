@@ -77,21 +77,21 @@ module _ (E : List Event → Type 0) (p : Place) (acc : List Event) where
   three_safe : (v : ℕ) → v < 16 → Safe 3 v
   three_safe v h = λ a la. (omega arith, λ b lb. (omega arith, λ c lc. (omega arith, tt)))
 
-  last_safe : (n v w : ℕ) (cs behind : List ℕ) → HexDigits n v cs w behind → Mid n v → is_surrogate w ≡ false → is_no_char v ≡ false
-  last_safe zero v w cs behind (full u r) m ok = end_safe u ok m
-  last_safe zero v w cs behind (ended n u r s) m ok = end_safe u ok m
-  last_safe (suc n) v w cs behind h m ok = small_safe v m
+  last_safe : (n v w : ℕ) (cs after : List ℕ) → HexDigits n v cs w after → Mid n v → is_surrogate w ≡ false → is_no_char v ≡ false
+  last_safe zero v w cs after (full u r) m ok = end_safe u ok m
+  last_safe zero v w cs after (ended n u r s) m ok = end_safe u ok m
+  last_safe (suc n) v w cs after h m ok = small_safe v m
 
   text_after : (n v : ℕ) (rest : List ℕ) → Stops (digit_of 16) rest → Runs E rest halves.Literal p acc → Runs E rest (halves.Digits n v) p acc
   text_after n v [] s g = g
   text_after zero v (c ∷ cs) s g = g
   text_after (suc n) v (c ∷ cs) s g = rw s g
 
-  digits_on : (n v w : ℕ) (cs behind : List ℕ) → HexDigits n v cs w behind → is_surrogate w ≡ false → Safe n v → Runs E behind halves.Literal p acc → Runs E cs (halves.Digits n v) p acc
-  digits_on n v w cs behind (full u []) ok safe g = g
-  digits_on n v w cs behind (full u (c ∷ r)) ok safe g = g
-  digits_on n v w cs behind (ended m u r s) ok safe g = text_after m u r s g
-  digits_on n v w cs behind (digit m u d x us r e h) ok safe g =
+  digits_on : (n v w : ℕ) (cs after : List ℕ) → HexDigits n v cs w after → is_surrogate w ≡ false → Safe n v → Runs E after halves.Literal p acc → Runs E cs (halves.Digits n v) p acc
+  digits_on n v w cs after (full u []) ok safe g = g
+  digits_on n v w cs after (full u (c ∷ r)) ok safe g = g
+  digits_on n v w cs after (ended m u r s) ok safe g = text_after m u r s g
+  digits_on n v w cs after (digit m u d x us r e h) ok safe g =
       let now = safe (digit_value d) (hex_small d e) in
       rw (e, last_safe m (u * 16 + digit_value d) x us r h now.0 ok) (digits_on m (u * 16 + digit_value d) x us r h ok now.1 g)
 
@@ -102,7 +102,7 @@ module _ (E : List Event → Type 0) (p : Place) (acc : List Event) where
   pub quoted_on : (cs text rest : List ℕ) → Quoted cs text rest → Runs E rest halves.Gap p acc → Runs E cs halves.Literal p acc
   quoted_on cs text rest (closed r) g = g
   quoted_on cs text rest (plain c us t r no_quote no_escape q) g = rw (no_quote, no_escape) (quoted_on us t r q g)
-  quoted_on cs text rest (escaped value us behind t r e q) g = escape_on us value behind e (quoted_on behind t r q g)
+  quoted_on cs text rest (escaped value us after t r e q) g = escape_on us value after e (quoted_on after t r q g)
 
   -- comments
 

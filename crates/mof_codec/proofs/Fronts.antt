@@ -20,7 +20,7 @@ use Rattle.std.proofs.lemmas.List.{take_more, take_all}
 use Rattle.mof_syntax.proofs.Bodies.{and_left, and_right}
 use Rattle.mof_syntax.proofs.FrontLaws.{IsSyntaxFault-from_next}
 use Rattle.mof_codec.specs.Machine.{letters, begin, step}
-use Rattle.mof_codec.specs.Walked.{tally, Behind, walked}
+use Rattle.mof_codec.specs.Walked.{tally, AfterWalk, walked}
 use Rattle.mof_codec.specs.Events.{events_of}
 use Rattle.mof_codec.proofs.Goes.{goes_left}
 use Rattle.mof_codec.proofs.Walks.{declarations_on}
@@ -149,20 +149,20 @@ finishes (halves.Integer numerals.Prefix) p acc cs r = r
 finishes (halves.Integer f) p acc cs r = r
 finishes h p acc cs r = r
 
-pub is_front : (front : List ℕ) (b : Behind) → walked front ≡ Some b → IsFront front
+pub is_front : (front : List ℕ) (b : AfterWalk) → walked front ≡ Some b → IsFront front
 is_front front b is =
     let rest = finish b.half (ending b.place) in
     (rest, runs_wide (front ++ rest) (goes_on (Ends Any) front rest b is (finishes b.half b.place b.begun (ending b.place) (ends b.place b.begun))))
 
 -- no text of the grammar goes on with this character
-pub no_front : (front : List ℕ) (c : ℕ) (b : Behind) → walked front ≡ Some b → step b.half b.place c ≡ None → IsFront (front ++ c ∷ []) → ⊥
+pub no_front : (front : List ℕ) (c : ℕ) (b : AfterWalk) → walked front ≡ Some b → step b.half b.place c ≡ None → IsFront (front ++ c ∷ []) → ⊥
 no_front front c b is stuck begins =
     let runs = wide_runs ((front ++ c ∷ []) ++ begins.0) begins.1 in
     let here = subst (λ (x : List ℕ). Runs Any x halves.Gap Start []) (append_assoc front (c ∷ []) begins.0) runs in
     subst (λ (x : Option State). Next x (After Any begins.0 b.begun)) stuck (only_so (Ends Any) front (c ∷ begins.0) b is here)
 
 -- where the machine is stuck, the text goes wrong
-pub fault_here : (text : List ℕ) (at : ℕ) (b : Behind) → at < length text → walked (take at text) ≡ Some b → step b.half b.place (slice_index text at) ≡ None → IsSyntaxFault text at
+pub fault_here : (text : List ℕ) (at : ℕ) (b : AfterWalk) → at < length text → walked (take at text) ≡ Some b → step b.half b.place (slice_index text at) ≡ None → IsSyntaxFault text at
 fault_here text at b lt is stuck =
     let none : IsFront (take (at + 1) text) → ⊥ = λ f. no_front (take at text) (slice_index text at) b is stuck (subst (λ (x : List ℕ). IsFront x) (take_more text at 0 lt) f) in
     IsSyntaxFault-from_next text at
@@ -171,13 +171,13 @@ fault_here text at b lt is stuck =
 
 -- at the text's end
 
-pub whole_here : (text : List ℕ) (b : Behind) → walked text ≡ Some b → Whole b.half b.place → Wide text
+pub whole_here : (text : List ℕ) (b : AfterWalk) → walked text ≡ Some b → Whole b.half b.place → Wide text
 whole_here text b is w = runs_wide text (subst (λ (x : List ℕ). Runs Any x halves.Gap Start []) (append-nil text) (goes_on (Ends Any) text [] b is (w, tt)))
 
-pub whole_there : (text : List ℕ) (b : Behind) → walked text ≡ Some b → Wide text → Whole b.half b.place
+pub whole_there : (text : List ℕ) (b : AfterWalk) → walked text ≡ Some b → Wide text → Whole b.half b.place
 whole_there text b is w = (only_so (Ends Any) text [] b is (subst (λ (x : List ℕ). Runs Any x halves.Gap Start []) (sym (append-nil text)) (wide_runs text w))).0
 
-pub fault_end : (text : List ℕ) (b : Behind) → walked text ≡ Some b → (Whole b.half b.place → ⊥) → IsSyntaxFault text (length text)
+pub fault_end : (text : List ℕ) (b : AfterWalk) → walked text ≡ Some b → (Whole b.half b.place → ⊥) → IsSyntaxFault text (length text)
 fault_end text b is no_end = IsSyntaxFault-from_next text (length text)
     (λ w. no_end (whole_there text b is w))
     (omega arith)
@@ -185,6 +185,6 @@ fault_end text b is no_end = IsSyntaxFault-from_next text (length text)
     (λ lt. absurd (omega (arith, lt)))
 
 -- what is begun in the instances is what the machine was given
-pub events_here : (text : List ℕ) (b : Behind) → walked text ≡ Some b → (is : List Instance) → WideSpells text is → b.begun ≡ events_of is []
+pub events_here : (text : List ℕ) (b : AfterWalk) → walked text ≡ Some b → (is : List Instance) → WideSpells text is → b.begun ≡ events_of is []
 events_here text b e is w =
     (only_so (Ends (Is (events_of is []))) text [] b e (subst (λ (x : List ℕ). Runs (Is (events_of is [])) x halves.Gap Start []) (sym (append-nil text)) (spells_runs text is w))).1

@@ -62,13 +62,13 @@ Goes _ _ = ⊥
 -- and such a walk is what the rules allow: what is left of the rules at each place
 
 abbrev BodyLeft : List Lexeme → Type 0
-BodyLeft ts = (ps : List Property) × (behind : List Lexeme) × (is : List Instance) × ValueInitializers ts ps (Semicolon ∷ behind) × InstanceDeclarations behind is
+BodyLeft ts = (ps : List Property) × (rest : List Lexeme) × (is : List Instance) × ValueInitializers ts ps (Semicolon ∷ rest) × InstanceDeclarations rest is
 
 abbrev ClassLeft : List Lexeme → Type 0
 ClassLeft ts = (a : Option (List ℕ)) × (body : List Lexeme) × AliasClause ts a (LeftBrace ∷ body) × BodyLeft body
 
 abbrev ItemsLeft : List Lexeme → Type 0
-ItemsLeft ts = (s : Scalar) × (mid : List Lexeme) × (ss : List Scalar) × (behind : List Lexeme) × ConstantValue ts s mid × Elements mid ss (Semicolon ∷ behind) × BodyLeft behind
+ItemsLeft ts = (s : Scalar) × (mid : List Lexeme) × (ss : List Scalar) × (rest : List Lexeme) × ConstantValue ts s mid × Elements mid ss (Semicolon ∷ rest) × BodyLeft rest
 
 abbrev Left : Place → List Lexeme → Type 0
 Left Start ts = (is : List Instance) × InstanceDeclarations ts is
@@ -78,15 +78,15 @@ Left AfterClass ts = ClassLeft ts
 Left AfterAs ts = (name : List ℕ) × (body : List Lexeme) × (ts ≡ AliasName name ∷ LeftBrace ∷ body) × BodyLeft body
 Left AfterAlias ts = (body : List Lexeme) × (ts ≡ LeftBrace ∷ body) × BodyLeft body
 Left Body ts = BodyLeft ts
-Left AfterBody ts = (behind : List Lexeme) × (is : List Instance) × (ts ≡ Semicolon ∷ behind) × InstanceDeclarations behind is
-Left AfterName ts = (us : List Lexeme) × (v : Value) × (behind : List Lexeme) × (ts ≡ EqualsSign ∷ us) × Initializer us v (Semicolon ∷ behind) × BodyLeft behind
-Left AfterEquals ts = (v : Value) × (behind : List Lexeme) × Initializer ts v (Semicolon ∷ behind) × BodyLeft behind
-Left AfterStrings ts = (t : List ℕ) → (text : List ℕ) × (behind : List Lexeme) × StringValue (Literal t ∷ ts) text (Semicolon ∷ behind) × BodyLeft behind
-Left AfterValue ts = (behind : List Lexeme) × (ts ≡ Semicolon ∷ behind) × BodyLeft behind
-Left InArray ts = (v : Value) × (behind : List Lexeme) × Initializer (LeftBrace ∷ ts) v (Semicolon ∷ behind) × BodyLeft behind
+Left AfterBody ts = (rest : List Lexeme) × (is : List Instance) × (ts ≡ Semicolon ∷ rest) × InstanceDeclarations rest is
+Left AfterName ts = (us : List Lexeme) × (v : Value) × (rest : List Lexeme) × (ts ≡ EqualsSign ∷ us) × Initializer us v (Semicolon ∷ rest) × BodyLeft rest
+Left AfterEquals ts = (v : Value) × (rest : List Lexeme) × Initializer ts v (Semicolon ∷ rest) × BodyLeft rest
+Left AfterStrings ts = (t : List ℕ) → (text : List ℕ) × (rest : List Lexeme) × StringValue (Literal t ∷ ts) text (Semicolon ∷ rest) × BodyLeft rest
+Left AfterValue ts = (rest : List Lexeme) × (ts ≡ Semicolon ∷ rest) × BodyLeft rest
+Left InArray ts = (v : Value) × (rest : List Lexeme) × Initializer (LeftBrace ∷ ts) v (Semicolon ∷ rest) × BodyLeft rest
 Left AfterComma ts = ItemsLeft ts
-Left AfterElementStrings ts = (t : List ℕ) → (text : List ℕ) × (mid : List Lexeme) × (ss : List Scalar) × (behind : List Lexeme) × StringValue (Literal t ∷ ts) text mid × Elements mid ss (Semicolon ∷ behind) × BodyLeft behind
-Left AfterElement ts = (ss : List Scalar) × (behind : List Lexeme) × Elements ts ss (Semicolon ∷ behind) × BodyLeft behind
+Left AfterElementStrings ts = (t : List ℕ) → (text : List ℕ) × (mid : List Lexeme) × (ss : List Scalar) × (rest : List Lexeme) × StringValue (Literal t ∷ ts) text mid × Elements mid ss (Semicolon ∷ rest) × BodyLeft rest
+Left AfterElement ts = (ss : List Scalar) × (rest : List Lexeme) × Elements ts ss (Semicolon ∷ rest) × BodyLeft rest
 
 one_left : (ts us : List Lexeme) (s : Scalar) → ConstantValue ts s us → Left AfterValue us → Left AfterEquals ts
 one_left ts us s is h = (One s, h.0, constant ts (Semicolon ∷ h.0) s (subst (λ (x : List Lexeme). ConstantValue ts s x) h.1 is), h.2)

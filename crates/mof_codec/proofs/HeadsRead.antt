@@ -32,18 +32,18 @@ module _ (cs : List ℕ) where
   lacks_instance absent us ts class n l h f = absent us (Word h.1 ∷ Word class ∷ ts) l (h.0, h.2, h.3)
 
   module _ (mid : List ℕ) (a : Begins (IsKeyword (codes "instance")) cs mid) where
-    behind_instance : (us ts : List Lexeme) (class : List ℕ) → Lexes cs us → IsHead us class ts → (o : List ℕ) × Lexes mid (Word o ∷ Word class ∷ ts) × SameName o (codes "of")
-    behind_instance us ts class l h =
+    after_instance : (us ts : List Lexeme) (class : List ℕ) → Lexes cs us → IsHead us class ts → (o : List ℕ) × Lexes mid (Word o ∷ Word class ∷ ts) × SameName o (codes "of")
+    after_instance us ts class l h =
         let x = a.only us l in
         (h.1, subst (λ (xs : List Lexeme). Lexes mid xs) (tail_same _ _ x.0 (Word h.1 ∷ Word class ∷ ts) (sym x.2.1 ∙ h.2)) x.1, h.4)
 
     pub lacks_of : BeginsNo (IsKeyword (codes "of")) mid → Lacks IsHead IsShortName cs
-    lacks_of absent us ts class n l h f = let x = behind_instance us ts class l h in absent (Word x.0 ∷ Word class ∷ ts) (Word class ∷ ts) x.1 (x.0, refl, x.2)
+    lacks_of absent us ts class n l h f = let x = after_instance us ts class l h in absent (Word x.0 ∷ Word class ∷ ts) (Word class ∷ ts) x.1 (x.0, refl, x.2)
 
     module _ (last : List ℕ) (b : Begins (IsKeyword (codes "of")) mid last) where
       pub lacks_class : Lacks IsWord IsShortName last → Lacks IsHead IsShortName cs
       lacks_class lacks us ts class n l h f =
-          let x = behind_instance us ts class l h in
+          let x = after_instance us ts class l h in
           let y = b.only (Word x.0 ∷ Word class ∷ ts) x.1 in
           lacks y.0 ts class n y.1 (sym (tail_same _ _ (Word class ∷ ts) y.0 y.2.1)) f
 
@@ -104,33 +104,33 @@ abbrev Aliased : List ℕ → List Lexeme → List Lexeme → Type 0
 Aliased name us ts = Joined (IsKeyword (codes "as")) (λ xs ys. Only IsAlias xs name ys) us ts
 
 module _ (cs : List ℕ) (no_brace : BeginsNo (IsMark marks.LeftBrace) cs) where
-  behind_brace : (us ts : List Lexeme) (alias : Option (List ℕ)) → Lexes cs us → NamingCase us alias ts
+  after_brace : (us ts : List Lexeme) (alias : Option (List ℕ)) → Lexes cs us → NamingCase us alias ts
       → (w : List ℕ) × (name : List ℕ) × (us ≡ Word w ∷ AliasName name ∷ LeftBrace ∷ ts) × SameName w (codes "as") × (alias ≡ Some name)
-  behind_brace us ts alias l (at_brace e f) = absurd (no_brace us ts l e)
-  behind_brace us ts alias l (at_as w name e same f) = (w, name, e, same, f)
+  after_brace us ts alias l (at_brace e f) = absurd (no_brace us ts l e)
+  after_brace us ts alias l (at_as w name e same f) = (w, name, e, same, f)
 
   pub lacks_as : BeginsNo (IsKeyword (codes "as")) cs → Lacks IsNaming NamingFits cs
   lacks_as absent us ts alias n l h f =
-      let x = behind_brace us ts alias l (naming_case us alias ts h) in
+      let x = after_brace us ts alias l (naming_case us alias ts h) in
       absent us (AliasName x.1 ∷ LeftBrace ∷ ts) l (x.0, x.2, x.3)
 
   module _ (mid : List ℕ) (a : Begins (IsKeyword (codes "as")) cs mid) where
-    behind_as : (us ts : List Lexeme) (alias : Option (List ℕ)) → Lexes cs us → IsNaming us alias ts
+    after_as : (us ts : List Lexeme) (alias : Option (List ℕ)) → Lexes cs us → IsNaming us alias ts
         → (name : List ℕ) × Lexes mid (AliasName name ∷ LeftBrace ∷ ts) × (alias ≡ Some name)
-    behind_as us ts alias l h =
-        let x = behind_brace us ts alias l (naming_case us alias ts h) in
+    after_as us ts alias l h =
+        let x = after_brace us ts alias l (naming_case us alias ts h) in
         let y = a.only us l in
         (x.1, subst (λ (xs : List Lexeme). Lexes mid xs) (tail_same _ _ y.0 (AliasName x.1 ∷ LeftBrace ∷ ts) (sym y.2.1 ∙ x.2)) y.1, x.4)
 
     pub lacks_alias_name : Lacks IsAlias IsShortName mid → Lacks IsNaming NamingFits cs
     lacks_alias_name lacks us ts alias n l h f =
-        let x = behind_as us ts alias l h in
+        let x = after_as us ts alias l h in
         lacks (AliasName x.0 ∷ LeftBrace ∷ ts) (LeftBrace ∷ ts) x.0 tt x.1 refl (subst NamingFits x.2 f)
 
     module _ (name left : List ℕ) (r : BeginsWith IsAlias IsShortName mid name left) where
       pub lacks_brace : BeginsNo (IsMark marks.LeftBrace) left → Lacks IsNaming NamingFits cs
       lacks_brace absent us ts alias n l h f =
-          let x = behind_as us ts alias l h in
+          let x = after_as us ts alias l h in
           let y = r.begins.only (AliasName x.0 ∷ LeftBrace ∷ ts) x.1 in
           absent y.0 ts y.1 (sym (y.2.only x.0 (LeftBrace ∷ ts) tt refl).1)
 

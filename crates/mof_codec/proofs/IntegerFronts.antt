@@ -91,13 +91,13 @@ first_excess cs e =
     let v = integer_longer e.literal e.value [] e.rest (token_integer e.literal e.value [] e.token).0 in
     subst (λ (xs : List ℕ). IsToken xs (Number e.value) e.rest) (sym e.split) (integer (e.literal ++ e.rest) e.value e.rest v e.longest)
 
-module _ (cs digits : List ℕ) (behind : digits ≡ sign_rest cs) (negative : Bool) (sign : negative ≡ is_negative cs) (capped : ℕ) (cap : IsCapped (magnitude_value digits) capped) where
+module _ (cs digits : List ℕ) (after : digits ≡ sign_rest cs) (negative : Bool) (sign : negative ≡ is_negative cs) (capped : ℕ) (cap : IsCapped (magnitude_value digits) capped) where
   value_there : (n : ℕ) (rest : List ℕ) → Magnitude (sign_rest cs) n rest → Stops is_next rest → magnitude_value digits ≡ n
-  value_there n rest m stops = ap (λ (xs : List ℕ). magnitude_value xs) behind ∙ magnitude_is (sign_rest cs) n rest m stops
+  value_there n rest m stops = ap (λ (xs : List ℕ). magnitude_value xs) after ∙ magnitude_is (sign_rest cs) n rest m stops
 
   pub begins_excess : (rest : List ℕ) → Some rest ≡ magnitude_rest digits → (IsInRange (signed negative capped) → ⊥) → BeginsExcessInteger cs
   begins_excess rest e out =
-      let m = read-magnitude (sign_rest cs) rest (sym (e ∙ ap magnitude_rest behind)) in
+      let m = read-magnitude (sign_rest cs) rest (sym (e ∙ ap magnitude_rest after)) in
       let t = token_integer cs (signed (is_negative cs) m.0) rest (signed_number cs m.0 rest m.1 m.2) in
       let outside_it : IsInRange (signed (is_negative cs) m.0) → ⊥ = λ r.
       outside negative (magnitude_value digits) capped cap out
@@ -107,7 +107,7 @@ module _ (cs digits : List ℕ) (behind : digits ≡ sign_rest cs) (negative : B
   pub excess_reads : (e : BeginsExcessInteger cs) → magnitude_rest digits ≡ Some e.rest
   excess_reads e =
       let m = number_signed cs e.value e.rest (first_excess cs e) in
-      ap magnitude_rest behind ∙ magnitude-read (sign_rest cs) m.0 e.rest m.1 m.2
+      ap magnitude_rest after ∙ magnitude-read (sign_rest cs) m.0 e.rest m.1 m.2
 
   pub excess_outside : BeginsExcessInteger cs → IsInRange (signed negative capped) → ⊥
   excess_outside e r =
@@ -129,10 +129,10 @@ no_some : (rest : List ℕ) → None ≡ Some rest → ⊥
 no_some rest e = cc
 
 pub told_none : (cs digits : List ℕ) → digits ≡ sign_rest cs → None ≡ magnitude_rest digits → (false ≡ true → BeginsExcessInteger cs) × (BeginsExcessInteger cs → false ≡ true)
-told_none cs digits behind e = (
+told_none cs digits after e = (
   λ f. absurd (differ f),
   λ b. let m = number_signed cs b.value b.rest (first_excess cs b) in
-      absurd (no_some b.rest (e ∙ ap magnitude_rest behind ∙ magnitude-read (sign_rest cs) m.0 b.rest m.1 m.2)),
+      absurd (no_some b.rest (e ∙ ap magnitude_rest after ∙ magnitude-read (sign_rest cs) m.0 b.rest m.1 m.2)),
 )
   where
     differ : false ≡ true → ⊥

@@ -86,12 +86,12 @@ only_number us z ts e = record { holds = e; only = λ b vs n f. same b vs f }
     same : (b : ℤ) (vs : List Lexeme) → us ≡ Number b ∷ vs → (b ≡ z) × (vs ≡ ts)
     same b vs f = (cc, cc)
 
-module _ (cs left : List ℕ) (s : Separators cs left) (digits : List ℕ) (behind : digits ≡ sign_rest left) where
+module _ (cs left : List ℕ) (s : Separators cs left) (digits : List ℕ) (after : digits ≡ sign_rest left) where
   read_there : (rest : List ℕ) → Some rest ≡ magnitude_rest digits → (n : ℕ) × Magnitude (sign_rest left) n rest × Stops is_next rest
-  read_there rest e = read-magnitude (sign_rest left) rest (sym (e ∙ ap magnitude_rest behind))
+  read_there rest e = read-magnitude (sign_rest left) rest (sym (e ∙ ap magnitude_rest after))
 
   value_there : (n : ℕ) (rest : List ℕ) → Magnitude (sign_rest left) n rest → Stops is_next rest → magnitude_value digits ≡ n
-  value_there n rest m stops = ap (λ (xs : List ℕ). magnitude_value xs) behind ∙ magnitude_is (sign_rest left) n rest m stops
+  value_there n rest m stops = ap (λ (xs : List ℕ). magnitude_value xs) after ∙ magnitude_is (sign_rest left) n rest m stops
 
   pub reads_integer : (rest : List ℕ) (negative : Bool) (capped : ℕ) (z : ℤ) → negative ≡ is_negative left → Some rest ≡ magnitude_rest digits → IsCapped (magnitude_value digits) capped
       → z ≡ signed negative capped → IsInRange (signed negative capped) → BeginsWith IsNumber IsInRange cs z rest
@@ -110,7 +110,7 @@ module _ (cs left : List ℕ) (s : Separators cs left) (digits : List ℕ) (behi
     lacks_integer e us ts z n l is fits =
         let f = first_of cs left us (Number z) ts s stops l is in
         let m = number_signed left z f.0 f.1 in
-        apart f.0 (sym e ∙ ap magnitude_rest behind ∙ magnitude-read (sign_rest left) m.0 f.0 m.1 m.2)
+        apart f.0 (sym e ∙ ap magnitude_rest after ∙ magnitude-read (sign_rest left) m.0 f.0 m.1 m.2)
       where
         apart : (xs : List ℕ) → None ≡ Some xs → ⊥
         apart xs h = cc

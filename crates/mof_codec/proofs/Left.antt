@@ -82,7 +82,7 @@ module _ (T : Lexeme → Type 0) where
   TextLeft p cs = (text : List ℕ) × (rest : List ℕ) × Quoted cs text rest × From T p rest
 
   abbrev pub DigitsLeft : ℕ → ℕ → Place → List ℕ → Type 0
-  DigitsLeft n v p cs = (w : ℕ) × (behind : List ℕ) × HexDigits n v cs w behind × (is_surrogate w ≡ false) × TextLeft p behind
+  DigitsLeft n v p cs = (w : ℕ) × (after : List ℕ) × HexDigits n v cs w after × (is_surrogate w ≡ false) × TextLeft p after
 
   -- what completes a text from a state on
   abbrev pub Left : Half → Place → List ℕ → Type 0

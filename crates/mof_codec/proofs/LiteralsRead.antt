@@ -24,12 +24,12 @@ pub record QuotedSoFar (before all done left : List ℕ) : Type 0 where
   pub goes : GoesOnBy all text left
 
 pub goes_on_at_start : (cs : List ℕ) → GoesOnBy cs [] cs
-goes_on_at_start cs = record { on = λ more behind q. q; only = λ whole behind q. (whole, q) }
+goes_on_at_start cs = record { on = λ more after q. q; only = λ whole after q. (whole, q) }
 
 pub goes_on_further : (cs text left more rest : List ℕ) → GoesOnBy cs text left → GoesOnBy left more rest → GoesOnBy cs (text ++ more) rest
 goes_on_further cs text left more rest first then = record {
-  on = λ others behind q. subst (λ (xs : List ℕ). Quoted cs xs behind) (sym (append_assoc text more others)) (first.on (more ++ others) behind (then.on others behind q));
-  only = λ whole behind q. let x = first.only whole behind q in then.only x.0 behind x.1;
+  on = λ others after q. subst (λ (xs : List ℕ). Quoted cs xs after) (sym (append_assoc text more others)) (first.on (more ++ others) after (then.on others after q));
+  only = λ whole after q. let x = first.only whole after q in then.only x.0 after x.1;
 }
 
 pub quoted_next : (before all done left text rest : List ℕ) → QuotedSoFar before all done left → GoesOnBy left text rest → QuotedSoFar before all (done ++ text) rest
@@ -72,9 +72,9 @@ pub plain_front : (all front left : List ℕ) → IsPlainTo all left → all ≡
 plain_front all front left p split =
     subst (λ (xs : List ℕ). GoesOnBy all xs left) (append_cancel_right p.front front left (sym p.split ∙ split)) p.goes
 
-pub shorter_behind : (left front behind rest : List ℕ) → left ≡ front ++ behind → length rest < length behind → length rest < length left
-shorter_behind left front behind rest split less =
-    let long : length left ≡ length front + length behind = ap length split ∙ length-append front behind in
+pub shorter_after : (left front after rest : List ℕ) → left ≡ front ++ after → length rest < length after → length rest < length left
+shorter_after left front after rest split less =
+    let long : length left ≡ length front + length after = ap length split ∙ length-append front after in
     omega arith
 
 -- literals as tokens
@@ -89,24 +89,24 @@ no_literal_first cs left s stops e (Literal text ∷ ts) l =
     quoted_of xs text rest (literal us t r q) = (us, refl)
 no_literal_first cs left s stops e (t ∷ ts) l = tt
 
-pub begins_literal : (cs behind text rest : List ℕ) → BeginsQuote cs behind → Quoted behind text rest → Begins (λ us ts. us ≡ Literal text ∷ ts) cs rest
-begins_literal cs behind text rest b q =
-    begins_token cs b.left (Literal text) rest b.separators (subst (λ (xs : List ℕ). IsToken xs (Literal text) rest) (sym b.split) (literal behind text rest q))
+pub begins_literal : (cs after text rest : List ℕ) → BeginsQuote cs after → Quoted after text rest → Begins (λ us ts. us ≡ Literal text ∷ ts) cs rest
+begins_literal cs after text rest b q =
+    begins_token cs b.left (Literal text) rest b.separators (subst (λ (xs : List ℕ). IsToken xs (Literal text) rest) (sym b.split) (literal after text rest q))
 
 -- an open quote is in no text
 
-open_quote : (cs behind : List ℕ) (us : List Lexeme) → cs ≡ quote ∷ behind → NoQuoted behind → Lexes cs us → ⊥
-open_quote cs behind us e absent end = absurd cc
-open_quote cs behind us e absent (separator ds r vs s l) = apart r (separator-read (quote ∷ behind) r (subst (λ (xs : List ℕ). Separator xs r) e s))
+open_quote : (cs rest : List ℕ) (us : List Lexeme) → cs ≡ quote ∷ rest → NoQuoted rest → Lexes cs us → ⊥
+open_quote cs rest us e absent end = absurd cc
+open_quote cs rest us e absent (separator ds r vs s l) = apart r (separator-read (quote ∷ rest) r (subst (λ (xs : List ℕ). Separator xs r) e s))
   where
     apart : (xs : List ℕ) → None ≡ Some xs → ⊥
     apart xs h = cc
-open_quote cs behind us e absent (token ds t r vs i l) =
-    let q : StandsQuoted behind r = token_stands quote behind t r (subst (λ (xs : List ℕ). IsToken xs t r) e i) in
+open_quote cs rest us e absent (token ds t r vs i l) =
+    let q : StandsQuoted rest r = token_stands quote rest t r (subst (λ (xs : List ℕ). IsToken xs t r) e i) in
     absent q.0 r q.1
 
-pub no_tokens : (cs behind : List ℕ) (us : List Lexeme) → BeginsQuote cs behind → NoQuoted behind → Lexes cs us → ⊥
-no_tokens cs behind us b absent l = open_quote b.left behind us b.split absent (skip_only cs b.left us b.separators l)
+pub no_tokens : (cs rest : List ℕ) (us : List Lexeme) → BeginsQuote cs rest → NoQuoted rest → Lexes cs us → ⊥
+no_tokens cs rest us b absent l = open_quote b.left rest us b.split absent (skip_only cs b.left us b.separators l)
 
 -- literals, as far as they were read
 
@@ -133,19 +133,19 @@ strings_more us done vs text ts s e = record {
 added_to_none : (before after text : List ℕ) → before ≡ [] → after ≡ before ++ text → after ≡ text
 added_to_none before after text e f = f ∙ ap (λ (xs : List ℕ). xs ++ text) e
 
-pub strings_start : (cs behind before after rest : List ℕ) → BeginsQuote cs behind → before ≡ [] → AddsQuoted before behind after rest → StringsSoFar cs after rest
+pub strings_start : (cs remaining before after rest : List ℕ) → BeginsQuote cs remaining → before ≡ [] → AddsQuoted before remaining after rest → StringsSoFar cs after rest
 unfolding StringsSoFar
-strings_start cs behind before after rest b e a =
+strings_start cs remaining before after rest b e a =
     subst (λ (xs : List ℕ). Begins (λ us ts. StringsOn us xs ts) cs rest) (sym (added_to_none before after a.0 e a.2))
-    (begins_as (λ us ts. us ≡ Literal a.0 ∷ ts) (λ us ts. StringsOn us a.0 ts) cs rest (λ us ts h. strings_first us a.0 ts h) (begins_literal cs behind a.0 rest b a.1))
+    (begins_as (λ us ts. us ≡ Literal a.0 ∷ ts) (λ us ts. StringsOn us a.0 ts) cs rest (λ us ts h. strings_first us a.0 ts h) (begins_literal cs remaining a.0 rest b a.1))
 
-pub strings_next : (cs done left behind after rest : List ℕ) → StringsSoFar cs done left → BeginsQuote left behind → AddsQuoted done behind after rest → StringsSoFar cs after rest
+pub strings_next : (cs done left remaining after rest : List ℕ) → StringsSoFar cs done left → BeginsQuote left remaining → AddsQuoted done remaining after rest → StringsSoFar cs after rest
 unfolding StringsSoFar
-strings_next cs done left behind after rest s b a =
+strings_next cs done left remaining after rest s b a =
     subst (λ (xs : List ℕ). Begins (λ us ts. StringsOn us xs ts) cs rest) (sym a.2)
     (begins_as (Joined (λ us ts. StringsOn us done ts) (λ us ts. us ≡ Literal a.0 ∷ ts)) (λ us ts. StringsOn us (done ++ a.0) ts) cs rest
     (λ us ts j. strings_more us done j.0 a.0 ts j.1 j.2)
-    (begins_join (λ us ts. StringsOn us done ts) (λ us ts. us ≡ Literal a.0 ∷ ts) cs left rest s (begins_literal left behind a.0 rest b a.1)))
+    (begins_join (λ us ts. StringsOn us done ts) (λ us ts. us ≡ Literal a.0 ∷ ts) cs left rest s (begins_literal left remaining a.0 rest b a.1)))
 
 only_string : (us : List Lexeme) (text : List ℕ) (ts : List Lexeme) → NoLiteral ts → StringValue us text ts → Only StringValue us text ts
 only_string us text ts n s = record { holds = s; only = λ b vs m t. string_same us b vs text ts m n t s }
@@ -157,16 +157,16 @@ reads_string cs done left s absent = record {
   begins = begins_at (λ us ts. StringsOn us done ts) (λ us ts. Only StringValue us done ts) cs left (λ us ts l x. only_string us done ts (absent ts l) x.last) s;
 }
 
-pub lacks_open : (cs behind : List ℕ) → BeginsQuote cs behind → NoQuoted behind → Lacks StringValue AnyText cs
-lacks_open cs behind b absent us ts text n l s fits = no_tokens cs behind us b absent l
+pub lacks_open : (cs rest : List ℕ) → BeginsQuote cs rest → NoQuoted rest → Lacks StringValue AnyText cs
+lacks_open cs rest b absent us ts text n l s fits = no_tokens cs rest us b absent l
 
-pub lacks_open_behind : (cs done left behind : List ℕ) → StringsSoFar cs done left → BeginsQuote left behind → NoQuoted behind → Lacks StringValue AnyText cs
+pub lacks_open_after : (cs done left rest : List ℕ) → StringsSoFar cs done left → BeginsQuote left rest → NoQuoted rest → Lacks StringValue AnyText cs
 unfolding StringsSoFar
-lacks_open_behind cs done left behind so_far b absent us ts text n l s fits = let x = so_far.only us l in no_tokens left behind x.0 b absent x.1
+lacks_open_after cs done left rest so_far b absent us ts text n l s fits = let x = so_far.only us l in no_tokens left rest x.0 b absent x.1
 
-pub string_shorter : (done left behind after rest : List ℕ) → BeginsQuote left behind → AddsQuoted done behind after rest → length rest < length left
-string_shorter done left behind after rest b a =
-    let there : IsToken b.left (Literal a.0) rest = subst (λ (xs : List ℕ). IsToken xs (Literal a.0) rest) (sym b.split) (literal behind a.0 rest a.1) in
+pub string_shorter : (done left remaining after rest : List ℕ) → BeginsQuote left remaining → AddsQuoted done remaining after rest → length rest < length left
+string_shorter done left remaining after rest b a =
+    let there : IsToken b.left (Literal a.0) rest = subst (λ (xs : List ℕ). IsToken xs (Literal a.0) rest) (sym b.split) (literal remaining a.0 rest a.1) in
     let less : length rest < length b.left = EndsWithin-length b.left rest (token_ends b.left (Literal a.0) rest there) in
     let most : length b.left ≤ length left = EndsWith-length left b.left (separators_end left b.left b.separators) in
     omega arith

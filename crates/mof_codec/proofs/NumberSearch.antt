@@ -100,14 +100,14 @@ module _ (text : List ℕ) (end : ℕ) (within : end ≤ length text) where
           token = n.literal;
           longest = elim n.longest [
             | inl same ↦ subst (λ (xs : List ℕ). Stops is_next xs) (sym (at_end at n.to rises same)) tt
-            | inr stops ↦ subst (λ (xs : List ℕ). Stops is_next xs) (sym (behind at n.to rises)) (stops_take is_next (end - at - (n.to - at)) (drop n.to text) stops)
+            | inr stops ↦ subst (λ (xs : List ℕ). Stops is_next xs) (sym (after at n.to rises)) (stops_take is_next (end - at - (n.to - at)) (drop n.to text) stops)
           ];
           out_of_range = n.out_of_range;
         };
       }
     where
-      behind : (at to : ℕ) → at < to → drop (to - at) (drop at (take end text)) ≡ take (end - at - (to - at)) (drop to text)
-      behind at to lt =
+      after : (at to : ℕ) → at < to → drop (to - at) (drop at (take end text)) ≡ take (end - at - (to - at)) (drop to text)
+      after at to lt =
           ap (λ (xs : List ℕ). drop (to - at) xs) (drop_take at end text) ∙ drop_take (to - at) (end - at) (drop at text)
           ∙ ap (λ (xs : List ℕ). take (end - at - (to - at)) xs) (drop-drop (to - at) at text ∙ ap (λ (k : ℕ). drop k text) (sum at to lt))
         where
@@ -116,7 +116,7 @@ module _ (text : List ℕ) (end : ℕ) (within : end ≤ length text) where
 
       at_end : (at to : ℕ) → at < to → to ≡ end → drop (to - at) (drop at (take end text)) ≡ []
       at_end at to lt same =
-          behind at to lt ∙ ap (λ (k : ℕ). take k (drop to text)) (none at to same)
+          after at to lt ∙ ap (λ (k : ℕ). take k (drop to text)) (none at to same)
         where
           none : (at to : ℕ) → to ≡ end → end - at - (to - at) ≡ 0
           none at to same = omega (arith, same)

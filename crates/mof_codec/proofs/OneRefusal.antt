@@ -124,21 +124,21 @@ text_refused bytes (TooMany at) fits text chars some r = subst (λ (t : List ℕ
 text_refused bytes (Syntax at) fits text chars some r = subst (λ (t : List ℕ). Wins t (Syntax at)) (one_text bytes r.text text r.decoded chars) r.wins
 
 -- where a text is refused for its characters, no other refusal is that of its bytes
-behind_text : (bytes : List ℕ) (one other : MofError) → RefusesText bytes one → other ≢ Memory → Refuses bytes other → one ≡ other
-behind_text bytes one other r some s = wins_once r.text one other r.wins (text_refused bytes other r.within r.text r.decoded some s)
+after_text : (bytes : List ℕ) (one other : MofError) → RefusesText bytes one → other ≢ Memory → Refuses bytes other → one ≡ other
+after_text bytes one other r some s = wins_once r.text one other r.wins (text_refused bytes other r.within r.text r.decoded some s)
 
 -- of the refusals of bytes one wins
 pub refuses_once : (bytes : List ℕ) (one other : MofError) → one ≢ Memory → other ≢ Memory → Refuses bytes one → Refuses bytes other → one ≡ other
 refuses_once bytes Memory other m n a b = absurd (m refl)
 refuses_once bytes one Memory m n a b = absurd (n refl)
-refuses_once bytes (OutOfProfile at what) other m n a b = behind_text bytes (OutOfProfile at what) other a n b
-refuses_once bytes (NumberRange at) other m n a b = behind_text bytes (NumberRange at) other a n b
-refuses_once bytes (TooMany at) other m n a b = behind_text bytes (TooMany at) other a n b
-refuses_once bytes (Syntax at) other m n a b = behind_text bytes (Syntax at) other a n b
-refuses_once bytes one (OutOfProfile at what) m n a b = sym (behind_text bytes (OutOfProfile at what) one b m a)
-refuses_once bytes one (NumberRange at) m n a b = sym (behind_text bytes (NumberRange at) one b m a)
-refuses_once bytes one (TooMany at) m n a b = sym (behind_text bytes (TooMany at) one b m a)
-refuses_once bytes one (Syntax at) m n a b = sym (behind_text bytes (Syntax at) one b m a)
+refuses_once bytes (OutOfProfile at what) other m n a b = after_text bytes (OutOfProfile at what) other a n b
+refuses_once bytes (NumberRange at) other m n a b = after_text bytes (NumberRange at) other a n b
+refuses_once bytes (TooMany at) other m n a b = after_text bytes (TooMany at) other a n b
+refuses_once bytes (Syntax at) other m n a b = after_text bytes (Syntax at) other a n b
+refuses_once bytes one (OutOfProfile at what) m n a b = sym (after_text bytes (OutOfProfile at what) one b m a)
+refuses_once bytes one (NumberRange at) m n a b = sym (after_text bytes (NumberRange at) one b m a)
+refuses_once bytes one (TooMany at) m n a b = sym (after_text bytes (TooMany at) one b m a)
+refuses_once bytes one (Syntax at) m n a b = sym (after_text bytes (Syntax at) one b m a)
 refuses_once bytes TooLong TooLong m n a b = refl
 refuses_once bytes TooLong (Text at) m n a b = absurd (omega (arith, a, b.0))
 refuses_once bytes (Text at) TooLong m n a b = absurd (omega (arith, a.0, b))

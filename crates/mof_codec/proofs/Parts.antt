@@ -8,19 +8,19 @@ use Rattle.mof_codec.proofs.TokenFronts.{skip_on, skip_only}
 
 -- separators before a part change nothing
 
-pub begins_behind : (D : List Lexeme → List Lexeme → Type 0) (cs left rest : List ℕ) → Separators cs left → Begins D left rest → Begins D cs rest
-begins_behind D cs left rest s b = record {
+pub begins_after : (D : List Lexeme → List Lexeme → Type 0) (cs left rest : List ℕ) → Separators cs left → Begins D left rest → Begins D cs rest
+begins_after D cs left rest s b = record {
   on = λ ts l. let x = b.on ts l in (x.0, skip_on cs left x.0 s x.1, x.2);
   only = λ us l. b.only us (skip_only cs left us s l);
 }
 
-pub reads_behind : {A : Type 0} (Rule : List Lexeme → A → List Lexeme → Type 0) (Fits : A → Type 0) (cs left : List ℕ) (a : A) (rest : List ℕ)
+pub reads_after : {A : Type 0} (Rule : List Lexeme → A → List Lexeme → Type 0) (Fits : A → Type 0) (cs left : List ℕ) (a : A) (rest : List ℕ)
     → Separators cs left → BeginsWith Rule Fits left a rest → BeginsWith Rule Fits cs a rest
-reads_behind Rule Fits cs left a rest s r = record { fits = r.fits; begins = begins_behind (λ us ts. Only Rule us a ts) cs left rest s r.begins }
+reads_after Rule Fits cs left a rest s r = record { fits = r.fits; begins = begins_after (λ us ts. Only Rule us a ts) cs left rest s r.begins }
 
-pub lacks_behind : {A : Type 0} (Rule : List Lexeme → A → List Lexeme → Type 0) (Fits : A → Type 0) (cs left : List ℕ)
+pub lacks_after : {A : Type 0} (Rule : List Lexeme → A → List Lexeme → Type 0) (Fits : A → Type 0) (cs left : List ℕ)
     → Separators cs left → Lacks Rule Fits left → Lacks Rule Fits cs
-lacks_behind Rule Fits cs left s lacks us ts a n l r f = lacks us ts a n (skip_only cs left us s l) r f
+lacks_after Rule Fits cs left s lacks us ts a n l r f = lacks us ts a n (skip_only cs left us s l) r f
 
 -- each part of a list
 

@@ -45,29 +45,29 @@ module _ (cs : List ℕ) where
   lacks_property_name lacks us ts p n l i f = lacks us (EqualsSign ∷ i.0) p.name tt l i.1 f.name
 
   module _ (name mid : List ℕ) (r : BeginsWith IsWord IsShortName cs name mid) where
-    behind_name : (us : List Lexeme) (ts : List Lexeme) (p : Property) → Lexes cs us → IsProperty us p ts → (ws : List Lexeme) × Lexes mid (EqualsSign ∷ ws) × Initializer ws p.value (Semicolon ∷ ts)
-    behind_name us ts p l i =
+    after_name : (us : List Lexeme) (ts : List Lexeme) (p : Property) → Lexes cs us → IsProperty us p ts → (ws : List Lexeme) × Lexes mid (EqualsSign ∷ ws) × Initializer ws p.value (Semicolon ∷ ts)
+    after_name us ts p l i =
         let x = r.begins.only us l in
         let same = x.2.only p.name (EqualsSign ∷ i.0) tt i.1 in
         (i.0, subst (λ (ys : List Lexeme). Lexes mid ys) (sym same.1) x.1, i.2)
 
     pub lacks_equals : BeginsNo (IsMark marks.EqualsSign) mid → Lacks IsProperty PropertyFits cs
-    lacks_equals no_equals us ts p n l i f = let x = behind_name us ts p l i in no_equals (EqualsSign ∷ x.0) x.0 x.1 refl
+    lacks_equals no_equals us ts p n l i f = let x = after_name us ts p l i in no_equals (EqualsSign ∷ x.0) x.0 x.1 refl
 
     module _ (given : List ℕ) (b : Begins (IsMark marks.EqualsSign) mid given) where
-      behind_equals : (us : List Lexeme) (ts : List Lexeme) (p : Property) → Lexes cs us → IsProperty us p ts → (ws : List Lexeme) × Lexes given ws × Initializer ws p.value (Semicolon ∷ ts)
-      behind_equals us ts p l i =
-          let x = behind_name us ts p l i in
+      after_equals : (us : List Lexeme) (ts : List Lexeme) (p : Property) → Lexes cs us → IsProperty us p ts → (ws : List Lexeme) × Lexes given ws × Initializer ws p.value (Semicolon ∷ ts)
+      after_equals us ts p l i =
+          let x = after_name us ts p l i in
           let y = b.only (EqualsSign ∷ x.0) x.1 in
           (y.0, y.1, subst (λ (ys : List Lexeme). Initializer ys p.value (Semicolon ∷ ts)) (tail_same EqualsSign EqualsSign x.0 y.0 y.2) x.2)
 
       pub lacks_value : Lacks Initializer ValueFits given → Lacks IsProperty PropertyFits cs
-      lacks_value lacks us ts p n l i f = let x = behind_equals us ts p l i in lacks x.0 (Semicolon ∷ ts) p.value tt x.1 x.2 f.value
+      lacks_value lacks us ts p n l i f = let x = after_equals us ts p l i in lacks x.0 (Semicolon ∷ ts) p.value tt x.1 x.2 f.value
 
       module _ (value : Value) (end : List ℕ) (v : BeginsWith Initializer ValueFits given value end) where
         pub lacks_semicolon : BeginsNo (IsMark marks.Semicolon) end → Lacks IsProperty PropertyFits cs
         lacks_semicolon no_semicolon us ts p n l i f =
-            let x = behind_equals us ts p l i in
+            let x = after_equals us ts p l i in
             let y = v.begins.only x.0 x.1 in
             let same = y.2.only p.value (Semicolon ∷ ts) tt x.2 in
             no_semicolon y.0 ts y.1 (sym same.1)
@@ -105,11 +105,11 @@ body_start cs = record {
 
 data BodyCase (vs : List Lexeme) (more : List Property) (rest : List Lexeme) : Type 0 where
   at_closing : vs ≡ RightBrace ∷ rest → more ≡ [] → BodyCase vs more rest
-  at_property : (p : Property) (others : List Property) (behind : List Lexeme) → IsProperty vs p behind → ValueInitializers behind others rest → more ≡ p ∷ others → BodyCase vs more rest
+  at_property : (p : Property) (others : List Property) (after : List Lexeme) → IsProperty vs p after → ValueInitializers after others rest → more ≡ p ∷ others → BodyCase vs more rest
 
 body_case : (vs : List Lexeme) (more : List Property) (rest : List Lexeme) → ValueInitializers vs more rest → BodyCase vs more rest
 body_case vs more rest (done r) = at_closing refl refl
-body_case vs more rest (value_initializer name ts behind r v ps i h) = at_property (named name v) ps behind (ts, refl, i) h refl
+body_case vs more rest (value_initializer name ts after r v ps i h) = at_property (named name v) ps after (ts, refl, i) h refl
 
 apart_closing : (name : List ℕ) (ts us : List Lexeme) → Word name ∷ ts ≡ RightBrace ∷ us → ⊥
 apart_closing name ts us e = cc
@@ -117,18 +117,18 @@ apart_closing name ts us e = cc
 -- the rest after a property begins with a word or a brace
 pub body_first : (vs : List Lexeme) (more : List Property) (rest : List Lexeme) → ValueInitializers vs more rest → NoLiteral vs
 body_first vs more rest (done r) = tt
-body_first vs more rest (value_initializer name ts behind r v ps i h) = tt
+body_first vs more rest (value_initializer name ts after r v ps i h) = tt
 
-behind_property : (vs : List Lexeme) (p : Property) (ts : List Lexeme) (more : List Property) (rest : List Lexeme) → Only IsProperty vs p ts → BodyCase vs more rest
+after_property : (vs : List Lexeme) (p : Property) (ts : List Lexeme) (more : List Property) (rest : List Lexeme) → Only IsProperty vs p ts → BodyCase vs more rest
     → (others : List Property) × (more ≡ p ∷ others) × ValueInitializers ts others rest
-behind_property vs p ts more rest o (at_closing e f) = absurd (apart_closing p.name _ rest (sym o.holds.1 ∙ e))
-behind_property vs p ts more rest o (at_property q others behind i h f) =
-    let same = o.only q behind (body_first behind others rest h) i in
+after_property vs p ts more rest o (at_closing e f) = absurd (apart_closing p.name _ rest (sym o.holds.1 ∙ e))
+after_property vs p ts more rest o (at_property q others after i h f) =
+    let same = o.only q after (body_first after others rest h) i in
     (others, f ∙ ap (λ (x : Property). x ∷ others) same.0, subst (λ (ys : List Lexeme). ValueInitializers ys others rest) same.1 h)
 
-body_behind_closing : (vs ts : List Lexeme) (more : List Property) (rest : List Lexeme) → vs ≡ RightBrace ∷ ts → BodyCase vs more rest → (more ≡ []) × (rest ≡ ts)
-body_behind_closing vs ts more rest e (at_closing f g) = (g, tail_same RightBrace RightBrace rest ts (sym f ∙ e))
-body_behind_closing vs ts more rest e (at_property p others behind i h f) = absurd (apart_closing p.name _ ts (sym i.1 ∙ e))
+body_after_closing : (vs ts : List Lexeme) (more : List Property) (rest : List Lexeme) → vs ≡ RightBrace ∷ ts → BodyCase vs more rest → (more ≡ []) × (rest ≡ ts)
+body_after_closing vs ts more rest e (at_closing f g) = (g, tail_same RightBrace RightBrace rest ts (sym f ∙ e))
+body_after_closing vs ts more rest e (at_property p others after i h f) = absurd (apart_closing p.name _ ts (sym i.1 ∙ e))
 
 properties_next : (us : List Lexeme) (ps : List Property) (vs : List Lexeme) (p : Property) (ts : List Lexeme) → PropertiesOn us ps vs → Only IsProperty vs p ts → PropertiesOn us (ps ++ p ∷ []) ts
 properties_next us ps vs p ts x o = record {
@@ -137,7 +137,7 @@ properties_next us ps vs p ts x o = record {
       (x.on (p ∷ more) rest (subst (λ (ys : List Lexeme). ValueInitializers ys (p ∷ more) rest) (sym o.holds.1) (value_initializer p.name o.holds.0 ts rest p.value more o.holds.2 h)));
   only = λ all rest i.
       let y = x.only all rest i in
-      let z = behind_property vs p ts y.0 rest o (body_case vs y.0 rest y.2) in
+      let z = after_property vs p ts y.0 rest o (body_case vs y.0 rest y.2) in
       (z.0, y.1 ∙ ap (λ (qs : List Property). ps ++ qs) z.1 ∙ sym (append_assoc ps (p ∷ []) z.0), z.2);
 }
 
@@ -146,7 +146,7 @@ properties_end us ps vs ts x e = record {
   holds = subst (λ (qs : List Property). ValueInitializers us qs ts) (append-nil ps) (x.on [] ts (subst (λ (ys : List Lexeme). ValueInitializers ys [] ts) (sym e) (done ts)));
   only = λ all rest n i.
       let y = x.only all rest i in
-      let z = body_behind_closing vs ts y.0 rest e (body_case vs y.0 rest y.2) in
+      let z = body_after_closing vs ts y.0 rest e (body_case vs y.0 rest y.2) in
       (y.1 ∙ ap (λ (qs : List Property). ps ++ qs) z.0 ∙ append-nil ps, z.1);
 }
 
@@ -168,12 +168,12 @@ module _ (cs : List ℕ) (ps : List Property) (left : List ℕ) (so_far : BodySo
 
   module _ (no_brace : BeginsNo (IsMark marks.RightBrace) left) where
     abbrev FurtherProperty : List Property → Type 0
-    FurtherProperty all = (vs : List Lexeme) × (p : Property) × (others : List Property) × (behind : List Lexeme) × Lexes left vs × IsProperty vs p behind × NoLiteral behind × (all ≡ ps ++ p ∷ others)
+    FurtherProperty all = (vs : List Lexeme) × (p : Property) × (others : List Property) × (after : List Lexeme) × Lexes left vs × IsProperty vs p after × NoLiteral after × (all ≡ ps ++ p ∷ others)
 
     further_by : (vs : List Lexeme) (more all : List Property) (rest : List Lexeme) → Lexes left vs → BodyCase vs more rest → all ≡ ps ++ more → FurtherProperty all
     further_by vs more all rest l (at_closing e f) same = absurd (no_brace vs rest l e)
-    further_by vs more all rest l (at_property p others behind i h f) same =
-        (vs, p, others, behind, l, i, body_first behind others rest h, same ∙ ap (λ (qs : List Property). ps ++ qs) f)
+    further_by vs more all rest l (at_property p others after i h f) same =
+        (vs, p, others, after, l, i, body_first after others rest h, same ∙ ap (λ (qs : List Property). ps ++ qs) f)
 
     further : (us ts : List Lexeme) (all : List Property) → Lexes cs us → ValueInitializers us all ts → FurtherProperty all
     further us ts all l i =
@@ -181,8 +181,8 @@ module _ (cs : List ℕ) (ps : List Property) (left : List ℕ) (so_far : BodySo
         let y = x.2.only all ts i in
         further_by x.0 y.0 all ts x.1 (body_case x.0 y.0 ts y.2) y.1
 
-    pub lacks_room : length ps ≡ properties_limit → Lacks ValueInitializers PropertiesFit cs
-    lacks_room filled us ts all n l i f =
+    pub lacks_capacity : length ps ≡ properties_limit → Lacks ValueInitializers PropertiesFit cs
+    lacks_capacity filled us ts all n l i f =
         let x = further us ts all l i in
         let more : length ps < length all = subst (λ (qs : List Property). length ps < length qs) (sym x.7) (more_than ps x.1 x.2) in
         let few = f.count in

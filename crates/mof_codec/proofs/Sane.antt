@@ -19,7 +19,7 @@ use Rattle.mof_codec.specs.declared.machine.state.State.{State}
 use Rattle.mof_codec.specs.declared.machine.state.Event.{Event}
 use Rattle.mof_codec.specs.declared.machine.state.Event.TheVariants as events
 use Rattle.mof_codec.specs.Machine.{letters, head_of, is_no_char, go, begin, gapped, opened, keyed, number_begun, value_word, scalar_begun, numbered, quoted, key_on, ended, step, kind_of}
-use Rattle.mof_codec.specs.Walked.{Behind, moved, walk_from, start, walked}
+use Rattle.mof_codec.specs.Walked.{AfterWalk, moved, walk_from, start, walked}
 use Rattle.mof_codec.proofs.Walking.{none_stays}
 
 -- the places that only marks lead to, and the start
@@ -149,20 +149,20 @@ step_sane halves.EscapeX p c s = either (digit_of 16 c) _ _ s tt
 step_sane (halves.Digits zero v) p c s = quoted_sane p c (λ e. differ (s e))
 step_sane (halves.Digits (suc n) v) p c s = either (digit_of 16 c) _ _ (either (is_no_char (v * 16 + digit_value c)) None (go p (halves.Digits n (v * 16 + digit_value c))) tt s) (quoted_sane p c (λ e. differ (s e)))
 
-next_sane : (o : Option State) (begun : List Event) (cs : List ℕ) (b : Behind) → Every o
-    → ((c : Behind) → Sane c.half c.place → walk_from (Some c) cs ≡ Some b → Sane b.half b.place) → walk_from (moved o begun) cs ≡ Some b → Sane b.half b.place
+next_sane : (o : Option State) (begun : List Event) (cs : List ℕ) (b : AfterWalk) → Every o
+    → ((c : AfterWalk) → Sane c.half c.place → walk_from (Some c) cs ≡ Some b → Sane b.half b.place) → walk_from (moved o begun) cs ≡ Some b → Sane b.half b.place
 next_sane None begun cs b every f is = absurd (none_some b (sym (none_stays cs) ∙ is))
   where
-    none_some : (b : Behind) → None ≡ Some b → ⊥
+    none_some : (b : AfterWalk) → None ≡ Some b → ⊥
     none_some b e = cc
 next_sane (Some s) begun cs b every f is = f _ every is
 
-walk_sane : (cs : List ℕ) (from to : Behind) → Sane from.half from.place → walk_from (Some from) cs ≡ Some to → Sane to.half to.place
-walk_sane [] from to sane is = subst (λ (b : Behind). Sane b.half b.place) (same from to is) sane
+walk_sane : (cs : List ℕ) (from to : AfterWalk) → Sane from.half from.place → walk_from (Some from) cs ≡ Some to → Sane to.half to.place
+walk_sane [] from to sane is = subst (λ (b : AfterWalk). Sane b.half b.place) (same from to is) sane
   where
-    same : (a b : Behind) → Some a ≡ Some b → a ≡ b
+    same : (a b : AfterWalk) → Some a ≡ Some b → a ≡ b
     same a b e = cc
 walk_sane (c ∷ cs) from to sane is = next_sane (step from.half from.place c) from.begun cs to (step_sane from.half from.place c sane) (λ b s e. walk_sane cs b to s e) is
 
-pub walked_sane : (front : List ℕ) (b : Behind) → walked front ≡ Some b → Sane b.half b.place
+pub walked_sane : (front : List ℕ) (b : AfterWalk) → walked front ≡ Some b → Sane b.half b.place
 walked_sane front b is = walk_sane front start b (λ e. refl) is

@@ -14,12 +14,12 @@ use Rattle.mof_codec.specs.declared.machine.state.Half.TheVariants as halves
 use Rattle.mof_codec.specs.declared.machine.state.Event.TheVariants as events
 use Rattle.mof_codec.specs.declared.refusing.scalar.Wanted.{Wanted}
 use Rattle.mof_codec.specs.Machine.{step}
-use Rattle.mof_codec.specs.Walked.{Behind, walked}
+use Rattle.mof_codec.specs.Walked.{AfterWalk, walked}
 use Rattle.mof_codec.specs.Beginnings.{begins_scalar}
 use Rattle.mof_codec.specs.Searching.{FirstOf, IsWanted, ScalarStands, is_real}
 use Rattle.mof_syntax.proofs.Scans.{test_or}
 use Rattle.mof_codec.proofs.Standing.{scalar_begins, scalar_there, front_walked}
-use Rattle.mof_codec.proofs.Stepping.{Stepped, stepped_none, stepped_more, behind_of, place_is, place_within, left_is, walked_there, stuck_behind}
+use Rattle.mof_codec.proofs.Stepping.{Stepped, stepped_none, stepped_more, after_of, place_is, place_within, left_is, walked_there, stuck_after}
 
 -- fronts of floating-point constants
 
@@ -79,7 +79,7 @@ module _ (front left : List ℕ) (state : State) (wanted : Wanted) (s : ScalarSe
       record {
         found = subst (λ (n : ℕ). ScalarStands wanted front n) (sym at) (record {
           within = omega (arith, place_within front left state s.stepped);
-          begins = scalar_begins front (length s.stepped.front) (behind_of state s.stepped.begun) (walked_there front left state s.stepped) here.0;
+          begins = scalar_begins front (length s.stepped.front) (after_of state s.stepped.begun) (walked_there front left state s.stepped) here.0;
           stands = subst (λ (cs : List ℕ). IsWanted wanted cs) (sym (left_is front left state s.stepped)) here.1;
         });
         first = λ other stands. elim (cases_lt other (length front - length left)) [
@@ -91,7 +91,7 @@ module _ (front left : List ℕ) (state : State) (wanted : Wanted) (s : ScalarSe
   pub scalar_here : ScalarStands wanted front (length front - length left) → StandsHere state wanted left
   scalar_here stands =
       let there = subst (λ (n : ℕ). ScalarStands wanted front n) (place_is front left state s.stepped) stands in (
-        scalar_there front (length s.stepped.front) (behind_of state s.stepped.begun) (walked_there front left state s.stepped) there.begins,
+        scalar_there front (length s.stepped.front) (after_of state s.stepped.begun) (walked_there front left state s.stepped) there.begins,
         subst (λ (cs : List ℕ). IsWanted wanted cs) (left_is front left state s.stepped) there.stands,
       )
 
@@ -115,7 +115,7 @@ scalar_more front x rest state next wanted s not_here e = record {
 pub never_stuck : (front : List ℕ) → IsFront front → walked front ≡ None → ⊥
 never_stuck front f e = let w = front_walked front f in none-some w.0 (sym e ∙ w.1)
 
--- the same, where the next character is told by an equation
+-- the same, where the next character is given by an equation
 
 module _ (front left rest : List ℕ) (state : State) (wanted : Wanted) (c : ℕ) where
   pub scalar_on : (next : State) → ScalarSearched front left state wanted → (StandsHere state wanted left → ⊥) → left ≡ c ∷ rest → Some next ≡ step state.half state.place c
@@ -125,7 +125,7 @@ module _ (front left rest : List ℕ) (state : State) (wanted : Wanted) (c : ℕ
       (λ here. not_here (subst (λ (l : List ℕ). StandsHere state wanted l) (sym is) here)) e
 
   pub scalar_stuck : ScalarSearched front left state wanted → left ≡ c ∷ rest → None ≡ step state.half state.place c → IsFront front → ⊥
-  scalar_stuck s is e f = never_stuck front f (stuck_behind front left rest state c s.stepped is e)
+  scalar_stuck s is e f = never_stuck front f (stuck_after front left rest state c s.stepped is e)
 
 pub scalar_end : (front left : List ℕ) (state : State) (wanted : Wanted) → ScalarSearched front left state wanted → left ≡ [] → (StandsHere state wanted left → ⊥) → (n : ℕ) → ScalarStands wanted front n → ⊥
 scalar_end front left state wanted s nothing not_here n stands =

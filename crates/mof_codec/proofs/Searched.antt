@@ -35,7 +35,7 @@ use Rattle.mof_codec.proofs.Runs.{Whole}
 use Rattle.mof_codec.proofs.Options.{of_some, of_none}
 use Rattle.mof_codec.proofs.Fronts.{is_front}
 use Rattle.mof_codec.proofs.Standing.{start_is}
-use Rattle.mof_codec.proofs.Stepping.{behind_of, Stepped, stepped_none, stepped_more, stuck_fault, stuck_walk, end_wide, end_fault, end_behind}
+use Rattle.mof_codec.proofs.Stepping.{after_of, Stepped, stepped_none, stepped_more, stuck_fault, stuck_walk, end_wide, end_fault, end_after}
 use Rattle.mof_codec.proofs.ExcessSearch.{Searched, searched_none, searched_more, first_found, IsPast, long_name, name_is_long, no_name_empty, stuck_none, stuck_wide, end_none, end_count, end_parts}
 use Rattle.mof_codec.proofs.ScalarSearch.{ScalarSearched, scalar_none, scalar_more, scalar_found, scalar_end, scalar_last, StandsHere, real_begins, begins_real, never_stuck}
 use Rattle.mof_codec.proofs.FormSearch.{real_found, real_none, here_found, here_none}
@@ -89,7 +89,7 @@ abbrev ToldState : List ℕ → Option State → Type 0
 ToldState text o = IfSome o (λ state. StandsAfter text state) × IfNone o (walked text ≡ None)
 
 state_told : (text left : List ℕ) (state : State) → Stepped text left state → ToldState text (state_in left state)
-state_told text [] state s = (record { begun = s.begun; behind = end_behind text state s }, tt)
+state_told text [] state s = (record { begun = s.begun; after = end_after text state s }, tt)
 state_told text (c ∷ cs) state s = next_is (ToldState text) (step state.half state.place c) (λ _. None) (λ n. state_in cs n)
     (λ e. (tt, stuck_walk text c cs state s e))
     (λ n e. state_told text cs n (stepped_more text c cs state n s e))
@@ -349,4 +349,4 @@ taken_front front e = from (state_in front first_state) (state_told front front 
   where
     from : (o : Option State) → ToldState front o → next o (λ _. false) (λ _. true) ≡ true → IsFront front
     from None t e = absurd (clash e refl)
-    from (Some state) t e = is_front front (behind_of state t.0.begun) t.0.behind
+    from (Some state) t e = is_front front (after_of state t.0.begun) t.0.after

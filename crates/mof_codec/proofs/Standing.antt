@@ -14,7 +14,7 @@ use Rattle.mof_codec.specs.declared.machine.state.Half.TheVariants as halves
 use Rattle.mof_codec.specs.declared.machine.state.State.{State}
 use Rattle.mof_codec.specs.declared.machine.state.Event.{Event}
 use Rattle.mof_codec.specs.Machine.{letters, begin, step, is_whole}
-use Rattle.mof_codec.specs.Walked.{tally, Behind, moved, walk_from, start, walked}
+use Rattle.mof_codec.specs.Walked.{tally, AfterWalk, moved, walk_from, start, walked}
 use Rattle.mof_codec.specs.Beginnings.{scalar_place, name_place, start_place, begins_declaration, begins_scalar, begins_identifier}
 use Rattle.mof_syntax.proofs.Bodies.{and_left, and_right}
 use Rattle.mof_codec.proofs.Runs.{Next, Ends, Runs, Any}
@@ -37,20 +37,20 @@ takes_front : (cs rest : List ℕ) (h : Half) (p : Place) (acc : List Event) →
 takes_front [] rest h p acc r = tt
 takes_front (c ∷ cs) rest h p acc r = next_takes (step h p c) cs rest acc (takes_front cs rest) r
 
-next_walk : (s : Option State) (cs : List ℕ) (acc : List Event) → ((h : Half) (p : Place) (a : List Event) → Takes cs h p → (b : Behind) × (walk_from (Some (record { half = h; place = p; begun = a })) cs ≡ Some b))
-    → Next s (λ k q e. Takes cs k q) → (b : Behind) × (walk_from (moved s acc) cs ≡ Some b)
+next_walk : (s : Option State) (cs : List ℕ) (acc : List Event) → ((h : Half) (p : Place) (a : List Event) → Takes cs h p → (b : AfterWalk) × (walk_from (Some (record { half = h; place = p; begun = a })) cs ≡ Some b))
+    → Next s (λ k q e. Takes cs k q) → (b : AfterWalk) × (walk_from (moved s acc) cs ≡ Some b)
 next_walk None cs acc f t = absurd t
 next_walk (Some s) cs acc f t = f s.half s.place (tally s.begun acc) t
 
-takes_walk : (cs : List ℕ) (h : Half) (p : Place) (acc : List Event) → Takes cs h p → (b : Behind) × (walk_from (Some (record { half = h; place = p; begun = acc })) cs ≡ Some b)
+takes_walk : (cs : List ℕ) (h : Half) (p : Place) (acc : List Event) → Takes cs h p → (b : AfterWalk) × (walk_from (Some (record { half = h; place = p; begun = acc })) cs ≡ Some b)
 takes_walk [] h p acc t = (_, refl)
 takes_walk (c ∷ cs) h p acc t = next_walk (step h p c) cs acc (takes_walk cs) t
 
 -- the machine comes through every front
-pub front_walked : (front : List ℕ) → IsFront front → (b : Behind) × (walked front ≡ Some b)
+pub front_walked : (front : List ℕ) → IsFront front → (b : AfterWalk) × (walked front ≡ Some b)
 front_walked front f = takes_walk front halves.Gap Start [] (takes_front front f.0 halves.Gap Start [] (wide_runs (front ++ f.0) f.1))
 
-module _ (text : List ℕ) (at : ℕ) (b : Behind) (is : walked (take at text) ≡ Some b) where
+module _ (text : List ℕ) (at : ℕ) (b : AfterWalk) (is : walked (take at text) ≡ Some b) where
   pub may_takes : (cs : List ℕ) → MayStand text at cs → Takes cs b.half b.place
   may_takes cs f =
       takes_front cs f.0 b.half b.place b.begun
@@ -59,7 +59,7 @@ module _ (text : List ℕ) (at : ℕ) (b : Behind) (is : walked (take at text) �
   pub takes_may : (cs : List ℕ) → Takes cs b.half b.place → MayStand text at cs
   takes_may cs t =
       let more = takes_walk cs b.half b.place b.begun t in
-      is_front (take at text ++ cs) more.0 (walk-append (Some start) (take at text) cs ∙ ap (λ (x : Option Behind). walk_from x cs) is ∙ more.1)
+      is_front (take at text ++ cs) more.0 (walk-append (Some start) (take at text) cs ∙ ap (λ (x : Option AfterWalk). walk_from x cs) is ∙ more.1)
 
 -- declarations
 
@@ -87,7 +87,7 @@ declaration_parts h p e = absurd cc
 line_takes : (h : Half) (p : Place) → TakesNo 35 h p → h ≡ halves.Line → ⊥
 line_takes h p n e = n (subst (λ (x : Half). Takes (35 ∷ []) x p) (sym e) tt)
 
-module _ (text : List ℕ) (at : ℕ) (b : Behind) (is : walked (take at text) ≡ Some b) where
+module _ (text : List ℕ) (at : ℕ) (b : AfterWalk) (is : walked (take at text) ≡ Some b) where
   pub declaration_begins : begins_declaration b.half b.place ≡ true → BeginsDeclaration text at
   declaration_begins e =
       let parts = declaration_parts b.half b.place e in
@@ -178,7 +178,7 @@ scalar_parts : (h : Half) (p : Place) → begins_scalar h p ≡ true → (h ≡ 
 scalar_parts halves.Gap p e = (refl, e)
 scalar_parts h p e = absurd (false≢true e)
 
-module _ (text : List ℕ) (at : ℕ) (b : Behind) (is : walked (take at text) ≡ Some b) where
+module _ (text : List ℕ) (at : ℕ) (b : AfterWalk) (is : walked (take at text) ≡ Some b) where
   pub scalar_begins : begins_scalar b.half b.place ≡ true → BeginsScalar text at
   scalar_begins e =
       let parts = scalar_parts b.half b.place e in
@@ -272,7 +272,7 @@ take_names (halves.Digits zero v) p t = absurd (t.outside tt)
 take_names (halves.Digits (suc n) v) p t = absurd (t.outside tt)
 take_names h p t = absurd (t.outside tt)
 
-module _ (text : List ℕ) (at : ℕ) (b : Behind) (is : walked (take at text) ≡ Some b) where
+module _ (text : List ℕ) (at : ℕ) (b : AfterWalk) (is : walked (take at text) ≡ Some b) where
   pub identifier_begins : begins_identifier b.half b.place ≡ true → BeginsIdentifier text at
   identifier_begins e =
       let t = names_take b.half b.place e in

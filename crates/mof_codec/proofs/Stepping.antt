@@ -10,30 +10,30 @@ use Rattle.mof_codec.specs.declared.machine.state.Half.TheVariants as halves
 use Rattle.mof_codec.specs.declared.machine.state.Event.{Event}
 use Rattle.mof_codec.specs.declared.machine.state.Event.TheVariants as events
 use Rattle.mof_codec.specs.Machine.{step}
-use Rattle.mof_codec.specs.Walked.{tally, Behind, walked}
+use Rattle.mof_codec.specs.Walked.{tally, AfterWalk, walked}
 use Rattle.mof_codec.proofs.Runs.{Whole}
 use Rattle.mof_codec.proofs.Walking.{walked-more, walked-stuck}
 use Rattle.mof_codec.proofs.Fronts.{fault_here, fault_end, whole_here}
 
-abbrev pub behind_of : State → List Event → Behind
-behind_of s begun = record { half = s.half; place = s.place; begun = begun }
+abbrev pub after_of : State → List Event → AfterWalk
+after_of s begun = record { half = s.half; place = s.place; begun = begun }
 
 -- the machine came to this state over the characters before these
 pub record Stepped (chars left : List ℕ) (state : State) : Type 0 where
   pub front : List ℕ
   pub split : chars ≡ front ++ left
   pub begun : List Event
-  pub behind : walked front ≡ Some (behind_of state begun)
+  pub after : walked front ≡ Some (after_of state begun)
 
 unfoldable pub stepped_none : (chars : List ℕ) → Stepped chars chars (record { place = Start; half = halves.Gap; begun = events.Quiet })
-stepped_none chars = record { front = []; split = refl; begun = []; behind = refl }
+stepped_none chars = record { front = []; split = refl; begun = []; after = refl }
 
 unfoldable pub stepped_more : (chars : List ℕ) (c : ℕ) (rest : List ℕ) (state next : State) → Stepped chars (c ∷ rest) state → Some next ≡ step state.half state.place c → Stepped chars rest next
 stepped_more chars c rest state next s e = record {
   front = s.front ++ c ∷ [];
   split = s.split ∙ sym (append_assoc s.front (c ∷ []) rest);
   begun = tally next.begun s.begun;
-  behind = walked-more s.front c (behind_of state s.begun) next s.behind (sym e);
+  after = walked-more s.front c (after_of state s.begun) next s.after (sym e);
 }
 
 -- in places of the text
@@ -63,8 +63,8 @@ module _ (chars left : List ℕ) (state : State) (s : Stepped chars left state) 
   pub left_is : drop (length s.front) chars ≡ left
   left_is = ap (λ (x : List ℕ). drop (length s.front) x) s.split ∙ drop_front s.front left
 
-  pub walked_there : walked (take (length s.front) chars) ≡ Some (behind_of state s.begun)
-  walked_there = ap (λ (x : List ℕ). walked x) front_is ∙ s.behind
+  pub walked_there : walked (take (length s.front) chars) ≡ Some (after_of state s.begun)
+  walked_there = ap (λ (x : List ℕ). walked x) front_is ∙ s.after
 
 pub char_is : (chars : List ℕ) (c : ℕ) (rest : List ℕ) (state : State) (s : Stepped chars (c ∷ rest) state) → slice_index chars (length s.front) ≡ c
 char_is chars c rest state s = ap (λ (x : List ℕ). slice_index x (length s.front)) s.split ∙ index_front s.front c rest
@@ -73,23 +73,23 @@ char_is chars c rest state s = ap (λ (x : List ℕ). slice_index x (length s.fr
 pub stuck_fault : (chars : List ℕ) (c : ℕ) (rest : List ℕ) (state : State) → Stepped chars (c ∷ rest) state → None ≡ step state.half state.place c → IsSyntaxFault chars (length chars - length (c ∷ rest))
 stuck_fault chars c rest state s e =
     subst (λ (x : ℕ). IsSyntaxFault chars x) (sym (place_is chars (c ∷ rest) state s))
-    (fault_here chars (length s.front) (behind_of state s.begun) (omega (arith, place_within chars (c ∷ rest) state s)) (walked_there chars (c ∷ rest) state s)
+    (fault_here chars (length s.front) (after_of state s.begun) (omega (arith, place_within chars (c ∷ rest) state s)) (walked_there chars (c ∷ rest) state s)
     (ap (λ (x : ℕ). step state.half state.place x) (char_is chars c rest state s) ∙ sym e))
 
 pub stuck_walk : (chars : List ℕ) (c : ℕ) (rest : List ℕ) (state : State) → Stepped chars (c ∷ rest) state → None ≡ step state.half state.place c → walked chars ≡ None
-stuck_walk chars c rest state s e = ap (λ (x : List ℕ). walked x) s.split ∙ walked-stuck s.front c (behind_of state s.begun) s.behind (sym e) rest
+stuck_walk chars c rest state s e = ap (λ (x : List ℕ). walked x) s.split ∙ walked-stuck s.front c (after_of state s.begun) s.after (sym e) rest
 
 -- all is read
-pub end_behind : (chars : List ℕ) (state : State) (s : Stepped chars [] state) → walked chars ≡ Some (behind_of state s.begun)
-end_behind chars state s = ap (λ (x : List ℕ). walked x) (s.split ∙ append-nil s.front) ∙ s.behind
+pub end_after : (chars : List ℕ) (state : State) (s : Stepped chars [] state) → walked chars ≡ Some (after_of state s.begun)
+end_after chars state s = ap (λ (x : List ℕ). walked x) (s.split ∙ append-nil s.front) ∙ s.after
 
 pub end_wide : (chars : List ℕ) (state : State) → Stepped chars [] state → Whole state.half state.place → Wide chars
-end_wide chars state s w = whole_here chars (behind_of state s.begun) (end_behind chars state s) w
+end_wide chars state s w = whole_here chars (after_of state s.begun) (end_after chars state s) w
 
 pub end_fault : (chars : List ℕ) (state : State) → Stepped chars [] state → (Whole state.half state.place → ⊥) → IsSyntaxFault chars (length chars)
-end_fault chars state s n = fault_end chars (behind_of state s.begun) (end_behind chars state s) n
+end_fault chars state s n = fault_end chars (after_of state s.begun) (end_after chars state s) n
 
--- the same, where the next character is told by an equation
+-- the same, where the next character is given by an equation
 
 module _ (chars left rest : List ℕ) (state : State) (c : ℕ) where
   pub stepped_on : (next : State) → Stepped chars left state → left ≡ c ∷ rest → Some next ≡ step state.half state.place c → Stepped chars rest next
@@ -99,8 +99,8 @@ module _ (chars left rest : List ℕ) (state : State) (c : ℕ) where
   stuck_at s is e =
       subst (λ (l : List ℕ). IsSyntaxFault chars (length chars - length l)) (sym is) (stuck_fault chars c rest state (subst (λ (l : List ℕ). Stepped chars l state) is s) e)
 
-  pub stuck_behind : Stepped chars left state → left ≡ c ∷ rest → None ≡ step state.half state.place c → walked chars ≡ None
-  stuck_behind s is e = stuck_walk chars c rest state (subst (λ (l : List ℕ). Stepped chars l state) is s) e
+  pub stuck_after : Stepped chars left state → left ≡ c ∷ rest → None ≡ step state.half state.place c → walked chars ≡ None
+  stuck_after s is e = stuck_walk chars c rest state (subst (λ (l : List ℕ). Stepped chars l state) is s) e
 
 pub all_read : (chars left : List ℕ) (state : State) → Stepped chars left state → left ≡ [] → Stepped chars [] state
 all_read chars left state s nothing = subst (λ (l : List ℕ). Stepped chars l state) nothing s

@@ -110,7 +110,7 @@ module _ (T : Lexeme → Type 0) (common : Common T) where
         | inl is ↦ (is.1.0, (_, octal_value (c ∷ cs) (c ∷ is.1.1.0) is.1.0 (more c cs is.1.1.0 is.1.0 is.0 is.1.1.1)), is.1.2, is.1.3)
         | inr no_octal ↦ elim (split (is_b c) _ _ (λ f r e. Left T f r cs) no_octal.1) [
           | inl is ↦ (is.1.0, zero_binary (c ∷ cs) is.1.0 (binary_mark c cs is.1.0 is.0 is.1.1), is.1.2, is.1.3)
-          | inr behind ↦ number_end numerals.Zero p c cs a (_, octal_value (c ∷ cs) [] (c ∷ cs) (stop (c ∷ cs))) behind.1
+          | inr after ↦ number_end numerals.Zero p c cs a (_, octal_value (c ∷ cs) [] (c ∷ cs) (stop (c ∷ cs))) after.1
         ]
       ]
     ]
@@ -129,13 +129,13 @@ module _ (T : Lexeme → Type 0) (common : Common T) where
       | inl is ↦ (is.1.0, inl (c ∷ is.1.1.0, more c cs is.1.1.0 is.1.0 is.0 is.1.1.1), is.1.2, is.1.3)
       | inr no_octal ↦ elim (split (is_b c) _ _ (λ f r e. Left T f r cs) no_octal.1) [
         | inl is ↦ (is.1.0, inr (binary_mark c cs is.1.0 is.0 is.1.1), is.1.2, is.1.3)
-        | inr behind ↦ number_end numerals.ZeroBits p c cs a (inl ([], stop (c ∷ cs))) behind.1
+        | inr after ↦ number_end numerals.ZeroBits p c cs a (inl ([], stop (c ∷ cs))) after.1
       ]
     ]
   ]
   numbered_back numerals.Octal p c cs a h = elim (split (digit_of 8 c) _ _ (λ f r e. Left T f r cs) h) [
     | inl is ↦ (is.1.0, (c ∷ is.1.1.0, more c cs is.1.1.0 is.1.0 is.0 is.1.1.1), is.1.2, is.1.3)
-    | inr behind ↦ number_end numerals.Octal p c cs a ([], stop (c ∷ cs)) behind.1
+    | inr after ↦ number_end numerals.Octal p c cs a ([], stop (c ∷ cs)) after.1
   ]
   numbered_back numerals.Bits p c cs a h = elim (split (digit_of 2 c) _ _ (λ f r e. Left T f r cs) h) [
     | inl is ↦ (
@@ -151,21 +151,21 @@ module _ (T : Lexeme → Type 0) (common : Common T) where
       | inl is ↦ (is.1.0, inl (c ∷ is.1.1.0, more c cs is.1.1.0 is.1.0 is.0 is.1.1.1), is.1.2, is.1.3)
       | inr no_digit ↦ elim (split (is_b c) _ _ (λ f r e. Left T f r cs) no_digit.1) [
         | inl is ↦ (is.1.0, inr (binary_mark c cs is.1.0 is.0 is.1.1), is.1.2, is.1.3)
-        | inr behind ↦ number_end numerals.Bits p c cs a (inl ([], stop (c ∷ cs))) behind.1
+        | inr after ↦ number_end numerals.Bits p c cs a (inl ([], stop (c ∷ cs))) after.1
       ]
     ]
   ]
   numbered_back numerals.Decimal p c cs a h = elim (split (digit_of 10 c) _ _ (λ f r e. Left T f r cs) h) [
     | inl is ↦ (is.1.0, (c ∷ is.1.1.0, more c cs is.1.1.0 is.1.0 is.0 is.1.1.1), is.1.2, is.1.3)
-    | inr behind ↦ number_end numerals.Decimal p c cs a ([], stop (c ∷ cs)) behind.1
+    | inr after ↦ number_end numerals.Decimal p c cs a ([], stop (c ∷ cs)) after.1
   ]
   numbered_back numerals.Prefix p c cs a h = elim (split (digit_of 16 c) _ _ (λ f r e. Left T f r cs) h) [
     | inl is ↦ (is.1.0, λ x ex. (_, hex_value x c (c ∷ cs) is.1.1.0 is.1.0 ex (more c cs is.1.1.0 is.1.0 is.0 is.1.1.1)), is.1.2, is.1.3)
-    | inr behind ↦ absurd behind.1
+    | inr after ↦ absurd after.1
   ]
   numbered_back numerals.Hexadecimal p c cs a h = elim (split (digit_of 16 c) _ _ (λ f r e. Left T f r cs) h) [
     | inl is ↦ (is.1.0, (c ∷ is.1.1.0, more c cs is.1.1.0 is.1.0 is.0 is.1.1.1), is.1.2, is.1.3)
-    | inr behind ↦ number_end numerals.Hexadecimal p c cs a ([], stop (c ∷ cs)) behind.1
+    | inr after ↦ number_end numerals.Hexadecimal p c cs a ([], stop (c ∷ cs)) after.1
   ]
   numbered_back numerals.Binary p c cs a h = number_end numerals.Binary p c cs a refl h
 

@@ -13,16 +13,16 @@ use Rattle.mof_codec.specs.Reading.{Begins}
 
 pub skip_on : (cs left : List ℕ) (ts : List Lexeme) → Separators cs left → Lexes left ts → Lexes cs ts
 skip_on cs left ts (none r) l = l
-skip_on cs left ts (another us behind r s more) l = separator us behind ts s (skip_on behind r ts more l)
+skip_on cs left ts (another us after r s more) l = separator us after ts s (skip_on after r ts more l)
 
-separator_off : (cs behind : List ℕ) (ts : List Lexeme) → Separator cs behind → Lexes cs ts → Lexes behind ts
-separator_off cs behind ts s end = absurd (nothing_within behind (separator_ends [] behind s))
-separator_off cs behind ts s (separator ds q vs p l) = subst (λ (xs : List ℕ). Lexes xs vs) (sym (separator_same ds behind q s p)) l
-separator_off cs behind ts s (token ds t q vs i l) = absurd (no_both ds t behind q s i)
+separator_off : (cs rest : List ℕ) (ts : List Lexeme) → Separator cs rest → Lexes cs ts → Lexes rest ts
+separator_off cs rest ts s end = absurd (nothing_within rest (separator_ends [] rest s))
+separator_off cs rest ts s (separator ds q vs p l) = subst (λ (xs : List ℕ). Lexes xs vs) (sym (separator_same ds rest q s p)) l
+separator_off cs rest ts s (token ds t q vs i l) = absurd (no_both ds t rest q s i)
 
 pub skip_only : (cs left : List ℕ) (ts : List Lexeme) → Separators cs left → Lexes cs ts → Lexes left ts
 skip_only cs left ts (none r) l = l
-skip_only cs left ts (another us behind r s more) l = skip_only behind r ts more (separator_off us behind ts s l)
+skip_only cs left ts (another us after r s more) l = skip_only after r ts more (separator_off us after ts s l)
 
 -- a token that stands there comes first
 

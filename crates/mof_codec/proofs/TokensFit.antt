@@ -60,9 +60,9 @@ constant_fits ts s rest (alias_identifier name r) e = (e.0, e.1)
 
 elements_fit : (ts : List Lexeme) (ss : List Scalar) (rest : List Lexeme) → Elements ts ss rest → EachFits ts → AllByRecursion ScalarFits ss × EachFits rest
 elements_fit ts ss rest (closing r) e = (tt, e.1)
-elements_fit ts ss rest (element us behind r s others is more) e =
-    let here = constant_fits us s behind is e.1 in
-    let there = elements_fit behind others r more here.1 in
+elements_fit ts ss rest (element us after r s others is more) e =
+    let here = constant_fits us s after is e.1 in
+    let there = elements_fit after others r more here.1 in
     ((here.0, there.0), there.1)
 
 -- but for the count of its elements
@@ -73,9 +73,9 @@ ValueParts (Many ss) = AllByRecursion ScalarFits ss
 initializer_fits : (ts : List Lexeme) (v : Value) (rest : List Lexeme) → Initializer ts v rest → EachFits ts → ValueParts v × EachFits rest
 initializer_fits ts v rest (constant us r s is) e = constant_fits us s r is e
 initializer_fits ts v rest (empty_array r) e = (tt, e.1.1)
-initializer_fits ts v rest (array us behind r s ss is more) e =
-    let here = constant_fits us s behind is e.1 in
-    let there = elements_fit behind ss r more here.1 in
+initializer_fits ts v rest (array us after r s ss is more) e =
+    let here = constant_fits us s after is e.1 in
+    let there = elements_fit after ss r more here.1 in
     ((here.0, there.0), there.1)
 
 value_fits : (v : Value) → ValueParts v → elements_of v ≤ MAX_ELEMENTS → ValueFits v
@@ -84,9 +84,9 @@ value_fits (Many ss) parts few = (few, parts)
 
 properties_fit : (ts : List Lexeme) (ps : List Property) (rest : List Lexeme) → ValueInitializers ts ps rest → EachFits ts → AllByRecursion HasFewElements ps → AllByRecursion PropertyFits ps × EachFits rest
 properties_fit ts ps rest (done r) e few = (tt, e.1)
-properties_fit ts ps rest (value_initializer name us behind r v qs is more) e few =
-    let here = initializer_fits us v (Semicolon ∷ behind) is e.1.1 in
-    let there = properties_fit behind qs r more here.1.1 few.1 in
+properties_fit ts ps rest (value_initializer name us after r v qs is more) e few =
+    let here = initializer_fits us v (Semicolon ∷ after) is e.1.1 in
+    let there = properties_fit after qs r more here.1.1 few.1 in
     ((record { name = e.0; value = value_fits v here.0 few.0 }, there.0), there.1)
 
 alias_fits : (ts : List Lexeme) (a : Option (List ℕ)) (rest : List Lexeme) → AliasClause ts a rest → EachFits ts → IfSome a IsShortName × EachFits rest
@@ -95,10 +95,10 @@ alias_fits ts a rest (named w name r k) e = (e.1.0, e.1.1)
 
 instances_fit : (ts : List Lexeme) (is : List Instance) → InstanceDeclarations ts is → EachFits ts → AllByRecursion HasFewParts is → AllByRecursion InstanceFits is
 instances_fit ts is nothing e few = tt
-instances_fit ts is (instance_declaration i o class a us body behind ps js ki ko al pr more) e few =
+instances_fit ts is (instance_declaration i o class a us body rest ps js ki ko al pr more) e few =
     let alias = alias_fits us a (LeftBrace ∷ body) al e.1.1.1 in
-    let parts = properties_fit body ps (Semicolon ∷ behind) pr alias.1.1 few.0.elements in
-    (record { class = e.1.1.0; alias = alias.0; count = few.0.properties; each = parts.0 }, instances_fit behind js more parts.1.1 few.1)
+    let parts = properties_fit body ps (Semicolon ∷ rest) pr alias.1.1 few.0.elements in
+    (record { class = e.1.1.0; alias = alias.0; count = few.0.properties; each = parts.0 }, instances_fit rest js more parts.1.1 few.1)
 
 pub are_within_limits : (ts : List Lexeme) (is : List Instance) → InstanceDeclarations ts is → AllByRecursion TokenFits ts → length is ≤ instances_limit → AllByRecursion HasFewParts is → IsWithinLimits is
 are_within_limits ts is d e count few = record { count = count; each = instances_fit ts is d e few }

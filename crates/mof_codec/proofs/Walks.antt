@@ -92,18 +92,18 @@ module _ (E : List Event → Type 0) where
 
   elements_on : (acc : List Event) (ts : List Lexeme) (vs : List Scalar) (rest : List Lexeme) → Elements ts vs rest → Walks E AfterValue rest (items_events vs acc) → Walks E AfterElement ts acc
   elements_on acc ts vs rest (closing r) g = g
-  elements_on acc ts vs rest (element us behind r v ws is more) g = element_on acc us v behind is (elements_on (events.Element ∷ acc) behind ws r more g)
+  elements_on acc ts vs rest (element us after r v ws is more) g = element_on acc us v after is (elements_on (events.Element ∷ acc) after ws r more g)
 
   value_on : (acc : List Event) (ts : List Lexeme) (v : Value) (rest : List Lexeme) → Initializer ts v rest → Walks E AfterStrings rest (value_events v acc) → Walks E AfterValue rest (value_events v acc) → Walks E AfterEquals ts acc
   value_on acc ts v rest (constant us r s is) a b = scalar_on acc us s r is a b
   value_on acc ts v rest (empty_array r) a b = b
-  value_on acc ts v rest (array us behind r s ss is more) a b = comma_or_first acc us (element_on acc us s behind is (elements_on (events.Element ∷ acc) behind ss r more b))
+  value_on acc ts v rest (array us after r s ss is more) a b = comma_or_first acc us (element_on acc us s after is (elements_on (events.Element ∷ acc) after ss r more b))
 
   properties_on : (acc : List Event) (ts : List Lexeme) (ps : List Property) (rest : List Lexeme) → ValueInitializers ts ps rest → Walks E AfterBody rest (properties_events ps acc) → Walks E Body ts acc
   properties_on acc ts ps rest (done r) g = g
-  properties_on acc ts ps rest (value_initializer name us behind r v qs is more) g =
-      let h = properties_on (value_events v (events.Property ∷ acc)) behind qs r more g in
-      value_on (events.Property ∷ acc) us v (Semicolon ∷ behind) is h h
+  properties_on acc ts ps rest (value_initializer name us after r v qs is more) g =
+      let h = properties_on (value_events v (events.Property ∷ acc)) after qs r more g in
+      value_on (events.Property ∷ acc) us v (Semicolon ∷ after) is h h
 
   alias_on : (acc : List Event) (ts : List Lexeme) (a : Option (List ℕ)) (rest body : List Lexeme) → AliasClause ts a rest → rest ≡ LeftBrace ∷ body → Walks E Body body acc → Walks E AfterClass ts acc
   alias_on acc ts a rest body (unnamed r) e g = subst (λ (x : List Lexeme). Walks E AfterClass x acc) (sym e) g
@@ -111,5 +111,5 @@ module _ (E : List Event → Type 0) where
 
   pub declarations_on : (acc : List Event) (ts : List Lexeme) (is : List Instance) → InstanceDeclarations ts is → E (events_of is acc) → Walks E Start ts acc
   declarations_on acc ts is nothing e = e
-  declarations_on acc ts is (instance_declaration i o c a us body behind ps js ki ko al pr more) e =
-      (ki, (ko, alias_on (events.Declaration ∷ acc) us a (LeftBrace ∷ body) body al refl (properties_on (events.Declaration ∷ acc) body ps (Semicolon ∷ behind) pr (declarations_on (properties_events ps (events.Declaration ∷ acc)) behind js more e))))
+  declarations_on acc ts is (instance_declaration i o c a us body after ps js ki ko al pr more) e =
+      (ki, (ko, alias_on (events.Declaration ∷ acc) us a (LeftBrace ∷ body) body al refl (properties_on (events.Declaration ∷ acc) body ps (Semicolon ∷ after) pr (declarations_on (properties_events ps (events.Declaration ∷ acc)) after js more e))))

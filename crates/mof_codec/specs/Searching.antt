@@ -29,7 +29,7 @@ pub record FirstOf (P : ℕ → Type 0) (at : ℕ) : Type 0 where
 -- the machine is in the state after the characters
 pub record StandsAfter (chars : List ℕ) (state : State) : Type 0 where
   pub begun : List Event
-  pub behind : walked chars ≡ Some (record { half = state.half; place = state.place; begun = begun })
+  pub after : walked chars ≡ Some (record { half = state.half; place = state.place; begun = begun })
 
 -- an integer out of range comes first, as long as it goes on
 pub record BeginsExcessInteger (cs : List ℕ) : Type 0 where

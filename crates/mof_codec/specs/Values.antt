@@ -85,10 +85,10 @@ abbrev pub IsCapped : ℕ → ℕ → Type 0
 IsCapped n capped = (capped ≡ n) ⊎ ((2 ^ 64 ≤ n) × (2 ^ 64 ≤ capped))
 
 -- after separators stands a quote
-pub record BeginsQuote (cs behind : List ℕ) : Type 0 where
+pub record BeginsQuote (cs rest : List ℕ) : Type 0 where
   pub left : List ℕ
   pub separators : Separators cs left
-  pub split : left ≡ quote ∷ behind
+  pub split : left ≡ quote ∷ rest
 
 -- if tokens come first, the first is no literal
 abbrev pub NoLiteralFirst : List ℕ → Type 0
@@ -107,8 +107,8 @@ is_plain c = not ((c == quote) || (c == backslash))
 
 -- a literal goes on by the characters of a text, and then the rest
 pub record GoesOnBy (cs text rest : List ℕ) : Type 0 where
-  pub on : (more behind : List ℕ) → Quoted rest more behind → Quoted cs (text ++ more) behind
-  pub only : (whole behind : List ℕ) → Quoted cs whole behind → (more : List ℕ) × Quoted rest more behind
+  pub on : (more after : List ℕ) → Quoted rest more after → Quoted cs (text ++ more) after
+  pub only : (whole after : List ℕ) → Quoted cs whole after → (more : List ℕ) × Quoted rest more after
 
 -- a literal goes on by the characters up to the rest
 pub record IsPlainTo (cs rest : List ℕ) : Type 0 where
@@ -130,10 +130,10 @@ NoEscape cs = (value : ℕ) (rest : List ℕ) → Escape cs value rest → ⊥
 -- after the x of an escape: one to four digits of a character, and the rest
 pub record HexEscape (cs : List ℕ) (value : ℕ) (rest : List ℕ) : Type 0 where
   pub digit : ℕ
-  pub behind : List ℕ
-  pub split : cs ≡ digit ∷ behind
+  pub after : List ℕ
+  pub split : cs ≡ digit ∷ after
   pub is_digit : digit_of 16 digit ≡ true
-  pub digits : HexDigits 3 (digit_value digit) behind value rest
+  pub digits : HexDigits 3 (digit_value digit) after value rest
   pub scalar : is_surrogate value ≡ false
 
 abbrev pub NoHexEscape : List ℕ → Type 0

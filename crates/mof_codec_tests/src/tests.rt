@@ -18,7 +18,7 @@ fn holds(is_so: bool, row: impl Display + Drop) -> Result<(), Fail> {
     Err(Fail::new(row))
 }
 
-// The part so many times.
+// The part that many times.
 fn repeated(rt: &impl AllocGlobal, part: &[u8], count: usize) -> Result<Vec<u8>, Fail> {
     let mut bytes = Vec::new(rt.alloc());
     for _ in 0..count {

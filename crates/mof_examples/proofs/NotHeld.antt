@@ -42,7 +42,7 @@ no_other_word s rest (null_value w r h) = different 121 110 _ _ (λ e. omega ari
 
 pub no_nested_array : NoInitializer (LeftBrace ∷ LeftBrace ∷ one ∷ RightBrace ∷ RightBrace ∷ [])
 no_nested_array v rest (constant us r s h) = constant_begins _ _ _ h
-no_nested_array v rest (array us behind r s ss h e) = constant_begins _ _ _ h
+no_nested_array v rest (array us after r s ss h e) = constant_begins _ _ _ h
 
 one_rest : (ts rest : List Lexeme) (s : Scalar) → ConstantValue (one ∷ ts) s rest → ts ≡ rest
 one_rest ts rest s (string_value us r text v) = absurd (no_string_number _ _ _ _ v)
@@ -52,21 +52,21 @@ one_rest ts rest s (string_value us r text v) = absurd (no_string_number _ _ _ _
 one_rest ts rest s (integer_value z r) = refl
 
 no_element_brace : (ss : List Scalar) (rest : List Lexeme) → Elements (Comma ∷ RightBrace ∷ []) ss rest → ⊥
-no_element_brace ss rest (element us behind r s more h e) = constant_begins _ _ _ h
+no_element_brace ss rest (element us after r s more h e) = constant_begins _ _ _ h
 
 no_element_number : (ss : List Scalar) (rest : List Lexeme) → Elements (one ∷ RightBrace ∷ []) ss rest → ⊥
 no_element_number ss rest e = elim e [ ]
 
 pub no_comma_at_the_end : NoInitializer (LeftBrace ∷ one ∷ Comma ∷ RightBrace ∷ [])
 no_comma_at_the_end v rest (constant us r s h) = constant_begins _ _ _ h
-no_comma_at_the_end v rest (array us behind r s ss h e) = no_element_brace ss r (subst (λ (ts : List Lexeme). Elements ts ss r) (sym (one_rest _ _ _ h)) e)
+no_comma_at_the_end v rest (array us after r s ss h e) = no_element_brace ss r (subst (λ (ts : List Lexeme). Elements ts ss r) (sym (one_rest _ _ _ h)) e)
 
 pub no_comma_between : NoInitializer (LeftBrace ∷ one ∷ one ∷ RightBrace ∷ [])
 no_comma_between v rest (constant us r s h) = constant_begins _ _ _ h
-no_comma_between v rest (array us behind r s ss h e) = no_element_number ss r (subst (λ (ts : List Lexeme). Elements ts ss r) (sym (one_rest _ _ _ h)) e)
+no_comma_between v rest (array us after r s ss h e) = no_element_number ss r (subst (λ (ts : List Lexeme). Elements ts ss r) (sym (one_rest _ _ _ h)) e)
 
 pub no_semicolon_at_the_end : NoDeclarations (declared (LeftBrace ∷ RightBrace ∷ []))
-no_semicolon_at_the_end instances (instance_declaration i o class alias ts body behind ps more a b (unnamed r) p d) = no_properties _ _ p
+no_semicolon_at_the_end instances (instance_declaration i o class alias ts body after ps more a b (unnamed r) p d) = no_properties _ _ p
   where
     no_properties : (qs : List Property) (r : List Lexeme) → ValueInitializers (RightBrace ∷ []) qs (Semicolon ∷ r) → ⊥
     no_properties qs r v = elim v [ ]
@@ -75,7 +75,7 @@ pub no_class : NoDeclarations (Word (codes "instance") ∷ Word (codes "of") ∷
 no_class instances d = elim d [ ]
 
 pub no_other_keyword : NoDeclarations (Word (codes "instances") ∷ Word (codes "of") ∷ Word (codes "A") ∷ LeftBrace ∷ RightBrace ∷ Semicolon ∷ [])
-no_other_keyword instances (instance_declaration i o class alias ts body behind ps more a b c p d) = longer _ _ a
+no_other_keyword instances (instance_declaration i o class alias ts body after ps more a b c p d) = longer _ _ a
   where
     longer : (x : ℕ) (xs : List ℕ) → codes "instance" ++ x ∷ xs ≡ codes "instance" → ⊥
     longer x xs e = cc

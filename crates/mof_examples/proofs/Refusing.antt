@@ -31,7 +31,7 @@ word_first : (c : ℕ) (cs name rest : List ℕ) → IsToken (c ∷ cs) (Word na
 word_first c cs name rest (word us n r i) = name_first c cs n r i
 
 declared_first : (t : Lexeme) (ts : List Lexeme) (is : List Instance) → InstanceDeclarations (t ∷ ts) is → (name : List ℕ) × (t ≡ Word name) × SameName name (codes "instance")
-declared_first t ts is (instance_declaration i o k alias us body behind ps more hi ho ha hp hd) = (i, refl, hi)
+declared_first t ts is (instance_declaration i o k alias us body after ps more hi ho ha hp hd) = (i, refl, hi)
 
 head_same : (c d : ℕ) (cs ds : List ℕ) → (c ∷ cs) ≡ (d ∷ ds) → c ≡ d
 head_same c d cs ds e = cc

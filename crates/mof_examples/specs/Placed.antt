@@ -11,7 +11,7 @@ use Rattle.mof_syntax.specs.Refusals.{Wins, Refuses}
 abbrev pub given : List ℕ → List ℕ
 given value = codes "instance of A { X = " ++ value ++ codes "; };"
 
--- the letter g so many times
+-- the letter g that many times
 abbrev pub letters : ℕ → List ℕ
 letters count = replicate count 103
 
@@ -62,7 +62,7 @@ pub record LongNameExamples : Type 0 where
   -- a `z` may stand there and a `1` may not, but so may a `#`
   pub not_after_an_escape : BeginsIdentifier long_literal 26 → ⊥
 
--- the part so many times, and then the rest
+-- the part that many times, and then the rest
 unfoldable pub many : ℕ → List ℕ → List ℕ → List ℕ
 many zero part rest = rest
 many (suc count) part rest = part ++ many count part rest

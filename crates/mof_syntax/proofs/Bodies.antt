@@ -124,9 +124,9 @@ Chars-from_body bytes body chars e is split b = record {
   spelled = subst (λ (f : Encoding). bytes ≡ encoded f chars) is (split ∙ ap (λ bs. mark_of e ++ bs) b.spelled);
 }
 
-pub fault_behind : (bytes body : List ℕ) (n : ℕ) (e : Encoding) → e ≡ encoding_of bytes → bytes ≡ mark_of e ++ body → IsBodyFault e body n
+pub fault_after : (bytes body : List ℕ) (n : ℕ) (e : Encoding) → e ≡ encoding_of bytes → bytes ≡ mark_of e ++ body → IsBodyFault e body n
     → IsTextFault bytes (length (mark_of e) + n)
-fault_behind bytes body n e is split f =
+fault_after bytes body n e is split f =
     let length_is : length bytes ≡ length (mark_of e) + length body = ap length split ∙ length-append (mark_of e) body in
     record {
       before = f.before;
@@ -143,15 +143,15 @@ pub RefusesBytes-from_body : (bytes body : List ℕ) (marked : ℕ) (e : Encodin
 RefusesBytes-from_body bytes body marked e (TextFault at) is split m r =
     let length_is : length bytes ≡ length (mark_of e) + length body = ap length split ∙ length-append (mark_of e) body in
     let place : length (mark_of e) + r.0 ≡ at = omega (arith, r.1) in
-    subst (IsTextFault bytes) place (fault_behind bytes body r.0 e is split r.2)
+    subst (IsTextFault bytes) place (fault_after bytes body r.0 e is split r.2)
 RefusesBytes-from_body bytes body marked e Memory is split m r = tt
 
 -- the answers of the two readers of bodies
 
-pub refused_behind_utf16 : {T : Type 0} (bytes body : List ℕ) (marked : ℕ) (order : ByteOrder) (e : Encoding) (r : Result T TextError) → e ≡ Utf16 order → e ≡ encoding_of bytes
+pub refused_after_utf16 : {T : Type 0} (bytes body : List ℕ) (marked : ℕ) (order : ByteOrder) (e : Encoding) (r : Result T TextError) → e ≡ Utf16 order → e ≡ encoding_of bytes
     → bytes ≡ mark_of e ++ body → marked ≡ length bytes - length body → IfErr r (λ error. RefusesBody (Utf16 order) body marked error) → IfErr r (λ error. RefusesBytes bytes error)
-refused_behind_utf16 bytes body marked order e (Ok chars) one is split m h = tt
-refused_behind_utf16 bytes body marked order e (Err error) one is split m h =
+refused_after_utf16 bytes body marked order e (Ok chars) one is split m h = tt
+refused_after_utf16 bytes body marked order e (Err error) one is split m h =
     RefusesBytes-from_body bytes body marked e error is split m (subst (λ (f : Encoding). RefusesBody f body marked error) (sym one) h)
 
 -- UTF-8 with a mark is UTF-8 after it
@@ -163,19 +163,19 @@ marked_refusal : (body : List ℕ) (marked : ℕ) (error : TextError) → Refuse
 marked_refusal body marked (TextFault at) r = (r.0, r.1, record { before = r.2.before; is = marked_body _ _ r.2.is; within = r.2.within; no_char = r.2.no_char })
 marked_refusal body marked Memory r = r
 
-pub ok_behind_utf8 : {T : Type 0} (view : T → List ℕ) (bytes body : List ℕ) (e : Encoding) (r : Result T TextError) → (e ≡ Utf8) ⊎ (e ≡ Utf8Marked) → e ≡ encoding_of bytes
+pub ok_after_utf8 : {T : Type 0} (view : T → List ℕ) (bytes body : List ℕ) (e : Encoding) (r : Result T TextError) → (e ≡ Utf8) ⊎ (e ≡ Utf8Marked) → e ≡ encoding_of bytes
     → bytes ≡ mark_of e ++ body → IfOk r (λ t. IsBody Utf8 body (view t)) → IfOk r (λ t. Chars bytes (view t))
-ok_behind_utf8 view bytes body e (Err error) one is split h = tt
-ok_behind_utf8 view bytes body e (Ok t) one is split h = Chars-from_body bytes body (view t) e is split (either one)
+ok_after_utf8 view bytes body e (Err error) one is split h = tt
+ok_after_utf8 view bytes body e (Ok t) one is split h = Chars-from_body bytes body (view t) e is split (either one)
   where
     either : (e ≡ Utf8) ⊎ (e ≡ Utf8Marked) → IsBody e body (view t)
     either (inl u) = subst (λ (f : Encoding). IsBody f body (view t)) (sym u) h
     either (inr m) = subst (λ (f : Encoding). IsBody f body (view t)) (sym m) (marked_body body (view t) h)
 
-pub refused_behind_utf8 : {T : Type 0} (bytes body : List ℕ) (marked : ℕ) (e : Encoding) (r : Result T TextError) → (e ≡ Utf8) ⊎ (e ≡ Utf8Marked) → e ≡ encoding_of bytes
+pub refused_after_utf8 : {T : Type 0} (bytes body : List ℕ) (marked : ℕ) (e : Encoding) (r : Result T TextError) → (e ≡ Utf8) ⊎ (e ≡ Utf8Marked) → e ≡ encoding_of bytes
     → bytes ≡ mark_of e ++ body → marked ≡ length bytes - length body → IfErr r (λ error. RefusesBody Utf8 body marked error) → IfErr r (λ error. RefusesBytes bytes error)
-refused_behind_utf8 bytes body marked e (Ok chars) one is split m h = tt
-refused_behind_utf8 bytes body marked e (Err error) one is split m h = RefusesBytes-from_body bytes body marked e error is split m (either one)
+refused_after_utf8 bytes body marked e (Ok chars) one is split m h = tt
+refused_after_utf8 bytes body marked e (Err error) one is split m h = RefusesBytes-from_body bytes body marked e error is split m (either one)
   where
     either : (e ≡ Utf8) ⊎ (e ≡ Utf8Marked) → RefusesBody e body marked error
     either (inl u) = subst (λ (f : Encoding). RefusesBody f body marked error) (sym u) h

@@ -14,7 +14,7 @@ use Rattle.mof_syntax.specs.declared.encoding.Encoding.TheVariants.{Utf8Marked, 
 use Rattle.mof_syntax.specs.declared.encoding.ByteOrder.TheVariants.{LittleEndian, BigEndian}
 use Rattle.mof_syntax.specs.Encodings.{char_bytes, body_bytes, mark_of, encoding_of, Chars, IsTextFault, StartsNoChar}
 use Rattle.mof_syntax.specs.Decoding.{StartsChar, IsBodyFault}
-use Rattle.mof_syntax.proofs.Bodies.{and_both, Chars-from_body, fault_behind}
+use Rattle.mof_syntax.proofs.Bodies.{and_both, Chars-from_body, fault_after}
 use Rattle.mof_syntax.proofs.Decoded.{some_bytes}
 
 test : (b : Bool) → (b ≡ true) ⊎ (b ≡ false)
@@ -111,8 +111,8 @@ fault_from e body chars rest scalars split ends some =
     )
 
 -- the mark of the bytes, and what is after it
-behind : (bytes : List ℕ) → (body : List ℕ) × (bytes ≡ mark_of (encoding_of bytes) ++ body)
-behind bytes = elim (test (starts_with nat_eq bytes (mark_of Utf8Marked))) [
+after_mark : (bytes : List ℕ) → (body : List ℕ) × (bytes ≡ mark_of (encoding_of bytes) ++ body)
+after_mark bytes = elim (test (starts_with nat_eq bytes (mark_of Utf8Marked))) [
   | inl so ↦ rw so (drop 3 bytes, (starts_is Decides-eqb bytes (mark_of Utf8Marked) _ refl).0 so)
   | inr not_so ↦ elim (test (starts_with nat_eq bytes (mark_of (Utf16 LittleEndian)))) [
     | inl so ↦ rw (not_so, so) (drop 2 bytes, (starts_is Decides-eqb bytes (mark_of (Utf16 LittleEndian)) _ refl).0 so)
@@ -127,7 +127,7 @@ behind bytes = elim (test (starts_with nat_eq bytes (mark_of Utf8Marked))) [
 pub chars_or_fault : (bytes : List ℕ) → ((text : List ℕ) × Chars bytes text) ⊎ ((at : ℕ) × IsTextFault bytes at)
 chars_or_fault bytes =
     let e = encoding_of bytes in
-    let b = behind bytes in
+    let b = after_mark bytes in
     let d = divided (suc (length b.0)) e b.0 (omega arith) in
     from b.0 b.1 d.chars d.rest d.scalars d.split d.ends
   where
@@ -139,4 +139,4 @@ chars_or_fault bytes =
         inl (chars, Chars-from_body bytes body chars (encoding_of bytes) refl is (record { scalars = scalars; spelled = whole }))
     from body is chars (x ∷ rest) scalars split ends =
         let fault = fault_from (encoding_of bytes) body chars (x ∷ rest) scalars split ends (omega arith) in
-        inr (length (mark_of (encoding_of bytes)) + fault.0, fault_behind bytes body fault.0 (encoding_of bytes) refl is fault.1)
+        inr (length (mark_of (encoding_of bytes)) + fault.0, fault_after bytes body fault.0 (encoding_of bytes) refl is fault.1)

@@ -153,7 +153,7 @@ StandsToken-by chars others rest c lead cut is o =
       lexeme = t.0;
       stands = t.1;
       is_kind = t.2;
-      only = λ other behind i. at.only behind (token_stands c others other behind i);
+      only = λ other after i. at.only after (token_stands c others other after i);
     } in
     subst (λ (l : Lead). StandsToken chars (kind_by l) rest) (sym is) (subst (λ (xs : List ℕ). StandsToken xs (kind_by (lead_of c)) rest) (sym cut) there)
 
@@ -183,29 +183,29 @@ NoToken-none chars h t rest i = absurd (none_begins t rest (subst (λ (xs : List
 
 -- the steps after the first character
 
-pub some_behind : (lead L : Lead) (cs others : List ℕ) (f : Option (List ℕ)) (r : Option (Bor (List ℕ))) → lead ≡ L → left_of r ≡ f
+pub some_after : (lead L : Lead) (cs others : List ℕ) (f : Option (List ℕ)) (r : Option (Bor (List ℕ))) → lead ≡ L → left_of r ≡ f
     → ((rest : List ℕ) → StandsBy L cs others rest → f ≡ Some rest) → ((rest : List ℕ) → f ≡ Some rest → StandsBy L cs others rest)
     → IfSome r (λ rest. OnlyBy lead cs others (chars rest.now))
-some_behind lead L cs others f None is e to from = tt
-some_behind lead L cs others f (Some b) is e to from = subst (λ (l : Lead). OnlyBy l cs others (chars b.now)) (sym is) (record {
+some_after lead L cs others f None is e to from = tt
+some_after lead L cs others f (Some b) is e to from = subst (λ (l : Lead). OnlyBy l cs others (chars b.now)) (sym is) (record {
   stands = from (chars b.now) (sym e);
   only = λ other s. some_same other (chars b.now) (sym (to other s) ∙ sym e);
 })
 
-pub none_behind : (lead L : Lead) (cs others : List ℕ) (f : Option (List ℕ)) (r : Option (Bor (List ℕ))) → lead ≡ L → left_of r ≡ f
+pub none_after : (lead L : Lead) (cs others : List ℕ) (f : Option (List ℕ)) (r : Option (Bor (List ℕ))) → lead ≡ L → left_of r ≡ f
     → ((rest : List ℕ) → StandsBy L cs others rest → f ≡ Some rest) → IfNone r (NoneBy lead cs others)
-none_behind lead L cs others f (Some b) is e to = tt
-none_behind lead L cs others f None is e to = subst (λ (l : Lead). NoneBy l cs others) (sym is) (λ rest s. absurd (apart rest (e ∙ to rest s)))
+none_after lead L cs others f (Some b) is e to = tt
+none_after lead L cs others f None is e to = subst (λ (l : Lead). NoneBy l cs others) (sym is) (λ rest s. absurd (apart rest (e ∙ to rest s)))
   where
     apart : (xs : List ℕ) → None ≡ Some xs → ⊥
     apart xs h = cc
 
-pub quoted_behind : (lead : Lead) (cs others : List ℕ) (r : Option (Bor (List ℕ))) → lead ≡ leads.Quote
+pub quoted_after : (lead : Lead) (cs others : List ℕ) (r : Option (Bor (List ℕ))) → lead ≡ leads.Quote
     → IfSome r (λ rest. IsOnly StandsQuoted others (chars rest.now)) → IfSome r (λ rest. OnlyBy lead cs others (chars rest.now))
-quoted_behind lead cs others None is h = tt
-quoted_behind lead cs others (Some b) is h = subst (λ (l : Lead). OnlyBy l cs others (chars b.now)) (sym is) (record { stands = h.stands; only = h.only })
+quoted_after lead cs others None is h = tt
+quoted_after lead cs others (Some b) is h = subst (λ (l : Lead). OnlyBy l cs others (chars b.now)) (sym is) (record { stands = h.stands; only = h.only })
 
-pub no_quoted_behind : (lead : Lead) (cs others : List ℕ) (r : Option (Bor (List ℕ))) → lead ≡ leads.Quote
+pub no_quoted_after : (lead : Lead) (cs others : List ℕ) (r : Option (Bor (List ℕ))) → lead ≡ leads.Quote
     → IfNone r ((rest : List ℕ) → StandsQuoted others rest → ⊥) → IfNone r (NoneBy lead cs others)
-no_quoted_behind lead cs others (Some b) is h = tt
-no_quoted_behind lead cs others None is h = subst (λ (l : Lead). NoneBy l cs others) (sym is) h
+no_quoted_after lead cs others (Some b) is h = tt
+no_quoted_after lead cs others None is h = subst (λ (l : Lead). NoneBy l cs others) (sym is) h

@@ -12,12 +12,12 @@ use Rattle.mof_syntax.proofs.Suffixes.{EndsWithin-length, escape_ends}
 pub data QuotedCase : ℕ → List ℕ → List ℕ → Type 0 where
   at_quote : (rest : List ℕ) → QuotedCase quote rest rest
   at_plain : (c : ℕ) (cs rest : List ℕ) → (c == quote) ≡ false → (c == backslash) ≡ false → StandsQuoted cs rest → QuotedCase c cs rest
-  at_escape : (value : ℕ) (cs behind rest : List ℕ) → Escape cs value behind → StandsQuoted behind rest → QuotedCase backslash cs rest
+  at_escape : (value : ℕ) (cs after rest : List ℕ) → Escape cs value after → StandsQuoted after rest → QuotedCase backslash cs rest
 
 quoted_case : (c : ℕ) (cs text rest : List ℕ) → Quoted (c ∷ cs) text rest → QuotedCase c cs rest
 quoted_case c cs text rest (closed r) = at_quote r
 quoted_case c cs text rest (plain d us t r no_quote no_escape q) = at_plain d us r no_quote no_escape (t, q)
-quoted_case c cs text rest (escaped v us behind t r e q) = at_escape v us behind r e (t, q)
+quoted_case c cs text rest (escaped v us after t r e q) = at_escape v us after r e (t, q)
 
 pub no_quoted : (rest : List ℕ) → StandsQuoted [] rest → ⊥
 no_quoted rest q = elim q.1 [ ]
@@ -38,7 +38,7 @@ closed_only c cs rest is (at_plain d us r no_quote no_escape q) = absurd (plain_
   where
     plain_clash : (x : ℕ) → (x == quote) ≡ false → x ≡ quote → ⊥
     plain_clash x h e = grind (arith, nat_tests)
-closed_only c cs rest is (at_escape v us behind r e q) = absurd (omega arith)
+closed_only c cs rest is (at_escape v us after r e q) = absurd (omega arith)
 
 pub ends_at_quote : (all cs : List ℕ) → SameLiteral all (quote ∷ cs) → IsOnly StandsQuoted all cs
 ends_at_quote all cs s = record {
@@ -51,7 +51,7 @@ ends_at_quote all cs s = record {
 plain_only : (c : ℕ) (cs rest : List ℕ) → (c == quote) ≡ false → (c == backslash) ≡ false → QuotedCase c cs rest → StandsQuoted cs rest
 plain_only c cs rest no_quote no_escape (at_quote r) = absurd cc
 plain_only c cs rest no_quote no_escape (at_plain d us r f g q) = q
-plain_only c cs rest no_quote no_escape (at_escape v us behind r e q) = absurd cc
+plain_only c cs rest no_quote no_escape (at_escape v us after r e q) = absurd cc
 
 pub goes_on_plain : (all cs : List ℕ) (c : ℕ) → (c == quote) ≡ false → (c == backslash) ≡ false → SameLiteral all (c ∷ cs) → SameLiteral all cs
 goes_on_plain all cs c no_quote no_escape s = record {
@@ -62,7 +62,7 @@ goes_on_plain all cs c no_quote no_escape s = record {
 -- at an escape
 
 abbrev EscapeCase : List ℕ → List ℕ → Type 0
-EscapeCase cs rest = (value : ℕ) × (behind : List ℕ) × Escape cs value behind × StandsQuoted behind rest
+EscapeCase cs rest = (value : ℕ) × (after : List ℕ) × Escape cs value after × StandsQuoted after rest
 
 escape_only : (c : ℕ) (cs rest : List ℕ) → c ≡ backslash → QuotedCase c cs rest → EscapeCase cs rest
 escape_only c cs rest is (at_quote r) = absurd (omega arith)
@@ -70,15 +70,15 @@ escape_only c cs rest is (at_plain d us r no_quote no_escape q) = absurd (plain_
   where
     plain_clash : (x : ℕ) → (x == backslash) ≡ false → x ≡ backslash → ⊥
     plain_clash x h e = grind (arith, nat_tests)
-escape_only c cs rest is (at_escape v us behind r e q) = (v, behind, e, q)
+escape_only c cs rest is (at_escape v us after r e q) = (v, after, e, q)
 
-pub goes_on_escaped : (all cs behind : List ℕ) → escape_rest cs ≡ Some behind → SameLiteral all (backslash ∷ cs) → SameLiteral all behind
-goes_on_escaped all cs behind is s = record {
-  on = λ rest q. let e = read-escape cs behind is in s.on rest (e.0 ∷ q.0, escaped e.0 cs behind q.0 rest e.1 q.1);
+pub goes_on_escaped : (all cs after : List ℕ) → escape_rest cs ≡ Some after → SameLiteral all (backslash ∷ cs) → SameLiteral all after
+goes_on_escaped all cs after is s = record {
+  on = λ rest q. let e = read-escape cs after is in s.on rest (e.0 ∷ q.0, escaped e.0 cs after q.0 rest e.1 q.1);
   only = λ rest q.
       let p = s.only rest q in
       let e = escape_only backslash cs rest refl (quoted_case backslash cs p.0 rest p.1) in
-      subst (λ (xs : List ℕ). StandsQuoted xs rest) (some_same e.1 behind (sym (escape-read cs e.0 e.1 e.2) ∙ is)) e.3;
+      subst (λ (xs : List ℕ). StandsQuoted xs rest) (some_same e.1 after (sym (escape-read cs e.0 e.1 e.2) ∙ is)) e.3;
 }
 
 pub no_escape_there : (all cs rest : List ℕ) → escape_rest cs ≡ None → SameLiteral all (backslash ∷ cs) → StandsQuoted all rest → ⊥
@@ -102,8 +102,8 @@ ne_test a b h = elim (test_or (a == b)) [ inl is ↦ absurd (h (same a b is)) | 
     same : (x y : ℕ) → (x == y) ≡ true → x ≡ y
     same x y e = grind (arith, nat_tests)
 
-pub escape_shorter : (left others behind : List ℕ) (c : ℕ) → left ≡ c ∷ others → Some behind ≡ escape_rest others → length behind < length left
-escape_shorter left others behind c split is =
-    let e = read-escape others behind (sym is) in
-    let shorter : length behind < length others = EndsWithin-length others behind (escape_ends others e.0 behind e.1) in
+pub escape_shorter : (left others rest : List ℕ) (c : ℕ) → left ≡ c ∷ others → Some rest ≡ escape_rest others → length rest < length left
+escape_shorter left others rest c split is =
+    let e = read-escape others rest (sym is) in
+    let shorter : length rest < length others = EndsWithin-length others rest (escape_ends others e.0 rest e.1) in
     rw split (omega arith)

@@ -52,7 +52,7 @@ separator_ends cs rest (block us r b) = within 47 (42 ∷ us) r (next 42 us r (b
 
 pub separators_end : (cs rest : List ℕ) → Separators cs rest → EndsWith cs rest
 separators_end cs rest (none r) = all_of r
-separators_end cs rest (another us behind r s ss) = join us behind r (weak us behind (separator_ends us behind s)) (separators_end behind r ss)
+separators_end cs rest (another us after r s ss) = join us after r (weak us after (separator_ends us after s)) (separators_end after r ss)
 
 hex_ends : (count value : ℕ) (cs : List ℕ) (total : ℕ) (rest : List ℕ) → HexDigits count value cs total rest → EndsWith cs rest
 hex_ends count value cs total rest (full v r) = all_of r
@@ -66,7 +66,7 @@ escape_ends cs value rest (hexadecimal x d v us r isx isd h ok) = within x (d �
 quoted_ends : (cs text rest : List ℕ) → Quoted cs text rest → EndsWith cs rest
 quoted_ends cs text rest (closed r) = next 34 r r (all_of r)
 quoted_ends cs text rest (plain c us t r no_quote no_escape q) = next c us r (quoted_ends us t r q)
-quoted_ends cs text rest (escaped v us behind t r e q) = next 92 us r (join us behind r (weak us behind (escape_ends us v behind e)) (quoted_ends behind t r q))
+quoted_ends cs text rest (escaped v us after t r e q) = next 92 us r (join us after r (weak us after (escape_ends us v after e)) (quoted_ends after t r q))
 
 identifier_ends : (cs name rest : List ℕ) → Identifier cs name rest → EndsWithin cs rest
 identifier_ends cs name rest (identifier c us tail r e run s) = within c us r (run_ends is_next us tail r run)

@@ -37,7 +37,7 @@ chars_before text rest u v e =
     from_start : (n : ℕ) → n ≡ n - 0
     from_start n = omega arith
 
--- the end after so many characters
+-- the end after that many characters
 pub ends_after : (cs : List ℕ) (n : ℕ) → EndsWith cs (drop n cs)
 ends_after cs n = (take n cs, sym (take-append-drop n cs))
 

@@ -83,37 +83,37 @@ no_closing_constant ts s rest c = constant_by (RightBrace ∷ ts) s rest c
 
 pub elements_first : (ts : List Lexeme) (ss : List Scalar) (rest : List Lexeme) → Elements ts ss rest → NoLiteral ts
 elements_first ts ss rest (closing r) = tt
-elements_first ts ss rest (element us behind r s more c e) = tt
+elements_first ts ss rest (element us after r s more c e) = tt
 
 elements_same : (ts : List Lexeme) (ss : List Scalar) (r : List Lexeme) (us : List Scalar) (q : List Lexeme) → Elements ts ss r → Elements ts us q → (ss ≡ us) × (r ≡ q)
 elements_same ts ss r us q (closing x) (closing y) = (refl, refl)
-elements_same ts ss r us q (element vs behind x s more c e) (element ws other y u others d f) =
-    let first = constant_same vs s behind u other (elements_first behind more x e) (elements_first other others y f) c d in
-    let rest = elements_same behind more x others y e (subst (λ (xs : List Lexeme). Elements xs others y) (sym first.1) f) in
+elements_same ts ss r us q (element vs after x s more c e) (element ws other y u others d f) =
+    let first = constant_same vs s after u other (elements_first after more x e) (elements_first other others y f) c d in
+    let rest = elements_same after more x others y e (subst (λ (xs : List Lexeme). Elements xs others y) (sym first.1) f) in
     (ap (λ (z : Scalar). z ∷ more) first.0 ∙ ap (λ (zs : List Scalar). u ∷ zs) rest.0, rest.1)
 
 initializer_same : (ts : List Lexeme) (v : Value) (r : List Lexeme) (u : Value) (q : List Lexeme) → NoLiteral r → NoLiteral q → Initializer ts v r → Initializer ts u q → (v ≡ u) × (r ≡ q)
 initializer_same ts v r u q n m (constant xs x s c) (constant ys y t d) = let same = constant_same xs s x t y n m c d in (ap (λ (z : Scalar). One z) same.0, same.1)
 initializer_same ts v r u q n m (constant xs x s c) (empty_array y) = absurd (no_brace_constant _ s x c)
-initializer_same ts v r u q n m (constant xs x s c) (array ys behind y t more d e) = absurd (no_brace_constant _ s x c)
+initializer_same ts v r u q n m (constant xs x s c) (array ys after y t more d e) = absurd (no_brace_constant _ s x c)
 initializer_same ts v r u q n m (empty_array x) (constant ys y t d) = absurd (no_brace_constant _ t y d)
 initializer_same ts v r u q n m (empty_array x) (empty_array y) = (refl, refl)
-initializer_same ts v r u q n m (empty_array x) (array ys behind y t more d e) = absurd (no_closing_constant _ t behind d)
-initializer_same ts v r u q n m (array xs behind x s more c e) (constant ys y t d) = absurd (no_brace_constant _ t y d)
-initializer_same ts v r u q n m (array xs behind x s more c e) (empty_array y) = absurd (no_closing_constant _ s behind c)
-initializer_same ts v r u q n m (array xs behind x s more c e) (array ys other y t others d f) =
-    let first = constant_same xs s behind t other (elements_first behind more x e) (elements_first other others y f) c d in
-    let rest = elements_same behind more x others y e (subst (λ (zs : List Lexeme). Elements zs others y) (sym first.1) f) in
+initializer_same ts v r u q n m (empty_array x) (array ys after y t more d e) = absurd (no_closing_constant _ t after d)
+initializer_same ts v r u q n m (array xs after x s more c e) (constant ys y t d) = absurd (no_brace_constant _ t y d)
+initializer_same ts v r u q n m (array xs after x s more c e) (empty_array y) = absurd (no_closing_constant _ s after c)
+initializer_same ts v r u q n m (array xs after x s more c e) (array ys other y t others d f) =
+    let first = constant_same xs s after t other (elements_first after more x e) (elements_first other others y f) c d in
+    let rest = elements_same after more x others y e (subst (λ (zs : List Lexeme). Elements zs others y) (sym first.1) f) in
     (ap (λ (z : Scalar). Many (z ∷ more)) first.0 ∙ ap (λ (zs : List Scalar). Many (t ∷ zs)) rest.0, rest.1)
 
 -- declarations
 
 properties_same : (ts : List Lexeme) (ps : List Property) (r : List Lexeme) (qs : List Property) (q : List Lexeme) → ValueInitializers ts ps r → ValueInitializers ts qs q → (ps ≡ qs) × (r ≡ q)
 properties_same ts ps r qs q (done x) (done y) = (refl, refl)
-properties_same ts ps r qs q (value_initializer name xs behind x v more c e) (value_initializer name' ys other y u others d f) =
-    let first = initializer_same xs v (Semicolon ∷ behind) u (Semicolon ∷ other) tt tt c d in
-    let there : behind ≡ other = tail_same Semicolon Semicolon behind other first.1 in
-    let rest = properties_same behind more x others y e (subst (λ (zs : List Lexeme). ValueInitializers zs others y) (sym there) f) in
+properties_same ts ps r qs q (value_initializer name xs after x v more c e) (value_initializer name' ys other y u others d f) =
+    let first = initializer_same xs v (Semicolon ∷ after) u (Semicolon ∷ other) tt tt c d in
+    let there : after ≡ other = tail_same Semicolon Semicolon after other first.1 in
+    let rest = properties_same after more x others y e (subst (λ (zs : List Lexeme). ValueInitializers zs others y) (sym there) f) in
     (ap (λ (z : Value). record { name = name; value = z } ∷ more) first.0 ∙ ap (λ (zs : List Property). record { name = name; value = u } ∷ zs) rest.0, rest.1)
 
 alias_same : (ts : List Lexeme) (a : Option (List ℕ)) (r : List Lexeme) (b : Option (List ℕ)) (q : List Lexeme) → AliasClause ts a (LeftBrace ∷ r) → AliasClause ts b (LeftBrace ∷ q) → (a ≡ b) × (r ≡ q)
@@ -123,11 +123,11 @@ alias_same ts a r b q (named w name x h) (named v other y g) = (refl, refl)
 -- the tokens stand for one list
 pub declarations_same : (ts : List Lexeme) (is js : List Instance) → InstanceDeclarations ts is → InstanceDeclarations ts js → is ≡ js
 declarations_same ts is js nothing nothing = refl
-declarations_same ts is js (instance_declaration i o class alias us body behind ps more hi ho ha hp hd) (instance_declaration i' o' class' alias' us' body' behind' ps' more' gi go ga gp gd) =
+declarations_same ts is js (instance_declaration i o class alias us body after ps more hi ho ha hp hd) (instance_declaration i' o' class' alias' us' body' after' ps' more' gi go ga gp gd) =
     let named_is = alias_same us alias body alias' body' ha ga in
-    let held = properties_same body ps (Semicolon ∷ behind) ps' (Semicolon ∷ behind') hp (subst (λ (zs : List Lexeme). ValueInitializers zs ps' (Semicolon ∷ behind')) (sym named_is.1) gp) in
-    let there : behind ≡ behind' = tail_same Semicolon Semicolon behind behind' held.1 in
-    let rest = declarations_same behind more more' hd (subst (λ (zs : List Lexeme). InstanceDeclarations zs more') (sym there) gd) in
+    let held = properties_same body ps (Semicolon ∷ after) ps' (Semicolon ∷ after') hp (subst (λ (zs : List Lexeme). ValueInitializers zs ps' (Semicolon ∷ after')) (sym named_is.1) gp) in
+    let there : after ≡ after' = tail_same Semicolon Semicolon after after' held.1 in
+    let rest = declarations_same after more more' hd (subst (λ (zs : List Lexeme). InstanceDeclarations zs more') (sym there) gd) in
     ap (λ (z : Option (List ℕ)). record { class = class; alias = z; properties = ps } ∷ more) named_is.0
     ∙ ap (λ (zs : List Property). record { class = class; alias = alias'; properties = zs } ∷ more) held.0
     ∙ ap (λ (zs : List Instance). record { class = class; alias = alias'; properties = ps' } ∷ zs) rest

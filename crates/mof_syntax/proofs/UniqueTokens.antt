@@ -90,12 +90,12 @@ escape_is cs value rest (hexadecimal x d v us r isx isd h ok) = when_false (is_s
 data QuotedView : ℕ → List ℕ → List ℕ → List ℕ → Type 0 where
   view_closed : (c : ℕ) (cs text rest : List ℕ) → c ≡ quote → text ≡ [] → cs ≡ rest → QuotedView c cs text rest
   view_plain : (c : ℕ) (cs text rest t : List ℕ) → (c == quote) ≡ false → (c == backslash) ≡ false → Quoted cs t rest → text ≡ c ∷ t → QuotedView c cs text rest
-  view_escaped : (c : ℕ) (cs text rest : List ℕ) (value : ℕ) (behind t : List ℕ) → c ≡ backslash → Escape cs value behind → Quoted behind t rest → text ≡ value ∷ t → QuotedView c cs text rest
+  view_escaped : (c : ℕ) (cs text rest : List ℕ) (value : ℕ) (after t : List ℕ) → c ≡ backslash → Escape cs value after → Quoted after t rest → text ≡ value ∷ t → QuotedView c cs text rest
 
 quoted_view : (c : ℕ) (cs text rest : List ℕ) → Quoted (c ∷ cs) text rest → QuotedView c cs text rest
 quoted_view c cs text rest (closed r) = view_closed c cs text rest refl refl refl
 quoted_view c cs text rest (plain d us t r no_quote no_escape q) = view_plain c cs text rest t no_quote no_escape q refl
-quoted_view c cs text rest (escaped v us behind t r e q) = view_escaped c cs text rest v behind t refl e q refl
+quoted_view c cs text rest (escaped v us after t r e q) = view_escaped c cs text rest v after t refl e q refl
 
 test_clash : (a b : ℕ) → a ≡ b → (a == b) ≡ false → ⊥
 test_clash a b e h = grind (arith, nat_tests)
@@ -103,21 +103,21 @@ test_clash a b e h = grind (arith, nat_tests)
 closed_same : (x b q : List ℕ) → QuotedView quote x b q → ([] ≡ b) × (x ≡ q)
 closed_same x b q (view_closed c us t y is text rest) = (sym text, rest)
 closed_same x b q (view_plain c us t y w no_quote no_escape h text) = absurd (test_clash quote quote refl no_quote)
-closed_same x b q (view_escaped c us t y v behind w is e h text) = absurd (omega arith)
+closed_same x b q (view_escaped c us t y v after w is e h text) = absurd (omega arith)
 
 plain_same : (d : ℕ) (us t x b q : List ℕ) → (d == quote) ≡ false → (d == backslash) ≡ false → ((u y : List ℕ) → Quoted us u y → (t ≡ u) × (x ≡ y))
     → QuotedView d us b q → ((d ∷ t) ≡ b) × (x ≡ q)
 plain_same d us t x b q no_quote no_escape on (view_closed c vs u y is text rest) = absurd (test_clash d quote is no_quote)
 plain_same d us t x b q no_quote no_escape on (view_plain c vs u y w f g h text) = let same = on w q h in (ap (λ (xs : List ℕ). d ∷ xs) same.0 ∙ sym text, same.1)
-plain_same d us t x b q no_quote no_escape on (view_escaped c vs u y v behind w is e h text) = absurd (test_clash d backslash is no_escape)
+plain_same d us t x b q no_quote no_escape on (view_escaped c vs u y v after w is e h text) = absurd (test_clash d backslash is no_escape)
 
-escaped_same : (v : ℕ) (us behind t x b q : List ℕ) → Escape us v behind → ((u y : List ℕ) → Quoted behind u y → (t ≡ u) × (x ≡ y))
+escaped_same : (v : ℕ) (us after t x b q : List ℕ) → Escape us v after → ((u y : List ℕ) → Quoted after u y → (t ≡ u) × (x ≡ y))
     → QuotedView backslash us b q → ((v ∷ t) ≡ b) × (x ≡ q)
-escaped_same v us behind t x b q e on (view_closed c vs u y is text rest) = absurd (omega arith)
-escaped_same v us behind t x b q e on (view_plain c vs u y w f g h text) = absurd (test_clash backslash backslash refl g)
-escaped_same v us behind t x b q e on (view_escaped c vs u y value other w is f h text) =
-    let where_is : other ≡ behind = some_same other behind (sym (escape-read us value other f) ∙ escape-read us v behind e) in
-    let what_is : v ≡ value = sym (escape_is us v behind e) ∙ escape_is us value other f in
+escaped_same v us after t x b q e on (view_closed c vs u y is text rest) = absurd (omega arith)
+escaped_same v us after t x b q e on (view_plain c vs u y w f g h text) = absurd (test_clash backslash backslash refl g)
+escaped_same v us after t x b q e on (view_escaped c vs u y value other w is f h text) =
+    let where_is : other ≡ after = some_same other after (sym (escape-read us value other f) ∙ escape-read us v after e) in
+    let what_is : v ≡ value = sym (escape_is us v after e) ∙ escape_is us value other f in
     let same = on w q (subst (λ (xs : List ℕ). Quoted xs w q) where_is h) in
     (ap (λ (n : ℕ). n ∷ t) what_is ∙ ap (λ (xs : List ℕ). value ∷ xs) same.0 ∙ sym text, same.1)
 
@@ -125,8 +125,8 @@ quoted_same : (cs a r b q : List ℕ) → Quoted cs a r → Quoted cs b q → (a
 quoted_same cs a r b q (closed x) second = closed_same x b q (quoted_view quote x b q second)
 quoted_same cs a r b q (plain d us t x no_quote no_escape first) second =
     plain_same d us t x b q no_quote no_escape (λ u y h. quoted_same us t x u y first h) (quoted_view d us b q second)
-quoted_same cs a r b q (escaped v us behind t x e first) second =
-    escaped_same v us behind t x b q e (λ u y h. quoted_same behind t x u y first h) (quoted_view backslash us b q second)
+quoted_same cs a r b q (escaped v us after t x e first) second =
+    escaped_same v us after t x b q e (λ u y h. quoted_same after t x u y first h) (quoted_view backslash us b q second)
 
 -- tokens
 

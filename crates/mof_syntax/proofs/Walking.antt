@@ -12,7 +12,7 @@ use Rattle.mof_syntax.proofs.Suffixes.{weak, EndsWithin-length, separator_ends, 
 
 separators_then : (cs mid rest : List ℕ) → Separators cs mid → Separator mid rest → Separators cs rest
 separators_then cs mid rest (none r) s = another r rest rest s (none rest)
-separators_then cs mid rest (another us behind r first more) s = another us behind rest first (separators_then behind r rest more s)
+separators_then cs mid rest (another us after r first more) s = another us after rest first (separators_then after r rest more s)
 
 pub separators_on : (cs left rest : List ℕ) → Separators cs left → Some rest ≡ separator_rest left → Separators cs rest
 separators_on cs left rest s e = separators_then cs left rest s (read-separator left rest (sym e))
@@ -79,11 +79,11 @@ pub none_found : (text left over rest : List ℕ) (place : ℕ) → IsPlace text
 none_found text left over rest place p split none_is = subst (λ (xs : List ℕ). NoToken xs) (IsPlace-next text left over rest place p split).rest none_is
 
 -- a step over separators and a token leaves fewer characters
-pub nearer : (text left over behind token rest : List ℕ) (place : ℕ) (kind : TokenKind) → IsPlace text left place → left ≡ over ++ behind
-    → behind ≡ token ++ rest → StandsToken behind kind rest → length text - (place + length over + length token) < length text - place
-nearer text left over behind token rest place kind p split cut s =
-    let next = IsPlace-next text left over behind place p split in
-    let t = found text behind token rest (place + length over) kind next cut s in
+pub nearer : (text left over after token rest : List ℕ) (place : ℕ) (kind : TokenKind) → IsPlace text left place → left ≡ over ++ after
+    → after ≡ token ++ rest → StandsToken after kind rest → length text - (place + length over + length token) < length text - place
+nearer text left over after token rest place kind p split cut s =
+    let next = IsPlace-next text left over after place p split in
+    let t = found text after token rest (place + length over) kind next cut s in
     omega (arith, next.within, t.rises, t.within)
 
 pub count_fits : (text left over rest : List ℕ) (place : ℕ) → IsPlace text left place → left ≡ over ++ rest → length text < 2 ^ 32 → length over < 2 ^ 32

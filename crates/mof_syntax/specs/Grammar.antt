@@ -35,21 +35,21 @@ pub data ConstantValue : List Lexeme → Scalar → List Lexeme → Type 0 where
 -- after an element of an array: any number of further ones, and the brace
 pub data Elements : List Lexeme → List Scalar → List Lexeme → Type 0 where
   closing : (rest : List Lexeme) → Elements (RightBrace ∷ rest) [] rest
-  element : (ts behind rest : List Lexeme) (s : Scalar) (ss : List Scalar) → ConstantValue ts s behind → Elements behind ss rest
+  element : (ts after rest : List Lexeme) (s : Scalar) (ss : List Scalar) → ConstantValue ts s after → Elements after ss rest
       → Elements (Comma ∷ ts) (s ∷ ss) rest
 
 -- what a property may be given: a single value, or an array of them
 pub data Initializer : List Lexeme → Value → List Lexeme → Type 0 where
   constant : (ts rest : List Lexeme) (s : Scalar) → ConstantValue ts s rest → Initializer ts (One s) rest
   empty_array : (rest : List Lexeme) → Initializer (LeftBrace ∷ RightBrace ∷ rest) (Many []) rest
-  array : (ts behind rest : List Lexeme) (s : Scalar) (ss : List Scalar) → ConstantValue ts s behind → Elements behind ss rest
+  array : (ts after rest : List Lexeme) (s : Scalar) (ss : List Scalar) → ConstantValue ts s after → Elements after ss rest
       → Initializer (LeftBrace ∷ ts) (Many (s ∷ ss)) rest
 
 -- any number of properties, and the brace
 pub data ValueInitializers : List Lexeme → List Property → List Lexeme → Type 0 where
   done : (rest : List Lexeme) → ValueInitializers (RightBrace ∷ rest) [] rest
-  value_initializer : (name : List ℕ) (ts behind rest : List Lexeme) (v : Value) (ps : List Property)
-      → Initializer ts v (Semicolon ∷ behind) → ValueInitializers behind ps rest
+  value_initializer : (name : List ℕ) (ts after rest : List Lexeme) (v : Value) (ps : List Property)
+      → Initializer ts v (Semicolon ∷ after) → ValueInitializers after ps rest
       → ValueInitializers (Word name ∷ EqualsSign ∷ ts) (record { name = name; value = v } ∷ ps) rest
 
 -- an alias, or none
@@ -60,9 +60,9 @@ pub data AliasClause : List Lexeme → Option (List ℕ) → List Lexeme → Typ
 -- any number of declarations, and nothing else
 pub data InstanceDeclarations : List Lexeme → List Instance → Type 0 where
   nothing : InstanceDeclarations [] []
-  instance_declaration : (i o class : List ℕ) (alias : Option (List ℕ)) (ts body behind : List Lexeme) (ps : List Property) (instances : List Instance)
+  instance_declaration : (i o class : List ℕ) (alias : Option (List ℕ)) (ts body rest : List Lexeme) (ps : List Property) (instances : List Instance)
       → SameName i (codes "instance") → SameName o (codes "of") → AliasClause ts alias (LeftBrace ∷ body)
-      → ValueInitializers body ps (Semicolon ∷ behind) → InstanceDeclarations behind instances
+      → ValueInitializers body ps (Semicolon ∷ rest) → InstanceDeclarations rest instances
       → InstanceDeclarations (Word i ∷ Word o ∷ Word class ∷ ts) (record { class = class; alias = alias; properties = ps } ∷ instances)
 
 -- the characters spell these instances, whatever their size

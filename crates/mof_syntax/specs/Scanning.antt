@@ -50,7 +50,7 @@ abbrev pub identifier_rest : List ℕ → Option (List ℕ)
 identifier_rest [] = None
 identifier_rest (c ∷ cs) = if is_first c then Some (after is_next cs) else None
 
--- the value of an escape with at most so many more digits, and what is after
+-- the value of an escape with at most that many more digits, and what is after
 abbrev pub hex_tail : ℕ → ℕ → List ℕ → ℕ × List ℕ
 hex_tail zero value cs = (value, cs)
 hex_tail (suc count) value [] = (value, [])

@@ -27,4 +27,4 @@ pub data Separator : List ℕ → List ℕ → Type 0 where
 -- any number of separators, and the rest
 pub data Separators : List ℕ → List ℕ → Type 0 where
   none : (rest : List ℕ) → Separators rest rest
-  another : (cs behind rest : List ℕ) → Separator cs behind → Separators behind rest → Separators cs rest
+  another : (cs after rest : List ℕ) → Separator cs after → Separators after rest → Separators cs rest

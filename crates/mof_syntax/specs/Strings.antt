@@ -40,5 +40,5 @@ pub data Quoted : List ℕ → List ℕ → List ℕ → Type 0 where
   closed : (rest : List ℕ) → Quoted (quote ∷ rest) [] rest
   plain : (c : ℕ) (cs text rest : List ℕ) → (c == quote) ≡ false → (c == backslash) ≡ false → Quoted cs text rest
       → Quoted (c ∷ cs) (c ∷ text) rest
-  escaped : (value : ℕ) (cs behind text rest : List ℕ) → Escape cs value behind → Quoted behind text rest
+  escaped : (value : ℕ) (cs after text rest : List ℕ) → Escape cs value after → Quoted after text rest
       → Quoted (backslash ∷ cs) (value ∷ text) rest

@@ -30,7 +30,7 @@ pub record StandsToken (cs : List ℕ) (kind : TokenKind) (rest : List ℕ) : Ty
   pub lexeme : Lexeme
   pub stands : IsToken cs lexeme rest
   pub is_kind : token_kind lexeme ≡ kind
-  pub only : (other : Lexeme) (behind : List ℕ) → IsToken cs other behind → behind ≡ rest
+  pub only : (other : Lexeme) (after : List ℕ) → IsToken cs other after → after ≡ rest
 
 -- from a place on stand separators, and then none
 pub record Skips (text : List ℕ) (place now : ℕ) : Type 0 where
@@ -45,7 +45,7 @@ pub record TokenStands (text : List ℕ) (kind : TokenKind) (from to : ℕ) : Ty
   pub within : to ≤ length text
   pub token : StandsToken (drop from text) kind (drop to text)
 
--- so many characters of the text come before what is left of it
+-- that many characters of the text come before what is left of it
 pub record IsPlace (text left : List ℕ) (place : ℕ) : Type 0 where
   pub rest : left ≡ drop place text
   pub within : place ≤ length text

@@ -11,7 +11,7 @@ fn holds(is_so: bool, row: impl Display + Drop) -> Result<(), Fail> {
     Err(Fail::new(row))
 }
 
-// So many characters `a` after a mark, each the bytes of a unit.
+// That many characters `a` after a mark, each the bytes of a unit.
 fn encoded(rt: &impl AllocGlobal, mark: &[u8], unit: &[u8], count: usize) -> Result<Vec<u8>, Fail> {
     let mut bytes = Vec::new(rt.alloc());
     bytes.extend_from_slice(mark)?;

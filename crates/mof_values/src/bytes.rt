@@ -1,4 +1,4 @@
-//! Bytes.
+//! A list of bytes that contracts see as a list of numbers.
 ghost use Rattle.std.specs.Prelude.{◌≡◌};
 
 use std::marker::Model;

@@ -1,4 +1,4 @@
-//! Identifiers.
+//! An identifier: a text that is a name of MOF, and why another is none.
 ghost use Rattle.std.specs.Prelude.{◌≡◌, IfOk, IsErrOf, false};
 ghost use Rattle.std.specs.List.{list_all};
 ghost use Rattle.std.specs.Str.{chars};

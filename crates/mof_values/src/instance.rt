@@ -1,4 +1,4 @@
-//! Instances.
+//! An instance declaration with its properties, and the look for one by its name.
 ghost use Rattle.std.specs.Prelude.{◌≡◌, option_copied};
 ghost use Rattle.mof_values.specs.Values.{text_named, value_named};
 

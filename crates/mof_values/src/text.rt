@@ -1,4 +1,4 @@
-//! Texts.
+//! A list of characters, from and to its bytes in UTF-8.
 ghost use Rattle.std.specs.Prelude.{◌≡◌, ◌<◌, ◌≤◌, ◌↔◌, ℕ, All, IfOk, IsTrue, length, slice_index, encode_utf8_all, string_bytes};
 ghost use Rattle.std.specs.Char.{IsScalar};
 ghost use Rattle.std.specs.Str.{chars};
@@ -74,7 +74,7 @@ impl Text {
         self.chars.iter().copied().collect(*self.chars.allocator())
     }
 
-    /// Returns whether the text has at most so many bytes of UTF-8.
+    /// Returns whether the text has at most that many bytes of UTF-8.
     pub fn fits_utf8(&self, limit: usize) -> bool
         ensures { IsTrue result ↔ (length (encode_utf8_all self.now) ≤ limit) }
     {
@@ -82,7 +82,7 @@ impl Text {
     }
 }
 
-/// Returns whether the characters have at most so many bytes of UTF-8.
+/// Returns whether the characters have at most that many bytes of UTF-8.
 pub fn fits_utf8(chars: &[char], limit: usize) -> bool
     ensures { IsTrue result ↔ (length (encode_utf8_all chars.now) ≤ limit) }
 {

@@ -65,7 +65,7 @@ fn names_compare_without_the_case_of_ascii_letters(rt: HostRuntime) -> Result<()
     Ok(())
 }
 
-// A name of so many characters is made, or is no identifier, by each of the calls; and its text is written.
+// A name of that many characters is made, or is no identifier, by each of the calls; and its text is written.
 fn is_answered(rt: &impl AllocGlobal, size: usize) -> Result<bool, Fail> {
     let codes = vec![in rt.alloc(); b'a'; size]?;
     let text = Text::from_latin1(rt.alloc(), &codes)?;

@@ -40,7 +40,7 @@ lacking_both there [] rest one other = subst (λ (l : List Package). AreLacking 
 lacking_both there (found ∷ first) rest one other =
     (one.0, lacking_both (there ++ found ∷ []) first rest one.1 (subst (λ (l : List Package). AreLacking l rest) (sym (append_assoc there (found ∷ []) first)) other))
 
--- the packages that are exposed lack that of the module
+-- the packages that are shown lack that of the module
 abbrev pub Lacks : Module → Told → Type 0
 Lacks wanted shown = IfSome shown (λ list. false ≡ has_package list (encode_utf8_all wanted.name) (encode_utf8_all wanted.version))
 

@@ -1,4 +1,4 @@
--- Exits for lack of memory.
+-- Exits out of memory.
 use Rattle.std.proofs.Common.{◌≡◌, Result, Ok, Err, ap}
 use Rattle.std.specs.Prelude.{IsErrAnd}
 

@@ -81,7 +81,7 @@ pub part_goes_on : {server : Server} {agent : ℕ} {held : List Part} {name : Li
     → PartFor server agent held name fetches before after result → GoesOn before after
 part_goes_on (contents.is_kept part view is) = stays view
 part_goes_on {server = server} (contents.is_fetched before after result none asks named) = asks_goes_on server _ _ before after result asks
-part_goes_on (contents.has_no_room view) = stays view
+part_goes_on (contents.out_of_memory view) = stays view
 
 pub contents_go_on : {server : Server} {agent : ℕ} {held : List Part} {names : List (List ℕ)} {fetches : List Bool} {before after : LinkView} {result : Result (List Part) PeerError}
     → Contents server agent held names fetches before after result → GoesOn before after

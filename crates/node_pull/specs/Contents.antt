@@ -40,7 +40,7 @@ pub data PartFor (server : Server) (agent : ℕ) (held : List Part) (name : List
       → Asks server (content_request server agent name) (GivesPart name) before after result
       → IfOk result (λ part. part.name ≡ name)
       → PartFor server agent held name fetches before after result
-  has_no_room : (view : LinkView) → PartFor server agent held name fetches view view (Err Memory)
+  out_of_memory : (view : LinkView) → PartFor server agent held name fetches view view (Err Memory)
 
 -- the part under each name, in their order, up to the first that is not given. Memory may have been refused at any name
 pub data Contents (server : Server) (agent : ℕ) (held : List Part) : List (List ℕ) → List Bool → LinkView → LinkView → Result (List Part) PeerError → Type 0 where

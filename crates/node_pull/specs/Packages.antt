@@ -57,7 +57,7 @@ modules_of document = with_modules [] (filter_map module_of document.resources)
 
 -- ---- how they come
 
--- whether the machine has the package of the module, where it exposes its packages
+-- whether the machine has the package of the module, where it shows its packages
 abbrev pub Has : {S : Type 0} → (S → Option (List Package)) → S → Module → Bool → Type 0
 Has packages state wanted there = IfSome (packages state) (λ list. there ≡ has_package list (encode_utf8_all wanted.name) (encode_utf8_all wanted.version))
 
@@ -118,13 +118,13 @@ abbrev pub AreLacking : List Package → List Package → Type 0
 AreLacking there [] = ⊤
 AreLacking there (found ∷ added) = (has_package there found.name found.version ≡ false) × AreLacking (there ++ found ∷ []) added
 
--- where the packages are exposed, those that came stand after those that were there, none of them was there, and each was given for one of
+-- where the packages are shown, those that came stand after those that were there, none of them was there, and each was given for one of
 -- the modules
 abbrev pub AddsAccepted : Server → List Module → LinkView → LinkView → Option (List Package) → Option (List Package) → Type 0
 AddsAccepted server modules before after None packages = packages ≡ None
 AddsAccepted server modules before after (Some old) packages =
     (added : List Package) × (packages ≡ Some (old ++ added)) × AreLacking old added × All (λ found. Any (WasGiven server before after found) modules) added
 
--- where the packages are exposed, that of each module is there
+-- where the packages are shown, that of each module is there
 abbrev pub HasAll : List Module → Option (List Package) → Type 0
 HasAll modules shown = IfSome shown (λ list. All (λ wanted. IsTrue (has_package list (encode_utf8_all wanted.name) (encode_utf8_all wanted.version))) modules)

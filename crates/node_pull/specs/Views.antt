@@ -13,6 +13,6 @@ pub record Accepts {T : Type 0} (server : Server) (sent : List ℕ) (Says : Repl
   pub request : exchange.request ≡ sent
   pub answer : Heard Says exchange.outcome (Ok value)
 
--- where the exchanges are exposed, such a one was made since
+-- where the exchanges are shown, such a one was made since
 abbrev pub MadeSince : (Exchange → Type 0) → LinkView → LinkView → Type 0
 MadeSince Such before after = (old : List Exchange) → before.shown ≡ Some old → (new : List Exchange) × (after.shown ≡ Some (old ++ new)) × Any Such new

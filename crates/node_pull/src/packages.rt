@@ -23,7 +23,7 @@ pub(crate) fn packages<L: Link, M: Machine>(
     ensures packages { Packages M.packages M.faults server.now modules.now (view_of L.Link link.old)
         (view_of L.Link link.new) machine.old machine.new result }
     ensures becomes { L.may_become link.old link.new }
-    ensures kept { M.kept machine.new ≡ M.kept machine.old }
+    ensures trace { M.trace machine.new ≡ M.trace machine.old }
     ensures changed { M.packages_changed machine.old machine.new }
     ensures later { M.faults machine.old ≤ M.faults machine.new }
 {
@@ -48,7 +48,7 @@ fn one_package<L: Link, M: Machine>(
     ensures one { OnePackage M.packages M.faults server.now wanted.now (view_of L.Link link.old)
         (view_of L.Link link.new) machine.old machine.new result }
     ensures becomes { L.may_become link.old link.new }
-    ensures kept { M.kept machine.new ≡ M.kept machine.old }
+    ensures trace { M.trace machine.new ≡ M.trace machine.old }
     ensures changed { M.packages_changed machine.old machine.new }
     ensures later { M.faults machine.old ≤ M.faults machine.new }
 {

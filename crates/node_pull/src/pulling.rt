@@ -68,7 +68,7 @@ pub fn pull<L: Link, M: Machine>(
         IfSome brought.document (IsDocumentOf (parts_after held.now brought.list))) }
     ensures goes_on { GoesOn (view_of L.Link link.old) (view_of L.Link link.new) }
     ensures becomes { L.may_become link.old link.new }
-    ensures kept { M.kept machine.new ≡ M.kept machine.old }
+    ensures trace { M.trace machine.new ≡ M.trace machine.old }
     ensures changed { M.packages_changed machine.old machine.new }
     ensures later { M.faults machine.old ≤ M.faults machine.new }
 {
@@ -98,7 +98,7 @@ fn brought<L: Link, M: Machine>(
     ensures document { IfOk result (λ brought.
         IfSome brought.document (IsDocumentOf (parts_after held.now brought.list))) }
     ensures becomes { L.may_become link.old link.new }
-    ensures kept { M.kept machine.new ≡ M.kept machine.old }
+    ensures trace { M.trace machine.new ≡ M.trace machine.old }
     ensures changed { M.packages_changed machine.old machine.new }
     ensures later { M.faults machine.old ≤ M.faults machine.new }
 {

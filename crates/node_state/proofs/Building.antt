@@ -87,19 +87,19 @@ reports_built : (node : Node) (done rest : List Kept) → is_some node.agent ≡
     → ((j : ℕ) (d : Kept) → j < length rest → All (λ (k : Kept). k.report.job < (get_or rest j d).report.job) done)
     → length done + length rest ≤ MAX_REPORTS
     → Builds (with_reports done node) (map report_of rest) (with_reports (done ++ rest) node)
-reports_built node done [] agent jobs rise sizes behind few = ap (λ (l : List Kept). with_reports l node) (append-nil done)
-reports_built node done (kept ∷ rest) agent jobs rise sizes behind few = (
+reports_built node done [] agent jobs rise sizes after few = ap (λ (l : List Kept). with_reports l node) (append-nil done)
+reports_built node done (kept ∷ rest) agent jobs rise sizes after few = (
   sizes 0 kept (omega arith),
   both_true _ _ agent
       (both_true _ _ (lt-ltb kept.report.job node.next_job (jobs 0 kept (omega arith)))
-      (both_true _ _ (all_before kept.report.job done (behind 0 kept (omega arith))) (le-leb (length done) OLDER_REPORTS (omega (arith, few))))),
+      (both_true _ _ (all_before kept.report.job done (after 0 kept (omega arith))) (le-leb (length done) OLDER_REPORTS (omega (arith, few))))),
   subst (λ (l : List Kept). Builds (with_reports (done ++ kept ∷ []) node) (map report_of rest) (with_reports l node)) (append_assoc done (kept ∷ []) rest)
       (reports_built node (done ++ kept ∷ []) rest agent
       (λ k d below. jobs (suc k) d (omega (arith, below)))
       (λ i j d before within. rise (suc i) (suc j) d (omega (arith, before)) (omega (arith, within)))
       (λ k d below. sizes (suc k) d (omega (arith, below)))
       (λ j d below. All-append (λ (k : Kept). k.report.job < (get_or rest j d).report.job) done (kept ∷ [])
-      (behind (suc j) d (omega (arith, below)))
+      (after (suc j) d (omega (arith, below)))
       (only_one (λ (k : Kept). k.report.job < (get_or rest j d).report.job) kept (rise 0 (suc j) d (omega arith) (omega (arith, below)))))
       (omega (arith, few, length-append done (kept ∷ [])))),
 )

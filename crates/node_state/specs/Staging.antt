@@ -25,7 +25,7 @@ pub record AreMisfits (meta : Meta) (parts : List Part) (error : FitError) : Typ
   pub merged : Merged parts document
   pub misfits : misfit meta.partials document ≡ Some error
 
--- the parts fit, and have together so many bytes, which are too many
+-- the parts fit, and have together that many bytes, which are too many
 pub record AreTooLong (meta : Meta) (parts : List Part) (bytes : ℕ) : Type 0 where
   pub fitting : AreFitting meta parts
   pub counted : bytes ≡ bytes_of parts

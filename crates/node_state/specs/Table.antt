@@ -67,7 +67,7 @@ refusal node events.Restore = check (is_some node.previous) NoPrevious None
 
 -- ---- what it makes of the node
 
--- the newest so many
+-- the newest of that number
 abbrev pub newest : {X : Type 0} → ℕ → List X → List X
 newest count items = drop (length items - count) items
 

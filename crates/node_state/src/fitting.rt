@@ -172,11 +172,11 @@ fn claims(kind: &[char], partial: &Partial) -> bool
 fn type_of(id: &[char]) -> &[char]
     ensures { result.now ≡ type_of id.now }
 {
-    let kind = behind_bracket(id);
+    let kind = after_bracket(id);
     kind.split_at(inside_len(kind)).0
 }
 
-fn behind_bracket(id: &[char]) -> &[char]
+fn after_bracket(id: &[char]) -> &[char]
     ensures { result.now ≡ drop 1 id.now }
 {
     match id {

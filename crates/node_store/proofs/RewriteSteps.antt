@@ -5,9 +5,9 @@ use Rattle.dsc_terms.specs.Counts.{Rose}
 use Rattle.dsc_outside.specs.declared.disk.Disk.{Ghosts}
 use Rattle.dsc_outside.proofs.Moments.{then_on, weaker}
 use Rattle.gate_log.specs.declared.shape.Shape.{Shape}
-use Rattle.gate_log.specs.Text.{AllFit, Gives, behind, cells, need_of}
-use Rattle.gate_log.specs.Log.{AtAnyMoment, HasPut, HasPutOn, IsLogOf, LogTerm, OldOrNew, left_behind, room_to_put}
-use Rattle.gate_log.proofs.Cells.{length-behind}
+use Rattle.gate_log.specs.Text.{AllFit, Gives, after_gate, cells, need_of}
+use Rattle.gate_log.specs.Log.{AtAnyMoment, HasPut, HasPutOn, IsLogOf, LogTerm, OldOrNew, left_after, capacity_to_put}
+use Rattle.gate_log.proofs.Cells.{length-after_gate}
 use Rattle.node_store.specs.declared.error.StoreError.{StoreError}
 use Rattle.node_store.specs.declared.error.StoreError.TheVariants.{Spent, NotAllowed, Disk, NotAStore, Memory}
 use Rattle.node_store.specs.Rewriting.{Broken, CanPut, PutAnswer, Putting, Puts}
@@ -15,7 +15,7 @@ use Rattle.node_store.specs.Stands.{node_shape}
 use Rattle.node_store.specs.declared.limits.TheConstants.{BANK, MAX_BODY}
 
 length-cells : (body : List ℕ) (bodies : List (List ℕ)) → length (cells (body ∷ bodies)) ≡ need_of body + length (cells bodies)
-length-cells body bodies = omega (arith, length-append (behind body) (cells bodies), length-behind body)
+length-cells body bodies = omega (arith, length-append (after_gate body) (cells bodies), length-after_gate body)
 
 pub length-cells-append : (xs ys : List (List ℕ)) → length (cells (xs ++ ys)) ≡ length (cells xs) + length (cells ys)
 length-cells-append [] ys = omega arith
@@ -25,11 +25,11 @@ pub fit-append : (largest : ℕ) (xs ys : List (List ℕ)) → AllFit largest xs
 fit-append largest [] ys p q = q
 fit-append largest (x ∷ xs) ys p q = (p.0, fit-append largest xs ys p.1 q)
 
--- there is room for the next body
-pub room_left : (shown : Option (List ℕ)) (log : LogTerm) (put rest : List (List ℕ)) (body : List ℕ) → log.shape ≡ node_shape → HasPut shown log put → length (cells (put ++ (body ∷ rest))) < BANK → need_of body ≤ room_to_put log
-room_left shown log put rest body same has small =
+-- there is capacity for the next body
+pub capacity_left : (shown : Option (List ℕ)) (log : LogTerm) (put rest : List (List ℕ)) (body : List ℕ) → log.shape ≡ node_shape → HasPut shown log put → length (cells (put ++ (body ∷ rest))) < BANK → need_of body ≤ capacity_to_put log
+capacity_left shown log put rest body same has small =
     let bank : log.shape.bank ≡ BANK = ap (λ (s : Shape). s.bank) same in
-    subst (λ (o : Option ℕ). need_of body ≤ left_behind log.shape log.second o) (sym has.filled)
+    subst (λ (o : Option ℕ). need_of body ≤ left_after log.shape log.second o) (sym has.filled)
     (omega (arith, bank, length-cells-append put (body ∷ rest), length-cells body rest, small))
 
 -- one body more was put

@@ -8,7 +8,7 @@ use Rattle.std.proofs.lemmas.List.Sums.{sum_by-cons}
 use Rattle.std.proofs.lemmas.List.Elements.{recursion_from_All, All-from_recursion}
 use Rattle.sha2.proofs.Facts256.{length-sha256}
 use Rattle.store_fields.specs.Fields.{bytes_of_number, bytes_of_flag, bytes_of_text, bytes_of_digest, bytes_of_blob, bytes_of_list, IsDigest}
-use Rattle.gate_log.specs.Text.{AllFit, behind, cells, need_of}
+use Rattle.gate_log.specs.Text.{AllFit, after_gate, cells, need_of}
 use Rattle.meta_config.specs.Writing.{text_of_meta}
 use Rattle.meta_config.proofs.ReadBack.{text_fits}
 use Rattle.partial_merge.specs.declared.part.Part.{Part}
@@ -37,7 +37,7 @@ use Rattle.node_store.specs.Reports.{bytes_of_missed, bytes_of_mark, bytes_of_re
 use Rattle.node_store.specs.declared.limits.TheConstants.{BANK, MAX_BODY}
 use Rattle.node_state.specs.declared.limits.TheConstants.{MAX_BYTES, MAX_REPORTS}
 use Rattle.report_log.specs.declared.limits.TheConstants.{LISTED_LIMIT, MAX_PARTS}
-use Rattle.gate_log.proofs.Cells.{length-behind}
+use Rattle.gate_log.proofs.Cells.{length-after_gate}
 use Rattle.node_store.proofs.Lengths.{utf8_most}
 use Rattle.node_store.proofs.Reported.{job_of, run_of, result_of, lists_of, spelled}
 use Rattle.node_store.proofs.RewriteSteps.{length-cells-append}
@@ -252,7 +252,7 @@ base_long base =
       length-append (bytes_of_flag base.2) (bytes_of_number w64 base.3),
     )
 
--- at most so many bytes with their gates and lengths, and none longer than the largest
+-- at most that many bytes with their gates and lengths, and none longer than the largest
 Small : ℕ → List Piece → Type 0
 Small most pieces = (length (cells (map body_of_piece pieces)) ≤ most) × AllFit MAX_BODY (map body_of_piece pieces)
 
@@ -266,7 +266,7 @@ small_one piece rest n m long most small =
     (omega (arith, long, small.0, length-cells-append (body_of_piece piece ∷ []) (map body_of_piece rest), one_cell (body_of_piece piece)), (omega (arith, long, most), small.1))
   where
     one_cell : (body : List ℕ) → length (cells (body ∷ [])) ≡ 5 + length body
-    one_cell body = omega (arith, length-append (behind body) [], length-behind body)
+    one_cell body = omega (arith, length-append (after_gate body) [], length-after_gate body)
 
 small_more : (n m : ℕ) → n ≤ m → (pieces : List Piece) → Small n pieces → Small m pieces
 unfolding Small
@@ -307,7 +307,7 @@ small_front agent node sound digests =
     let pending = small_slot Pending node.pending _ (7 + parts_most + (7 + parts_most + reports_most)) sound.pending current in
     small_base agent node _ (7 + parts_most + (7 + parts_most + (7 + parts_most + reports_most))) sound.meta pending
 
--- a rewrite has room for all of a sound node
+-- a rewrite has capacity for all of a sound node
 pub front_small : (agent : ℕ) (node : Node) → Sound node → All (λ kept. HasDigests kept.report) node.reports
     → (length (cells (map body_of_piece (front agent node))) < BANK) × AllFit MAX_BODY (map body_of_piece (front agent node))
 unfolding Small

@@ -10,7 +10,7 @@ use Rattle.node_state.specs.declared.event.Event.TheVariants as events
 use Rattle.node_state.specs.StagedParts.{parts_of}
 use Rattle.node_state.specs.Table.{IsWithin}
 use Rattle.node_store.specs.Bodies.{body_of_event, HaveDigests}
-use Rattle.node_store.specs.Split.{after_room, front_of_part, front_of_parts, head_of, last_document, tail_of}
+use Rattle.node_store.specs.Split.{after_length, front_of_part, front_of_parts, head_of, last_document, tail_of}
 use Rattle.node_store.specs.Parts.{bytes_of_part}
 use Rattle.node_store.specs.declared.limits.TheConstants.{MAX_BODY}
 use Rattle.node_store.proofs.Sizes.{event_long}
@@ -44,9 +44,9 @@ body_whole (events.Remove stage) = append-nil (body_of_event (events.Remove stag
 body_whole events.Restore = refl
 
 -- and so long
-pub head_size : (event : Event) → length (after_room (head_of event)) + length (tail_of event) ≡ 4 + length (body_of_event event)
+pub head_size : (event : Event) → length (after_length (head_of event)) + length (tail_of event) ≡ 4 + length (body_of_event event)
 head_size event = omega (arith, ap length (body_whole event), length-append (head_of event) (tail_of event))
 
--- the room suffices for it
-pub head_small : (event : Event) → IsWithin event → HaveDigests event → length (after_room (head_of event)) ≤ MAX_BODY
+-- the capacity suffices for it
+pub head_small : (event : Event) → IsWithin event → HaveDigests event → length (after_length (head_of event)) ≤ MAX_BODY
 head_small event within digests = omega (arith, head_size event, event_long event within digests)

@@ -17,9 +17,9 @@ BodiesAreOfOne = (bytes : List ℕ) (a b : Body) → IsBody bytes a → IsBody b
 abbrev pub EventsFit : Type 0
 EventsFit = (event : Event) → IsEventInRange event → length (body_of_event event) ≤ node_shape.largest
 
--- a bank has room for the pieces of a node and one gate, and none of them is too long
+-- a bank has capacity for the pieces of a node and one gate, and none of them is too long
 pub record IsRoomFor (pieces : List (List ℕ)) : Type 0 where
-  pub room : length (cells pieces) < node_shape.bank
+  pub capacity : length (cells pieces) < node_shape.bank
   pub fit : AllFit node_shape.largest pieces
 
 -- so it is with each sound node

@@ -67,7 +67,7 @@ abbrev pub Puts : {T D : Type 0} → Ghosts D → D → D → LogTerm → LogTer
 Puts {T} {D} d old new log_old log_new more result =
     (first : D) (begun : LogTerm) (put : List (List ℕ)) → Putting d first old begun log_old put → PutAnswer d first new begun log_new (put ++ more) result
 
--- a rewrite is going on, and there is room for these bodies and all that come after them
+-- a rewrite is going on, and there is capacity for these bodies and all that come after them
 pub record CanPut {D : Type 0} (d : Ghosts D) (now : D) (log : LogTerm) (more : List (List ℕ)) : Type 0 where
   pub first : D
   pub begun : LogTerm

@@ -34,5 +34,5 @@ head_of (events.Stage staged) = 4 ∷ length (parts_of staged) ∷ front_of_part
 head_of event = body_of_event event
 
 -- a head after four bytes, into which the log writes the length of the body
-abbrev pub after_room : List ℕ → List ℕ
-after_room head = 0 ∷ 0 ∷ 0 ∷ 0 ∷ head
+abbrev pub after_length : List ℕ → List ℕ
+after_length head = 0 ∷ 0 ∷ 0 ∷ 0 ∷ head

@@ -18,7 +18,7 @@ use Rattle.node_store.specs.Stands.{Leads, FailsAt, node_shape}
 pub record StoreTerm : Type 0 where
   pub log : LogTerm
   pub node : Node
-  -- there is room for one more report
+  -- there is capacity for one more report
   pub reserved : Bool
 
 abbrev pub is_spent : StoreTerm → Bool
@@ -50,7 +50,7 @@ pub record Untouched {D : Type 0} (old new : StoreTerm) (before now : D) : Type 
   pub store : new ≡ old
   pub disk : now ≡ before
 
--- committing the event takes memory: for the text of a meta-configuration, for a copy of Previous, and for a report that no room
+-- committing the event takes memory: for the text of a meta-configuration, for a copy of Previous, and for a report that no capacity
 -- was reserved for
 abbrev pub TakesMemory : Bool → Event → Type 0
 TakesMemory reserved (events.SetMeta meta) = ⊤
@@ -60,7 +60,7 @@ TakesMemory reserved (events.Note report) = reserved ≡ false
 TakesMemory reserved (events.AskReboot report) = reserved ≡ false
 TakesMemory reserved _ = ⊥
 
--- whether there is room for one more report after the event: a report takes it, every other event leaves it
+-- whether there is capacity for one more report after the event: a report takes it, every other event leaves it
 abbrev pub reserved_after : Event → Bool → Bool
 reserved_after (events.Promote report) reserved = false
 reserved_after (events.Note report) reserved = false
@@ -105,7 +105,7 @@ abbrev pub IsTextOf : Event → Option (List ℕ) → Type 0
 IsTextOf (events.SetMeta meta) text = text ≡ Some (text_of_meta meta)
 IsTextOf _ text = text ≡ None
 
--- a report takes the room that was reserved for it; nothing else of the store changes, and where memory was refused nothing does
+-- a report takes the capacity that was reserved for it; nothing else of the store changes, and out of memory nothing does
 abbrev pub Supplied : {T : Type 0} → StoreTerm → Event → Result T NoMemory → StoreTerm → Type 0
 Supplied old event (Ok supply) new = (new.log ≡ old.log) × (new.node ≡ old.node) × (new.reserved ≡ reserved_after event old.reserved)
 Supplied old event (Err error) new = TakesMemory old.reserved event × (new ≡ old)

@@ -1,7 +1,7 @@
 //! An event becomes one of the log's bodies.
 ghost use Rattle.std.specs.Prelude.{◌≡◌, ◌+◌, ◌≤◌, None, length};
 ghost use Rattle.gate_log.specs.Text.{IsLive, body_in};
-ghost use Rattle.gate_log.specs.Log.{AtAnyMoment, room_in};
+ghost use Rattle.gate_log.specs.Log.{AtAnyMoment, capacity_in};
 ghost use Rattle.gate_log.specs.Standing.{StandsAtAnyMoment};
 ghost use Rattle.node_state.specs.declared.node.Node.{Node};
 ghost use Rattle.node_state.specs.declared.event.Event.{Event};
@@ -15,8 +15,8 @@ use crate::error::StoreError;
 use dsc_outside::Disk;
 use gate_log::{Log, LogError};
 
-/// Appends the body of an event, which stands in `head` after four bytes of room and goes on with `tail`, to the live bank, where
-/// there is room for it.
+/// Appends the body of an event, which stands in `head` after four free bytes and goes on with `tail`, to the live bank, where
+/// there is capacity for it.
 pub fn append<D: Disk>(
     log: &mut Log,
     disk: &mut D,
@@ -25,7 +25,7 @@ pub fn append<D: Disk>(
 ) -> Result<(), StoreError>
     requires whole { 4 ≤ length head.old }
     requires size { length head.old + length tail.now ≤ MAX_BODY + 4 }
-    requires room { length head.old + length tail.now + 1 ≤ room_in log.old }
+    requires capacity { length head.old + length tail.now + 1 ≤ capacity_in log.old }
     requires kept { (node : Node) × IsKeptBy D.Disk disk.old log.old node }
     ensures answer { (node new : Node) (event : Event) → IsKeptBy D.Disk disk.old log.old node → body_in head.old tail.now ≡ body_of_event event → IsEventInRange event → Step node event new
         → Wrote D.Disk disk.old disk.new new log.new result }

@@ -6,7 +6,7 @@ pub fn bodies_are_of_one()
     ensures { BodiesAreOfOne }
 {}
 
-/// No event's body is too long for a store, and a store has room for the pieces of each sound node.
+/// No event's body is too long for a store, and a store has capacity for the pieces of each sound node.
 pub fn bodies_fit()
     ensures events { EventsFit }
     ensures fronts { FrontsFit }

@@ -1,4 +1,4 @@
-//! Parts.
+//! How the parts of a configuration are written into the bodies of a store, and read.
 ghost use Rattle.std.specs.Prelude.{◌≡◌, OnOk};
 ghost use Rattle.std.specs.List.{AllByRecursion};
 ghost use Rattle.store_fields.specs.Writing.{Writes};

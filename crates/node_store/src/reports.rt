@@ -1,4 +1,4 @@
-//! Reports.
+//! How the report of a run is written into a body of a store, and read.
 ghost use Rattle.std.specs.Prelude.{◌≡◌, ◌≤◌, OnOk, IfErr, length, encode_utf8_all, ⊤};
 ghost use Rattle.std.specs.List.{AllByRecursion};
 ghost use Rattle.std.specs.Int.{w32, w64};

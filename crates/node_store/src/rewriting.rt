@@ -27,14 +27,14 @@ use node_state::{Event, Kept, Node, Stage};
 use partial_merge::Part;
 use report_log::Report;
 
-/// Writes the node after an allowed event into the other bank and makes that bank live. Takes no memory where `room` is room for
+/// Writes the node after an allowed event into the other bank and makes that bank live. Takes no memory where the buffer has capacity for
 /// the longest body.
 ///
 /// `text` is the canonical text of the meta-configuration after the event.
 pub fn rewrite<D: Disk>(
     log: &mut Log,
     disk: &mut D,
-    room: &mut Vec<u8>,
+    buffer: &mut Vec<u8>,
     node: &Node,
     event: &Event,
     text: &[u8],
@@ -44,17 +44,17 @@ pub fn rewrite<D: Disk>(
     requires range { IsEventInRange event.now }
     requires kept { IsKeptBy D.Disk disk.old log.old node.now }
     requires text { text.now ≡ text_of_meta (after node.now event.now).meta }
-    requires room { MAX_BODY ≤ vec_capacity room.old }
+    requires capacity { MAX_BODY ≤ vec_capacity buffer.old }
     ensures answer { Wrote D.Disk disk.old disk.new (after node.now event.now) log.new result }
     ensures any_moment { StandsAtAnyMoment D.Disk disk.old disk.new Stands (BeforeOrAfter node.now event.now) }
     ensures count { D.faults disk.old ≤ D.faults disk.new }
-    ensures room { MAX_BODY ≤ vec_capacity room.new }
+    ensures capacity { MAX_BODY ≤ vec_capacity buffer.new }
 {
     let Some(agent) = agent_after(node, event) else {
         unreachable!()
     };
     log.begin_rewrite();
-    match put_front(log, disk, room, node, event, agent, text) {
+    match put_front(log, disk, buffer, node, event, agent, text) {
         Ok(()) => finish(log, disk),
         Err(error) => Err(error),
     }
@@ -64,7 +64,7 @@ pub fn rewrite<D: Disk>(
 fn put_front<D: Disk>(
     log: &mut Log,
     disk: &mut D,
-    room: &mut Vec<u8>,
+    buffer: &mut Vec<u8>,
     node: &Node,
     event: &Event,
     agent: u128,
@@ -74,21 +74,21 @@ fn put_front<D: Disk>(
     requires sound { Sound (after node.now event.now) }
     requires text { text.now ≡ text_of_meta (after node.now event.now).meta }
     requires can { CanPut D.Disk disk.old log.old (front_bodies agent node.now event.now) }
-    requires room { MAX_BODY ≤ vec_capacity room.old }
+    requires capacity { MAX_BODY ≤ vec_capacity buffer.old }
     ensures puts { Puts D.Disk disk.old disk.new log.old log.new (front_bodies agent node.now event.now) result }
-    ensures room { MAX_BODY ≤ vec_capacity room.new }
+    ensures capacity { MAX_BODY ≤ vec_capacity buffer.new }
 {
-    room.clear();
+    buffer.clear();
     put_base(
-        room,
+        buffer,
         agent,
         registered_after(node, event),
         reboot_after(node, event),
         next_job_after(node, event),
         text,
     )?;
-    match put_body(log, disk, room) {
-        Ok(()) => put_from_pending(log, disk, room, node, event),
+    match put_body(log, disk, buffer) {
+        Ok(()) => put_from_pending(log, disk, buffer, node, event),
         Err(error) => Err(error),
     }
 }
@@ -97,18 +97,24 @@ fn put_front<D: Disk>(
 fn put_from_pending<D: Disk>(
     log: &mut Log,
     disk: &mut D,
-    room: &mut Vec<u8>,
+    buffer: &mut Vec<u8>,
     node: &Node,
     event: &Event,
 ) -> Result<(), StoreError>
     requires sound { Sound (after node.now event.now) }
     requires can { CanPut D.Disk disk.old log.old (bodies_from_pending node.now event.now) }
-    requires room { MAX_BODY ≤ vec_capacity room.old }
+    requires capacity { MAX_BODY ≤ vec_capacity buffer.old }
     ensures puts { Puts D.Disk disk.old disk.new log.old log.new (bodies_from_pending node.now event.now) result }
-    ensures room { MAX_BODY ≤ vec_capacity room.new }
+    ensures capacity { MAX_BODY ≤ vec_capacity buffer.new }
 {
-    match put_stage(log, disk, room, Stage::Pending, pending_after(node, event)) {
-        Ok(()) => put_from_current(log, disk, room, node, event),
+    match put_stage(
+        log,
+        disk,
+        buffer,
+        Stage::Pending,
+        pending_after(node, event),
+    ) {
+        Ok(()) => put_from_current(log, disk, buffer, node, event),
         Err(error) => Err(error),
     }
 }
@@ -117,18 +123,24 @@ fn put_from_pending<D: Disk>(
 fn put_from_current<D: Disk>(
     log: &mut Log,
     disk: &mut D,
-    room: &mut Vec<u8>,
+    buffer: &mut Vec<u8>,
     node: &Node,
     event: &Event,
 ) -> Result<(), StoreError>
     requires sound { Sound (after node.now event.now) }
     requires can { CanPut D.Disk disk.old log.old (bodies_from_current node.now event.now) }
-    requires room { MAX_BODY ≤ vec_capacity room.old }
+    requires capacity { MAX_BODY ≤ vec_capacity buffer.old }
     ensures puts { Puts D.Disk disk.old disk.new log.old log.new (bodies_from_current node.now event.now) result }
-    ensures room { MAX_BODY ≤ vec_capacity room.new }
+    ensures capacity { MAX_BODY ≤ vec_capacity buffer.new }
 {
-    match put_stage(log, disk, room, Stage::Current, current_after(node, event)) {
-        Ok(()) => put_from_previous(log, disk, room, node, event),
+    match put_stage(
+        log,
+        disk,
+        buffer,
+        Stage::Current,
+        current_after(node, event),
+    ) {
+        Ok(()) => put_from_previous(log, disk, buffer, node, event),
         Err(error) => Err(error),
     }
 }
@@ -137,24 +149,24 @@ fn put_from_current<D: Disk>(
 fn put_from_previous<D: Disk>(
     log: &mut Log,
     disk: &mut D,
-    room: &mut Vec<u8>,
+    buffer: &mut Vec<u8>,
     node: &Node,
     event: &Event,
 ) -> Result<(), StoreError>
     requires sound { Sound (after node.now event.now) }
     requires can { CanPut D.Disk disk.old log.old (bodies_from_previous node.now event.now) }
-    requires room { MAX_BODY ≤ vec_capacity room.old }
+    requires capacity { MAX_BODY ≤ vec_capacity buffer.old }
     ensures puts { Puts D.Disk disk.old disk.new log.old log.new (bodies_from_previous node.now event.now) result }
-    ensures room { MAX_BODY ≤ vec_capacity room.new }
+    ensures capacity { MAX_BODY ≤ vec_capacity buffer.new }
 {
     match put_stage(
         log,
         disk,
-        room,
+        buffer,
         Stage::Previous,
         previous_after(node, event),
     ) {
-        Ok(()) => put_all_reports(log, disk, room, node, event),
+        Ok(()) => put_all_reports(log, disk, buffer, node, event),
         Err(error) => Err(error),
     }
 }
@@ -163,18 +175,18 @@ fn put_from_previous<D: Disk>(
 fn put_all_reports<D: Disk>(
     log: &mut Log,
     disk: &mut D,
-    room: &mut Vec<u8>,
+    buffer: &mut Vec<u8>,
     node: &Node,
     event: &Event,
 ) -> Result<(), StoreError>
     requires sound { Sound (after node.now event.now) }
     requires can { CanPut D.Disk disk.old log.old (bodies_of_reports node.now event.now) }
-    requires room { MAX_BODY ≤ vec_capacity room.old }
+    requires capacity { MAX_BODY ≤ vec_capacity buffer.old }
     ensures puts { Puts D.Disk disk.old disk.new log.old log.new (bodies_of_reports node.now event.now) result }
-    ensures room { MAX_BODY ≤ vec_capacity room.new }
+    ensures capacity { MAX_BODY ≤ vec_capacity buffer.new }
 {
-    match put_reports(log, disk, room, kept_after(node, event), sent_in(event)) {
-        Ok(()) => put_report(log, disk, room, added_in(event)),
+    match put_reports(log, disk, buffer, kept_after(node, event), sent_in(event)) {
+        Ok(()) => put_report(log, disk, buffer, added_in(event)),
         Err(error) => Err(error),
     }
 }
@@ -195,41 +207,41 @@ fn put_body<D: Disk>(log: &mut Log, disk: &mut D, body: &[u8]) -> Result<(), Sto
 fn put_stage<D: Disk>(
     log: &mut Log,
     disk: &mut D,
-    room: &mut Vec<u8>,
+    buffer: &mut Vec<u8>,
     stage: Stage,
     parts: Option<&[Part]>,
 ) -> Result<(), StoreError>
     requires staged { IfSome (option_map (λ parts. parts.now) parts) IsStaged }
     requires can { CanPut D.Disk disk.old log.old (map body_of_piece (slot_of stage (option_map (λ parts. parts.now) parts))) }
-    requires room { MAX_BODY ≤ vec_capacity room.old }
+    requires capacity { MAX_BODY ≤ vec_capacity buffer.old }
     ensures puts { Puts D.Disk disk.old disk.new log.old log.new (map body_of_piece (slot_of stage (option_map (λ parts. parts.now) parts.entry))) result }
-    ensures room { MAX_BODY ≤ vec_capacity room.new }
+    ensures capacity { MAX_BODY ≤ vec_capacity buffer.new }
 {
     let Some(parts) = parts else {
         return Ok(());
     };
-    room.clear();
-    put_slot(room, stage, parts)?;
-    put_body(log, disk, room)
+    buffer.clear();
+    put_slot(buffer, stage, parts)?;
+    put_body(log, disk, buffer)
 }
 
 // The reports are put, that of this job as sent.
 fn put_reports<D: Disk>(
     log: &mut Log,
     disk: &mut D,
-    room: &mut Vec<u8>,
+    buffer: &mut Vec<u8>,
     reports: &[Kept],
     sent: Option<u64>,
 ) -> Result<(), StoreError>
     requires sizes { All (λ kept. ReportInSize kept.report) reports.now }
     requires can { CanPut D.Disk disk.old log.old (map (marked_body sent) reports.now) }
-    requires room { MAX_BODY ≤ vec_capacity room.old }
+    requires capacity { MAX_BODY ≤ vec_capacity buffer.old }
     ensures puts { Puts D.Disk disk.old disk.new log.old log.new (map (marked_body sent) reports.now) result }
-    ensures room { MAX_BODY ≤ vec_capacity room.new }
+    ensures capacity { MAX_BODY ≤ vec_capacity buffer.new }
 {
     let mut left = reports;
     while let [kept, rest @ ..] = left {
-        match put_marked(log, disk, room, kept, sent) {
+        match put_marked(log, disk, buffer, kept, sent) {
             Ok(()) => left = rest,
             Err(error) => return Err(error),
         }
@@ -241,19 +253,19 @@ fn put_reports<D: Disk>(
 fn put_marked<D: Disk>(
     log: &mut Log,
     disk: &mut D,
-    room: &mut Vec<u8>,
+    buffer: &mut Vec<u8>,
     kept: &Kept,
     sent: Option<u64>,
 ) -> Result<(), StoreError>
     requires size { ReportInSize kept.now.report }
     requires can { CanPut D.Disk disk.old log.old (marked_body sent kept.now ∷ []) }
-    requires room { MAX_BODY ≤ vec_capacity room.old }
+    requires capacity { MAX_BODY ≤ vec_capacity buffer.old }
     ensures puts { Puts D.Disk disk.old disk.new log.old log.new (marked_body sent kept.now ∷ []) result }
-    ensures room { MAX_BODY ≤ vec_capacity room.new }
+    ensures capacity { MAX_BODY ≤ vec_capacity buffer.new }
 {
-    room.clear();
-    put_kept(room, &kept.report, is_sent(kept, sent))?;
-    put_body(log, disk, room)
+    buffer.clear();
+    put_kept(buffer, &kept.report, is_sent(kept, sent))?;
+    put_body(log, disk, buffer)
 }
 
 // Whether the report was sent, or is that of this job.
@@ -270,21 +282,21 @@ fn is_sent(kept: &Kept, sent: Option<u64>) -> bool
 fn put_report<D: Disk>(
     log: &mut Log,
     disk: &mut D,
-    room: &mut Vec<u8>,
+    buffer: &mut Vec<u8>,
     report: Option<&Report>,
 ) -> Result<(), StoreError>
     requires size { IfSome (option_map (λ report. report.now) report) ReportInSize }
     requires can { CanPut D.Disk disk.old log.old (map (λ kept. body_of_piece (report_of kept)) (at_end (option_map (λ report. report.now) report))) }
-    requires room { MAX_BODY ≤ vec_capacity room.old }
+    requires capacity { MAX_BODY ≤ vec_capacity buffer.old }
     ensures puts { Puts D.Disk disk.old disk.new log.old log.new (map (λ kept. body_of_piece (report_of kept)) (at_end (option_map (λ report. report.now) report.entry))) result }
-    ensures room { MAX_BODY ≤ vec_capacity room.new }
+    ensures capacity { MAX_BODY ≤ vec_capacity buffer.new }
 {
     let Some(report) = report else {
         return Ok(());
     };
-    room.clear();
-    put_kept(room, report, false)?;
-    put_body(log, disk, room)
+    buffer.clear();
+    put_kept(buffer, report, false)?;
+    put_body(log, disk, buffer)
 }
 
 // The other bank is made live.

@@ -1,6 +1,6 @@
 //! Events and pieces as bodies.
 //!
-//! Nothing takes memory but the buffer, where it has no room. The text of a meta-configuration comes from the caller.
+//! Nothing takes memory but the buffer, where it has no capacity. The text of a meta-configuration comes from the caller.
 ghost use Rattle.std.specs.Prelude.{◌≡◌, ◌∷◌, length, OnOk};
 ghost use Rattle.std.specs.Int.{w64, w128};
 ghost use Rattle.store_fields.specs.Fields.{bytes_of_number, IsNumber};
@@ -12,7 +12,7 @@ ghost use Rattle.report_log.specs.Sizes.{ReportInSize};
 ghost use Rattle.node_state.specs.Table.{IsWithin};
 ghost use Rattle.node_store.specs.Reports.{bytes_of_report, IsReport};
 ghost use Rattle.node_store.specs.Bodies.{base_body, body_of_piece, bytes_of_base, byte_of_stage, bytes_of_stage, BringsText, IsEventInRange, IsPieceInRange};
-ghost use Rattle.node_store.specs.Split.{after_room, front_of_parts, head_of, tail_of};
+ghost use Rattle.node_store.specs.Split.{after_length, front_of_parts, head_of, tail_of};
 
 use crate::parts::{last_document, put_front_of_parts};
 use crate::reports::{NodeForm, put_report};
@@ -46,14 +46,14 @@ pub(crate) fn put_head(into: &mut Vec<u8>, event: &Event, text: &[u8]) -> Result
 }
 
 /// Appends the same after four bytes, into which the log writes the length of the body.
-pub(crate) fn put_head_after_room(
+pub(crate) fn put_head_after_length(
     into: &mut Vec<u8>,
     event: &Event,
     text: &[u8],
 ) -> Result<(), Memory>
     requires within { IsWithin event.now }
     requires text { BringsText event.now text.now }
-    ensures writes { Writes (after_room (head_of event.now)) into.old into.new result }
+    ensures writes { Writes (after_length (head_of event.now)) into.old into.new result }
     ensures in_range { OnOk result (IsEventInRange event.now) }
 {
     put_bytes(into, &[0; 4])?;

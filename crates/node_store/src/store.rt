@@ -1,7 +1,7 @@
 //! The store of a node.
 ghost use Rattle.std.specs.Prelude.{◌≡◌, ◌≤◌, Bool, false, true, IfErr, IfOk, OnErr, OnOk, None, option_map, vec_capacity};
 ghost use Rattle.gate_log.specs.Text.{IsLive, need_of};
-ghost use Rattle.gate_log.specs.Log.{AtAnyMoment, room_in};
+ghost use Rattle.gate_log.specs.Log.{AtAnyMoment, capacity_in};
 ghost use Rattle.gate_log.specs.Standing.{StandsAtAnyMoment};
 ghost use Rattle.meta_config.specs.Writing.{text_of_meta};
 ghost use Rattle.node_state.specs.Supply.{Supplies};
@@ -30,9 +30,9 @@ pub struct NodeStore {
     node: Node,
     // the canonical text of the node's meta-configuration
     text: Vec<u8>,
-    // room for the longest body
+    // capacity for the longest body
     body: Vec<u8>,
-    // room for the reports of the next node
+    // capacity for the reports of the next node
     room: Option<Room>,
 }
 
@@ -44,14 +44,14 @@ impl Model for NodeStore {
 
     ghost Value = { StoreTerm };
 
-    ghost view = { λ s. record { log = s.log; node = s.node; reserved = is_some s.room } };
+    ghost view = { λ s. record { log = s.log; node = s.node; reserved = is_some s.capacity } };
 
     ghost invariant = { λ s. (s.text.items ≡ text_of_meta s.node.meta)
         × (MAX_BODY ≤ vec_capacity s.body) };
 }
 
 impl NodeStore {
-    /// A store of this log and this node. The memory is the text of its meta-configuration, and room for the longest body.
+    /// A store of this log and this node. The memory is the text of its meta-configuration, and capacity for the longest body.
     pub(crate) fn of(alloc: Global, log: Log, node: Node) -> Result<NodeStore, Memory>
         ensures { IfOk result (λ store. store ≡ record { log = log; node = node; reserved = false }) }
     {
@@ -96,7 +96,7 @@ impl NodeStore {
     /// Commits an event: one step of the node.
     ///
     /// A crash at any moment leaves the node before the event or after it; after `Ok` it leaves the node after it. Where the
-    /// event has no room in the live bank, the whole node after it is written into the other bank, so a store never fills up.
+    /// event does not fit the live bank, the whole node after it is written into the other bank, so a store never fills up.
     ///
     /// # Errors
     ///
@@ -111,7 +111,7 @@ impl NodeStore {
             → StandsAtAnyMoment D.Disk disk.old disk.new Stands
             (BeforeOrAfter self.old.node event) }
         ensures same_bank { IsKept D.Disk disk.old self.old
-            → need_of (body_of_event event) ≤ room_in self.old.log
+            → need_of (body_of_event event) ≤ capacity_in self.old.log
             → AtAnyMoment D.Disk disk.old disk.new (IsLive self.old.log.second) }
         ensures count { D.faults disk.old ≤ D.faults disk.new }
     {
@@ -171,7 +171,7 @@ impl NodeStore {
         requires text { IsTextOf event.now (option_map (λ text. text.items) text.now) }
         ensures answer { Wrote D.Disk disk.old disk.new (after self.old.node event.now) self.new.log result }
         ensures any_moment { StandsAtAnyMoment D.Disk disk.old disk.new Stands (BeforeOrAfter self.old.node event.now) }
-        ensures same_bank { need_of (body_of_event event.now) ≤ room_in self.old.log → AtAnyMoment D.Disk disk.old disk.new (IsLive self.old.log.second) }
+        ensures same_bank { need_of (body_of_event event.now) ≤ capacity_in self.old.log → AtAnyMoment D.Disk disk.old disk.new (IsLive self.old.log.second) }
         ensures count { D.faults disk.old ≤ D.faults disk.new }
         ensures node { self.new.node ≡ self.old.node }
         ensures reserved { self.new.reserved ≡ self.old.reserved }

@@ -31,8 +31,8 @@ record FirstFault (parts : List Part) : Type 0 where
   here : IsSomeAnd (slice_get parts index) (λ part. HasFault part fault)
   before : (k : ℕ) → k < index → IsWholeAt parts k
 
-fault_behind : (part : Part) (parts : List Part) (document : Document) → IsWhole part document → FirstFault parts → FirstFault (part ∷ parts)
-fault_behind part parts document whole first = record { index = suc first.index; fault = first.fault; here = first.here; before = before }
+fault_after : (part : Part) (parts : List Part) (document : Document) → IsWhole part document → FirstFault parts → FirstFault (part ∷ parts)
+fault_after part parts document whole first = record { index = suc first.index; fault = first.fault; here = first.here; before = before }
   where
     before : (k : ℕ) → k < suc first.index → IsWholeAt (part ∷ parts) k
     before zero within = (document, whole)
@@ -43,7 +43,7 @@ whole_or_fault [] each = inl ([], tt)
 whole_or_fault (part ∷ parts) each = elim (each 0 part (omega arith)) [
   | inl whole ↦ elim (whole_or_fault parts (All-tail IsRead part parts each)) [
     | inl rest ↦ inl (whole.0 ∷ rest.0, (whole.1, rest.1))
-    | inr first ↦ inr (fault_behind part parts whole.0 whole.1 first)
+    | inr first ↦ inr (fault_after part parts whole.0 whole.1 first)
   ]
   | inr fault ↦ inr (record { index = 0; fault = fault.0; here = fault.1; before = λ k before. absurd (omega (arith, before)) })
 ]

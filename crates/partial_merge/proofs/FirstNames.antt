@@ -17,7 +17,7 @@ module _ {A : Type 0} (items : List A) (name_of : A → List ℕ) where
   name_here n item within is = ap (option_map name_of) (slice_get-get_or items n item within) ∙ ap (λ x. Some (name_of x)) (sym is)
 
   no_more : (n : ℕ) → length items ≤ n → (k : ℕ) → n ≤ k → name_at k ≡ None
-  no_more n all k behind = ap (option_map name_of) (slice_get_past items k (omega (arith, all, behind)))
+  no_more n all k after = ap (option_map name_of) (slice_get_past items k (omega (arith, all, after)))
 
   module _ (n : ℕ) (places : Places) (so_far : Indexes name_at n places) where
     module _ (item : A) (within : n < length items) (is : item ≡ get_or items n item) where

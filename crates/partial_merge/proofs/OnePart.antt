@@ -23,7 +23,7 @@ all_in_first : (resources : List Resource) → All (λ r. r.part ≡ 0) resource
 all_in_first [] each = refl
 all_in_first (r ∷ rs) each =
     let here : in_part 0 r ≡ r = in_first r (each 0 r (omega arith)) in
-    let behind : map (in_part 0) rs ≡ rs = all_in_first rs (All-tail (λ r. r.part ≡ 0) r rs each) in
+    let after : map (in_part 0) rs ≡ rs = all_in_first rs (All-tail (λ r. r.part ≡ 0) r rs each) in
     cc
 
 joined_one : (part : Part) (document : Document) → All (λ r. r.part ≡ 0) document.resources → named document (part.name ∷ []) ≡ joined (part ∷ []) (document ∷ [])

@@ -68,7 +68,7 @@ pub repeats_or_apart : {A : Type 0} (name_of : A → List ℕ) (items : List A)
 repeats_or_apart {A} name_of items = elim (repeats_below name_at (length items)) [
   | inl found ↦ inl found
   | inr none ↦ inr (names_apart items name_of (λ i j s.
-      ⊎_elim (λ less. none i j less s) (λ behind. none-some s.2 (sym (ap (option_map name_of) (slice_get_past items j behind)) ∙ s.4)) (cases_lt j (length items))))
+      ⊎_elim (λ less. none i j less s) (λ after. none-some s.2 (sym (ap (option_map name_of) (slice_get_past items j after)) ∙ s.4)) (cases_lt j (length items))))
 ]
   where
     name_at : ℕ → Option (List ℕ)

@@ -50,7 +50,7 @@ pub record IsFirstFault (parts : List Part) (index : ℕ) (fault : PartFault) : 
   pub here : IsSomeAnd (slice_get parts index) (λ part. HasFault part fault)
   pub before : (k : ℕ) → k < index → IsSomeAnd (slice_get parts k) (λ part. (document : Document) × IsWhole part document)
 
--- the parts are joined to a document of so many resources, and these are too many
+-- the parts are joined to a document of that many resources, and these are too many
 pub record HasTooMany (parts : List Part) (count : ℕ) : Type 0 where
   pub document : Document
   pub are_joined : AreJoined parts document

@@ -29,7 +29,7 @@ pub enum MergeError {
     /// The first part with a fault.
     Part { index: u32, fault: PartFault },
 
-    /// The parts have so many resources together, which are more than [`MAX_RESOURCES`](dsc_document::MAX_RESOURCES).
+    /// The parts have that many resources together, which are more than [`MAX_RESOURCES`](dsc_document::MAX_RESOURCES).
     TooMany { count: u64 },
 
     /// Two resources have the same id by fold. Of all such pairs it is the one whose second resource stands first in the

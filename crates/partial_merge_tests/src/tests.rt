@@ -182,7 +182,7 @@ fn parts(rt: &impl AllocGlobal, list: List) -> Result<Vec<Part>, Fail> {
     Ok(parts)
 }
 
-// So many log resources, whose ids hold the number of the part, and then the header.
+// That many log resources, whose ids hold the number of the part, and then the header.
 fn numbered(rt: &impl AllocGlobal, number: usize, count: u32) -> Result<Part, Fail> {
     let mut text = String::new(rt.alloc());
     for place in 0..count {
@@ -198,7 +198,7 @@ fn numbered(rt: &impl AllocGlobal, number: usize, count: u32) -> Result<Part, Fa
     Ok(part_of(Text::of(name.chars().collect(rt.alloc())?), bytes))
 }
 
-// The header, and then so many log resources, each of which depends on the next.
+// The header, and then that many log resources, each of which depends on the next.
 fn chain(rt: &impl AllocGlobal, count: u32) -> Result<String, Fail> {
     let mut text = String::new(rt.alloc());
     text.push_str(HEADER)?;

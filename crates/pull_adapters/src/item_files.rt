@@ -85,8 +85,8 @@ fn is_unchanged(before: &Metadata, after: &Metadata) -> bool {
         && before.mtime_nsec() == after.mtime_nsec()
 }
 
-// Appends the first so many bytes that the reader gives, or all where it ends before; where it fails, a part of them may stand
-// there. It does not look for more after so many: whether the file grew, the caller sees in its length.
+// Appends the first that many bytes that the reader gives, or all where it ends before; where it fails, a part of them may stand
+// there. It does not look for more after that many: whether the file grew, the caller sees in its length.
 fn append_front<R: Read>(
     reader: &mut R,
     longest: usize,
@@ -96,16 +96,16 @@ fn append_front<R: Read>(
     ensures limit { length into.new.items ≤ length into.old.items + longest }
 {
     let mut buffer = [0; BUFFER_SIZE];
-    let mut room = longest;
+    let mut capacity = longest;
     for _ in 0..u64::MAX {
-        if room == 0 {
+        if capacity == 0 {
             return Ok(());
         }
-        match reader.read(&mut buffer[..room.min(BUFFER_SIZE)]) {
+        match reader.read(&mut buffer[..capacity.min(BUFFER_SIZE)]) {
             Ok(0) => return Ok(()),
             Ok(count) => {
                 into.extend_from_slice(&buffer[..count])?;
-                room -= count;
+                capacity -= count;
             }
             Err(e) if e.kind() == ErrorKind::Interrupted => {}
             Err(_) => return Err(ShelfError::Failed),

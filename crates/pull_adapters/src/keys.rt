@@ -14,14 +14,14 @@ pub fn key_at(text: &[u8], index: u32) -> Option<&[u8]>
     let mut rest = text;
     let mut left = index;
     for _ in 0..text.len() {
-        let (line, behind) = split_line(rest);
+        let (line, after) = split_line(rest);
         if !line.is_empty() {
             if left == 0 {
                 return Some(line);
             }
             left -= 1;
         }
-        rest = behind;
+        rest = after;
     }
     None
 }
@@ -30,7 +30,7 @@ pub fn key_at(text: &[u8], index: u32) -> Option<&[u8]>
 fn split_line(text: &[u8]) -> (&[u8], &[u8])
     ensures keys { keys_in text.now ≡ with_line result.0.now (keys_in result.1.now) }
     ensures line { length result.0.now ≤ length text.now }
-    ensures behind { length result.1.now ≤ length text.now - 1 }
+    ensures after { length result.1.now ≤ length text.now - 1 }
 {
     match line_feed(text) {
         None => (text, &[]),

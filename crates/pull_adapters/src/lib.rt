@@ -1,6 +1,6 @@
 //! What a pull server reaches on a real machine: a shelf that is a folder, and a door at a TCP port (RFC 9293).
 //!
-//! `FolderShelf` and `TcpDoor` are the traits of `pull_outside` over the system's files and connections. They expose
+//! `FolderShelf` and `TcpDoor` are the traits of `pull_outside` over the system's files and connections. They show
 //! nothing of what they hold, and each counts its failures. A layer above may rely on what the traits promise: a call
 //! fails only where the count of faults rose, an item is appended or the buffer stays, and as many connections are
 //! handed back as were given; and no name leads out of the folder. What the system gives or takes is in no clause: this

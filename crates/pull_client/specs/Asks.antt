@@ -19,7 +19,7 @@ Exchanged peer request Says before after result =
     ⊎ ((result ≡ Err Memory) × (after ≡ Some before))
 
 -- what the link shows before and after a call with that answer: a server that wants https is not asked. Any other is
--- sent the one request, where the link exposes its exchanges
+-- sent the one request, where the link shows its exchanges
 pub record Asks {T : Type 0} (server : Server) (request : List ℕ) (Says : Reply → Result T PeerError → Type 0)
     (before after : LinkView) (result : Result T PeerError) : Type 0 where
   pub unserved : server.https ≡ true → (result ≡ Err NotServed) × (after.shown ≡ before.shown)

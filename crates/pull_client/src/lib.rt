@@ -2,7 +2,7 @@
 //!
 //! A layer above may rely on this: each call sends at most one request, the one that its definition writes, to the
 //! server's peer and to no other; a server of https is sent nothing; a value comes exactly of an answer that is
-//! accepted; and a content is accepted only under the SHA-256 digest that was announced for it. Where the link exposes
+//! accepted; and a content is accepted only under the SHA-256 digest that was announced for it. Where the link shows
 //! its exchanges each error is that of the answer, in a fixed order, and an answer means one thing; a failure of the
 //! link shows in its count of faults.
 //!

@@ -60,7 +60,7 @@ abbrev pub received_of : FrameError → Received
 received_of frames.Memory = received.Memory
 received_of e = received.Refused e
 
--- what is received whatever the connection exposes
+-- what is received whatever the connection shows
 abbrev pub IsSized : Received → Type 0
 IsSized (received.Request request) = length request.body ≤ request_limits.content
 IsSized (received.Refused e) = IsRefusal e

@@ -174,21 +174,21 @@ agent_stops chars front left split cells small none =
       size = refl;
       begins = (drop (length front) zeros, tail_scalars (length front), cells_agent (front ++ drop (length front) zeros) (filled front cells small));
       whole = λ agent. absurd (omega (arith, small, agent_length front agent.0 agent.1));
-      longest = λ more behind fronts_is begun.
-          elim (fronts more behind front left (sym fronts_is ∙ split)) [
-            | inl longer ↦ within longer.0 more behind longer.1 longer.2 begun
+      longest = λ more after fronts_is begun.
+          elim (fronts more after front left (sym fronts_is ∙ split)) [
+            | inl longer ↦ within longer.0 more after longer.1 longer.2 begun
             | inr shorter ↦ omega (arith, ap length shorter.2, length-append shorter.0 left)
           ];
     }
   where
-    within : (u more behind : List ℕ) → more ≡ front ++ u → left ≡ u ++ behind → Begins IsAgent more → length left ≤ length behind
-    within [] more behind longer rest begun = omega (arith, ap length rest)
-    within (c ∷ u) more behind longer rest begun =
+    within : (u more after : List ℕ) → more ≡ front ++ u → left ≡ u ++ after → Begins IsAgent more → length left ≤ length after
+    within [] more after longer rest begun = omega (arith, ap length rest)
+    within (c ∷ u) more after longer rest begun =
         let all = agent_cells (more ++ begun.0) begun.2.0 begun.2.1 in
         let shape : more ++ begun.0 ≡ front ++ c ∷ (u ++ begun.0) = ap (λ (l : List ℕ). l ++ begun.0) longer ∙ append_assoc front (c ∷ u) begun.0 in
         let there : get_or (more ++ begun.0) (length front) 0 ≡ c = ap (λ (l : List ℕ). get_or l (length front) 0) shape ∙ get_or-append_seam front c (u ++ begun.0) 0 in
         let cell = all.0 (length front) (omega (arith, small, all.1)) in
-        absurd (none c (u ++ behind) rest (subst (λ (x : ℕ). is_cell (length front) x ≡ true) there cell))
+        absurd (none c (u ++ after) rest (subst (λ (x : ℕ). is_cell (length front) x ≡ true) there cell))
 
 pub no_cells : AreCells []
 no_cells k within = absurd (omega arith)

@@ -14,26 +14,26 @@ pub plain_front : (text rest : List ℕ) (byte : ℕ) → text ≡ byte ∷ rest
 plain_front text rest byte split other = (byte ∷ [], split, inl (refl, other))
 
 -- an escape after its sign
-pub escape_front : (text behind rest : List ℕ) (byte : ℕ) → text ≡ 37 ∷ behind → IsEscapeOf behind byte rest
+pub escape_front : (text after rest : List ℕ) (byte : ℕ) → text ≡ 37 ∷ after → IsEscapeOf after byte rest
     → (front : List ℕ) × (text ≡ front ++ rest) × IsWritten byte front
-escape_front text behind rest byte split (high, low, a, b, is, first, second, value) =
+escape_front text after rest byte split (high, low, a, b, is, first, second, value) =
     (37 ∷ high ∷ low ∷ [], split ∙ ap (λ (l : List ℕ). 37 ∷ l) is, inr (high, low, a, b, refl, first, second, value))
 
-pub escape_back : (text behind front rest : List ℕ) (byte : ℕ) → text ≡ 37 ∷ behind → text ≡ front ++ rest → IsWritten byte front → IsEscapeOf behind byte rest
-escape_back text behind front rest byte split fronts (inl plain) =
-    let whole : 37 ∷ behind ≡ byte ∷ rest = sym split ∙ fronts ∙ ap (λ (l : List ℕ). l ++ rest) plain.0 in
+pub escape_back : (text after front rest : List ℕ) (byte : ℕ) → text ≡ 37 ∷ after → text ≡ front ++ rest → IsWritten byte front → IsEscapeOf after byte rest
+escape_back text after front rest byte split fronts (inl plain) =
+    let whole : 37 ∷ after ≡ byte ∷ rest = sym split ∙ fronts ∙ ap (λ (l : List ℕ). l ++ rest) plain.0 in
     let same : byte ≡ 37 = cc in
     absurd (plain.1 same)
-escape_back text behind front rest byte split fronts (inr (high, low, a, b, is, first, second, value)) =
-    let whole : 37 ∷ behind ≡ 37 ∷ high ∷ low ∷ rest = sym split ∙ fronts ∙ ap (λ (l : List ℕ). l ++ rest) is in
-    let tail : behind ≡ high ∷ low ∷ rest = cc in
+escape_back text after front rest byte split fronts (inr (high, low, a, b, is, first, second, value)) =
+    let whole : 37 ∷ after ≡ 37 ∷ high ∷ low ∷ rest = sym split ∙ fronts ∙ ap (λ (l : List ℕ). l ++ rest) is in
+    let tail : after ≡ high ∷ low ∷ rest = cc in
     (high, low, a, b, tail, first, second, value)
 
 -- the answers for an escape are those for its text
-pub escape_none : {X : Type 0} (text behind : List ℕ) (o : Option X) → text ≡ 37 ∷ behind
-    → IfNone o ((byte : ℕ) (rest : List ℕ) → IsEscapeOf behind byte rest → ⊥) → IfNone o (HasNoByte text)
-escape_none text behind None split none = λ byte front after is written. none byte after (escape_back text behind front after byte split is written)
-escape_none text behind (Some x) split none = tt
+pub escape_none : {X : Type 0} (text remaining : List ℕ) (o : Option X) → text ≡ 37 ∷ remaining
+    → IfNone o ((byte : ℕ) (rest : List ℕ) → IsEscapeOf remaining byte rest → ⊥) → IfNone o (HasNoByte text)
+escape_none text remaining None split none = λ byte front after is written. none byte after (escape_back text remaining front after byte split is written)
+escape_none text remaining (Some x) split none = tt
 
 pub if_some : {X : Type 0} (o : Option X) (P Q : X → Type 0) → IfSome o P → ((x : X) → P x → Q x) → IfSome o Q
 if_some None P Q h weaker = tt

@@ -212,18 +212,18 @@ module_out text (a, b, is, first, (q, b2, is2, (name, value), (w, b3, is3, betwe
 
 content_in : (id : ℕ) (name text : List ℕ) → SpellsTarget (Content id name) text → IsContentForm text
 content_in id name text (a, b, is, first, (a2, b2, is2, second, (a3, b3, is3, word3, (q, b4, is4, value, (l, b5, is5, last, nil))))) =
-    let behind : b4 ≡ l = is5 ∙ ap (λ (x : List ℕ). l ++ x) nil ∙ append-nil l in (
+    let after : b4 ≡ l = is5 ∙ ap (λ (x : List ℕ). l ++ x) nil ∙ append-nil l in (
       a ++ (a2 ++ a3),
       b3,
       joined text a b (a2 ++ a3) b3 is (joined b a2 b2 a3 b3 is2 is3),
       (a, a2 ++ a3, refl, first, (a2, a3, refl, (id, second), word3)),
-      (q, b4, is4, (name, value), subst (λ (x : List ℕ). SameName x (codes "/ConfigurationContent")) (sym behind) last),
+      (q, b4, is4, (name, value), subst (λ (x : List ℕ). SameName x (codes "/ConfigurationContent")) (sym after) last),
     )
 
 module_in : (name version text : List ℕ) → SpellsTarget (Module name version) text → IsModuleForm text
 module_in name version text (a, b, is, first, (q, b2, is2, value, (w, b3, is3, between, (v, b4, is4, value2, (l, b5, is5, last, nil))))) =
-    let behind : b4 ≡ l = is5 ∙ ap (λ (x : List ℕ). l ++ x) nil ∙ append-nil l in
-    (a, b, is, first, (q, b2, is2, (name, value), (w, b3, is3, between, (v, b4, is4, (version, value2), subst (λ (x : List ℕ). SameName x last_word) (sym behind) last))))
+    let after : b4 ≡ l = is5 ∙ ap (λ (x : List ℕ). l ++ x) nil ∙ append-nil l in
+    (a, b, is, first, (q, b2, is2, (name, value), (w, b3, is3, between, (v, b4, is4, (version, value2), subst (λ (x : List ℕ). SameName x last_word) (sym after) last))))
 
 abbrev pub AnyForm : List ℕ → Type 0
 AnyForm = Either (IsAgentForm (codes "')")) (Either (IsAgentForm (codes "')/GetDscAction")) (Either (IsAgentForm (codes "')/SendReport")) (Either IsContentForm IsModuleForm)))

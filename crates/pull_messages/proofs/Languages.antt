@@ -90,15 +90,15 @@ stop_first one other chars left free some stops =
       );
       whole = λ both. no_front one chars left free stops both.0 (both.1 ++ stops.rest)
           (stops.split ∙ ap (λ (l : List ℕ). l ++ stops.rest) both.2 ∙ append_assoc both.0 both.1 stops.rest) both.3;
-      longest = λ more behind split begun.
+      longest = λ more rest split begun.
           elim (fronts begun.2.0 begun.2.1 more begun.0 (sym begun.2.2)) [
             | inl longer ↦
                 let starts : Begins one more =
                 (longer.0, scalars_front longer.0 begun.2.1 (subst (λ (l : List ℕ). all_scalars l ≡ true) longer.2 begun.1), subst one longer.1 begun.2.3) in
-                stops.longest more behind split starts
+                stops.longest more rest split starts
             | inr shorter ↦
-                absurd (no_front one chars left free stops begun.2.0 (shorter.0 ++ behind)
-                (split ∙ ap (λ (l : List ℕ). l ++ behind) shorter.1 ∙ append_assoc begun.2.0 shorter.0 behind) begun.2.3)
+                absurd (no_front one chars left free stops begun.2.0 (shorter.0 ++ rest)
+                (split ∙ ap (λ (l : List ℕ). l ++ rest) shorter.1 ∙ append_assoc begun.2.0 shorter.0 rest) begun.2.3)
           ];
     }
 
@@ -118,23 +118,23 @@ stop_second one other chars f rest left free split in_one stops =
           (ap (λ (l : List ℕ). f ++ l) (append-nil stops.front) ∙ both.2 ∙ ap (λ (l : List ℕ). both.0 ++ l) (sym (append-nil both.1))) in
           let second = (same_front f stops.front both.0 both.1 both.2 (ap length first)).1 in
           stops.whole (subst other (sym second) both.4);
-      longest = λ more behind more_split begun.
+      longest = λ more after more_split begun.
           elim (fronts begun.2.0 begun.2.1 more begun.0 (sym begun.2.2)) [
-            | inl longer ↦ within_one more behind more_split begun.2.0 longer.0 longer.1 begun.2.3
+            | inl longer ↦ within_one more after more_split begun.2.0 longer.0 longer.1 begun.2.3
             | inr shorter ↦
-                let chars_split : f ++ rest ≡ begun.2.0 ++ (shorter.0 ++ behind) =
-                sym split ∙ more_split ∙ ap (λ (l : List ℕ). l ++ behind) shorter.1 ∙ append_assoc begun.2.0 shorter.0 behind in
-                let first = free f rest begun.2.0 (shorter.0 ++ behind) in_one begun.2.3 chars_split in
-                let rest_split = (same_front f rest begun.2.0 (shorter.0 ++ behind) chars_split (ap length first)).1 in
+                let chars_split : f ++ rest ≡ begun.2.0 ++ (shorter.0 ++ after) =
+                sym split ∙ more_split ∙ ap (λ (l : List ℕ). l ++ after) shorter.1 ∙ append_assoc begun.2.0 shorter.0 after in
+                let first = free f rest begun.2.0 (shorter.0 ++ after) in_one begun.2.3 chars_split in
+                let rest_split = (same_front f rest begun.2.0 (shorter.0 ++ after) chars_split (ap length first)).1 in
                 let starts : Begins other shorter.0 = (begun.0, begun.1, subst other shorter.2 begun.2.4) in
-                stops.longest shorter.0 behind rest_split starts
+                stops.longest shorter.0 after rest_split starts
           ];
     }
   where
-    within_one : (more behind : List ℕ) → chars ≡ more ++ behind → (a u : List ℕ) → a ≡ more ++ u → one a → left ≤ length behind
-    within_one more behind more_split a u is in_a =
+    within_one : (more after : List ℕ) → chars ≡ more ++ after → (a u : List ℕ) → a ≡ more ++ u → one a → left ≤ length after
+    within_one more after more_split a u is in_a =
         let sizes = ap length stops.split in
-        elim (fronts f rest more behind (sym split ∙ more_split)) [
+        elim (fronts f rest more after (sym split ∙ more_split)) [
           | inl longer ↦ omega (arith, ap length longer.2, length-append longer.0 rest, sizes, length-append stops.front stops.rest, stops.size)
           | inr shorter ↦
               let joined : f ++ (shorter.0 ++ u) ≡ a ++ [] = sym (append_assoc f shorter.0 u) ∙ ap (λ (l : List ℕ). l ++ u) (sym shorter.1) ∙ sym is ∙ sym (append-nil a) in
@@ -147,7 +147,7 @@ stop_second one other chars f rest left free split in_one stops =
                 length-append f shorter.0,
                 length-append more u,
                 ap length shorter.2,
-                length-append shorter.0 behind,
+                length-append shorter.0 after,
                 sizes,
                 length-append stops.front stops.rest,
                 stops.size,
@@ -178,14 +178,14 @@ ends_of_rest language chars f rest free split in_f some =
       none = λ whole.
           let same = free f rest chars [] in_f whole (sym split ∙ sym (append-nil chars)) in
           absurd (omega (arith, some, ap length same, ap length split, length-append f rest));
-      longest = λ more behind more_split begun.
-          elim (fronts f rest more behind (sym split ∙ more_split)) [
+      longest = λ more after more_split begun.
+          elim (fronts f rest more after (sym split ∙ more_split)) [
             | inl longer ↦ omega (arith, ap length longer.2, length-append longer.0 rest)
             | inr shorter ↦
                 let joined : f ++ (shorter.0 ++ begun.0) ≡ (more ++ begun.0) ++ [] =
                 sym (append_assoc f shorter.0 begun.0) ∙ ap (λ (l : List ℕ). l ++ begun.0) (sym shorter.1) ∙ sym (append-nil (more ++ begun.0)) in
                 let same = free f (shorter.0 ++ begun.0) (more ++ begun.0) [] in_f begun.2 joined in
-                omega (arith, ap length same, length-append more begun.0, ap length shorter.1, length-append f shorter.0, ap length shorter.2, length-append shorter.0 behind)
+                omega (arith, ap length same, length-append more begun.0, ap length shorter.1, length-append f shorter.0, ap length shorter.2, length-append shorter.0 after)
           ];
     }
 
@@ -199,7 +199,7 @@ ends_same one other chars left there back ends =
       size = ends.size;
       begins = (ends.begins.0, ends.begins.1, there (ends.front ++ ends.begins.0) ends.begins.2);
       none = λ whole. ends.none (back chars whole);
-      longest = λ more behind split begun. ends.longest more behind split (begun.0, begun.1, back (more ++ begun.0) begun.2);
+      longest = λ more after split begun. ends.longest more after split (begun.0, begun.1, back (more ++ begun.0) begun.2);
     }
 
 abbrev pub Either : (List ℕ → Type 0) → (List ℕ → Type 0) → List ℕ → Type 0
@@ -215,9 +215,9 @@ ends_either one other chars a b first second =
         size = first.size;
         begins = (first.begins.0, first.begins.1, inl first.begins.2);
         none = none;
-        longest = λ more behind split begun. elim begun.2 [
-          | inl x ↦ first.longest more behind split (begun.0, begun.1, x)
-          | inr y ↦ omega (arith, here.1, second.longest more behind split (begun.0, begun.1, y))
+        longest = λ more after split begun. elim begun.2 [
+          | inl x ↦ first.longest more after split (begun.0, begun.1, x)
+          | inr y ↦ omega (arith, here.1, second.longest more after split (begun.0, begun.1, y))
         ];
       })
       | inr here ↦ subst (λ n. EndsAt (Either one other) chars n) (sym here.0) (record {
@@ -227,9 +227,9 @@ ends_either one other chars a b first second =
         size = second.size;
         begins = (second.begins.0, second.begins.1, inr second.begins.2);
         none = none;
-        longest = λ more behind split begun. elim begun.2 [
-          | inl x ↦ omega (arith, here.1, first.longest more behind split (begun.0, begun.1, x))
-          | inr y ↦ second.longest more behind split (begun.0, begun.1, y)
+        longest = λ more after split begun. elim begun.2 [
+          | inl x ↦ omega (arith, here.1, first.longest more after split (begun.0, begun.1, x))
+          | inr y ↦ second.longest more after split (begun.0, begun.1, y)
         ];
       })
     ]

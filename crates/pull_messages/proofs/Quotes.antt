@@ -143,8 +143,8 @@ same_value end is (c ∷ t) (d ∷ value) r s e =
       ]
     ]
 
-no_room : (t s : List ℕ) (d room : ℕ) → IsValue (t ++ d ∷ s) → length (encode_utf8_all t) + room ≡ MAX_NAME_BYTES → length (encode_utf8 d) ≤ room
-no_room t s d room fits used =
+no_capacity : (t s : List ℕ) (d capacity : ℕ) → IsValue (t ++ d ∷ s) → length (encode_utf8_all t) + capacity ≡ MAX_NAME_BYTES → length (encode_utf8 d) ≤ capacity
+no_capacity t s d capacity fits used =
     omega (
       arith,
       fits.1,
@@ -172,7 +172,7 @@ end_scalars end is = elim is [ inl a ↦ rw a refl | inr b ↦ rw b refl ]
 -- the front of a quoted text, where nothing after it goes on in one
 quoted_stops : (end : ℕ) → IsEnd end → (chars t f rest : List ℕ) → chars ≡ (39 ∷ (doubled t ++ f)) ++ rest → length f ≤ 1
     → Begins (IsAnyQuoted end) (39 ∷ (doubled t ++ f))
-    → ((s : List ℕ) (c : ℕ) (u tail behind : List ℕ) → IsValue (t ++ s) → rest ≡ c ∷ (u ++ behind) → doubled s ++ closing end ≡ f ++ c ∷ (u ++ tail) → ⊥)
+    → ((s : List ℕ) (c : ℕ) (u tail after : List ℕ) → IsValue (t ++ s) → rest ≡ c ∷ (u ++ after) → doubled s ++ closing end ≡ f ++ c ∷ (u ++ tail) → ⊥)
     → StopsAt (IsAnyQuoted end) chars (length rest)
 quoted_stops end is chars t f rest split short begins bad =
     record {
@@ -186,23 +186,23 @@ quoted_stops end is chars t f rest split short begins bad =
           let tail : doubled spelled.0 ++ closing end ≡ doubled t ++ f = cc whole in
           let more = peel end is t spelled.0 f tail in
           absurd (omega (arith, short, ap length more.2, length-append (doubled more.0) (closing end)));
-      longest = λ more behind fronts_is begun.
-          elim (fronts more behind (39 ∷ (doubled t ++ f)) rest (sym fronts_is ∙ split)) [
-            | inl longer ↦ within longer.0 more behind longer.1 longer.2 begun
+      longest = λ more after fronts_is begun.
+          elim (fronts more after (39 ∷ (doubled t ++ f)) rest (sym fronts_is ∙ split)) [
+            | inl longer ↦ within longer.0 more after longer.1 longer.2 begun
             | inr shorter ↦ omega (arith, ap length shorter.2, length-append shorter.0 rest)
           ];
     }
   where
-    within : (u more behind : List ℕ) → more ≡ (39 ∷ (doubled t ++ f)) ++ u → rest ≡ u ++ behind → Begins (IsAnyQuoted end) more → length rest ≤ length behind
-    within [] more behind longer left begun = omega (arith, ap length left)
-    within (c ∷ u) more behind longer left begun =
+    within : (u more after : List ℕ) → more ≡ (39 ∷ (doubled t ++ f)) ++ u → rest ≡ u ++ after → Begins (IsAnyQuoted end) more → length rest ≤ length after
+    within [] more after longer left begun = omega (arith, ap length left)
+    within (c ∷ u) more after longer left begun =
         let value = begun.2.0 in
         let whole : 39 ∷ (doubled value ++ closing end) ≡ 39 ∷ (doubled t ++ (f ++ c ∷ (u ++ begun.0))) =
         sym begun.2.1.1 ∙ ap (λ (l : List ℕ). l ++ begun.0) longer ∙ append_assoc (39 ∷ (doubled t ++ f)) (c ∷ u) begun.0
         ∙ ap (λ (l : List ℕ). 39 ∷ l) (append_assoc (doubled t) f (c ∷ (u ++ begun.0))) in
         let tail : doubled value ++ closing end ≡ doubled t ++ (f ++ c ∷ (u ++ begun.0)) = cc whole in
         let rest_of = peel end is t value (f ++ c ∷ (u ++ begun.0)) tail in
-        absurd (bad rest_of.0 c u begun.0 behind (subst IsValue rest_of.1 begun.2.1.0) left rest_of.2)
+        absurd (bad rest_of.0 c u begun.0 after (subst IsValue rest_of.1 begun.2.1.0) left rest_of.2)
 
 -- no quote opens
 pub no_open : (end : ℕ) → IsEnd end → (chars : List ℕ) → ((rest : List ℕ) → chars ≡ 39 ∷ rest → ⊥) → StopsAt (IsAnyQuoted end) chars (length chars)
@@ -214,15 +214,15 @@ no_open end is chars none =
       size = refl;
       begins = (39 ∷ 97 ∷ closing end, rw (closing_scalars end is) refl, (97 ∷ [], (letter_value, refl)));
       whole = λ spelled. let no : [] ≡ 39 ∷ (doubled spelled.0 ++ closing end) = spelled.1.1 in cc no;
-      longest = λ more behind split begun. first more behind split begun;
+      longest = λ more after split begun. first more after split begun;
     }
   where
-    first : (more behind : List ℕ) → chars ≡ more ++ behind → Begins (IsAnyQuoted end) more → length chars ≤ length behind
-    first [] behind split begun = omega (arith, ap length split)
-    first (c ∷ more) behind split begun =
+    first : (more after : List ℕ) → chars ≡ more ++ after → Begins (IsAnyQuoted end) more → length chars ≤ length after
+    first [] after split begun = omega (arith, ap length split)
+    first (c ∷ more) after split begun =
         let whole : c ∷ (more ++ begun.0) ≡ 39 ∷ (doubled begun.2.0 ++ closing end) = begun.2.1.1 in
         let head : c ≡ 39 = cc whole in
-        absurd (none (more ++ behind) (split ∙ ap (λ (x : ℕ). x ∷ (more ++ behind)) head))
+        absurd (none (more ++ after) (split ∙ ap (λ (x : ℕ). x ∷ (more ++ after)) head))
 
 begins_open : (end : ℕ) → IsEnd end → (t : List ℕ) → length (encode_utf8_all t) ≤ MAX_NAME_BYTES → Begins (IsAnyQuoted end) (39 ∷ (doubled t ++ []))
 begins_open end is [] few = (97 ∷ closing end, rw (closing_scalars end is) refl, (97 ∷ [], (letter_value, refl)))
@@ -230,25 +230,25 @@ begins_open end is (c ∷ t) few =
     (closing end, closing_scalars end is, (c ∷ t, (value_of (c ∷ t) (omega arith) few, ap (λ (l : List ℕ). (39 ∷ l) ++ closing end) (append-nil (doubled (c ∷ t))))))
 
 -- the value does not go on, and no quote closes it
-pub no_close : (end : ℕ) → IsEnd end → (chars t left : List ℕ) (room : ℕ) → chars ≡ (39 ∷ doubled t) ++ left → length (encode_utf8_all t) + room ≡ MAX_NAME_BYTES
-    → ((c : ℕ) (rest : List ℕ) → IsValueChar left room c rest → ⊥) → ((rest : List ℕ) → left ≡ 39 ∷ rest → ⊥) → StopsAt (IsAnyQuoted end) chars (length left)
-no_close end is chars t left room split used no_char no_quote =
+pub no_close : (end : ℕ) → IsEnd end → (chars t left : List ℕ) (capacity : ℕ) → chars ≡ (39 ∷ doubled t) ++ left → length (encode_utf8_all t) + capacity ≡ MAX_NAME_BYTES
+    → ((c : ℕ) (rest : List ℕ) → IsValueChar left capacity c rest → ⊥) → ((rest : List ℕ) → left ≡ 39 ∷ rest → ⊥) → StopsAt (IsAnyQuoted end) chars (length left)
+no_close end is chars t left capacity split used no_char no_quote =
     quoted_stops end is chars t [] left (split ∙ ap (λ (l : List ℕ). (39 ∷ l) ++ left) (sym (append-nil (doubled t)))) (omega arith)
     (begins_open end is t (omega (arith, used))) bad
   where
-    bad : (s : List ℕ) (c : ℕ) (u tail behind : List ℕ) → IsValue (t ++ s) → left ≡ c ∷ (u ++ behind) → doubled s ++ closing end ≡ [] ++ c ∷ (u ++ tail) → ⊥
-    bad [] c u tail behind fits front e =
-        let head : c ≡ 39 = cc e in no_quote (u ++ behind) (front ∙ ap (λ (x : ℕ). x ∷ (u ++ behind)) head)
-    bad (d ∷ s) c u tail behind fits front e =
+    bad : (s : List ℕ) (c : ℕ) (u tail after : List ℕ) → IsValue (t ++ s) → left ≡ c ∷ (u ++ after) → doubled s ++ closing end ≡ [] ++ c ∷ (u ++ tail) → ⊥
+    bad [] c u tail after fits front e =
+        let head : c ≡ 39 = cc e in no_quote (u ++ after) (front ∙ ap (λ (x : ℕ). x ∷ (u ++ after)) head)
+    bad (d ∷ s) c u tail after fits front e =
         elim (doubled_cases d s) [
           | inl quote ↦
               let whole : 39 ∷ 39 ∷ (doubled s ++ closing end) ≡ c ∷ (u ++ tail) = ap (λ (l : List ℕ). l ++ closing end) (sym quote.1) ∙ e in
-              let head : c ≡ 39 = cc whole in no_quote (u ++ behind) (front ∙ ap (λ (x : ℕ). x ∷ (u ++ behind)) head)
+              let head : c ≡ 39 = cc whole in no_quote (u ++ after) (front ∙ ap (λ (x : ℕ). x ∷ (u ++ after)) head)
           | inr other ↦
               let whole : d ∷ (doubled s ++ closing end) ≡ c ∷ (u ++ tail) = ap (λ (l : List ℕ). l ++ closing end) (sym other.1) ∙ e in
               let head : c ≡ d = cc whole in
               let plain : doubled (d ∷ []) ≡ d ∷ [] = plain_one d other.0 in
-              no_char d (u ++ behind) (front ∙ ap (λ (x : ℕ). x ∷ (u ++ behind)) head ∙ ap (λ (l : List ℕ). l ++ (u ++ behind)) (sym plain), no_room t s d room fits used)
+              no_char d (u ++ after) (front ∙ ap (λ (x : ℕ). x ∷ (u ++ after)) head ∙ ap (λ (l : List ℕ). l ++ (u ++ after)) (sym plain), no_capacity t s d capacity fits used)
         ]
 
 begins_closed : (end : ℕ) → IsEnd end → (t : List ℕ) → length (encode_utf8_all t) ≤ MAX_NAME_BYTES → Begins (IsAnyQuoted end) (39 ∷ (doubled t ++ 39 ∷ []))
@@ -266,26 +266,26 @@ begins_closed end is (c ∷ t) few = (
 )
 
 -- a quote closes the value, and what stands after it is wrong, or the value is empty
-pub no_end : (end : ℕ) → IsEnd end → (chars t left rest : List ℕ) (room : ℕ) → chars ≡ (39 ∷ doubled t) ++ left → length (encode_utf8_all t) + room ≡ MAX_NAME_BYTES
-    → ((c : ℕ) (rest : List ℕ) → IsValueChar left room c rest → ⊥) → left ≡ 39 ∷ rest
-    → ((behind : List ℕ) → IsValue t → rest ≡ end ∷ behind → ⊥) → StopsAt (IsAnyQuoted end) chars (length rest)
-no_end end is chars t left rest room split used no_char closes wrong =
+pub no_end : (end : ℕ) → IsEnd end → (chars t left rest : List ℕ) (capacity : ℕ) → chars ≡ (39 ∷ doubled t) ++ left → length (encode_utf8_all t) + capacity ≡ MAX_NAME_BYTES
+    → ((c : ℕ) (rest : List ℕ) → IsValueChar left capacity c rest → ⊥) → left ≡ 39 ∷ rest
+    → ((after : List ℕ) → IsValue t → rest ≡ end ∷ after → ⊥) → StopsAt (IsAnyQuoted end) chars (length rest)
+no_end end is chars t left rest capacity split used no_char closes wrong =
     quoted_stops end is chars t (39 ∷ []) rest
     (split ∙ ap (λ (l : List ℕ). (39 ∷ doubled t) ++ l) closes ∙ ap (λ (l : List ℕ). 39 ∷ l) (sym (append_assoc (doubled t) (39 ∷ []) rest)))
     (omega arith) (begins_closed end is t (omega (arith, used))) bad
   where
-    bad : (s : List ℕ) (c : ℕ) (u tail behind : List ℕ) → IsValue (t ++ s) → rest ≡ c ∷ (u ++ behind) → doubled s ++ closing end ≡ (39 ∷ []) ++ c ∷ (u ++ tail) → ⊥
-    bad [] c u tail behind fits front e =
+    bad : (s : List ℕ) (c : ℕ) (u tail after : List ℕ) → IsValue (t ++ s) → rest ≡ c ∷ (u ++ after) → doubled s ++ closing end ≡ (39 ∷ []) ++ c ∷ (u ++ tail) → ⊥
+    bad [] c u tail after fits front e =
         let head : c ≡ end = cc e in
-        wrong (u ++ behind) (subst IsValue (append-nil t) fits) (front ∙ ap (λ (x : ℕ). x ∷ (u ++ behind)) head)
-    bad (d ∷ s) c u tail behind fits front e =
+        wrong (u ++ after) (subst IsValue (append-nil t) fits) (front ∙ ap (λ (x : ℕ). x ∷ (u ++ after)) head)
+    bad (d ∷ s) c u tail after fits front e =
         elim (doubled_cases d s) [
           | inl quote ↦
               let whole : 39 ∷ 39 ∷ (doubled s ++ closing end) ≡ 39 ∷ c ∷ (u ++ tail) = ap (λ (l : List ℕ). l ++ closing end) (sym quote.1) ∙ e in
               let head : c ≡ 39 = cc whole in
-              let room_for : length (encode_utf8 d) ≤ room = no_room t s d room fits used in
-              let room_for_quote : length (encode_utf8 39) ≤ room = subst (λ (x : ℕ). length (encode_utf8 x) ≤ room) quote.0 room_for in
-              no_char 39 (u ++ behind) (closes ∙ ap (λ (l : List ℕ). 39 ∷ l) (front ∙ ap (λ (x : ℕ). x ∷ (u ++ behind)) head), room_for_quote)
+              let room_for : length (encode_utf8 d) ≤ capacity = no_capacity t s d capacity fits used in
+              let capacity_for_quote : length (encode_utf8 39) ≤ capacity = subst (λ (x : ℕ). length (encode_utf8 x) ≤ capacity) quote.0 room_for in
+              no_char 39 (u ++ after) (closes ∙ ap (λ (l : List ℕ). 39 ∷ l) (front ∙ ap (λ (x : ℕ). x ∷ (u ++ after)) head), capacity_for_quote)
           | inr other ↦
               let whole : d ∷ (doubled s ++ closing end) ≡ 39 ∷ c ∷ (u ++ tail) = ap (λ (l : List ℕ). l ++ closing end) (sym other.1) ∙ e in
               let head : d ≡ 39 = cc whole in other.0 head
@@ -305,14 +305,14 @@ value_more chars t left rest c split is =
     split ∙ ap (λ (l : List ℕ). (39 ∷ doubled t) ++ l) is ∙ ap (λ (l : List ℕ). 39 ∷ l) (sym (append_assoc (doubled t) (doubled (c ∷ [])) rest))
     ∙ ap (λ (l : List ℕ). 39 ∷ (l ++ rest)) (sym (doubled-append t (c ∷ [])))
 
-pub room_more : (t : List ℕ) (c room size : ℕ) → length (encode_utf8_all t) + room ≡ MAX_NAME_BYTES → length (encode_utf8 c) ≤ room → size ≡ length (encode_utf8 c)
-    → length (encode_utf8_all (t ++ c ∷ [])) + (room - size) ≡ MAX_NAME_BYTES
-room_more t c room size used fits is =
+pub capacity_more : (t : List ℕ) (c capacity size : ℕ) → length (encode_utf8_all t) + capacity ≡ MAX_NAME_BYTES → length (encode_utf8 c) ≤ capacity → size ≡ length (encode_utf8 c)
+    → length (encode_utf8_all (t ++ c ∷ [])) + (capacity - size) ≡ MAX_NAME_BYTES
+capacity_more t c capacity size used fits is =
     omega (arith, used, fits, is, ap length (encodes-append t (c ∷ [])), length-append (encode_utf8_all t) (encode_utf8_all (c ∷ [])), length-append (encode_utf8 c) [])
 
-pub quoted_taken : (chars t left rest after : List ℕ) (end room : ℕ) → chars ≡ (39 ∷ doubled t) ++ left → left ≡ 39 ∷ rest → rest ≡ end ∷ after
-    → length (encode_utf8_all t) + room ≡ MAX_NAME_BYTES → 1 ≤ length t → (front : List ℕ) × (chars ≡ front ++ after) × IsQuoted t end front
-quoted_taken chars t left rest after end room split closes ends used some = (
+pub quoted_taken : (chars t left rest after : List ℕ) (end capacity : ℕ) → chars ≡ (39 ∷ doubled t) ++ left → left ≡ 39 ∷ rest → rest ≡ end ∷ after
+    → length (encode_utf8_all t) + capacity ≡ MAX_NAME_BYTES → 1 ≤ length t → (front : List ℕ) × (chars ≡ front ++ after) × IsQuoted t end front
+quoted_taken chars t left rest after end capacity split closes ends used some = (
   39 ∷ (doubled t ++ closing end),
   split ∙ ap (λ (l : List ℕ). (39 ∷ doubled t) ++ l) (closes ∙ ap (λ (l : List ℕ). 39 ∷ l) ends)
       ∙ ap (λ (l : List ℕ). 39 ∷ l) (sym (append_assoc (doubled t) (closing end) after)),

@@ -180,7 +180,7 @@ whole_chars more begins = begins.0
 
 pub longest_front : (text bytes cs cf tail : List ℕ) (at : ℕ) → IsUnescaped text bytes → IsDecoded bytes cs → cs ≡ cf ++ tail
     → IsFrontOf text (length (encode_utf8_all cf)) at → Begins IsAnyTarget cf
-    → ((more behind : List ℕ) → cs ≡ more ++ behind → Begins IsAnyTarget more → length tail ≤ length behind) → IsLongestFront text at
+    → ((more rest : List ℕ) → cs ≡ more ++ rest → Begins IsAnyTarget more → length tail ≤ length rest) → IsLongestFront text at
 longest_front text bytes cs cf tail at escaped decoded split front begins longest =
     let written : Spells IsWritten (encode_utf8_all cf) front.front =
     subst (λ (l : List ℕ). Spells IsWritten l front.front) (front_is text bytes cs cf tail at escaped decoded split front) front.written in

@@ -38,22 +38,22 @@ word_stops chars front left name said code codes split is same scalars none =
       size = refl;
       begins = (code ∷ codes, scalars, spelled);
       whole = λ in_front. absurd (omega (arith, fold-length front name in_front, ap length is, length-append said (code ∷ codes), sizes));
-      longest = λ more behind fronts_is begun.
-          elim (fronts more behind front left (sym fronts_is ∙ split)) [
-            | inl longer ↦ within longer.0 more behind longer.1 longer.2 begun
+      longest = λ more after fronts_is begun.
+          elim (fronts more after front left (sym fronts_is ∙ split)) [
+            | inl longer ↦ within longer.0 more after longer.1 longer.2 begun
             | inr shorter ↦ omega (arith, ap length shorter.2, length-append shorter.0 left)
           ];
     }
   where
-    within : (u more behind : List ℕ) → more ≡ front ++ u → left ≡ u ++ behind → Begins (IsWord name) more → length left ≤ length behind
-    within [] more behind longer rest begun = omega (arith, ap length rest)
-    within (c ∷ u) more behind longer rest begun =
+    within : (u more after : List ℕ) → more ≡ front ++ u → left ≡ u ++ after → Begins (IsWord name) more → length left ≤ length after
+    within [] more after longer rest begun = omega (arith, ap length rest)
+    within (c ∷ u) more after longer rest begun =
         let folded : fold_case front ++ (to_ascii_lowercase c ∷ fold_case (u ++ begun.0)) ≡ fold_case said ++ (to_ascii_lowercase code ∷ fold_case codes) =
         sym (fold-append front (c ∷ (u ++ begun.0))) ∙ ap fold_case (sym (append_assoc front (c ∷ u) begun.0) ∙ ap (λ (l : List ℕ). l ++ begun.0) (sym longer))
         ∙ begun.2 ∙ ap fold_case is ∙ fold-append said (code ∷ codes) in
         let heads = (same_front (fold_case front) _ (fold_case said) _ folded (ap length same)).1 in
         let head : to_ascii_lowercase c ≡ to_ascii_lowercase code = cc heads in
-        absurd (none c (u ++ behind) rest head)
+        absurd (none c (u ++ after) rest head)
 
 pub word_more : (front said : List ℕ) (c code : ℕ) → fold_case front ≡ fold_case said → to_ascii_lowercase c ≡ to_ascii_lowercase code
     → fold_case (front ++ c ∷ []) ≡ fold_case (said ++ code ∷ [])

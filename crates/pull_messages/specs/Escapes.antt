@@ -35,7 +35,7 @@ pub record IsUnescaped (text bytes : List ℕ) : Type 0 where
   pub written : Spells IsWritten bytes front
   pub all : HasNoByte rest
 
--- that front of the text writes so many bytes, or all that the text has
+-- that front of the text writes that many bytes, or all that the text has
 pub record IsFrontOf (text : List ℕ) (count size : ℕ) : Type 0 where
   pub front : List ℕ
   pub rest : List ℕ

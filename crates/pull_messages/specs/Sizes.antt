@@ -5,7 +5,7 @@ use Rattle.pull_messages.specs.declared.registration.Registration.{Registration}
 use Rattle.mof_values.specs.declared.limits.TheConstants.{MAX_NAME_BYTES}
 use Rattle.pull_messages.specs.declared.limits.TheConstants.{MAX_LIST_ITEMS, MAX_TEXT_BYTES}
 
--- the text has so many bytes of UTF-8 at most
+-- the text has that many bytes of UTF-8 at most
 abbrev pub IsShort : List ℕ → Type 0
 IsShort text = length (encode_utf8_all text) ≤ MAX_TEXT_BYTES
 

@@ -11,7 +11,7 @@ use Rattle.pull_messages.specs.declared.target_kinds.Target.{Target}
 abbrev pub Begins : (List ℕ → Type 0) → List ℕ → Type 0
 Begins language front = (tail : List ℕ) × (all_scalars tail ≡ true) × language (front ++ tail)
 
--- so many characters are left after the longest front with which some text of the language begins; it is none itself
+-- that many characters are left after the longest front with which some text of the language begins; it is none itself
 pub record StopsAt (language : List ℕ → Type 0) (chars : List ℕ) (left : ℕ) : Type 0 where
   pub front : List ℕ
   pub rest : List ℕ
@@ -19,7 +19,7 @@ pub record StopsAt (language : List ℕ → Type 0) (chars : List ℕ) (left : �
   pub size : length rest ≡ left
   pub begins : Begins language front
   pub whole : language front → ⊥
-  pub longest : (more behind : List ℕ) → chars ≡ more ++ behind → Begins language more → left ≤ length behind
+  pub longest : (more after : List ℕ) → chars ≡ more ++ after → Begins language more → left ≤ length after
 
 -- the same of characters that are no text of the language
 pub record EndsAt (language : List ℕ → Type 0) (chars : List ℕ) (left : ℕ) : Type 0 where
@@ -29,7 +29,7 @@ pub record EndsAt (language : List ℕ → Type 0) (chars : List ℕ) (left : �
   pub size : length rest ≡ left
   pub begins : Begins language front
   pub none : language chars → ⊥
-  pub longest : (more behind : List ℕ) → chars ≡ more ++ behind → Begins language more → left ≤ length behind
+  pub longest : (more after : List ℕ) → chars ≡ more ++ after → Begins language more → left ≤ length after
 
 -- the fact holds of the count, where the answer names one
 abbrev pub IfLeft : {T : Type 0} → Result T Stop → (ℕ → Type 0) → Type 0
@@ -51,9 +51,9 @@ IsAnyQuoted end text = (value : List ℕ) × IsQuoted value end text
 abbrev pub IsEnd : ℕ → Type 0
 IsEnd end = (end ≡ 41) ⊎ (end ≡ 44)
 
--- a character of a value stands there, and it has so many bytes at most
+-- a character of a value stands there, and it has that many bytes at most
 abbrev pub IsValueChar : List ℕ → ℕ → ℕ → List ℕ → Type 0
-IsValueChar chars room c rest = (chars ≡ doubled (c ∷ []) ++ rest) × (length (encode_utf8 c) ≤ room)
+IsValueChar chars capacity c rest = (chars ≡ doubled (c ∷ []) ++ rest) × (length (encode_utf8 c) ≤ capacity)
 
 -- a text of one, and after it one of the other
 abbrev pub Then : (List ℕ → Type 0) → (List ℕ → Type 0) → List ℕ → Type 0
@@ -83,7 +83,7 @@ IsAnyTarget text = (target : Target) × SpellsTarget target text
 abbrev pub better_of : Result Target Stop → Result Target Stop → Result Target Stop
 better_of (Ok target) other = Ok target
 better_of (Err (Left left)) (Ok target) = Ok target
-better_of (Err (Left left)) (Err (Left behind)) = Err (Left (min left behind))
+better_of (Err (Left left)) (Err (Left after)) = Err (Left (min left after))
 better_of (Err (Left left)) (Err Memory) = Err Memory
 better_of (Err Memory) (Ok target) = Ok target
 better_of (Err Memory) (Err stop) = Err Memory

@@ -31,7 +31,7 @@ fn better(one: Result<Target, Stop>, other: Result<Target, Stop>) -> Result<Targ
     match (one, other) {
         (Ok(target), _) => Ok(target),
         (Err(_), Ok(target)) => Ok(target),
-        (Err(Stop::Left(left)), Err(Stop::Left(behind))) => Err(Stop::Left(left.min(behind))),
+        (Err(Stop::Left(left)), Err(Stop::Left(after))) => Err(Stop::Left(left.min(after))),
         (Err(Stop::Memory), Err(_)) | (Err(_), Err(Stop::Memory)) => Err(Stop::Memory),
     }
 }

@@ -15,7 +15,7 @@ use uuid::fmt::Hyphenated;
 /// Why a part was not taken.
 #[derive(Clone, Copy, Debug, PartialEq, Eq)]
 pub enum Stop {
-    /// It does not stand there; so many characters follow the longest front with which it begins.
+    /// It does not stand there; that many characters follow the longest front with which it begins.
     Left(usize),
 
     Memory,
@@ -43,9 +43,9 @@ pub fn word<'c>(chars: &'c [char], name: &str) -> Result<&'c [char], Stop>
     ensures stop { IfLeft result (StopsAt (IsWord name.now) chars.now) }
 {
     let (mut left, mut codes) = (chars, name.as_bytes());
-    while let [code, behind @ ..] = codes {
+    while let [code, after @ ..] = codes {
         match letter(left, *code) {
-            Some(rest) => (left, codes) = (rest, behind),
+            Some(rest) => (left, codes) = (rest, after),
             None => return Err(Stop::Left(left.len())),
         }
     }
@@ -150,36 +150,41 @@ pub fn quoted(alloc: Global, chars: &[char], end: char) -> Result<(Text, &[char]
     ensures taken { IfOk result (λ x. Takes (IsQuoted x.0 end) chars.now x.1.now) }
     ensures stop { IfLeft result (StopsAt (IsAnyQuoted end) chars.now) }
 {
-    let Some(mut left) = behind(chars, '\'') else {
+    let Some(mut left) = rest_after(chars, '\'') else {
         return Err(Stop::Left(chars.len()))
     };
     let mut text = Vec::new(alloc);
-    let mut room = MAX_NAME_BYTES;
-    while let Some((c, rest)) = value_char(left, room) {
+    let mut capacity = MAX_NAME_BYTES;
+    while let Some((c, rest)) = value_char(left, capacity) {
         text.push(c)?;
-        room -= c.len_utf8();
+        capacity -= c.len_utf8();
         left = rest;
     }
-    let Some(rest) = behind(left, '\'') else {
+    let Some(rest) = rest_after(left, '\'') else {
         return Err(Stop::Left(left.len()))
     };
     if text.as_slice().is_empty() {
         return Err(Stop::Left(rest.len()));
     }
-    match behind(rest, end) {
+    match rest_after(rest, end) {
         Some(after) => Ok((Text::of(text), after)),
         None => Err(Stop::Left(rest.len())),
     }
 }
 
-// The first character of a value, of at most `room` bytes: a quote stands there twice.
-fn value_char(chars: &[char], room: usize) -> Option<(char, &[char])>
-    ensures some { IfSome result (λ x. IsValueChar chars.now room x.0 x.1.now) }
-    ensures none { IfNone result ((c : ℕ) (rest : List ℕ) → IsValueChar chars.now room c rest → ⊥) }
+// The first character of a value, of at most `capacity` bytes: a quote stands there twice.
+fn value_char(chars: &[char], capacity: usize) -> Option<(char, &[char])>
+    ensures some { IfSome result (λ x. IsValueChar chars.now capacity x.0 x.1.now) }
+    ensures none { IfNone result ((c : ℕ) (rest : List ℕ) → IsValueChar chars.now capacity c rest
+        → ⊥) }
 {
     match chars {
-        ['\'', '\'', rest @ ..] => if 1 <= room { Some(('\'', rest)) } else { None },
-        [c, rest @ ..] => if *c != '\'' && c.len_utf8() <= room {
+        ['\'', '\'', rest @ ..] => if 1 <= capacity {
+            Some(('\'', rest))
+        } else {
+            None
+        },
+        [c, rest @ ..] => if *c != '\'' && c.len_utf8() <= capacity {
             Some((*c, rest))
         } else {
             None
@@ -189,7 +194,7 @@ fn value_char(chars: &[char], room: usize) -> Option<(char, &[char])>
 }
 
 // What stands after that character.
-fn behind(chars: &[char], first: char) -> Option<&[char]>
+fn rest_after(chars: &[char], first: char) -> Option<&[char]>
     ensures some { IfSome result (λ rest. chars.now ≡ first ∷ rest.now) }
     ensures none { IfNone result ((rest : List ℕ) → chars.now ≡ first ∷ rest → ⊥) }
 {

@@ -3,7 +3,7 @@ use Rattle.std.specs.Prelude.{◌≡◌, ℕ, List, [], ◌∷◌, ◌++◌, Opt
 use Rattle.dsc_outside.specs.declared.ends.Ends.{Ghosts}
 use Rattle.pull_outside.specs.declared.door.Parting.{Parting}
 
--- what is known of a connection: what it has left and what it took, where it exposes them, and its count of faults
+-- what is known of a connection: what it has left and what it took, where it shows them, and its count of faults
 pub record Known : Type 0 where
   pub left : Option (List ℕ)
   pub held : Option (List ℕ)
@@ -18,7 +18,7 @@ pub record HandedBack : Type 0 where
   pub known : Known
   pub parting : Parting
 
--- the first of those that are to come is taken. A door that does not expose them exposes nothing afterwards either
+-- the first of those that are to come is taken. A door that does not show them shows nothing afterwards either
 abbrev pub TakesFirst : Option (List Known) → Option (List Known) → Known → Type 0
 TakesFirst None after taken = after ≡ None
 TakesFirst (Some []) after taken = ⊥

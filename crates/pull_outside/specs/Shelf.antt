@@ -37,7 +37,7 @@ abbrev pub Gives : Option (List ℕ) → Bool → List ℕ → List ℕ → Type
 Gives None there old new = (there ≡ false) × (new ≡ old)
 Gives (Some item) there old new = (there ≡ true) × (new ≡ old ++ item) × (length item ≤ LONGEST_ITEM)
 
--- the same where the shelf exposes what it holds; a call that failed says nothing of it
+-- the same where the shelf shows what it holds; a call that failed says nothing of it
 abbrev pub Finds : Option (Option (List ℕ)) → Result Bool ShelfError → List ℕ → List ℕ → Type 0
 Finds None result old new = ⊤
 Finds (Some item) (Ok there) old new = Gives item there old new

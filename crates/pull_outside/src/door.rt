@@ -20,10 +20,10 @@ pub enum Parting {
 pub trait Door {
     type Conn: Source + Sink;
 
-    /// The connections that are still to come, in order, where they are exposed.
+    /// The connections that are still to come, in order, where they are shown.
     ghost coming: { Self → Option (List Known) };
 
-    /// The connections that were handed back, in order, each with its parting, where they are exposed.
+    /// The connections that were handed back, in order, each with its parting, where they are shown.
     ghost back: { Self → Option (List HandedBack) };
 
     /// How many connections were given and not yet handed back.

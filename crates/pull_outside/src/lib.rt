@@ -2,8 +2,8 @@
 //!
 //! Each trait has a count of faults that never falls, and a call answers `Failed` only where the count rose in that
 //! call, or stands at 2^64 - 1. What a shelf holds, which connections are to come, and which were handed back to end in
-//! which way, is exposed or not: forms in memory expose it, the real things do not, and the clauses on content hold
-//! where it is exposed. `MemoryShelf`, `MemoryConn` and `MemoryDoor` fail in the calls that they were set to fail in,
+//! which way, is shown or not: forms in memory show it, the real things do not, and the clauses on content hold
+//! where it is shown. `MemoryShelf`, `MemoryConn` and `MemoryDoor` fail in the calls that they were set to fail in,
 //! and in no other but where an item is too long, no connection is left, or they run out of memory for what they keep.
 //!
 //! Where a thing is:

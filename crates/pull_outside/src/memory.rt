@@ -1,4 +1,4 @@
-//! The forms in memory, which expose what they hold, and which fail where they are set to.
+//! The forms in memory, which show what they hold, and which fail where they are set to.
 
 mod calls;
 mod conn;

@@ -48,7 +48,7 @@ impl fmt::Display for ShelfError {
 /// A look for an item answers whether it is there, and then appends it. Where it is not there, or the call failed, the buffer
 /// stays as it was. An item has at most `LONGEST_ITEM` bytes; one that is longer counts as a failure.
 pub trait Shelf {
-    /// What stands on the shelf, where it is exposed.
+    /// What stands on the shelf, where it is shown.
     ghost holds: { Self → Option Contents };
 
     /// How often a call has failed.

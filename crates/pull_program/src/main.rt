@@ -31,8 +31,8 @@ fn main(rt: HostRuntime) -> ExitCode {
 }
 
 // Makes the real objects, which touch nothing before their first call, and calls `serve`.
-fn run_server(rt: &HostRuntime, words: &[String]) -> ServeStatus {
-    let places = match places_of(rt.alloc(), words) {
+fn run_server(rt: &HostRuntime, arguments: &[String]) -> ServeStatus {
+    let places = match places_of(rt.alloc(), arguments) {
         Ok(places) => places,
         Err(Memory) => return ServeStatus::Memory,
     };
@@ -42,7 +42,7 @@ fn run_server(rt: &HostRuntime, words: &[String]) -> ServeStatus {
     let mut output = OutSink::new(rt);
     serve(
         rt.alloc(),
-        words,
+        arguments,
         &mut door,
         &mut shelf,
         &mut disk,
@@ -59,8 +59,8 @@ struct Places {
 }
 
 // Where the arguments are refused, the places are empty, and `serve` touches none of them.
-fn places_of(alloc: Global, words: &[String]) -> Result<Places, Memory> {
-    match serve_words(alloc, words) {
+fn places_of(alloc: Global, arguments: &[String]) -> Result<Places, Memory> {
+    match serve_words(alloc, arguments) {
         Ok(values) => named(&values),
         Err(WordsError::Usage) => Ok(Places {
             store: String::new(alloc),

@@ -4,7 +4,7 @@ use Rattle.std.proofs.lemmas.Bool.{lt-ltb}
 use Rattle.dsc_terms.specs.Counts.{Rose}
 use Rattle.dsc_outside.specs.declared.disk.Disk.{Ghosts}
 use Rattle.dsc_outside.proofs.Moments.{started, weaker}
-use Rattle.gate_log.specs.Log.{room_in}
+use Rattle.gate_log.specs.Log.{capacity_in}
 use Rattle.gate_log.specs.Standing.{StandsAtAnyMoment, StandsFor}
 use Rattle.gate_log.specs.Text.{need_of}
 use Rattle.mof_values.specs.declared.memory.Memory.{Memory}
@@ -20,7 +20,7 @@ use Rattle.pull_store.specs.declared.error.PullError.TheVariants as errors
 use Rattle.pull_store.specs.Bodies.{body_of}
 use Rattle.pull_store.specs.Rows.{after, most_rows, refusal, row_of}
 use Rattle.pull_store.specs.Stands.{BeforeOrAfter, Stands}
-use Rattle.pull_store.specs.Store.{Changed, IsFull, IsKept, IsReady, StoreTerm, Untouched, WasTried, bank_room, is_spent, whole_need}
+use Rattle.pull_store.specs.Store.{Changed, IsFull, IsKept, IsReady, StoreTerm, Untouched, WasTried, bank_capacity, is_spent, whole_need}
 use Rattle.pull_store.proofs.Committed.{kept_stands}
 use Rattle.pull_server.specs.Asked.{is_full_for}
 use Rattle.pull_server.specs.Keeping.{KeptBy, Keeps, MayKeep, Tells, made, was_spent, crowded, overfull, failed}
@@ -43,10 +43,10 @@ so_on_err : (X : Type 0) (told : Result Reply Memory) → X → OnErr told X
 so_on_err X (Ok reply) x = tt
 so_on_err X (Err e) x = x
 
-is_full : (store : StoreTerm) (change : Change) (need room : ℕ) → IsFull store change need room → is_full_for store (Some change) ≡ true
-is_full store change need room full =
-    let rows : bank_room < whole_need (after change store.rows) = omega (arith, full.rows, full.bank, full.needs) in
-    rw (lt-ltb (room_in store.log) (need_of (body_of change)) full.cell, lt-ltb bank_room (whole_need (after change store.rows)) rows) refl
+is_full : (store : StoreTerm) (change : Change) (need capacity : ℕ) → IsFull store change need capacity → is_full_for store (Some change) ≡ true
+is_full store change need capacity full =
+    let rows : bank_capacity < whole_need (after change store.rows) = omega (arith, full.rows, full.bank, full.needs) in
+    rw (lt-ltb (capacity_in store.log) (need_of (body_of change)) full.cell, lt-ltb bank_capacity (whole_need (after change store.rows)) rows) refl
 
 -- a registration is never refused for lack of a row
 abbrev pub many_or_none : Bool → Option Refusal
@@ -62,14 +62,14 @@ known_registration agent r rows = has_a_place (is_none (row_of agent rows) && na
 -- ---- the store and the disk
 
 module _ {D : Type 0} (d : Ghosts D) (old new : StoreTerm) (change : Change) (before now : D) where
-  -- the change was accepted and has room, or nothing was touched
+  -- the change was accepted and fits, or nothing was touched
   tried : {T : Type 0} (result : Result T PullError) → Changed d old change before now result new → WasTried old change ⊎ Untouched old new before now
   tried (Ok v) is = inl is.0
   tried (Err errors.Disk) is = inl is.0
   tried (Err errors.Spent) is = inr is.1
   tried (Err errors.Agents) is = inr is.2
   tried (Err errors.NoAgent) is = inr is.2
-  tried (Err (errors.Full need room)) is = inr is.3
+  tried (Err (errors.Full need capacity)) is = inr is.3
   tried (Err errors.Memory) is = inr is.2
   tried (Err (errors.NotAStore at)) is = absurd is
 
@@ -101,7 +101,7 @@ module _ {D : Type 0} (d : Ghosts D) (old new : StoreTerm) (change : Change) (be
   rows_after (Err errors.Spent) is = unchanged is.1
   rows_after (Err errors.Agents) is = unchanged is.2
   rows_after (Err errors.NoAgent) is = unchanged is.2
-  rows_after (Err (errors.Full need room)) is = unchanged is.3
+  rows_after (Err (errors.Full need capacity)) is = unchanged is.3
   rows_after (Err errors.Memory) is = unchanged is.2
   rows_after (Err (errors.NotAStore at)) is = absurd is
 
@@ -120,8 +120,8 @@ module _ {D : Type 0} (d : Ghosts D) (old new : StoreTerm) (change : Change) (be
   reply_is code (Err errors.Spent) told known is tells = of_reply (λ reply. KeptBy old change code Faults reply new) told (plain 500) tells (was_spent is.0 refl is.1.store)
   reply_is code (Err errors.Agents) told known is tells = of_reply (λ reply. KeptBy old change code Faults reply new) told (plain 503) tells (crowded is.0 is.1 refl is.2.store)
   reply_is code (Err errors.NoAgent) told known is tells = absurd (known is.1)
-  reply_is code (Err (errors.Full need room)) told known is tells =
-      of_reply (λ reply. KeptBy old change code Faults reply new) told (plain 507) tells (overfull is.0 is.1 (is_full old change need room is.2) refl is.3.store)
+  reply_is code (Err (errors.Full need capacity)) told known is tells =
+      of_reply (λ reply. KeptBy old change code Faults reply new) told (plain 507) tells (overfull is.0 is.1 (is_full old change need capacity is.2) refl is.3.store)
   reply_is code (Err errors.Memory) told known is tells = no_reply (λ reply. KeptBy old change code Faults reply new) told tells
   reply_is code (Err (errors.NotAStore at)) told known is tells = absurd is
 
@@ -132,7 +132,7 @@ module _ {D : Type 0} (d : Ghosts D) (old new : StoreTerm) (change : Change) (be
   spent_is code (Err errors.Spent) told is tells unspent over = never (is_spent old) is.0 unspent
   spent_is code (Err errors.Agents) told is tells unspent over = never (is_spent new) over (still is.2 unspent)
   spent_is code (Err errors.NoAgent) told is tells unspent over = never (is_spent new) over (still is.2 unspent)
-  spent_is code (Err (errors.Full need room)) told is tells unspent over = never (is_spent new) over (still is.3 unspent)
+  spent_is code (Err (errors.Full need capacity)) told is tells unspent over = never (is_spent new) over (still is.3 unspent)
   spent_is code (Err errors.Memory) told is tells unspent over = never (is_spent new) over (still is.2 unspent)
   spent_is code (Err (errors.NotAStore at)) told is tells unspent over = absurd is
 
@@ -143,7 +143,7 @@ module _ {D : Type 0} (d : Ghosts D) (old new : StoreTerm) (change : Change) (be
   refused_is code (Err errors.Spent) told known is tells = replied (Untouched old new before now) told (plain 500) tells
   refused_is code (Err errors.Agents) told known is tells = replied (Untouched old new before now) told (plain 503) tells
   refused_is code (Err errors.NoAgent) told known is tells = absurd (known is.1)
-  refused_is code (Err (errors.Full need room)) told known is tells = replied (Untouched old new before now) told (plain 507) tells
+  refused_is code (Err (errors.Full need capacity)) told known is tells = replied (Untouched old new before now) told (plain 507) tells
   refused_is code (Err errors.Memory) told known is tells = so_on_err (Untouched old new before now) told is.2
   refused_is code (Err (errors.NotAStore at)) told known is tells = absurd is
 
@@ -153,7 +153,7 @@ module _ {D : Type 0} (d : Ghosts D) (old new : StoreTerm) (change : Change) (be
   rests_is (Err errors.Spent) is over = is.1
   rests_is (Err errors.Agents) is over = is.2
   rests_is (Err errors.NoAgent) is over = is.2
-  rests_is (Err (errors.Full need room)) is over = is.3
+  rests_is (Err (errors.Full need capacity)) is over = is.3
   rests_is (Err errors.Memory) is over = is.2
   rests_is (Err (errors.NotAStore at)) is over = absurd is
 

@@ -6,7 +6,7 @@ use Rattle.pull_store.specs.Rows.{most_rows}
 use Rattle.pull_server.specs.Answers.{reply_of}
 use Rattle.pull_server.specs.Asked.{Asked, on}
 use Rattle.pull_server.specs.Own.{IsFirst, is_shared, own_outcome}
-use Rattle.pull_server.specs.Table.{Outcome, Rule, bad_message, bad_target, first, is_node, no_name, no_place, no_room, no_row, not_signed, not_there, or_else, outcome_of, says, spent, table, target, unknown_method, where_, wrong_method, wrong_version}
+use Rattle.pull_server.specs.Table.{Outcome, Rule, bad_message, bad_target, first, is_node, no_name, no_place, no_capacity, no_row, not_signed, not_there, or_else, outcome_of, says, spent, table, target, unknown_method, where_, wrong_method, wrong_version}
 
 chosen : (x y : Option Outcome) (o : Outcome) → or_else x y ≡ Some o → (x ≡ Some o) ⊎ ((x ≡ None) × (y ≡ Some o))
 chosen None y o is = inr (refl, is)
@@ -15,9 +15,9 @@ chosen (Some p) y o is = inl is
 pub first_is : (rules : List Rule) (a : Asked) (o : Outcome) → first rules a ≡ Some o → IsFirst rules a o
 first_is [] a o is = absurd (cc is)
 first_is (rule ∷ rules) a o is = elim (chosen (rule a) (first rules a) o is) [
-  | inl here ↦ record { before = []; rule = rule; behind = rules; split = refl; none = tt; gives = here }
+  | inl here ↦ record { before = []; rule = rule; after = rules; split = refl; none = tt; gives = here }
   | inr later ↦ let rest = first_is rules a o later.1 in
-      record { before = rule ∷ rest.before; rule = rest.rule; behind = rest.behind; split = ap (λ (l : List Rule). rule ∷ l) rest.split; none = (later.0, rest.none); gives = rest.gives }
+      record { before = rule ∷ rest.before; rule = rest.rule; after = rest.after; split = ap (λ (l : List Rule). rule ∷ l) rest.split; none = (later.0, rest.none); gives = rest.gives }
 ]
 
 pub first_decides : (a : Asked) (o : Outcome) → outcome_of a ≡ Some o → IsFirst table a o
@@ -51,4 +51,4 @@ own a o is isnt =
     kept_in (not_signed a) _ _ o h4 (λ h5. kept_in (no_row a) _ _ o h5 (λ h6. kept_in (bad_message a) _ _ o h6 (λ h7. kept_in (no_name a) _ _ o h7 (λ h8. kept_in (not_there a) _ _ o h8 (λ h9.
     let h10 = left_out (spent a) _ o h9 (λ h. never_shared o 500 refl isnt (where_says a.spent 500 o h)) in
     let h11 = left_out (no_place a) _ o h10 (λ h. never_shared o 503 refl isnt (on_says (target a) (λ t. is_node t && (is_none a.row && nat_le most_rows a.count)) 503 o h)) in
-    left_out (no_room a) _ o h11 (λ h. never_shared o 507 refl isnt (where_says a.full 507 o h)))))))))))
+    left_out (no_capacity a) _ o h11 (λ h. never_shared o 507 refl isnt (where_says a.full 507 o h)))))))))))

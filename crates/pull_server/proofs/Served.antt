@@ -5,7 +5,7 @@ use Rattle.std.proofs.lemmas.Option.{same_Some}
 use Rattle.dsc_terms.specs.Counts.{Rose}
 use Rattle.dsc_outside.specs.declared.disk.Disk.{Ghosts}
 use Rattle.dsc_outside.proofs.Moments.{started, weaker}
-use Rattle.gate_log.specs.Log.{room_in}
+use Rattle.gate_log.specs.Log.{capacity_in}
 use Rattle.gate_log.specs.Standing.{StandsFor, StandsAtAnyMoment}
 use Rattle.gate_log.specs.Text.{need_of}
 use Rattle.mof_values.specs.declared.memory.Memory.{Memory}
@@ -23,7 +23,7 @@ use Rattle.pull_store.specs.declared.change.Refusal.TheVariants.{TooMany, Unknow
 use Rattle.pull_store.specs.Rows.{after, most_rows, row_of}
 use Rattle.pull_store.specs.Bodies.{body_of}
 use Rattle.pull_store.specs.Stands.{Stands}
-use Rattle.pull_store.specs.Store.{StoreTerm, IsReady, WasTried, bank_room, is_spent, whole_need}
+use Rattle.pull_store.specs.Store.{StoreTerm, IsReady, WasTried, bank_capacity, is_spent, whole_need}
 use Rattle.pull_store.proofs.Committed.{is_kept, kept_stands}
 use Rattle.pull_outside.specs.Shelf.{Contents}
 use Rattle.pull_server.specs.Answers.{IsAcknowledged, IsMade, LeavesRows, Pulled, Replies, by_table, Serves, is_done}
@@ -148,18 +148,18 @@ never_many : (b : Bool) → unknown_or_none b ≡ Some TooMany → ⊥
 never_many true is = cc is
 never_many false is = cc is
 
--- a change that was accepted and has room is not refused for want of it
+-- a change that was accepted and fits is not refused as one that does not
 fits : (store : StoreTerm) (change : Change) → WasTried store change → is_full_for store (Some change) ≡ false
-fits store change tried = elim tried.room [
-  | inl cell ↦ rw (le-ltb (room_in store.log) (need_of (body_of change)) cell) refl
-  | inr bank ↦ both (nat_lt (room_in store.log) (need_of (body_of change))) (le-ltb bank_room (whole_need (after change store.rows)) bank)
+fits store change tried = elim tried.capacity [
+  | inl cell ↦ rw (le-ltb (capacity_in store.log) (need_of (body_of change)) cell) refl
+  | inr bank ↦ both (nat_lt (capacity_in store.log) (need_of (body_of change))) (le-ltb bank_capacity (whole_need (after change store.rows)) bank)
 ]
   where
     both : (a : Bool) {b : Bool} → b ≡ false → (a && b) ≡ false
     both true is = is
     both false is = refl
 
--- the table makes a change that no row before refuses, and that was accepted and has room
+-- the table makes a change that no row before refuses, and that was accepted and fits
 module _ (store : StoreTerm) (contents : Contents) (request : Request) where
   makes_registration : (agent : ℕ) (r : Registration) → change_to (Node agent) request.body ≡ Some (Register agent r)
       → outcome_of (asked store contents request (Ok (Node agent))) ≡ kept_outcome (asked store contents request (Ok (Node agent)))

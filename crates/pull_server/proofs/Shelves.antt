@@ -13,7 +13,7 @@ pub of_all : (P : Contents → Type 0) (shelf : Option Contents) → ((contents 
 of_all P None all = record { contents = with_keys []; are = tt; is = all (with_keys []) }
 of_all P (Some contents) all = record { contents = contents; are = refl; is = all contents }
 
--- it is of the contents that the shelf exposes
+-- it is of the contents that the shelf shows
 pub of_told : (P : Contents → Type 0) (shelf : Option Contents) → Over shelf P → (contents : Contents) → shelf ≡ Some contents → P contents
 of_told P shelf over contents told = subst P (subst (λ (o : Option Contents). IfSome o (λ here. over.contents ≡ here)) told over.are) over.is
 

@@ -77,6 +77,6 @@ pub record Serves {D : Type 0} (d : Ghosts D) (request : Request) (shelf : Optio
   pub acknowledged : IfOk result (λ reply. is_done reply.code ≡ true → IsAcknowledged d request old now new)
   pub spent : is_spent old ≡ false → is_spent new ≡ true → Rose (d.faults before) (d.faults now) × IfOk result (λ reply. reply ≡ plain 500)
   pub count : d.faults before ≤ d.faults now
-  -- where memory was refused, or the store was spent before, nothing was touched
+  -- out of memory, or where the store was spent before, nothing was touched
   pub refused : OnErr result (Untouched old new before now)
   pub rests : is_spent old ≡ true → Untouched old new before now

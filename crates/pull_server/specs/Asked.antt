@@ -2,7 +2,7 @@
 use Rattle.std.specs.Prelude.{◌≡◌, ℕ, Bool, false, ◌&&◌, nat_lt, List, length, codes, option_map, Option, Some, None, Result, Ok, Err, IfSome}
 use Rattle.std.specs.Result.{result_ok}
 use Rattle.gate_log.specs.Text.{need_of}
-use Rattle.gate_log.specs.Log.{room_in}
+use Rattle.gate_log.specs.Log.{capacity_in}
 use Rattle.http_frames.specs.declared.message.Request.{Request}
 use Rattle.pull_messages.specs.declared.error.MessageError.{MessageError}
 use Rattle.pull_messages.specs.declared.target_kinds.Target.{Target}
@@ -13,7 +13,7 @@ use Rattle.pull_store.specs.declared.change.Change.{Change}
 use Rattle.pull_store.specs.declared.change.Change.TheVariants.{Register, Report}
 use Rattle.pull_store.specs.Bodies.{body_of}
 use Rattle.pull_store.specs.Rows.{after, row_of}
-use Rattle.pull_store.specs.Store.{StoreTerm, is_spent, whole_need, bank_room}
+use Rattle.pull_store.specs.Store.{StoreTerm, is_spent, whole_need, bank_capacity}
 use Rattle.pull_outside.specs.Shelf.{Contents}
 use Rattle.pull_server.specs.Messages.{registration_in, query_in, report_in, fault_of}
 
@@ -68,7 +68,7 @@ pub record Asks (request : Request) (change : Change) : Type 0 where
 
 -- ---- what the answer depends on
 
--- so it is of what the shelf holds, or where the shelf does not expose that, of some contents
+-- so it is of what the shelf holds, or where the shelf does not show that, of some contents
 pub record Over (shelf : Option Contents) (P : Contents → Type 0) : Type 0 where
   pub contents : Contents
   pub are : IfSome shelf (λ told. contents ≡ told)
@@ -78,7 +78,7 @@ pub record Over (shelf : Option Contents) (P : Contents → Type 0) : Type 0 whe
 abbrev pub is_full_for : StoreTerm → Option Change → Bool
 is_full_for store None = false
 is_full_for store (Some change) =
-    nat_lt (room_in store.log) (need_of (body_of change)) && nat_lt bank_room (whole_need (after change store.rows))
+    nat_lt (capacity_in store.log) (need_of (body_of change)) && nat_lt bank_capacity (whole_need (after change store.rows))
 
 abbrev pub target_in : Result Target ℕ → Option Target
 target_in aim = result_ok aim

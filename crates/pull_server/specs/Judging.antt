@@ -22,11 +22,11 @@ use Rattle.pull_server.specs.Actions.{action_for, asks_unnamed}
 use Rattle.pull_server.specs.Answers.{Pulled, is_done}
 use Rattle.pull_server.specs.Asked.{Asked, Asks, IsAim, Over, asked, change_to, on, target_in}
 use Rattle.pull_server.specs.Replies.{content_reply, message_reply, plain}
-use Rattle.pull_server.specs.Table.{Outcome, Rule, bad_message, first, found, no_name, no_place, no_room, no_row, not_signed, not_there, outcome_of, registered, reported, spent, told}
+use Rattle.pull_server.specs.Table.{Outcome, Rule, bad_message, first, found, no_name, no_place, no_capacity, no_row, not_signed, not_there, outcome_of, registered, reported, spent, told}
 
 -- the rows from that of a spent store on
 abbrev pub keeping : List Rule
-keeping = spent ∷ no_place ∷ no_room ∷ registered ∷ reported ∷ told ∷ found ∷ []
+keeping = spent ∷ no_place ∷ no_capacity ∷ registered ∷ reported ∷ told ∷ found ∷ []
 
 -- the rows after those of the request's head
 abbrev pub past_head : List Rule

@@ -22,7 +22,7 @@ Tells (Ok v) code result = result ≡ Ok (plain code)
 Tells (Err errors.Spent) code result = result ≡ Ok (plain 500)
 Tells (Err errors.Disk) code result = result ≡ Ok (plain 500)
 Tells (Err errors.Agents) code result = result ≡ Ok (plain 503)
-Tells (Err (errors.Full need room)) code result = result ≡ Ok (plain 507)
+Tells (Err (errors.Full need capacity)) code result = result ≡ Ok (plain 507)
 Tells (Err errors.NoAgent) code result = result ≡ Ok (plain 404)
 Tells (Err (errors.NotAStore at)) code result = result ≡ Ok (plain 500)
 Tells (Err errors.Memory) code result = IfOk result (λ reply. ⊥)
@@ -36,7 +36,7 @@ pub data KeptBy (old : StoreTerm) (change : Change) (code : ℕ) (rose : Type 0)
       → reply ≡ plain 507 → new ≡ old → KeptBy old change code rose reply new
   failed : is_spent old ≡ false → rose → reply ≡ plain 500 → new.rows ≡ old.rows → KeptBy old change code rose reply new
 
--- the rows before the change, or after it where it was accepted and has room
+-- the rows before the change, or after it where it was accepted and fits
 abbrev pub MayKeep : StoreTerm → Change → List Row → Type 0
 MayKeep old change rows = (rows ≡ old.rows) ⊎ (WasTried old change × (rows ≡ after change old.rows))
 

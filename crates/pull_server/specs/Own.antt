@@ -13,12 +13,12 @@ use Rattle.pull_server.specs.Table.{Outcome, Rule, bad_message, bad_target, firs
 pub record IsFirst (rules : List Rule) (a : Asked) (outcome : Outcome) : Type 0 where
   pub before : List Rule
   pub rule : Rule
-  pub behind : List Rule
-  pub split : rules ≡ before ++ rule ∷ behind
+  pub after : List Rule
+  pub split : rules ≡ before ++ rule ∷ after
   pub none : AllByRecursion (λ r. r a ≡ None) before
   pub gives : rule a ≡ Some outcome
 
--- the codes of what all agents share: a spent store, the number of rows, the room
+-- the codes of what all agents share: a spent store, the number of rows, the capacity
 abbrev pub is_shared : ℕ → Bool
 is_shared code = code == 500 || (code == 503 || code == 507)
 

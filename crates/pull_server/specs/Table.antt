@@ -147,9 +147,9 @@ spent a = where_ a.spent (says 500 [])
 abbrev pub no_place : Rule
 no_place a = on (target a) (λ t. where_ (is_node t && (is_none a.row && nat_le most_rows a.count)) (says 503 []))
 
--- 507: the store has no room for the change
-abbrev pub no_room : Rule
-no_room a = where_ a.full (says 507 [])
+-- 507: the store has no capacity for the change
+abbrev pub no_capacity : Rule
+no_capacity a = where_ a.full (says 507 [])
 
 -- 204: a registration
 abbrev pub registered : Rule
@@ -170,7 +170,7 @@ found a = on (target a) (λ t. on (item a t) (λ bytes. Some (leaves (content_re
 abbrev pub table : List Rule
 table =
     unknown_method ∷ bad_target ∷ wrong_method ∷ wrong_version ∷ not_signed ∷ no_row ∷ bad_message ∷ no_name ∷ not_there
-    ∷ spent ∷ no_place ∷ no_room ∷ registered ∷ reported ∷ told ∷ found ∷ []
+    ∷ spent ∷ no_place ∷ no_capacity ∷ registered ∷ reported ∷ told ∷ found ∷ []
 
 abbrev pub or_else : Option Outcome → Option Outcome → Option Outcome
 or_else None other = other

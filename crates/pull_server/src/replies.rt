@@ -1,4 +1,4 @@
-//! Replies.
+//! The replies of the pull server: a code, a message, or a content under its checksum.
 ghost use Rattle.std.specs.Prelude.{◌≡◌, ◌++◌, [], IfOk, OnOk, codes};
 ghost use Rattle.std.specs.Fmt.{decimal};
 ghost use Rattle.http_frames.specs.Replies.{saying};

@@ -43,7 +43,7 @@ refusal_line statuses.Memory = []
 
 -- ---- the output
 
--- what is known of the output: what it took, where it exposes that, and its count of faults
+-- what is known of the output: what it took, where it shows that, and its count of faults
 pub record Output : Type 0 where
   pub held : Option (List ℕ)
   pub faults : ℕ
@@ -66,7 +66,7 @@ pub record IsCutOff (old new : Option (List ℕ)) (turns : List Turn) : Type 0 w
   pub whole : Appends old mid (lines 1 done)
   pub part : AppendsPart mid new (line (suc (length done)) last.end)
 
--- what was printed of so many connections at most, and why the run ended so
+-- what was printed of that many connections at most, and why the run ended so
 abbrev pub Printed : ℕ → State → ℕ → ℕ → Output → Output → ServeStatus → List Turn → Type 0
 Printed count last door_before door_now old new statuses.Done turns = (length turns ≡ count) × (is_spent last.store ≡ false) × Appends old.held new.held (lines 1 turns)
 Printed count last door_before door_now old new statuses.DiskFault turns = (length turns ≤ count) × (is_spent last.store ≡ true) × Refuses old new turns statuses.DiskFault

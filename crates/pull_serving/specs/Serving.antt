@@ -58,13 +58,13 @@ abbrev pub WritesRefusal : ServeStatus → Output → Output → Type 0
 WritesRefusal status old new = Writes old.held new.held (refusal_line status) old.faults new.faults
 
 -- the arguments were refused, or memory ran out for them; or the store was not opened; or it was, and connections were served
-pub data Service {D : Type 0} (d : Ghosts D) (words : List (List ℕ)) (old new : Outside D) : ServeStatus → Type 0 where
-  refused : fault_of serve_app words ≢ [] → new.disk ≡ old.disk → new.around ≡ old.around → WritesRefusal statuses.Usage old.output new.output
-      → Service d words old new statuses.Usage
-  no_memory : new ≡ old → Service d words old new statuses.Memory
-  unopened : (values : ServeWords) (error : PullError) → AreValues words values → Unopened d old.disk new.disk error
+pub data Service {D : Type 0} (d : Ghosts D) (arguments : List (List ℕ)) (old new : Outside D) : ServeStatus → Type 0 where
+  refused : fault_of serve_app arguments ≢ [] → new.disk ≡ old.disk → new.around ≡ old.around → WritesRefusal statuses.Usage old.output new.output
+      → Service d arguments old new statuses.Usage
+  no_memory : new ≡ old → Service d arguments old new statuses.Memory
+  unopened : (values : ServeWords) (error : PullError) → AreValues arguments values → Unopened d old.disk new.disk error
       → AtAnyMoment d old.disk new.disk (From KeepsRows (d.images old.disk)) → new.around ≡ old.around → WritesRefusal (status_of error) old.output new.output
-      → Service d words old new (status_of error)
-  ran : (values : ServeWords) (status : ServeStatus) → AreValues words values
+      → Service d arguments old new (status_of error)
+  ran : (values : ServeWords) (status : ServeStatus) → AreValues arguments values
       → IsOpenedRun d values.connections old.disk new.disk old.around new.around old.output new.output status
-      → Service d words old new status
+      → Service d arguments old new status

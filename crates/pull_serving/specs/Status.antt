@@ -22,4 +22,4 @@ status_of errors.Memory = statuses.Memory
 status_of errors.Spent = statuses.DiskFault
 status_of errors.Agents = statuses.DiskFault
 status_of errors.NoAgent = statuses.DiskFault
-status_of (errors.Full need room) = statuses.DiskFault
+status_of (errors.Full need capacity) = statuses.DiskFault

@@ -55,7 +55,7 @@ ConnectionRose t = Rose t.came.faults t.went.faults
 abbrev pub OutsideRose : Turn → Type 0
 OutsideRose t = DiskRose t ⊎ Rose t.before.shelf_faults t.after.shelf_faults
 
--- the reply to a request, and the rows after it: by the table, over what the shelf holds where it exposes that; 500 has a cause whatever it holds
+-- the reply to a request, and the rows after it: by the table, over what the shelf holds where it shows that; 500 has a cause whatever it holds
 pub record IsReplyTo (shelf : Option Contents) (t : Turn) (request : Request) (reply : Reply) : Type 0 where
   pub table : (contents : Contents) → shelf ≡ Some contents → Replies t.before.store contents request (OutsideRose t) reply t.after.store.rows
   pub cause : reply.code ≡ 500 → OutsideRose t ⊎ (is_spent t.before.store ≡ true)
@@ -96,11 +96,11 @@ pub record IsCut (shelf : Option Contents) (t : Turn) : Type 0 where
   pub rose : ConnectionRose t
   pub written : AppendsPart t.came.held t.went.held (answer_text reply)
 
--- memory was refused before the store was changed
+-- out of memory before the store was changed
 abbrev pub IsStoreSame : Turn → Type 0
 IsStoreSame t = t.after.store ≡ t.before.store
 
--- there is a reply, for whose text memory was refused
+-- there is a reply, whose text ran out of memory
 pub record IsUnsent (shelf : Option Contents) (t : Turn) : Type 0 where
   pub reply : Reply
   pub is_reply : IsReply shelf t t.received reply

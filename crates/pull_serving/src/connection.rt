@@ -24,7 +24,7 @@ pub enum ConnectionEnd {
     /// The disk failed while the request was answered: 500 was written, or a part of it where the connection failed too.
     DiskFault,
 
-    /// The connection ended after so many bytes, inside a request; nothing was written.
+    /// The connection ended after that many bytes, inside a request; nothing was written.
     Torn { at: u64 },
 
     /// Nothing was written.

@@ -18,17 +18,17 @@ use std::alloc::Global;
 /// printed.
 pub fn serve<G: Door, S: Shelf, D: Disk, K: Sink>(
     alloc: Global,
-    words: &[String],
+    arguments: &[String],
     door: &mut G,
     shelf: &mut S,
     disk: &mut D,
     output: &mut K,
 ) -> ServeStatus
-    ensures { Service D.Disk (map string_bytes words.now)
+    ensures { Service D.Disk (map string_bytes arguments.now)
         (outside_of G.Door S.Shelf K.Ends door.old shelf.old disk.old output.old)
         (outside_of G.Door S.Shelf K.Ends door.new shelf.new disk.new output.new) result }
 {
-    let values = match serve_words(alloc, words) {
+    let values = match serve_words(alloc, arguments) {
         Ok(values) => values,
         Err(WordsError::Usage) => return refuse(output, ServeStatus::Usage),
         Err(WordsError::Memory) => return ServeStatus::Memory,

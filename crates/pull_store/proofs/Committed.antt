@@ -17,7 +17,7 @@ use Rattle.pull_store.specs.Puts.{Ends}
 use Rattle.pull_store.specs.Sound.{AreRows, IsInSize}
 use Rattle.pull_store.specs.Stands.{Replays, Stands, BeforeOrAfter, pull_shape}
 use Rattle.pull_store.specs.Steps.{agent_of, with_row, Makes}
-use Rattle.pull_store.specs.Store.{StoreTerm, IsKept, IsReady, HasRoom, Changed, Written, whole_need, bank_room, is_spent}
+use Rattle.pull_store.specs.Store.{StoreTerm, IsKept, IsReady, HasCapacity, Changed, Written, whole_need, bank_capacity, is_spent}
 use Rattle.pull_store.proofs.Building.{replays_push, rows_read, bodies_append}
 use Rattle.pull_store.proofs.SoundSteps.{sound_with, placed_after}
 
@@ -35,29 +35,29 @@ module _ (rows : List Row) (change : Change) (in_size : IsInSize change) (accept
   appended all body spells replays = replays_push [] rows (after change rows) all body replays
       (record { change = change; spells = spells; changes = record { size = in_size; accepted = accepted; is = refl } })
 
-  module _ (row : Row) (sound : AreRows rows) (makes : Makes change (row_of (agent_of change) rows) row) (front behind : List Row) (parts : with_row row rows ≡ front ++ row ∷ behind) where
-    whole : bodies_of_rows front ++ (bodies_of_row row ++ bodies_of_rows behind) ≡ bodies_of_rows (after change rows)
-    whole = sym (bodies_append front (row ∷ behind)) ∙ ap bodies_of_rows (sym parts ∙ placed_after change rows row makes)
+  module _ (row : Row) (sound : AreRows rows) (makes : Makes change (row_of (agent_of change) rows) row) (front rest : List Row) (parts : with_row row rows ≡ front ++ row ∷ rest) where
+    whole : bodies_of_rows front ++ (bodies_of_row row ++ bodies_of_rows rest) ≡ bodies_of_rows (after change rows)
+    whole = sym (bodies_append front (row ∷ rest)) ∙ ap bodies_of_rows (sym parts ∙ placed_after change rows row makes)
 
     -- the rows, written into an empty bank
-    pub rewritten : Replays [] (bodies_of_rows front ++ (bodies_of_row row ++ bodies_of_rows behind)) (after change rows)
+    pub rewritten : Replays [] (bodies_of_rows front ++ (bodies_of_row row ++ bodies_of_rows rest)) (after change rows)
     rewritten = subst (λ (bodies : List (List ℕ)). Replays [] bodies (after change rows)) (sym whole)
         (rows_read (after change rows) (subst AreRows (placed_after change rows row makes) (sound_with change rows row sound in_size accepted makes)))
 
-    pub needs : length (cells (bodies_of_rows front ++ (bodies_of_row row ++ bodies_of_rows behind))) + 1 ≡ whole_need (after change rows)
+    pub needs : length (cells (bodies_of_rows front ++ (bodies_of_row row ++ bodies_of_rows rest))) + 1 ≡ whole_need (after change rows)
     needs = ap (λ (bodies : List (List ℕ)). length (cells bodies) + 1) whole
 
 module _ {D : Type 0} (d : Ghosts D) where
   pub written_of : (before now : D) (log new : LogTerm) (rows : List Row) (change : Change) (r : Result (Unit {0}) PullError)
-      → HasRoom (record { log = log; rows = rows }) change ⊎ (whole_need (after change rows) ≤ bank_room) → Ends log (d.faults before) (d.faults now) r new → Written d log rows change before now r new
-  written_of before now log new rows change (Ok v) room ends = room
-  written_of before now log new rows change (Err Disk) room ends = (room, ends.0, ends.1)
-  written_of before now log new rows change (Err Spent) room ends = absurd ends
-  written_of before now log new rows change (Err Agents) room ends = absurd ends
-  written_of before now log new rows change (Err NoAgent) room ends = absurd ends
-  written_of before now log new rows change (Err (Full need bytes)) room ends = absurd ends
-  written_of before now log new rows change (Err (NotAStore at)) room ends = absurd ends
-  written_of before now log new rows change (Err Memory) room ends = absurd ends
+      → HasCapacity (record { log = log; rows = rows }) change ⊎ (whole_need (after change rows) ≤ bank_capacity) → Ends log (d.faults before) (d.faults now) r new → Written d log rows change before now r new
+  written_of before now log new rows change (Ok v) capacity ends = capacity
+  written_of before now log new rows change (Err Disk) capacity ends = (capacity, ends.0, ends.1)
+  written_of before now log new rows change (Err Spent) capacity ends = absurd ends
+  written_of before now log new rows change (Err Agents) capacity ends = absurd ends
+  written_of before now log new rows change (Err NoAgent) capacity ends = absurd ends
+  written_of before now log new rows change (Err (Full need bytes)) capacity ends = absurd ends
+  written_of before now log new rows change (Err (NotAStore at)) capacity ends = absurd ends
+  written_of before now log new rows change (Err Memory) capacity ends = absurd ends
 
   pub kept_of : (before now : D) (log new : LogTerm) (rows : List Row) (more : List (List ℕ)) (r : Result (Unit {0}) PullError) → log.shape ≡ pull_shape
       → Ends log (d.faults before) (d.faults now) r new → OnOk r (IsLogOf d now new more) → Replays [] more rows → OnOk r (IsKept d now (record { log = new; rows = rows }))
@@ -93,8 +93,8 @@ module _ {D : Type 0} (d : Ghosts D) where
 
   pub changed_of : (before now : D) (log new : LogTerm) (rows : List Row) (change : Change) (e : PullError) → log.spent ≡ false → refusal change rows ≡ None
       → Written {T = Unit {0}} d log rows change before now (Err e) new → Changed {T = Unit {0}} d (record { log = log; rows = rows }) change before now (Err e) (record { log = new; rows = rows })
-  changed_of before now log new rows change Disk unspent accepted written = (record { unspent = unspent; accepted = accepted; room = written.0 }, written.1, refl, written.2)
-  changed_of before now log new rows change (Full need room) unspent accepted written =
+  changed_of before now log new rows change Disk unspent accepted written = (record { unspent = unspent; accepted = accepted; capacity = written.0 }, written.1, refl, written.2)
+  changed_of before now log new rows change (Full need capacity) unspent accepted written =
       (unspent, accepted, written.0, record { store = ap (λ (l : LogTerm). record { log = l; rows = rows }) written.1; disk = written.2 })
   changed_of before now log new rows change Spent unspent accepted written = absurd written
   changed_of before now log new rows change Agents unspent accepted written = absurd written
@@ -105,7 +105,7 @@ module _ {D : Type 0} (d : Ghosts D) where
   pub ready_of : (before now : D) (log new : LogTerm) (rows : List Row) (change : Change) (e : PullError) → IsKept d before (record { log = log; rows = rows })
       → Written {T = Unit {0}} d log rows change before now (Err e) new → IsReady d now (record { log = new; rows = rows })
   ready_of before now log new rows change Disk kept written = inl written.2
-  ready_of before now log new rows change (Full need room) kept written =
+  ready_of before now log new rows change (Full need capacity) kept written =
       inr (subst (λ (l : LogTerm). IsKept d now (record { log = l; rows = rows })) (sym written.1) (subst (λ (disk : D). IsKept d disk (record { log = log; rows = rows })) (sym written.2) kept))
   ready_of before now log new rows change Spent kept written = absurd written
   ready_of before now log new rows change Agents kept written = absurd written

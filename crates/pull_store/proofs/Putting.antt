@@ -4,7 +4,7 @@ use Rattle.std.proofs.lemmas.List.{append-nil}
 use Rattle.dsc_outside.specs.declared.disk.Disk.{Ghosts}
 use Rattle.dsc_outside.proofs.Moments.{started, then_on}
 use Rattle.gate_log.specs.declared.shape.Shape.{Shape}
-use Rattle.gate_log.specs.Text.{Gives, AllFit, cells, behind}
+use Rattle.gate_log.specs.Text.{Gives, AllFit, cells, after_gate}
 use Rattle.gate_log.specs.Log.{LogTerm, IsLogOf, HasPutOn}
 use Rattle.gate_log.proofs.Cells.{text_gives}
 use Rattle.pull_store.specs.declared.error.PullError.{PullError}
@@ -15,7 +15,7 @@ use Rattle.pull_store.specs.Stands.{pull_shape}
 pub cells_both : (one other : List (List ℕ)) → length (cells (one ++ other)) ≡ length (cells one) + length (cells other)
 cells_both [] other = omega arith
 cells_both (body ∷ one) other =
-    omega (arith, cells_both one other, length-append (behind body) (cells (one ++ other)), length-append (behind body) (cells one))
+    omega (arith, cells_both one other, length-append (after_gate body) (cells (one ++ other)), length-append (after_gate body) (cells one))
 
 pub fit_first : (largest : ℕ) (one other : List (List ℕ)) → AllFit largest (one ++ other) → AllFit largest one
 fit_first largest [] other fit = tt
@@ -30,7 +30,7 @@ module _ {D : Type 0} (d : Ghosts D) where
   can_first disk log one other can = record {
     shape = can.shape;
     unspent = can.unspent;
-    room = omega (arith, can.room, cells_both one other);
+    capacity = omega (arith, can.capacity, cells_both one other);
     fit = fit_first pull_shape.largest one other can.fit;
     of = can.of;
     begun = can.begun;
@@ -40,7 +40,7 @@ module _ {D : Type 0} (d : Ghosts D) where
   can_second before now old new one other can puts = record {
     shape = puts.ends.1 ∙ can.shape;
     unspent = puts.ends.0;
-    room = omega (arith, can.room, cells_both one other, puts.ends.2);
+    capacity = omega (arith, can.capacity, cells_both one other, puts.ends.2);
     fit = fit_second pull_shape.largest one other can.fit;
     of = (can.of.0, puts.of can.of.0 can.of.1);
     begun = (can.begun.0 ++ one, puts.put can.begun.0 can.begun.1);
@@ -82,7 +82,7 @@ module _ {D : Type 0} (d : Ghosts D) where
       stops Spent le ends = absurd ends
       stops Agents le ends = absurd ends
       stops NoAgent le ends = absurd ends
-      stops (Full need room) le ends = absurd ends
+      stops (Full need capacity) le ends = absurd ends
       stops (NotAStore at) le ends = absurd ends
       stops Memory le ends = absurd ends
 
@@ -101,7 +101,7 @@ module _ {D : Type 0} (d : Ghosts D) where
       same Spent ends = absurd ends
       same Agents ends = absurd ends
       same NoAgent ends = absurd ends
-      same (Full need room) ends = absurd ends
+      same (Full need capacity) ends = absurd ends
       same (NotAStore at) ends = absurd ends
       same Memory ends = absurd ends
 

@@ -4,7 +4,7 @@ use Rattle.dsc_outside.specs.declared.disk.Disk.{Ghosts}
 use Rattle.dsc_outside.proofs.Moments.{weaker, then_on}
 use Rattle.gate_log.specs.declared.shape.Shape.{Shape}
 use Rattle.gate_log.specs.Text.{Gives, AllFit, cells}
-use Rattle.gate_log.specs.Log.{LogTerm, IsLogOf, HasPutOn, AtAnyMoment, OldOrNew, begun, room_to_put}
+use Rattle.gate_log.specs.Log.{LogTerm, IsLogOf, HasPutOn, AtAnyMoment, OldOrNew, begun, capacity_to_put}
 use Rattle.gate_log.proofs.Rewrites.{begun_of, begun_put}
 use Rattle.pull_store.specs.declared.error.PullError.{PullError}
 use Rattle.pull_store.specs.declared.error.PullError.TheVariants.{Spent, Agents, NoAgent, Full, Disk, NotAStore, Memory}
@@ -12,15 +12,15 @@ use Rattle.pull_store.specs.Puts.{CanPut, Puts, PutEnds, Ends}
 use Rattle.pull_store.specs.Stands.{pull_shape}
 use Rattle.pull_store.specs.declared.limits.TheConstants.{BANK, MAX_BODY}
 
-begun_room : (log : LogTerm) (n : ℕ) → log.shape ≡ pull_shape → n + 1 ≤ BANK → n ≤ room_to_put (begun log)
-begun_room log n shape le = omega (arith, le, ap (λ (s : Shape). s.bank) shape)
+begun_capacity : (log : LogTerm) (n : ℕ) → log.shape ≡ pull_shape → n + 1 ≤ BANK → n ≤ capacity_to_put (begun log)
+begun_capacity log n shape le = omega (arith, le, ap (λ (s : Shape). s.bank) shape)
 
 pub ends_of : (old other new : LogTerm) (bodies : List (List ℕ)) (before now : ℕ) (e : PullError) → PutEnds {T = Unit {0}} old bodies before now (Err e) new → Ends {T = Unit {0}} other before now (Err e) new
 ends_of old other new bodies before now Disk ends = ends
 ends_of old other new bodies before now Spent ends = absurd ends
 ends_of old other new bodies before now Agents ends = absurd ends
 ends_of old other new bodies before now NoAgent ends = absurd ends
-ends_of old other new bodies before now (Full need room) ends = absurd ends
+ends_of old other new bodies before now (Full need capacity) ends = absurd ends
 ends_of old other new bodies before now (NotAStore at) ends = absurd ends
 ends_of old other new bodies before now Memory ends = absurd ends
 
@@ -38,7 +38,7 @@ module _ {D : Type 0} (d : Ghosts D) (disk0 : D) (log log1 : LogTerm) (bodies : 
   can_begin unspent fits fit all of = record {
     shape = ap (λ (l : LogTerm). l.shape) is ∙ shape;
     unspent = ap (λ (l : LogTerm). l.spent) is ∙ unspent;
-    room = subst (λ (l : LogTerm). length (cells bodies) ≤ room_to_put l) (sym is) (begun_room log (length (cells bodies)) shape fits);
+    capacity = subst (λ (l : LogTerm). length (cells bodies) ≤ capacity_to_put l) (sym is) (begun_capacity log (length (cells bodies)) shape fits);
     fit = fit;
     of = (all, of_begun all of);
     begun = ([], put_begun);

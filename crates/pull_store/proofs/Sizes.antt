@@ -6,8 +6,8 @@ use Rattle.std.specs.List.{flat_map, AllByRecursion}
 use Rattle.std.proofs.lemmas.List.Sums.{sum_by-cons}
 use Rattle.std.proofs.lemmas.List.Concat.{flat_map-cons}
 use Rattle.store_fields.specs.Fields.{bytes_of_number, bytes_of_text, bytes_of_list}
-use Rattle.gate_log.specs.Text.{cells, behind, AllFit}
-use Rattle.gate_log.proofs.Cells.{length-behind}
+use Rattle.gate_log.specs.Text.{cells, after_gate, AllFit}
+use Rattle.gate_log.proofs.Cells.{length-after_gate}
 use Rattle.pull_messages.specs.declared.registration.Registration.{Registration}
 use Rattle.pull_messages.specs.Sizes.{text_size, registration_size, IsName}
 use Rattle.std.proofs.lemmas.List.{take_all}
@@ -64,7 +64,7 @@ register_short agent x is = omega (arith, is.whole, is.sized.few, length-registe
 
 -- one cell more
 pub length-cell : (body : List ℕ) (bodies : List (List ℕ)) → length (cells (body ∷ bodies)) ≡ 5 + length body + length (cells bodies)
-length-cell body bodies = omega (arith, length-append (behind body) (cells bodies), length-behind body)
+length-cell body bodies = omega (arith, length-append (after_gate body) (cells bodies), length-after_gate body)
 
 pub report_cell : (agent job : ℕ) (body : List ℕ) (bodies : List (List ℕ)) → length (cells (body_of (Report agent job body) ∷ bodies)) ≡ 38 + length body + length (cells bodies)
 report_cell agent job body bodies = omega (arith, length-cell (body_of (Report agent job body)) bodies, length-report agent job body)
@@ -133,7 +133,7 @@ pub rows_fit : (rows : List Row) → AllByRecursion IsRow rows → AllFit MAX_BO
 rows_fit [] all = tt
 rows_fit (row ∷ rows) all = fit_both MAX_BODY (bodies_of_row row) (bodies_of_rows rows) (row_fits row all.0) (rows_fit rows all.1)
 
-pub parts_fit : (front : List Row) (row : Row) (behind : List Row) → AllByRecursion IsRow front → IsRow row → AllByRecursion IsRow behind
-    → AllFit MAX_BODY (bodies_of_rows front ++ (bodies_of_row row ++ bodies_of_rows behind))
-parts_fit front row behind one two three =
-    fit_both MAX_BODY (bodies_of_rows front) (bodies_of_row row ++ bodies_of_rows behind) (rows_fit front one) (fit_both MAX_BODY (bodies_of_row row) (bodies_of_rows behind) (row_fits row two) (rows_fit behind three))
+pub parts_fit : (front : List Row) (row : Row) (after_gate : List Row) → AllByRecursion IsRow front → IsRow row → AllByRecursion IsRow after_gate
+    → AllFit MAX_BODY (bodies_of_rows front ++ (bodies_of_row row ++ bodies_of_rows after_gate))
+parts_fit front row after_gate one two three =
+    fit_both MAX_BODY (bodies_of_rows front) (bodies_of_row row ++ bodies_of_rows after_gate) (rows_fit front one) (fit_both MAX_BODY (bodies_of_row row) (bodies_of_rows after_gate) (row_fits row two) (rows_fit after_gate three))

@@ -205,7 +205,7 @@ few_new : (none : Bool) (n : ℕ) → n ≤ MAX_ROWS → (if none && nat_le MAX_
 few_new false n few accepted = few
 few_new true n few accepted = elim (tells (nat_le MAX_ROWS n)) [
   | inl full ↦ absurd (let is : Some TooMany ≡ None = subst (λ (b : Bool). (if b then Some TooMany else None) ≡ None) full accepted in cc is)
-  | inr room ↦ grind (arith, few, room)
+  | inr capacity ↦ grind (arith, few, capacity)
 ]
 
 few_known : (none : Bool) (n : ℕ) → n ≤ MAX_ROWS → (if none then Some Unknown else None) ≡ None → (if none then suc n else n) ≤ MAX_ROWS

@@ -4,7 +4,7 @@ use Rattle.dsc_outside.specs.declared.disk.Disk.{Ghosts}
 use Rattle.dsc_outside.specs.Disk.{Still}
 use Rattle.dsc_terms.specs.Counts.{Rose}
 use Rattle.gate_log.specs.Text.{cells, need_of}
-use Rattle.gate_log.specs.Log.{LogTerm, IsLogOf, room_in}
+use Rattle.gate_log.specs.Log.{LogTerm, IsLogOf, capacity_in}
 use Rattle.gate_log.specs.Standing.{ReadsAs}
 use Rattle.pull_store.specs.declared.row.Row.{Row}
 use Rattle.pull_store.specs.declared.change.Change.{Change}
@@ -35,33 +35,33 @@ pub record IsKept {D : Type 0} (d : Ghosts D) (disk : D) (store : StoreTerm) : T
 abbrev pub IsReady : {D : Type 0} → Ghosts D → D → StoreTerm → Type 0
 IsReady d disk store = (is_spent store ≡ true) ⊎ IsKept d disk store
 
--- ---- room
+-- ---- capacity
 
 -- the bytes that rows take in a bank: their cells, and one gate
 abbrev pub whole_need : List Row → ℕ
 whole_need rows = length (cells (bodies_of_rows rows)) + 1
 
-abbrev pub bank_room : ℕ
-bank_room = pull_shape.bank
+abbrev pub bank_capacity : ℕ
+bank_capacity = pull_shape.bank
 
--- the cell has room in the live bank
-abbrev pub HasRoom : StoreTerm → Change → Type 0
-HasRoom store change = need_of (body_of change) ≤ room_in store.log
+-- the cell fits the live bank
+abbrev pub HasCapacity : StoreTerm → Change → Type 0
+HasCapacity store change = need_of (body_of change) ≤ capacity_in store.log
 
--- neither the cell has room, nor do the rows after the change fit a bank
-pub record IsFull (store : StoreTerm) (change : Change) (need room : ℕ) : Type 0 where
-  pub cell : room_in store.log < need_of (body_of change)
+-- neither does the cell fit, nor do the rows after the change fit a bank
+pub record IsFull (store : StoreTerm) (change : Change) (need capacity : ℕ) : Type 0 where
+  pub cell : capacity_in store.log < need_of (body_of change)
   pub needs : need ≡ whole_need (after change store.rows)
-  pub bank : room ≡ bank_room
-  pub rows : room < need
+  pub bank : capacity ≡ bank_capacity
+  pub rows : capacity < need
 
 -- ---- answers
 
--- the change was accepted and has room
+-- the change was accepted and fits
 pub record WasTried (old : StoreTerm) (change : Change) : Type 0 where
   pub unspent : is_spent old ≡ false
   pub accepted : refusal change old.rows ≡ None
-  pub room : HasRoom old change ⊎ (whole_need (after change old.rows) ≤ bank_room)
+  pub capacity : HasCapacity old change ⊎ (whole_need (after change old.rows) ≤ bank_capacity)
 
 -- nothing was touched
 pub record Untouched {D : Type 0} (old new : StoreTerm) (before after : D) : Type 0 where
@@ -74,18 +74,18 @@ Changed d old change before now (Ok v) new = WasTried old change × (new.rows �
 Changed d old change before now (Err Spent) new = (is_spent old ≡ true) × Untouched old new before now
 Changed d old change before now (Err Agents) new = (is_spent old ≡ false) × (refusal change old.rows ≡ Some refusals.TooMany) × Untouched old new before now
 Changed d old change before now (Err NoAgent) new = (is_spent old ≡ false) × (refusal change old.rows ≡ Some refusals.Unknown) × Untouched old new before now
-Changed d old change before now (Err (Full need room)) new =
-    (is_spent old ≡ false) × (refusal change old.rows ≡ None) × IsFull old change need room × Untouched old new before now
+Changed d old change before now (Err (Full need capacity)) new =
+    (is_spent old ≡ false) × (refusal change old.rows ≡ None) × IsFull old change need capacity × Untouched old new before now
 Changed d old change before now (Err Disk) new = WasTried old change × Rose (d.faults before) (d.faults now) × (new.rows ≡ old.rows) × (is_spent new ≡ true)
 Changed d old change before now (Err Memory) new = (is_spent old ≡ false) × (refusal change old.rows ≡ None) × Untouched old new before now
 Changed d old change before now (Err (NotAStore at)) new = ⊥
 
 -- what the steps that write say
 abbrev pub Written : {T D : Type 0} → Ghosts D → LogTerm → List Row → Change → D → D → Result T PullError → LogTerm → Type 0
-Written d log rows change before now (Ok v) new = HasRoom (record { log = log; rows = rows }) change ⊎ (whole_need (after change rows) ≤ bank_room)
+Written d log rows change before now (Ok v) new = HasCapacity (record { log = log; rows = rows }) change ⊎ (whole_need (after change rows) ≤ bank_capacity)
 Written d log rows change before now (Err Disk) new =
-    (HasRoom (record { log = log; rows = rows }) change ⊎ (whole_need (after change rows) ≤ bank_room)) × Rose (d.faults before) (d.faults now) × (new.spent ≡ true)
-Written d log rows change before now (Err (Full need room)) new = IsFull (record { log = log; rows = rows }) change need room × (new ≡ log) × (now ≡ before)
+    (HasCapacity (record { log = log; rows = rows }) change ⊎ (whole_need (after change rows) ≤ bank_capacity)) × Rose (d.faults before) (d.faults now) × (new.spent ≡ true)
+Written d log rows change before now (Err (Full need capacity)) new = IsFull (record { log = log; rows = rows }) change need capacity × (new ≡ log) × (now ≡ before)
 Written d log rows change before now (Err Spent) new = ⊥
 Written d log rows change before now (Err Agents) new = ⊥
 Written d log rows change before now (Err NoAgent) new = ⊥
@@ -112,4 +112,4 @@ Unopened d old new Memory = ⊤
 Unopened d old new Spent = ⊥
 Unopened d old new Agents = ⊥
 Unopened d old new NoAgent = ⊥
-Unopened d old new (Full need room) = ⊥
+Unopened d old new (Full need capacity) = ⊥

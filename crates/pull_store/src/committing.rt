@@ -20,12 +20,12 @@ use dsc_outside::Disk;
 use gate_log::Log;
 use std::alloc::{AllocError, Global};
 
-/// What an accepted change makes of its agent's row, and room for one more row.
+/// What an accepted change makes of its agent's row, and capacity for one more row.
 pub fn prepare(alloc: Global, rows: &mut Vec<Row>, change: &Change) -> Result<Row, AllocError>
     requires { refusal change.now rows.old.items ≡ None }
     ensures rows { rows.new.items ≡ rows.old.items }
     ensures row { IfOk result (Makes change.now (row_of (agent_of change.now) rows.old.items)) }
-    ensures room { OnOk result (vec_len rows.new < vec_capacity rows.new) }
+    ensures capacity { OnOk result (vec_len rows.new < vec_capacity rows.new) }
 {
     let row = row_after(alloc, rows, change)?;
     rows.reserve(1)?;
@@ -58,13 +58,13 @@ pub fn write<D: Disk>(
     if log.has_room(buffer.len() as u32) {
         return append_body(log, disk, buffer);
     }
-    let (front, behind) = around(rows, row.agent);
+    let (front, rest) = around(rows, row.agent);
     let need = need_of_rows(buffer, front)
         + need_of_row(buffer, row)
-        + need_of_rows(buffer, behind)
+        + need_of_rows(buffer, rest)
         + 1;
     if need > BANK {
         return Err(PullError::Full { need, room: BANK });
     }
-    rewrite(log, disk, buffer, front, row, behind)
+    rewrite(log, disk, buffer, front, row, rest)
 }

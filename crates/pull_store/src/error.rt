@@ -14,7 +14,7 @@ pub enum PullError {
     /// The agent has no row.
     NoAgent,
 
-    /// Neither the change has room in the live bank, nor do the rows after it fit a bank: they need so many bytes.
+    /// Neither the change fits the live bank, nor do the rows after it fit a bank: they need that many bytes.
     Full { need: u64, room: u64 },
 
     /// The disk failed.

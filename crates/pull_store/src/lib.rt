@@ -1,7 +1,7 @@
 //! The rows of a pull server, on a disk.
 //!
 //! An agent has a row: its last registration, and its newest four reports; there are at most 512. Each change is one
-//! body of a log; where its live bank has no room, the rows after the change are written into the other bank.
+//! body of a log; where its live bank has no capacity, the rows after the change are written into the other bank.
 //!
 //! A layer above may rely on this: `open_pull` gives the rows that the disk read as, or the first byte that fails; a
 //! crash at any moment of `register` and `put_report` leaves the rows before or after it, and after `Ok` the rows after

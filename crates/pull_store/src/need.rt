@@ -17,10 +17,10 @@ const REPORT_HEAD: u64 = 33;
 // The most bytes of a report's cell.
 const REPORT_CELL: u64 = CELL_HEAD + REPORT_HEAD + MAX_BYTES as u64;
 
-// The cells of a row have at most so many bytes: that of its registration and those of its reports.
+// The cells of a row have at most that many bytes: that of its registration and those of its reports.
 const ROW_CELLS: u64 = (1 + MAX_REPORTS as u64) * (CELL_HEAD + BODY_CAPACITY as u64);
 
-/// The bytes of the cells of rows; the buffer has room for a body.
+/// The bytes of the cells of rows; the buffer has capacity for a body.
 #[tactic(auto, using(crate::proofs::Putting::cells_both))]
 pub fn need_of_rows(buffer: &mut Vec<u8>, rows: &[Row]) -> u64
     requires capacity { BODY_CAPACITY ≤ vec_capacity buffer.old }

@@ -112,7 +112,7 @@ fn tail_of(rows: &[Row]) -> &[Row]
 {
     match rows {
         [] => rows,
-        [_, behind @ ..] => behind,
+        [_, rest @ ..] => rest,
     }
 }
 

@@ -15,7 +15,7 @@ use mof_values::{Memory, Text};
 use pull_messages::Registration;
 use store_fields::{put_byte, put_list, put_text, put_u128};
 
-/// Writes the body of a change in place of all that was in a buffer, which has room for it.
+/// Writes the body of a change in place of all that was in a buffer, which has capacity for it.
 pub fn spell(buffer: &mut Vec<u8>, change: &Change)
     requires capacity { BODY_CAPACITY ≤ vec_capacity buffer.old }
     requires size { IsKeepableChange change.now }

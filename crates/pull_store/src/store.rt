@@ -27,7 +27,7 @@ pub struct PullStore {
     alloc: Global,
     log: Log,
     rows: Vec<Row>,
-    // room for the longest body
+    // capacity for the longest body
     buffer: Vec<u8>,
 }
 
@@ -44,7 +44,7 @@ impl Model for PullStore {
 }
 
 impl PullStore {
-    /// A store of these rows; the buffer has room for the longest body.
+    /// A store of these rows; the buffer has capacity for the longest body.
     pub(crate) fn of(alloc: Global, log: Log, rows: Vec<Row>, buffer: Vec<u8>) -> PullStore
         requires { BODY_CAPACITY ≤ vec_capacity buffer }
         ensures { result ≡ record { log = log; rows = rows.items } }
@@ -90,7 +90,7 @@ impl PullStore {
     /// # Errors
     ///
     /// The first of `Spent`, exactly where an earlier call of this store answered `Disk`; `Agents`, exactly where the agent is
-    /// new and 512 rows are there; `Full`, exactly where neither the registration has room in the live bank nor the rows after
+    /// new and 512 rows are there; `Full`, exactly where neither the registration fits the live bank nor the rows after
     /// it fit a bank; `Disk`, which leaves the rows as they were in memory. `Memory` comes between `Spent` and `Disk`. All of
     /// these but `Disk` leave store and disk untouched.
     pub fn register<D: Disk>(

@@ -2,7 +2,7 @@
 ghost use Rattle.std.specs.Prelude.{◌≡◌, ◌++◌, ◌∷◌, [], ◌+◌, ◌<◌, ◌≤◌, ℕ, List, Vec, length, false, OnOk, vec_capacity};
 ghost use Rattle.std.specs.List.{AllByRecursion};
 ghost use Rattle.gate_log.specs.Text.{need_of, cells};
-ghost use Rattle.gate_log.specs.Log.{IsLogOf, AtAnyMoment, OldOrNew, room_in};
+ghost use Rattle.gate_log.specs.Log.{IsLogOf, AtAnyMoment, OldOrNew, capacity_in};
 ghost use Rattle.pull_store.specs.Bodies.{bodies_of_reports, bodies_of_row, bodies_of_rows};
 ghost use Rattle.pull_store.specs.Puts.{CanPut, Puts, Ends};
 ghost use Rattle.pull_store.specs.Sound.{IsId, IsReport, IsRow};
@@ -18,7 +18,7 @@ use gate_log::{Log, LogError};
 /// Adds a body to the live bank.
 pub fn append_body<D: Disk>(log: &mut Log, disk: &mut D, body: &[u8]) -> Result<(), PullError>
     requires size { length body.now ≤ log.old.shape.largest }
-    requires room { need_of body.now ≤ room_in log.old }
+    requires capacity { need_of body.now ≤ capacity_in log.old }
     requires unspent { log.old.spent ≡ false }
     requires of { (all : List (List ℕ)) × IsLogOf D.Disk disk.old log.old all }
     ensures ends { Ends log.old (D.faults disk.old) (D.faults disk.new) result log.new }
@@ -41,26 +41,26 @@ pub fn rewrite<D: Disk>(
     buffer: &mut Vec<u8>,
     front: &[Row],
     row: &Row,
-    behind: &[Row],
+    rest: &[Row],
 ) -> Result<(), PullError>
     requires capacity { BODY_CAPACITY ≤ vec_capacity buffer.old }
     requires front { AllByRecursion IsRow front.now }
     requires row { IsRow row.now }
-    requires behind { AllByRecursion IsRow behind.now }
+    requires after { AllByRecursion IsRow rest.now }
     requires unspent { log.old.spent ≡ false }
     requires shape { log.old.shape ≡ pull_shape }
-    requires fits { length (cells (bodies_of_rows front.now ++ (bodies_of_row row.now ++ bodies_of_rows behind.now))) + 1 ≤ pull_shape.bank }
+    requires fits { length (cells (bodies_of_rows front.now ++ (bodies_of_row row.now ++ bodies_of_rows rest.now))) + 1 ≤ pull_shape.bank }
     requires of { (all : List (List ℕ)) × IsLogOf D.Disk disk.old log.old all }
     ensures ends { Ends log.old (D.faults disk.old) (D.faults disk.new) result log.new }
     ensures of { (all : List (List ℕ)) → IsLogOf D.Disk disk.old log.old all
-        → OnOk result (IsLogOf D.Disk disk.new log.new (bodies_of_rows front.now ++ (bodies_of_row row.now ++ bodies_of_rows behind.now))) }
+        → OnOk result (IsLogOf D.Disk disk.new log.new (bodies_of_rows front.now ++ (bodies_of_row row.now ++ bodies_of_rows rest.now))) }
     ensures any_moment { (all : List (List ℕ)) → IsLogOf D.Disk disk.old log.old all
-        → AtAnyMoment D.Disk disk.old disk.new (OldOrNew log.old.shape all (bodies_of_rows front.now ++ (bodies_of_row row.now ++ bodies_of_rows behind.now))) }
+        → AtAnyMoment D.Disk disk.old disk.new (OldOrNew log.old.shape all (bodies_of_rows front.now ++ (bodies_of_row row.now ++ bodies_of_rows rest.now))) }
     ensures count { D.faults disk.old ≤ D.faults disk.new }
     ensures capacity { vec_capacity buffer.old ≤ vec_capacity buffer.new }
 {
     log.begin_rewrite();
-    if let Err(error) = put_parts(log, disk, buffer, front, row, behind) {
+    if let Err(error) = put_parts(log, disk, buffer, front, row, rest) {
         return Err(error);
     }
     match log.finish_rewrite(disk) {
@@ -76,14 +76,14 @@ fn put_parts<D: Disk>(
     buffer: &mut Vec<u8>,
     front: &[Row],
     row: &Row,
-    behind: &[Row],
+    rest: &[Row],
 ) -> Result<(), PullError>
     requires capacity { BODY_CAPACITY ≤ vec_capacity buffer.old }
     requires front { AllByRecursion IsRow front.now }
     requires row { IsRow row.now }
-    requires behind { AllByRecursion IsRow behind.now }
-    requires can { CanPut D.Disk disk.old log.old (bodies_of_rows front.now ++ (bodies_of_row row.now ++ bodies_of_rows behind.now)) }
-    ensures puts { Puts D.Disk disk.old disk.new log.old log.new (bodies_of_rows front.now ++ (bodies_of_row row.now ++ bodies_of_rows behind.now)) result }
+    requires after { AllByRecursion IsRow rest.now }
+    requires can { CanPut D.Disk disk.old log.old (bodies_of_rows front.now ++ (bodies_of_row row.now ++ bodies_of_rows rest.now)) }
+    ensures puts { Puts D.Disk disk.old disk.new log.old log.new (bodies_of_rows front.now ++ (bodies_of_row row.now ++ bodies_of_rows rest.now)) result }
     ensures capacity { vec_capacity buffer.old ≤ vec_capacity buffer.new }
 {
     if let Err(error) = put_rows(log, disk, buffer, front) {
@@ -92,7 +92,7 @@ fn put_parts<D: Disk>(
     if let Err(error) = put_row(log, disk, buffer, row) {
         return Err(error);
     }
-    put_rows(log, disk, buffer, behind)
+    put_rows(log, disk, buffer, rest)
 }
 
 fn put_rows<D: Disk>(

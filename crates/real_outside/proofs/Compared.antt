@@ -42,7 +42,7 @@ differs a b c gone piece bytes rest p q split other = from a c (Consumes-trans a
     from (Some all) (Some more) p = same_from_decides false (bytes_eq all bytes) (λ whole. absurd (false≢true whole), λ same. absurd (differs_here all gone piece more bytes rest p split other same)) (bytes_eq-Decides all bytes)
 
 -- where it is, it is gone too
-pub moved : (gone piece bytes rest behind : List ℕ) → bytes ≡ gone ++ rest → bytes_eq (take (length piece) rest) piece ≡ true → behind ≡ drop (length piece) rest
-    → bytes ≡ (gone ++ piece) ++ behind
-moved gone piece bytes rest behind split same left =
-    split ∙ ap (λ l. gone ++ l) (sym (take-append-drop (length piece) rest) ∙ ap (λ l. l ++ drop (length piece) rest) ((bytes_eq-Decides (take (length piece) rest) piece).0 same) ∙ ap (λ l. piece ++ l) (sym left)) ∙ sym (append_assoc gone piece behind)
+pub moved : (gone piece bytes rest after : List ℕ) → bytes ≡ gone ++ rest → bytes_eq (take (length piece) rest) piece ≡ true → after ≡ drop (length piece) rest
+    → bytes ≡ (gone ++ piece) ++ after
+moved gone piece bytes rest after split same left =
+    split ∙ ap (λ l. gone ++ l) (sym (take-append-drop (length piece) rest) ∙ ap (λ l. l ++ drop (length piece) rest) ((bytes_eq-Decides (take (length piece) rest) piece).0 same) ∙ ap (λ l. piece ++ l) (sym left)) ∙ sym (append_assoc gone piece after)

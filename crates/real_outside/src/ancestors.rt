@@ -63,7 +63,7 @@ impl Ancestors {
         }
     }
 
-    /// Keeps the first of them: so many, or fewer where the last of these is not held.
+    /// Keeps the first of them: that many, or fewer where the last of these is not held.
     pub fn keep(&mut self, count: usize) {
         let is_held = match count.checked_sub(1) {
             None => true,

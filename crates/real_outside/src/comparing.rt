@@ -33,7 +33,7 @@ fn compare<R: Read>(reader: &mut R, bytes: &[u8], buffer: &mut [u8]) -> Result<b
         }
         match rest.strip_prefix(&buffer[..count]) {
             None => return Ok(false),
-            Some(behind) => rest = behind,
+            Some(after) => rest = after,
         }
     }
     Err(Failed)

@@ -1,4 +1,4 @@
-//! Standard input.
+//! The source that reads standard input.
 ghost use Rattle.std.specs.Prelude.{◌≡◌, None};
 ghost use Rattle.std.specs.Io.{ReadsAtMost};
 ghost use Rattle.std.specs.Io.KnownBytes.{ReadConsumes};
@@ -9,8 +9,8 @@ use dsc_outside::{Ends, Failed, Source};
 use std::io::Read;
 use std::marker::Model;
 
-/// Standard input, as a source: it reads from the reader that the runtime has for it. It exposes what its reader exposes,
-/// and that of the system exposes nothing.
+/// Standard input, as a source: it reads from the reader that the runtime has for it. It shows what its reader shows,
+/// and that of the system shows nothing.
 #[derive(Drop)]
 pub struct InSource<R: Read> {
     reader: R,

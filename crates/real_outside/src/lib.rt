@@ -2,7 +2,7 @@
 //! the clock of the system, and the arguments of the program; and descriptors in the place of standard ones that are
 //! closed.
 //!
-//! They expose nothing of what they hold, and each counts its failures. A layer above may rely on it that no path leads
+//! They show nothing of what they hold, and each counts its failures. A layer above may rely on it that no path leads
 //! out of the folder, also beside users who change what is in it. What the system gives or takes is in no clause: this
 //! crate is an edge that is trusted and tested.
 //!

@@ -1,4 +1,4 @@
-//! Standard output.
+//! The sink that writes standard output.
 ghost use Rattle.std.specs.Prelude.{◌≡◌, ◌<◌, IfOk, None, length};
 ghost use Rattle.std.specs.Io.{WritesAtMost};
 ghost use Rattle.dsc_outside.specs.Causes.{HasCause, count_after};

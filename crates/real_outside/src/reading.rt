@@ -26,7 +26,7 @@ pub fn read_some<R: Read>(reader: &mut R, into: &mut [u8]) -> Result<usize, Fail
 
 /// Appends all that the reader gives, up to its end. Where it fails, a part may stand there.
 pub fn read_rest<R: Read>(reader: &mut R, into: &mut Vec<u8>) -> Result<(), HostError>
-    ensures behind { StartsWith into.new.items into.old.items }
+    ensures after { StartsWith into.new.items into.old.items }
     ensures whole { OnOk result (IfSome (R.remaining reader.old) (λ all. into.new.items ≡ into.old.items ++ all)) }
 {
     let mut buffer = [0; BUFFER_SIZE];

@@ -38,7 +38,7 @@ abbrev pub mark_of : Option Entry → Mark
 mark_of None = marks.NotCalled
 mark_of (Some entry) = entry_mark entry
 
--- the marks of so many resources
+-- the marks of that many resources
 abbrev pub marks_of : List Entry → ℕ → List Mark
 marks_of trace count = map (λ r. mark_of (last_entry trace r)) (places_below count)
 
@@ -69,6 +69,6 @@ listed_at rebooting ids marked r =
 abbrev pub listed_of : Bool → List (List ℕ) → List Mark → List Missed
 listed_of rebooting ids marked = take LISTED_LIMIT (filter_map (listed_at rebooting ids marked) (places_below (length marked)))
 
--- what a run came to that ended with a reboot or not, and in which so many resources did not succeed
+-- what a run came to that ended with a reboot or not, and in which that many resources did not succeed
 abbrev pub outcome_of : Bool → ℕ → Outcome
 outcome_of rebooting missed = if rebooting then Reboot else if missed == 0 then Success else Failure

@@ -62,7 +62,7 @@ pub record IsMissed (document : Document) (trace : List Entry) (r : ℕ) (missed
   pub id : IsSomeAnd (slice_get document.resources r) (λ resource. missed.id ≡ resource.id)
   pub reason : IsReason trace (last_entry trace r) missed.reason
 
--- what a run came to in which so many did not succeed
+-- what a run came to in which that many did not succeed
 abbrev pub IsOutcome : List Entry → ℕ → Outcome → Type 0
 IsOutcome trace missed outcomes.Reboot = EndsInReboot trace
 IsOutcome trace missed outcomes.Success = (EndsInReboot trace → ⊥) × (missed ≡ 0)

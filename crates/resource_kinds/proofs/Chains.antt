@@ -27,7 +27,7 @@ pub chain_map : {S T : Type 0} (f : S → T) (does : T → Document → Entry �
 chain_map f does still document a [] b chain = chain
 chain_map f does still document a (e ∷ t) b chain = (f chain.0, chain.1, chain_map f does still document chain.0 t b chain.2)
 
--- what a chain of values over a host says is true, where the host exposes what it holds
+-- what a chain of values over a host says is true, where the host shows what it holds
 pub tells_true : (document : Document) (t : List Entry) (a b : Option HostState) → Chain TellsEntry (λ x y. x ≡ y) document a t b → TellsTrue document a t b
 tells_true document [] None b chain = (sym chain, All-nil (KeepsTable document))
 tells_true document [] (Some s) b chain = (s, sym chain, refl)

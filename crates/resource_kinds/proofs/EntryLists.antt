@@ -56,14 +56,14 @@ entries-joined piece (next ∷ others) all =
     entries-append piece (joined (next ∷ others)) ∙ (λ i. first i ++ rest i)
 
 -- what stands after the first of joined pieces has the byte before each
-pub join-behind : (c : ℕ) (piece : List ℕ) (pieces : List (List ℕ)) → join_with_byte c (piece ∷ pieces) ≡ piece ++ flat_map (λ e. c ∷ e) pieces
-join-behind c piece [] = sym (append-nil piece)
-join-behind c piece (next ∷ others) = ap (λ (l : List ℕ). piece ++ c ∷ l) (join-behind c next others)
+pub join-after : (c : ℕ) (piece : List ℕ) (pieces : List (List ℕ)) → join_with_byte c (piece ∷ pieces) ≡ piece ++ flat_map (λ e. c ∷ e) pieces
+join-after c piece [] = sym (append-nil piece)
+join-after c piece (next ∷ others) = ap (λ (l : List ℕ). piece ++ c ∷ l) (join-after c next others)
 
-pub appended-behind : (value : List ℕ) (more : List (List ℕ)) → (length value == 0) ≡ false → appended value more ≡ value ++ flat_map (λ e. 59 ∷ e) more
-appended-behind [] more filled = absurd (false≢true (sym filled))
-appended-behind (b ∷ bs) [] filled = sym (append-nil (b ∷ bs))
-appended-behind (b ∷ bs) (entry ∷ more) filled = ap (λ (l : List ℕ). (b ∷ bs) ++ 59 ∷ l) (join-behind 59 entry more)
+pub appended-after : (value : List ℕ) (more : List (List ℕ)) → (length value == 0) ≡ false → appended value more ≡ value ++ flat_map (λ e. 59 ∷ e) more
+appended-after [] more filled = absurd (false≢true (sym filled))
+appended-after (b ∷ bs) [] filled = sym (append-nil (b ∷ bs))
+appended-after (b ∷ bs) (entry ∷ more) filled = ap (λ (l : List ℕ). (b ∷ bs) ++ 59 ∷ l) (join-after 59 entry more)
 
 -- ---- elements
 

@@ -60,9 +60,9 @@ pub drive_kept : (drive : Option ℕ) → IfSome drive (λ letter. letter ≢ 46
 drive_kept None other = All-nil (λ n. is_kept n ≡ true)
 drive_kept (Some letter) other = All-cons (λ n. is_kept n ≡ true) (letter ∷ []) [] (letter_kept letter other) (All-nil (λ n. is_kept n ≡ true))
 
-pub kept_behind : (drive : Option ℕ) (rest : List (List ℕ)) → IfSome drive (λ letter. letter ≢ 46) → kept_segments (drive_segments drive ++ rest) ≡ drive_segments drive ++ kept_segments rest
-kept_behind None rest other = refl
-kept_behind (Some letter) rest other = ap (λ b. cond b ((letter ∷ []) ∷ kept_segments rest) (kept_segments rest)) (letter_kept letter other)
+pub kept_after : (drive : Option ℕ) (rest : List (List ℕ)) → IfSome drive (λ letter. letter ≢ 46) → kept_segments (drive_segments drive ++ rest) ≡ drive_segments drive ++ kept_segments rest
+kept_after None rest other = refl
+kept_after (Some letter) rest other = ap (λ b. cond b ((letter ∷ []) ∷ kept_segments rest) (kept_segments rest)) (letter_kept letter other)
 
 -- a drive is no `..`
 pub drive_no_parent : (drive : Option ℕ) (rest : List (List ℕ)) → list_any is_parent (drive_segments drive ++ rest) ≡ list_any is_parent rest

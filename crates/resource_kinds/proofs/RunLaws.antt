@@ -39,7 +39,7 @@ pub apart_at : (document : Document) (first second : ℕ) (a b : Wanted) → Apa
 apart_at document first second a b apart differ asks_a asks_b = elim (cases_order first second) [
   | inl same ↦ absurd (differ same)
   | inr (inl before) ↦ apart first second a b before asks_a asks_b
-  | inr (inr behind) ↦ λ meet. apart second first b a behind asks_b asks_a (meet_back a b meet)
+  | inr (inr after) ↦ λ meet. apart second first b a after asks_b asks_a (meet_back a b meet)
 ]
 
 -- ---- one entry
@@ -138,8 +138,8 @@ entry_holds document before after (Set place answer) r wanted makes asks same se
 abbrev pub own_entry : Entry → ℕ → Option Entry
 own_entry e r = cond (place_of e == r) (Some e) None
 
-last_behind : (e : Entry) (es : List Entry) (r : ℕ) → last_entry (e ∷ es) r ≡ option_or (last_entry es r) (own_entry e r)
-last_behind e es r = ap (find (λ x. place_of x == r)) (reverse-append (e ∷ []) es) ∙ find-append (λ x. place_of x == r) (reverse es) (e ∷ [])
+last_after : (e : Entry) (es : List Entry) (r : ℕ) → last_entry (e ∷ es) r ≡ option_or (last_entry es r) (own_entry e r)
+last_after e es r = ap (find (λ x. place_of x == r)) (reverse-append (e ∷ []) es) ∙ find-append (λ x. place_of x == r) (reverse es) (e ∷ [])
 
 or_none : {X : Type 0} (a b : Option X) → option_or a b ≡ None → (a ≡ None) × (b ≡ None)
 or_none None b none = (refl, none)
@@ -160,7 +160,7 @@ pub rest_keeps : (document : Document) (before after : HostState) (trace : List 
     → last_entry trace r ≡ None → True document before trace after → All (IsWhole document) trace → Holds before other → Holds after other
 rest_keeps document before after [] r other apart asks none shown whole holds = subst (λ h. Holds h other) shown holds
 rest_keeps document before after (e ∷ es) r other apart asks none shown whole holds =
-    let parts = or_none (last_entry es r) (own_entry e r) (sym (last_behind e es r) ∙ none) in
+    let parts = or_none (last_entry es r) (own_entry e r) (sym (last_after e es r) ∙ none) in
     let differ = eqb-false (place_of e) r (cond_none (place_of e == r) e parts.1) in
     let kept = entry_keeps document before shown.0 e r other apart asks differ
     (All-head (IsWhole document) e es whole) shown.1 holds in
@@ -178,7 +178,7 @@ settled_hold : (document : Document) (before after : HostState) (trace : List En
 settled_hold document before after [] r wanted makes apart shown whole asks settled = absurd (false≢true settled)
 settled_hold document before after (e ∷ es) r wanted makes apart shown whole asks settled =
     let es_whole = All-tail (IsWhole document) e es whole in
-    elim (last_settles e es r (last_entry es r) refl (ap settles (sym (last_behind e es r)) ∙ settled)) [
+    elim (last_settles e es r (last_entry es r) refl (ap settles (sym (last_after e es r)) ∙ settled)) [
       | inl later ↦ settled_hold document shown.0 after es r wanted makes apart shown.2 es_whole asks later
       | inr here ↦ rest_keeps document shown.0 after es r wanted apart asks here.0 shown.2 es_whole
           (entry_holds document before shown.0 e r wanted makes asks here.1 here.2 shown.1)

@@ -24,7 +24,7 @@ Holds host (wants.NoVariable name) = host.variable name ≡ None
 Holds host (wants.NoEntries name value) = LacksEntries (host.variable name) value
 Holds host (wants.Logged id message) = IsTrue (has_entry host.log id message)
 
--- the answer is yes exactly where what is asked for holds, where the host exposes what it holds
+-- the answer is yes exactly where what is asked for holds, where the host shows what it holds
 abbrev pub TestsHolding : {E : Type 0} → Wanted → Option HostState → Result Bool E → Type 0
 TestsHolding wanted shown result = Tells shown result (λ host yes. IsTrue yes ↔ Holds host wanted)
 
@@ -59,7 +59,7 @@ ChangedTarget (wants.NoVariable name) old new = ChangedVariable name old new
 ChangedTarget (wants.NoEntries name value) old new = ChangedVariable name old new
 ChangedTarget (wants.Logged id message) old new = AllOrNothing (with_entry id message) old new
 
--- where the host exposes what it holds, the call set what is asked for; where it answered an error, it did at most a part of it
+-- where the host shows what it holds, the call set what is asked for; where it answered an error, it did at most a part of it
 abbrev pub Applies : {A E : Type 0} → Wanted → Option HostState → Option HostState → Result A E → Type 0
 Applies wanted old new result = Does old new result (applied wanted) (ChangedTarget wanted)
 
@@ -110,6 +110,6 @@ InTheWay host (wants.NoVariable name) = ⊥
 InTheWay host (wants.NoEntries name value) = ⊥
 InTheWay host (wants.Logged id message) = ⊥
 
--- the answer is yes exactly where something is in the way, where the host exposes what it holds
+-- the answer is yes exactly where something is in the way, where the host shows what it holds
 abbrev pub TestsInTheWay : {E : Type 0} → Wanted → Option HostState → Result Bool E → Type 0
 TestsInTheWay wanted shown result = Tells shown result (λ host yes. IsTrue yes ↔ InTheWay host wanted)

@@ -7,7 +7,7 @@ use Rattle.resource_kinds.specs.declared.kinds.Kinds.{Kinds}
 abbrev pub calls_of : {H : Type 0} → Kinds H → List Entry
 calls_of kinds = kinds.calls.items
 
--- how many more entries there is room for
+-- how many more entries there is capacity for
 abbrev pub spare_of : {H : Type 0} → Kinds H → ℕ
 spare_of kinds = vec_capacity kinds.calls - vec_len kinds.calls
 

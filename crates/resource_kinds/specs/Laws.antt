@@ -55,7 +55,7 @@ SetsKeepApart =
 
 -- ---- a run
 
--- a Set that the host failed, or to which memory was refused, may leave anything at its target
+-- a Set that the host failed, or that ran out of memory, may leave anything at its target
 abbrev pub MayBreakOff : SetAnswer → Type 0
 MayBreakOff sets.Done = ⊥
 MayBreakOff sets.Reboot = ⊥

@@ -10,7 +10,7 @@ unchanged (Some host) after same = (host, sym same, refl)
 
 pub changed_again : (before between after : Option HostState) → ChangesPackages before between → ChangesPackages between after → ChangesPackages before after
 changed_again None between after first second = subst (λ t. ChangesPackages t after) first second
-changed_again (Some host) between after first second = behind (subst (λ t. ChangesPackages t after) first.1 second)
+changed_again (Some host) between after first second = rest (subst (λ t. ChangesPackages t after) first.1 second)
   where
-    behind : ChangesPackages (Some first.0) after → ChangesPackages (Some host) after
-    behind step = (step.0, step.1, step.2 ∙ ap {A = HostState} (λ h. record h { packages = step.0.packages }) first.2)
+    rest : ChangesPackages (Some first.0) after → ChangesPackages (Some host) after
+    rest step = (step.0, step.1, step.2 ∙ ap {A = HostState} (λ h. record h { packages = step.0.packages }) first.2)

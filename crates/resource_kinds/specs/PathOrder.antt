@@ -9,17 +9,17 @@ use Rattle.resource_kinds.specs.Paths.{kept_segments, segments}
 -- ---- the code
 
 -- names with `/` before each
-abbrev pub behind : List (List ℕ) → List ℕ
-behind names = flat_map (λ name. 47 ∷ name) names
+abbrev pub with_slashes : List (List ℕ) → List ℕ
+with_slashes names = flat_map (λ name. 47 ∷ name) names
 
 -- the names of a text's segments, with `/` before each
-abbrev pub names_behind : List ℕ → List ℕ
-names_behind text = behind (kept_segments (segments text))
+abbrev pub names_after : List ℕ → List ℕ
+names_after text = with_slashes (kept_segments (segments text))
 
 -- the first segment, whatever it is, and the names of the others after it
 abbrev pub first_and_names : List (List ℕ) → List ℕ
 first_and_names [] = []
-first_and_names (name ∷ others) = name ++ behind (kept_segments others)
+first_and_names (name ∷ others) = name ++ with_slashes (kept_segments others)
 
 -- the same of a text
 abbrev pub name_and_names : List ℕ → List ℕ
@@ -32,8 +32,8 @@ from_name (c ∷ cs) = 47 ∷ name_and_names (c ∷ cs)
 
 -- the characters that are left of a path
 abbrev pub path_left : PathRest → List ℕ
-path_left (rests.Drive letter text) = letter ∷ names_behind text.now
-path_left (rests.Names text) = names_behind text.now
+path_left (rests.Drive letter text) = letter ∷ names_after text.now
+path_left (rests.Names text) = names_after text.now
 path_left (rests.Name text) = name_and_names text.now
 
 -- the first path is the same, above the second or below it, where the other ends or goes on with `/`

@@ -60,12 +60,12 @@ Compliant document trace = missed_count document trace ≡ 0
 abbrev pub EndsWith : List Entry → Entry → Type 0
 EndsWith trace e = (front : List Entry) × (trace ≡ front ++ e ∷ [])
 
--- memory was refused
+-- out of memory
 abbrev pub WantsMemory : Entry → Type 0
 WantsMemory (Tested place answer) = answer ≡ tests.Memory
 WantsMemory (Set place answer) = answer ≡ sets.Memory
 
--- the last entry is one for which memory was refused
+-- the last entry is one that ran out of memory
 abbrev pub EndsInMemory : List Entry → Type 0
 EndsInMemory trace = (e : Entry) × EndsWith trace e × WantsMemory e
 
@@ -73,7 +73,7 @@ EndsInMemory trace = (e : Entry) × EndsWith trace e × WantsMemory e
 abbrev pub EndsInReboot : List Entry → Type 0
 EndsInReboot trace = (r : ℕ) × EndsWith trace (Set r sets.Reboot)
 
--- nothing follows such an entry: a reboot was asked for, or memory was refused
+-- nothing follows such an entry: a reboot was asked for, or it ran out of memory
 abbrev pub IsFinal : Entry → Type 0
 IsFinal (Tested place answer) = answer ≡ tests.Memory
 IsFinal (Set place sets.Done) = ⊥

@@ -68,7 +68,7 @@ SetsTrue before id (Err failure) answer after = IsTold failure (sets.Fault failu
 
 -- ---- entries
 
--- an entry over what a host exposes: its resource is one of the document, the answer is true, and a Test leaves the host as it was
+-- an entry over what a host shows: its resource is one of the document, the answer is true, and a Test leaves the host as it was
 abbrev pub IsTrueEntry : HostState → Document → Entry → HostState → Type 0
 IsTrueEntry before document (Tested place answer) after =
     (after ≡ before) × IsSomeAnd (slice_get document.resources place) (λ resource. AnswersTrue before (wanted_of resource) answer)
@@ -109,19 +109,19 @@ abbrev pub KeepsTable : Document → Entry → Type 0
 KeepsTable document (Tested place answer) = IsSomeAnd (slice_get document.resources place) (λ resource. TestKeepsTable (wanted_of resource) answer)
 KeepsTable document (Set place answer) = IsSomeAnd (slice_get document.resources place) (λ resource. SetKeepsTable (wanted_of resource) answer)
 
--- ---- hosts that may expose what they hold
+-- ---- hosts that may show what they hold
 
--- one entry where the host exposes what it holds; where it does not, the faults are still the table's
+-- one entry where the host shows what it holds; where it does not, the faults are still the table's
 abbrev pub TellsEntry : Option HostState → Document → Entry → Option HostState → Type 0
 TellsEntry None document e after = (after ≡ None) × KeepsTable document e
 TellsEntry (Some before) document e after = (state : HostState) × (after ≡ Some state) × IsTrueEntry before document e state
 
--- a trace where the host exposes what it holds; where it does not, the faults are still the table's
+-- a trace where the host shows what it holds; where it does not, the faults are still the table's
 abbrev pub TellsTrue : Document → Option HostState → List Entry → Option HostState → Type 0
 TellsTrue document None trace after = (after ≡ None) × All (KeepsTable document) trace
 TellsTrue document (Some before) trace after = (state : HostState) × (after ≡ Some state) × True document before trace state
 
--- where the host exposes what it holds, this leads from what it held to what it holds
+-- where the host shows what it holds, this leads from what it held to what it holds
 abbrev pub TellsStep : Option HostState → Option HostState → (HostState → HostState → Type 0) → Type 0
 TellsStep None after step = after ≡ None
 TellsStep (Some before) after step = (state : HostState) × (after ≡ Some state) × step before state

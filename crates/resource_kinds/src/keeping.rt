@@ -11,8 +11,8 @@ use std::alloc::AllocError;
 /// left for a second copy of a name.
 pub fn keep_test(calls: &mut Vec<Entry>, place: u32, answer: TestAnswer) -> TestAnswer
     requires { vec_len calls.old < vec_capacity calls.old }
-    ensures kept { calls.new.items ≡ calls.old.items ++ entries.Tested place result ∷ [] }
-    ensures room { vec_capacity calls.old - vec_len calls.old ≤
+    ensures trace { calls.new.items ≡ calls.old.items ++ entries.Tested place result ∷ [] }
+    ensures capacity { vec_capacity calls.old - vec_len calls.old ≤
         (vec_capacity calls.new - vec_len calls.new) + 1 }
     ensures shown { IsKeptTest answer result }
 {
@@ -29,8 +29,8 @@ pub fn keep_test(calls: &mut Vec<Entry>, place: u32, answer: TestAnswer) -> Test
 /// The same of a Set.
 pub fn keep_set(calls: &mut Vec<Entry>, place: u32, answer: SetAnswer) -> SetAnswer
     requires { vec_len calls.old < vec_capacity calls.old }
-    ensures kept { calls.new.items ≡ calls.old.items ++ entries.Set place result ∷ [] }
-    ensures room { vec_capacity calls.old - vec_len calls.old ≤
+    ensures trace { calls.new.items ≡ calls.old.items ++ entries.Set place result ∷ [] }
+    ensures capacity { vec_capacity calls.old - vec_len calls.old ≤
         (vec_capacity calls.new - vec_len calls.new) + 1 }
     ensures shown { IsKeptSet answer result }
 {

@@ -58,7 +58,7 @@ impl<H: Host> Resources for Kinds<H> {
     ghost use Rattle.resource_kinds.specs.Kinds.{calls_of, host_of, spare_of};
     ghost use Rattle.resource_kinds.specs.True.{TellsEntry};
 
-    ghost kept = { calls_of };
+    ghost trace = { calls_of };
 
     ghost spare = { spare_of };
 
@@ -76,8 +76,8 @@ impl<H: Host> Resources for Kinds<H> {
         (sym same) step };
 
     fn reserve(&mut self, entries: u32) -> Result<(), Memory>
-        ensures room { OnOk result (entries ≤ spare_of self.new) }
-        ensures kept { calls_of self.new ≡ calls_of self.old }
+        ensures capacity { OnOk result (entries ≤ spare_of self.new) }
+        ensures trace { calls_of self.new ≡ calls_of self.old }
         ensures faults { H.faults (host_of self.new) ≡ H.faults (host_of self.old) }
         ensures still { H.shown (host_of self.old) ≡ H.shown (host_of self.new) }
         ensures host { host_of self.new ≡ host_of self.old }
@@ -129,8 +129,8 @@ impl<H: Host> Machine for Kinds<H> {
         (H.shown (host_of c)) first second };
 
     fn package_has(&mut self, name: &str, version: &str) -> Result<bool, HostError>
-        ensures kept { calls_of self.new ≡ calls_of self.old }
-        ensures room { spare_of self.new ≡ spare_of self.old }
+        ensures trace { calls_of self.new ≡ calls_of self.old }
+        ensures capacity { spare_of self.new ≡ spare_of self.old }
         ensures still { H.shown (host_of self.old) ≡ H.shown (host_of self.new) }
         ensures same { packages_of (H.shown (host_of self.new)) ≡
             packages_of (H.shown (host_of self.old)) }
@@ -143,8 +143,8 @@ impl<H: Host> Machine for Kinds<H> {
     }
 
     fn package_put(&mut self, name: &str, version: &str, bytes: &[u8]) -> Result<(), HostError>
-        ensures kept { calls_of self.new ≡ calls_of self.old }
-        ensures room { spare_of self.new ≡ spare_of self.old }
+        ensures trace { calls_of self.new ≡ calls_of self.old }
+        ensures capacity { spare_of self.new ≡ spare_of self.old }
         ensures changed { ChangesPackages (H.shown (host_of self.old))
             (H.shown (host_of self.new)) }
         ensures added { OnOk result (AddsPackage (packages_of (H.shown (host_of self.old)))

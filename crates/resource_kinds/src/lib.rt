@@ -1,7 +1,7 @@
 //! The kinds of resources: files and directories, environment variables, and entries of the log.
 //!
 //! `Resources` is what a run tests and sets; it keeps an entry of each call, and each call is one step of a relation of
-//! its own. `Kinds` is that over any host: where the host exposes what it holds, each answer is true of it, a Set that
+//! its own. `Kinds` is that over any host: where the host shows what it holds, each answer is true of it, a Set that
 //! is done makes of it what the resource asks for, and one that failed changes no more than the resource's own target.
 //! `Machine` is `Resources` with the calls on module packages. Which resources overlap is found before a run.
 //!

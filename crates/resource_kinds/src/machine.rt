@@ -9,7 +9,7 @@ use dsc_outside::HostError;
 
 /// The resources of a machine that also keeps module packages. The calls on packages keep no entry.
 pub trait Machine: Resources {
-    /// The packages, the oldest first, where they are exposed.
+    /// The packages, the oldest first, where they are shown.
     ghost packages: { Self → Option (List Package) };
 
     /// Nothing has changed but the packages.
@@ -17,8 +17,8 @@ pub trait Machine: Resources {
 
     /// Answers whether a package of that name and version is there.
     fn package_has(&mut self, name: &str, version: &str) -> Result<bool, HostError>
-        ensures kept { Self.kept self.new ≡ Self.kept self.old }
-        ensures room { Self.spare self.new ≡ Self.spare self.old }
+        ensures trace { Self.trace self.new ≡ Self.trace self.old }
+        ensures capacity { Self.spare self.new ≡ Self.spare self.old }
         ensures still { Self.still self.old self.new }
         ensures same { packages self.new ≡ packages self.old }
         ensures answer { TellsPackage (packages self.old) name.now version.now result }
@@ -27,8 +27,8 @@ pub trait Machine: Resources {
 
     /// Adds a package at the end of the list.
     fn package_put(&mut self, name: &str, version: &str, bytes: &[u8]) -> Result<(), HostError>
-        ensures kept { Self.kept self.new ≡ Self.kept self.old }
-        ensures room { Self.spare self.new ≡ Self.spare self.old }
+        ensures trace { Self.trace self.new ≡ Self.trace self.old }
+        ensures capacity { Self.spare self.new ≡ Self.spare self.old }
         ensures changed { packages_changed self.old self.new }
         ensures added { OnOk result (AddsPackage (packages self.old) (packages self.new)
             name.now version.now bytes.now) }

@@ -2,7 +2,7 @@
 ghost use Rattle.std.specs.Prelude.{◌≡◌, ◌≢◌, ◌<◌, ◌∷◌, [], length, option_map, IfSome};
 ghost use Rattle.std.specs.List.{join_with_byte};
 ghost use Rattle.std.specs.Option.{MatchOption};
-ghost use Rattle.resource_kinds.specs.PathOrder.{from_name, names_behind, order_of, path_left};
+ghost use Rattle.resource_kinds.specs.PathOrder.{from_name, names_after, order_of, path_left};
 ghost use Rattle.resource_kinds.specs.Paths.{all_segments, kept_segments, rooted};
 
 use crate::paths::{PathText, is_separator, rooted};
@@ -56,7 +56,7 @@ fn begun<'a>(parts: PathText<'a>) -> PathRest<'a>
 
 /// The text from its first name on.
 pub fn skipped<'a>(text: &'a [char]) -> &'a [char]
-    ensures { names_behind text.now ≡ from_name result.now }
+    ensures { names_after text.now ≡ from_name result.now }
 {
     let mut left = text;
     while let Some(rest) = passed(left) {
@@ -67,8 +67,8 @@ pub fn skipped<'a>(text: &'a [char]) -> &'a [char]
 
 // What stands after a first segment that is no name.
 fn passed<'a>(text: &'a [char]) -> Option<&'a [char]>
-    ensures names { MatchOption result (names_behind text.now ≡ from_name text.now)
-        (λ rest. names_behind text.now ≡ names_behind rest.now) }
+    ensures names { MatchOption result (names_after text.now ≡ from_name text.now)
+        (λ rest. names_after text.now ≡ names_after rest.now) }
     ensures shorter { IfSome result (λ rest. length rest.now < length text.now) }
 {
     match text {
@@ -96,8 +96,8 @@ fn next<'a>(path: PathRest<'a>) -> Option<(char, PathRest<'a>)>
 }
 
 fn next_name<'a>(text: &'a [char]) -> Option<(char, PathRest<'a>)>
-    ensures { MatchOption result (names_behind text.now ≡ [])
-        (λ step. names_behind text.now ≡ step.0 ∷ path_left step.1) }
+    ensures { MatchOption result (names_after text.now ≡ [])
+        (λ step. names_after text.now ≡ step.0 ∷ path_left step.1) }
 {
     match skipped(text) {
         [] => None,
@@ -112,7 +112,7 @@ pub fn compare(a: PathRest, b: PathRest) -> PathOrder
     let (mut left, mut right) = (a, b);
     loop {
         match (next(left), next(right)) {
-            (Some((x, rest)), Some((y, behind))) if x == y => (left, right) = (rest, behind),
+            (Some((x, rest)), Some((y, after))) if x == y => (left, right) = (rest, after),
             (None, None) => return PathOrder::Same,
             (None, Some(('/', _))) => return PathOrder::Above,
             (Some(('/', _)), None) => return PathOrder::Below,

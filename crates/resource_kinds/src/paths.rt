@@ -30,7 +30,7 @@ pub fn path_of(alloc: Global, text: &Text) -> Result<Option<String>, AllocError>
         return Ok(None);
     }
     match rooted(chars) {
-        Some(parts) => path_behind(alloc, &parts),
+        Some(parts) => path_after(alloc, &parts),
         None => Ok(None),
     }
 }
@@ -53,7 +53,7 @@ fn has_name(parts: &PathText) -> bool
     parts.drive.is_some() || !skipped(parts.rest).is_empty()
 }
 
-/// The begin of a path text.
+/// The beginning of a path text.
 pub fn rooted<'a>(text: &'a [char]) -> Option<PathText<'a>>
     ensures segments { option_map all_segments result ≡ rooted text.now }
     ensures letter { IfSome result (λ parts. IfSome parts.drive (λ letter. letter ≢ 46)) }
@@ -104,7 +104,7 @@ fn has_parent(rest: &[char]) -> bool
 }
 
 // The path of the names after a root.
-fn path_behind(alloc: Global, parts: &PathText) -> Result<Option<String>, AllocError>
+fn path_after(alloc: Global, parts: &PathText) -> Result<Option<String>, AllocError>
     requires { IfSome parts.now.drive (λ letter. letter ≢ 46) }
     ensures path { IfOk result (λ path. option_map string_bytes path ≡
         option_map joined_path (names_of (all_segments parts.now))) }

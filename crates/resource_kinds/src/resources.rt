@@ -13,7 +13,7 @@ use mof_values::Memory;
 /// The resources of a machine, with the entries of a run.
 pub trait Resources {
     /// The entries so far.
-    ghost kept: { Self → List Entry };
+    ghost trace: { Self → List Entry };
 
     /// For how many more entries capacity is reserved.
     ghost spare: { Self → ℕ };
@@ -29,17 +29,17 @@ pub trait Resources {
 
     /// Reserves capacity for this many more entries.
     fn reserve(&mut self, entries: u32) -> Result<(), Memory>
-        ensures room { OnOk result (entries ≤ spare self.new) }
-        ensures kept { kept self.new ≡ kept self.old }
+        ensures capacity { OnOk result (entries ≤ spare self.new) }
+        ensures trace { trace self.new ≡ trace self.old }
         ensures faults { faults self.new ≡ faults self.old }
         ensures still { still self.old self.new };
 
     /// Tests the resource at that place, and adds its entry.
     fn test(&mut self, document: &Document, place: u32) -> TestAnswer
         requires place { place < length document.now.resources }
-        requires room { 0 < spare self.old }
-        ensures kept { kept self.new ≡ kept self.old ++ Tested place result ∷ [] }
-        ensures room { spare self.old ≤ spare self.new + 1 }
+        requires capacity { 0 < spare self.old }
+        ensures trace { trace self.new ≡ trace self.old ++ Tested place result ∷ [] }
+        ensures capacity { spare self.old ≤ spare self.new + 1 }
         ensures does { does self.old document.now (Tested place result) self.new }
         ensures later { faults self.old ≤ faults self.new }
         ensures cause { RoseBy (entry_failures (Tested place result)) (faults self.old)
@@ -48,9 +48,9 @@ pub trait Resources {
     /// Sets the resource at that place, and adds its entry.
     fn set(&mut self, document: &Document, place: u32) -> SetAnswer
         requires place { place < length document.now.resources }
-        requires room { 0 < spare self.old }
-        ensures kept { kept self.new ≡ kept self.old ++ Set place result ∷ [] }
-        ensures room { spare self.old ≤ spare self.new + 1 }
+        requires capacity { 0 < spare self.old }
+        ensures trace { trace self.new ≡ trace self.old ++ Set place result ∷ [] }
+        ensures capacity { spare self.old ≤ spare self.new + 1 }
         ensures does { does self.old document.now (Set place result) self.new }
         ensures later { faults self.old ≤ faults self.new }
         ensures cause { RoseBy (entry_failures (Set place result)) (faults self.old)
@@ -58,7 +58,7 @@ pub trait Resources {
 
     /// The entries so far.
     fn calls(&self) -> &[Entry]
-        ensures { result.now ≡ kept self.now };
+        ensures { result.now ≡ trace self.now };
 
     ghost stays: { (a : Self) → still a a };
 

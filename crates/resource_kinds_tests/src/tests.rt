@@ -109,7 +109,7 @@ fn a_set_makes_what_is_asked_for_or_tells_why_not(rt: HostRuntime) -> Result<(),
     Ok(())
 }
 
-// The word, and so many pieces with this between.
+// The word, and that many pieces with this between.
 fn sized(rt: &impl AllocGlobal, word: &str, between: char, count: usize) -> Result<String, Fail> {
     let mut made = format!(in rt.alloc(); "{word} p")?;
     push_pieces(&mut made, between, count)?;

@@ -27,7 +27,7 @@ use Rattle.serve_words.proofs.Entries.{rows_of}
 
 -- what is left to fail, and where the walk ends
 abbrev outcome : Walk → List Text → Kinds × Walk
-outcome w words = (remains w words, fold (walked built.rules []) w words)
+outcome w arguments = (remains w arguments, fold (walked built.rules []) w arguments)
 
 abbrev after_walk : Held → Kinds
 after_walk end =

@@ -100,13 +100,13 @@ stays_without o word es fs place next is_over q (given p v gs e adds takes) hold
 )
 stays_without o word es fs place next is_over q (valued p e plain) holds = (holds.0, subst (Away o) e holds.1)
 
-without_option : (o : Which) (words : List Text) → All (Unnamed o) words → fault_of serve_app words ≢ []
-without_option o words all e =
-    let end = ends_with (Without o) (Unnamed o) (stays_without o) words all [] closed 1 false (tt, tt) (sym (fault_is words) ∙ e) in
-    (found_at_end (Other o) (Without o) words end end.keeps.0 (λ p v at takes. subst (Away o) at end.keeps.1) o).2 refl
+without_option : (o : Which) (arguments : List Text) → All (Unnamed o) arguments → fault_of serve_app arguments ≢ []
+without_option o arguments all e =
+    let end = ends_with (Without o) (Unnamed o) (stays_without o) arguments all [] closed 1 false (tt, tt) (sym (fault_is arguments) ∙ e) in
+    (found_at_end (Other o) (Without o) arguments end end.keeps.0 (λ p v at takes. subst (Away o) at end.keeps.1) o).2 refl
 
-pub without_an_option : (n : Text) (words : List Text) → IsOption n → All (λ word. Names n word → ⊥) words → fault_of serve_app words ≢ []
-without_an_option n words (inl is) all = without_option store words (subst (λ (m : Text). All (λ word. Names m word → ⊥) words) is all)
-without_an_option n words (inr (inl is)) all = without_option shelf words (subst (λ (m : Text). All (λ word. Names m word → ⊥) words) is all)
-without_an_option n words (inr (inr (inl is))) all = without_option listen words (subst (λ (m : Text). All (λ word. Names m word → ⊥) words) is all)
-without_an_option n words (inr (inr (inr is))) all = without_option connections words (subst (λ (m : Text). All (λ word. Names m word → ⊥) words) is all)
+pub without_an_option : (n : Text) (arguments : List Text) → IsOption n → All (λ word. Names n word → ⊥) arguments → fault_of serve_app arguments ≢ []
+without_an_option n arguments (inl is) all = without_option store arguments (subst (λ (m : Text). All (λ word. Names m word → ⊥) arguments) is all)
+without_an_option n arguments (inr (inl is)) all = without_option shelf arguments (subst (λ (m : Text). All (λ word. Names m word → ⊥) arguments) is all)
+without_an_option n arguments (inr (inr (inl is))) all = without_option listen arguments (subst (λ (m : Text). All (λ word. Names m word → ⊥) arguments) is all)
+without_an_option n arguments (inr (inr (inr is))) all = without_option connections arguments (subst (λ (m : Text). All (λ word. Names m word → ⊥) arguments) is all)

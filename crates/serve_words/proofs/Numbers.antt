@@ -40,44 +40,44 @@ spelled t takes =
 -- ---- from a place on
 
 -- an option that waits past `--` is a fault
-stuck : (o : Which) (words : List Text) (es : List Entry) (position : ℕ) → remains (state (rows_of es) (opened o) position true) words ≡ [] → ⊥
+stuck : (o : Which) (arguments : List Text) (es : List Entry) (position : ℕ) → remains (state (rows_of es) (opened o) position true) arguments ≡ [] → ⊥
 unfolding walk_fault
 stuck o [] es position h = (settles (opened o) es (first_empty _ _ h).0).2
-stuck o (word ∷ words) es position h =
-    no_turn (rows_of es) position word (opened o) (remains_after (state (rows_of es) (opened o) position true) word words h).0
+stuck o (word ∷ arguments) es position h =
+    no_turn (rows_of es) position word (opened o) (remains_after (state (rows_of es) (opened o) position true) word arguments h).0
 
 -- a value that waits is one that its parser takes
-full_taken : (o : Which) (v : Text) (words : List Text) (es : List Entry) (position : ℕ) (is_over : Bool)
-    → remains (state (rows_of es) (full o v) position is_over) words ≡ [] → Takes (o, v)
+full_taken : (o : Which) (v : Text) (arguments : List Text) (es : List Entry) (position : ℕ) (is_over : Bool)
+    → remains (state (rows_of es) (full o v) position is_over) arguments ≡ [] → Takes (o, v)
 unfolding walk_fault
 full_taken o v [] es position is_over h = (settles (full o v) es (first_empty _ _ h).0).2.1
-full_taken o v (word ∷ words) es position is_over h =
-    let on = goes word words es (full o v) position is_over h in
-    go on.stepped.fs on.stepped.next on.stepped.is_over on.stepped.step on.remains (full_taken o v words es position true)
+full_taken o v (word ∷ arguments) es position is_over h =
+    let on = goes word arguments es (full o v) position is_over h in
+    go on.stepped.fs on.stepped.next on.stepped.is_over on.stepped.step on.remains (full_taken o v arguments es position true)
   where
     go : (fs : List Entry) (next : Place) (over : Bool) → Step word es (full o v) fs next over
-        → remains (state (rows_of fs) next position over) words ≡ []
-        → (remains (state (rows_of es) (full o v) position true) words ≡ [] → Takes (o, v)) → Takes (o, v)
+        → remains (state (rows_of fs) next position over) arguments ≡ []
+        → (remains (state (rows_of es) (full o v) position true) arguments ≡ [] → Takes (o, v)) → Takes (o, v)
     go fs next over (ended e) left rec = rec left
     go fs next over (named p gs e adds) left rec = adds.1
     go fs next over (given p w gs e adds takes) left rec = adds.1
     go fs next over (valued p e plain) left rec = cc
 
 -- and so is the argument after the name of an option
-opened_taken : (o : Which) (text : Text) (words : List Text) (es : List Entry) (position : ℕ) (is_over : Bool)
-    → remains (state (rows_of es) (opened o) position is_over) (text ∷ words) ≡ [] → Takes (o, text)
-opened_taken o text words es position is_over h =
-    let on = goes text words es (opened o) position is_over h in
+opened_taken : (o : Which) (text : Text) (arguments : List Text) (es : List Entry) (position : ℕ) (is_over : Bool)
+    → remains (state (rows_of es) (opened o) position is_over) (text ∷ arguments) ≡ [] → Takes (o, text)
+opened_taken o text arguments es position is_over h =
+    let on = goes text arguments es (opened o) position is_over h in
     go on.stepped.fs on.stepped.next on.stepped.is_over on.stepped.step on.remains
   where
     go : (fs : List Entry) (next : Place) (over : Bool) → Step text es (opened o) fs next over
-        → remains (state (rows_of fs) next position over) words ≡ [] → Takes (o, text)
-    go fs next over (ended e) left = absurd (stuck o words es position left)
+        → remains (state (rows_of fs) next position over) arguments ≡ [] → Takes (o, text)
+    go fs next over (ended e) left = absurd (stuck o arguments es position left)
     go fs next over (named p gs e adds) left = absurd adds
     go fs next over (given p w gs e adds takes) left = absurd adds
     go fs next over (valued p e plain) left =
         let same : p ≡ o = cc in
-        subst (λ (q : Which). Takes (q, text)) same (full_taken p text words es position false left)
+        subst (λ (q : Which). Takes (q, text)) same (full_taken p text arguments es position false left)
 
 -- ---- from the first argument on
 

@@ -58,13 +58,13 @@ shape = record (new_shape (codes "serve")) { rules = rules; no_binary_name = tru
 
 -- what is left to fail from here on
 abbrev pub remains : Walk → List Text → Kinds
-remains w words =
-    let end = (fold (walked rules []) w words).held in
-    or_else (walk_fault shape [] w words) (or_else (settle_fault rules false end)
+remains w arguments =
+    let end = (fold (walked rules []) w arguments).held in
+    or_else (walk_fault shape [] w arguments) (or_else (settle_fault rules false end)
     (or_else (defaults_fault (settled rules end).rows rules) (check_fault shape (finished rules end) false)))
 
-pub fault_is : (words : List Text) → fault_of serve_app words ≡ remains (walk_from nothing_held) words
-fault_is words = leaf_fault (built serve_app) nothing_held words refl
+pub fault_is : (arguments : List Text) → fault_of serve_app arguments ≡ remains (walk_from nothing_held) arguments
+fault_is arguments = leaf_fault (built serve_app) nothing_held arguments refl
 
 -- two options of one name are one
 pub same_option : (a b : Which) → bytes_eq (name a) (name b) ≡ true → a ≡ b

@@ -16,15 +16,15 @@ read_whole : (t : Text) → starts_with_minus t ≡ false → without_minus t �
 read_whole [] minus = refl
 read_whole (x ∷ xs) minus = ap (λ (b : Bool). unwrap_or (if b then Some xs else None) (x ∷ xs)) minus
 
-module _ (words : List Text) (rows : List Row) (same : rows ≡ matches_of serve_app words) (whole : fault_of serve_app words ≡ []) where
+module _ (arguments : List Text) (rows : List Row) (same : rows ≡ matches_of serve_app arguments) (whole : fault_of serve_app arguments ≡ []) where
   pub has_text : (o : Which) → HasText (name o) rows
   has_text o =
-      let got = taken words whole o in
+      let got = taken arguments whole o in
       (got.0, ap (option_and_then (λ r. slice_get r.values 0)) (ap (find (λ r. bytes_eq r.id (name o))) same ∙ got.1))
 
   pub has_count : (count : ℕ) × HasCount rows count
   has_count =
-      let got = taken words whole connections in
+      let got = taken arguments whole connections in
       let found = ap (find (λ r. bytes_eq r.id (name connections))) same ∙ got.1 in (
         _,
         (
@@ -35,10 +35,10 @@ module _ (words : List Text) (rows : List Row) (same : rows ≡ matches_of serve
         ),
       )
 
-pub value_is : (id : Text) (words : List Text) (rows : List Row) (v : Text) → rows ≡ matches_of serve_app words → first_of id rows ≡ Some v
-    → value_of id words ≡ Some v
+pub value_is : (id : Text) (arguments : List Text) (rows : List Row) (v : Text) → rows ≡ matches_of serve_app arguments → first_of id rows ≡ Some v
+    → value_of id arguments ≡ Some v
 unfolding value_of
-value_is id words rows v same is = ap (first_of id) (sym same) ∙ is
+value_is id arguments rows v same is = ap (first_of id) (sym same) ∙ is
 
 -- `u32` reads the number that the text spells
 pub reads_count : (E : Type 0) (G : Text → Result ℕ E → Type 0) (t : Text) (r : Option ℕ) (count : ℕ) → ReadsOne G t r

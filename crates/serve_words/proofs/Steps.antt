@@ -58,48 +58,48 @@ module _ (word : Text) (es : List Entry) (place : Place) (position : ℕ) where
 -- ---- many arguments
 
 -- nothing is left to fail after the first argument, if nothing was before it
-pub remains_after : (w : Walk) (word : Text) (words : List Text) → remains w (word ∷ words) ≡ []
-    → (turn_fault shape [] w word ≡ []) × (remains (walked rules [] w word) words ≡ [])
+pub remains_after : (w : Walk) (word : Text) (arguments : List Text) → remains w (word ∷ arguments) ≡ []
+    → (turn_fault shape [] w word ≡ []) × (remains (walked rules [] w word) arguments ≡ [])
 unfolding walk_fault
-remains_after w word words h =
+remains_after w word arguments h =
     let parts = first_empty _ _ h in
     let walk = first_empty _ _ parts.0 in
-    (walk.0, ap (λ (k : Kinds). or_else k (rest words (walked rules [] w word))) walk.1 ∙ parts.1)
+    (walk.0, ap (λ (k : Kinds). or_else k (rest arguments (walked rules [] w word))) walk.1 ∙ parts.1)
   where
     rest : List Text → Walk → Kinds
-    rest words w =
-        let end = (fold (walked rules []) w words).held in
+    rest arguments w =
+        let end = (fold (walked rules []) w arguments).held in
         or_else (settle_fault rules false end)
         (or_else (defaults_fault (settled rules end).rows rules) (check_fault shape (finished rules end) false))
 
 -- one argument more, from a place where nothing is left to fail
-pub record Goes (word : Text) (words : List Text) (es : List Entry) (place : Place) (position : ℕ) : Type 0 where
+pub record Goes (word : Text) (arguments : List Text) (es : List Entry) (place : Place) (position : ℕ) : Type 0 where
   pub stepped : Stepped word es place position
-  pub remains : remains (state (rows_of stepped.fs) stepped.next position stepped.is_over) words ≡ []
+  pub remains : remains (state (rows_of stepped.fs) stepped.next position stepped.is_over) arguments ≡ []
 
-pub goes : (word : Text) (words : List Text) (es : List Entry) (place : Place) (position : ℕ) (is_over : Bool)
-    → remains (state (rows_of es) place position is_over) (word ∷ words) ≡ [] → Goes word words es place position
-goes word words es place position true h =
-    absurd (no_turn (rows_of es) position word place (remains_after (state (rows_of es) place position true) word words h).0)
-goes word words es place position false h =
-    let now = remains_after (state (rows_of es) place position false) word words h in
+pub goes : (word : Text) (arguments : List Text) (es : List Entry) (place : Place) (position : ℕ) (is_over : Bool)
+    → remains (state (rows_of es) place position is_over) (word ∷ arguments) ≡ [] → Goes word arguments es place position
+goes word arguments es place position true h =
+    absurd (no_turn (rows_of es) position word place (remains_after (state (rows_of es) place position true) word arguments h).0)
+goes word arguments es place position false h =
+    let now = remains_after (state (rows_of es) place position false) word arguments h in
     let step = stepped word es place position now.0 in
-    record { stepped = step; remains = subst (λ (w : Walk). remains w words ≡ []) step.walks now.1 }
+    record { stepped = step; remains = subst (λ (w : Walk). remains w arguments ≡ []) step.walks now.1 }
 
 -- where a walk that ends without a fault stands
-pub record Ends (P : List Entry → Place → Type 0) (words : List Text) (w : Walk) : Type 0 where
+pub record Ends (P : List Entry → Place → Type 0) (arguments : List Text) (w : Walk) : Type 0 where
   pub es : List Entry
   pub place : Place
   pub keeps : P es place
-  pub held : (fold (walked rules []) w words).held ≡ held_at (rows_of es) place
+  pub held : (fold (walked rules []) w arguments).held ≡ held_at (rows_of es) place
   pub settles : settle_fault rules false (held_at (rows_of es) place) ≡ []
   pub checks : check_fault shape (finished rules (held_at (rows_of es) place)) false ≡ []
 
 -- what each step keeps holds at the end
 pub ends_with : (P : List Entry → Place → Type 0) (Q : Text → Type 0)
     → ((word : Text) (es fs : List Entry) (place next : Place) (is_over : Bool) → Q word → Step word es place fs next is_over → P es place → P fs next)
-    → (words : List Text) → All Q words → (es : List Entry) (place : Place) (position : ℕ) (is_over : Bool) → P es place
-    → remains (state (rows_of es) place position is_over) words ≡ [] → Ends P words (state (rows_of es) place position is_over)
+    → (arguments : List Text) → All Q arguments → (es : List Entry) (place : Place) (position : ℕ) (is_over : Bool) → P es place
+    → remains (state (rows_of es) place position is_over) arguments ≡ [] → Ends P arguments (state (rows_of es) place position is_over)
 unfolding walk_fault
 ends_with P Q keep [] all es place position is_over holds h =
     let parts = first_empty _ _ h in
@@ -111,18 +111,18 @@ ends_with P Q keep [] all es place position is_over holds h =
       settles = parts.0;
       checks = (first_empty _ _ parts.1).1;
     }
-ends_with P Q keep (word ∷ words) all es place position true holds h =
-    absurd (no_turn (rows_of es) position word place (remains_after (state (rows_of es) place position true) word words h).0)
-ends_with P Q keep (word ∷ words) all es place position false holds h =
-    let on = goes word words es place position false h in
+ends_with P Q keep (word ∷ arguments) all es place position true holds h =
+    absurd (no_turn (rows_of es) position word place (remains_after (state (rows_of es) place position true) word arguments h).0)
+ends_with P Q keep (word ∷ arguments) all es place position false holds h =
+    let on = goes word arguments es place position false h in
     let s = on.stepped in
-    let rest = ends_with P Q keep words (λ k d lt. all (suc k) d (omega arith)) s.fs s.next position s.is_over
+    let rest = ends_with P Q keep arguments (λ k d lt. all (suc k) d (omega arith)) s.fs s.next position s.is_over
     (keep word es s.fs place s.next s.is_over (all 0 word (omega arith)) s.step holds) on.remains in
     record {
       es = rest.es;
       place = rest.place;
       keeps = rest.keeps;
-      held = ap (λ (w : Walk). (fold (walked rules []) w words).held) s.walks ∙ rest.held;
+      held = ap (λ (w : Walk). (fold (walked rules []) w arguments).held) s.walks ∙ rest.held;
       settles = rest.settles;
       checks = rest.checks;
     }

@@ -11,13 +11,13 @@ use Rattle.serve_words.proofs.Entries.{Each, Entry, Takes, each_adds, each_given
 use Rattle.serve_words.proofs.Steps.{Ends, Step, ended, ends_with, given, named, valued}
 
 -- the value that a parse found of an option, with what holds of each entry
-pub found_at_end : (P : Entry → Type 0) (Q : List Entry → Place → Type 0) (words : List Text) (end : Ends Q words (walk_from nothing_held))
+pub found_at_end : (P : Entry → Type 0) (Q : List Entry → Place → Type 0) (arguments : List Text) (end : Ends Q arguments (walk_from nothing_held))
     → Each P end.es → ((o : Which) (v : Text) → end.place ≡ full o v → Takes (o, v) → P (o, v)) → (o : Which)
-    → (v : Text) × (find (λ r. bytes_eq r.id (name o)) (matches_of serve_app words) ≡ Some (row (o, v))) × P (o, v)
-found_at_end P Q words end each new o =
+    → (v : Text) × (find (λ r. bytes_eq r.id (name o)) (matches_of serve_app arguments) ≡ Some (row (o, v))) × P (o, v)
+found_at_end P Q arguments end each new o =
     let now = settles end.place end.es end.settles in
     let same = finished_is (held_at (rows_of end.es) end.place) ∙ now.1 in
-    let rows : matches_of serve_app words ≡ rows_of now.0 = ap (finished rules) end.held ∙ same in
+    let rows : matches_of serve_app arguments ≡ rows_of now.0 = ap (finished rules) end.held ∙ same in
     let checks : check_fault shape (rows_of now.0) false ≡ [] = subst (λ (r : List Row). check_fault shape r false ≡ []) same end.checks in
     let got = entry_of P o now.0 (each_adds P end.place end.es now.0 now.2 each new) (each_given (rows_of now.0) checks o) in
     (got.0, ap (find (λ r. bytes_eq r.id (name o))) rows ∙ got.1, got.2)
@@ -30,8 +30,8 @@ each_taken word es fs place next is_over q (given o v gs e adds takes) all =
     each_push Takes gs (o, v) (each_adds Takes place es gs adds all (λ p w at t. t)) takes
 each_taken word es fs place next is_over q (valued o e plain) all = all
 
-pub taken : (words : List Text) → fault_of serve_app words ≡ [] → (o : Which)
-    → (v : Text) × (find (λ r. bytes_eq r.id (name o)) (matches_of serve_app words) ≡ Some (row (o, v))) × Takes (o, v)
-taken words e o =
-    let end = ends_with (λ es place. Each Takes es) (λ word. Unit {0}) each_taken words (λ k d lt. tt) [] closed 1 false tt (sym (fault_is words) ∙ e) in
-    found_at_end Takes (λ es place. Each Takes es) words end end.keeps (λ p v at takes. takes) o
+pub taken : (arguments : List Text) → fault_of serve_app arguments ≡ [] → (o : Which)
+    → (v : Text) × (find (λ r. bytes_eq r.id (name o)) (matches_of serve_app arguments) ≡ Some (row (o, v))) × Takes (o, v)
+taken arguments e o =
+    let end = ends_with (λ es place. Each Takes es) (λ word. Unit {0}) each_taken arguments (λ k d lt. tt) [] closed 1 false tt (sym (fault_is arguments) ∙ e) in
+    found_at_end Takes (λ es place. Each Takes es) arguments end end.keeps (λ p v at takes. takes) o

@@ -12,12 +12,12 @@ eight_words store shelf listen connections =
     codes "--store" ∷ store ∷ codes "--shelf" ∷ shelf ∷ codes "--listen" ∷ listen ∷ codes "--connections" ∷ connections ∷ []
 
 -- the arguments are taken and give these values
-pub record Give (words : List (List ℕ)) (store shelf listen : List ℕ) (connections : ℕ) : Type 0 where
-  pub taken : fault_of serve_app words ≡ []
-  pub store_is : value_of (codes "store") words ≡ Some store
-  pub shelf_is : value_of (codes "shelf") words ≡ Some shelf
-  pub listen_is : value_of (codes "listen") words ≡ Some listen
-  pub connections_is : (text : List ℕ) × (value_of (codes "connections") words ≡ Some text) × SpellsCount text connections
+pub record Give (arguments : List (List ℕ)) (store shelf listen : List ℕ) (connections : ℕ) : Type 0 where
+  pub taken : fault_of serve_app arguments ≡ []
+  pub store_is : value_of (codes "store") arguments ≡ Some store
+  pub shelf_is : value_of (codes "shelf") arguments ≡ Some shelf
+  pub listen_is : value_of (codes "listen") arguments ≡ Some listen
+  pub connections_is : (text : List ℕ) × (value_of (codes "connections") arguments ≡ Some text) × SpellsCount text connections
 
 -- not empty, and not begun by a hyphen (45)
 abbrev pub IsPlain : List ℕ → Type 0
@@ -39,8 +39,8 @@ Names name word = (word ≡ codes "--" ++ name) ⊎ ((value : List ℕ) × (word
 
 abbrev pub WordsThatLackAnOptionAreRefused : Type 0
 WordsThatLackAnOptionAreRefused =
-    (name : List ℕ) (words : List (List ℕ)) → IsOption name → All (λ word. Names name word → ⊥) words
-    → fault_of serve_app words ≢ []
+    (name : List ℕ) (arguments : List (List ℕ)) → IsOption name → All (λ word. Names name word → ⊥) arguments
+    → fault_of serve_app arguments ≢ []
 
 -- ---- a number out of range
 

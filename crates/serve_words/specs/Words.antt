@@ -37,15 +37,15 @@ pub record SpellsCount (text : List ℕ) (count : ℕ) : Type 0 where
 
 -- the first value of the option with this name in the arguments
 unfoldable pub value_of : List ℕ → List (List ℕ) → Option (List ℕ)
-value_of name words = first_of name (matches_of serve_app words)
+value_of name arguments = first_of name (matches_of serve_app arguments)
 
 -- the arguments, each in UTF-8, are taken, and these are their values
-pub record AreValues (words : List (List ℕ)) (values : ServeWords) : Type 0 where
-  pub taken : fault_of serve_app words ≡ []
-  pub store : value_of (codes "store") words ≡ Some (encode_utf8_all values.store)
-  pub shelf : value_of (codes "shelf") words ≡ Some (encode_utf8_all values.shelf)
-  pub listen : value_of (codes "listen") words ≡ Some (encode_utf8_all values.listen)
-  pub connections : (text : List ℕ) × (value_of (codes "connections") words ≡ Some text) × SpellsCount text values.connections
+pub record AreValues (arguments : List (List ℕ)) (values : ServeWords) : Type 0 where
+  pub taken : fault_of serve_app arguments ≡ []
+  pub store : value_of (codes "store") arguments ≡ Some (encode_utf8_all values.store)
+  pub shelf : value_of (codes "shelf") arguments ≡ Some (encode_utf8_all values.shelf)
+  pub listen : value_of (codes "listen") arguments ≡ Some (encode_utf8_all values.listen)
+  pub connections : (text : List ℕ) × (value_of (codes "connections") arguments ≡ Some text) × SpellsCount text values.connections
 
 -- ---- what a parse found
 

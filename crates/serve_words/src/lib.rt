@@ -7,8 +7,8 @@
 //!
 //! Where a thing is:
 //! - the command line of the pull server: the command and its values `specs/Words.antt`, `src/command.rt`,
-//!   `src/words.rt`, `src/values.rt`; which words are taken and which are refused `specs/Laws.antt`, over one word of a
-//!   walk without faults, `proofs/Turns.antt`, and all of them, `proofs/Steps.antt`
+//!   `src/words.rt`, `src/values.rt`; which arguments are taken and which are refused `specs/Laws.antt`, over one
+//!   argument of a walk without faults, `proofs/Turns.antt`, and all of them, `proofs/Steps.antt`
 #![tactic(auto)]
 
 mod command;

@@ -49,12 +49,12 @@ impl From<AllocError> for WordsError {
 
 /// The values of `--store FILE --shelf FOLDER --listen ADDRESS --connections N`; a value may stand after `=` too, and the
 /// options in any order.
-pub fn serve_words(alloc: Global, words: &[String]) -> Result<ServeWords, WordsError>
+pub fn serve_words(alloc: Global, arguments: &[String]) -> Result<ServeWords, WordsError>
     ensures usage { IsErrOf result WordsError.Usage
-        → fault_of serve_app (map string_bytes words.now) ≢ [] }
-    ensures taken { IfOk result (λ values. AreValues (map string_bytes words.now) values) }
+        → fault_of serve_app (map string_bytes arguments.now) ≢ [] }
+    ensures taken { IfOk result (λ values. AreValues (map string_bytes arguments.now) values) }
 {
-    let matches = parse(alloc, words)?;
+    let matches = parse(alloc, arguments)?;
     Ok(ServeWords {
         store: text_of(alloc, &matches, "store")?,
         shelf: text_of(alloc, &matches, "shelf")?,
@@ -63,15 +63,15 @@ pub fn serve_words(alloc: Global, words: &[String]) -> Result<ServeWords, WordsE
     })
 }
 
-fn parse<'a>(alloc: Global, words: &'a [String]) -> Result<ArgMatches<'a>, WordsError>
+fn parse<'a>(alloc: Global, arguments: &'a [String]) -> Result<ArgMatches<'a>, WordsError>
     ensures usage { IsErrOf result WordsError.Usage
-        → fault_of serve_app (map string_bytes words.now) ≢ [] }
-    ensures taken { IfOk result (λ _. fault_of serve_app (map string_bytes words.now) ≡ []) }
+        → fault_of serve_app (map string_bytes arguments.now) ≢ [] }
+    ensures taken { IfOk result (λ _. fault_of serve_app (map string_bytes arguments.now) ≡ []) }
     ensures rows { IfOk result (λ matches. rows_of (found_of matches)
-        ≡ matches_of serve_app (map string_bytes words.now)) }
+        ≡ matches_of serve_app (map string_bytes arguments.now)) }
 {
     let command = command(alloc)?;
-    match command.try_get_matches_from(words) {
+    match command.try_get_matches_from(arguments) {
         Ok(matches) => Ok(matches),
         Err(error) => {
             if error.kind() == ErrorKind::OutOfMemory {

@@ -71,9 +71,9 @@ fn is_equal(signature: &[u8; 44], given: &[u8]) -> bool
     }
     let (mut left, mut right) = (signature.as_slice(), given);
     let mut difference = 0;
-    while let ([a, rest @ ..], [b, behind @ ..]) = (left, right) {
+    while let ([a, rest @ ..], [b, after @ ..]) = (left, right) {
         difference |= *a ^ *b;
-        (left, right) = (rest, behind);
+        (left, right) = (rest, after);
     }
     difference == 0
 }

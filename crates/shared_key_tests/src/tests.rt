@@ -92,7 +92,7 @@ fn codes_are_those_of_the_standard(rt: HostRuntime) -> Result<(), Fail> {
     Ok(())
 }
 
-// A size, and the signature under a key of so many letters `a` of a body that is the same. Python's `hmac`, `hashlib`
+// A size, and the signature under a key of that many letters `a` of a body that is the same. Python's `hmac`, `hashlib`
 // and `base64` made them.
 fn signatures() -> &'static [(usize, &'static str)] {
     &[

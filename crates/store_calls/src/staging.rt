@@ -14,7 +14,7 @@ use std::time::Clock;
 // The agent of a new node.
 const AGENT: u128 = 16;
 
-// A document of so many bytes, at least 44: a header and a comment.
+// A document of that many bytes, at least 44: a header and a comment.
 fn document(alloc: Global, size: u32) -> Result<Vec<u8>, AllocError> {
     let mut bytes = b"instance of OMI_ConfigurationDocument{};/*".to_vec(alloc)?;
     bytes.resize((size as usize).saturating_sub(2), b'x')?;
@@ -30,7 +30,7 @@ fn parts(alloc: Global, size: u32) -> Result<Vec<Part>, AllocError> {
     Ok(parts)
 }
 
-// The event that stages a document of so many bytes.
+// The event that stages a document of that many bytes.
 fn stage_of(alloc: Global, size: u32) -> Result<Event, StoreError>
     ensures { IfOk result IsWithin }
 {
@@ -45,7 +45,7 @@ fn stage_of(alloc: Global, size: u32) -> Result<Event, StoreError>
     }
 }
 
-/// Commits so many of them, and gives the microseconds that the fastest commit took.
+/// Commits that many of them, and gives the microseconds that the fastest commit took.
 pub fn stage_all<D: Disk, R: Clock>(
     rt: &R,
     alloc: Global,

@@ -14,14 +14,14 @@ both a b before mid after (Ok u) one other =
       front = (a ++ b, all);
       len = omega (arith, one.len, other.len, length-append a b);
       capacity = omega (arith, one.capacity, other.capacity);
-      succeeds = λ room. refl;
+      succeeds = λ capacity. refl;
     }
 both a b before mid after (Err e) one other = record {
   items = tt;
   front = (a ++ other.front.0, other.front.1 ∙ ap (λ (l : List ℕ). l ++ other.front.0) one.items ∙ append_assoc before.items a other.front.0);
   len = tt;
   capacity = omega (arith, one.capacity, other.capacity);
-  succeeds = λ room. other.succeeds (omega (arith, room, one.len, one.capacity, length-append a b));
+  succeeds = λ capacity. other.succeeds (omega (arith, capacity, one.len, one.capacity, length-append a b));
 }
 
 -- what failed is the front of what is to be written
@@ -31,7 +31,7 @@ cut a more before after e f one = record {
   front = one.front;
   len = tt;
   capacity = one.capacity;
-  succeeds = λ room. one.succeeds (omega (arith, room, length-append a more));
+  succeeds = λ capacity. one.succeeds (omega (arith, capacity, length-append a more));
 }
 
 -- nothing to write
@@ -41,7 +41,7 @@ nothing before = record {
   front = ([], sym (append-nil before.items));
   len = omega arith;
   capacity = omega arith;
-  succeeds = λ room. refl;
+  succeeds = λ capacity. refl;
 }
 
 -- what was written of the whole, and what is left of it

@@ -50,9 +50,9 @@ long_unique n m r s small less e =
     let low = number_unique w64 wide64 nl ml r s n_low m_low high.1 in
     (n_is ∙ ap₂ (λ (h l : ℕ). h * 18446744073709551616 + l) high.0 low.0 ∙ sym m_is, low.1)
 
-pub long_read : (before behind after : List ℕ) (high low : ℕ) → Reads (bytes_of_number w64) (IsNumber w64) before behind (Ok high) → Reads (bytes_of_number w64) (IsNumber w64) behind after (Ok low)
+pub long_read : (before rest after : List ℕ) (high low : ℕ) → Reads (bytes_of_number w64) (IsNumber w64) before rest (Ok high) → Reads (bytes_of_number w64) (IsNumber w64) rest after (Ok low)
     → Reads (bytes_of_number w128) (IsNumber w128) before after (Ok (high * 18446744073709551616 + low))
-long_read before behind after high low one other =
+long_read before rest after high low one other =
     let h : high < 2 ^ 64 = one.found.0 in
     let l : low < 2 ^ 64 = other.found.0 in
     taken (bytes_of_number w128) (IsNumber w128) before after _ long_unique (omega arith)
@@ -75,9 +75,9 @@ long_missing before after end high =
     let both = halves before rest n small is in
     (both.0, (_, (both.1.1.0, both.1.1.1.1))))
 
-pub long_missing_low : (before behind after end : List ℕ) (high : ℕ) → Reads (bytes_of_number w64) (IsNumber w64) before behind (Ok high) → Reads (bytes_of_number w64) (IsNumber w64) behind end (Err Wrong)
+pub long_missing_low : (before remaining after end : List ℕ) (high : ℕ) → Reads (bytes_of_number w64) (IsNumber w64) before remaining (Ok high) → Reads (bytes_of_number w64) (IsNumber w64) remaining end (Err Wrong)
     → Reads (bytes_of_number w128) (IsNumber w128) before after (Err Wrong)
-long_missing_low before behind after end high one low =
-    refused (bytes_of_number w128) (IsNumber w128) (bytes_of_number w64) (IsNumber w64) before after behind end Wrong low (λ n rest small is.
+long_missing_low before remaining after end high one low =
+    refused (bytes_of_number w128) (IsNumber w128) (bytes_of_number w64) (IsNumber w64) before after remaining end Wrong low (λ n rest small is.
     let both = halves before rest n small is in
     (both.1.0, (rest, (both.1.1.1.0, (one.only both.0 _ both.1.1.0 both.1.1.1.1).1))))

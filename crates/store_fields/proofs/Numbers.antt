@@ -25,8 +25,8 @@ IsBytes-take n bytes h i =
     length-take-most (suc n) (x ∷ l) = omega (arith, length-take-most n l)
 
 -- what stands after a front of that length
-pub behind : (p q r s : List ℕ) → length p ≡ length q → p ++ r ≡ q ++ s → (p ≡ q) × (r ≡ s)
-behind p q r s len e = (
+pub same_halves : (p q r s : List ℕ) → length p ≡ length q → p ++ r ≡ q ++ s → (p ≡ q) × (r ≡ s)
+same_halves p q r s len e = (
   sym (take_at p r (length p) refl) ∙ ap (take (length p)) e ∙ take_at q s (length p) (sym len),
   sym (drop_at p r (length p) refl) ∙ ap (drop (length p)) e ∙ drop_at q s (length p) (sym len),
 )
@@ -65,7 +65,7 @@ wide64 = record {
 pub number_unique : (w : Width) → IsWide w → (n m : ℕ) (r s : List ℕ) → IsNumber w n → IsNumber w m → bytes_of_number w n ++ r ≡ bytes_of_number w m ++ s → (n ≡ m) × (r ≡ s)
 unfolding bytes_of_number
 number_unique w wide n m r s small less e =
-    let both = behind (to_be_bytes w n) (to_be_bytes w m) r s (wide.len n ∙ sym (wide.len m)) e in
+    let both = same_halves (to_be_bytes w n) (to_be_bytes w m) r s (wide.len n ∙ sym (wide.len m)) e in
     (sym (wide.again n small) ∙ ap (from_be_bytes w) both.0 ∙ wide.again m less, both.1)
 
 spelling : (w : Width) (n : ℕ) (front part : List ℕ) → n ≡ from_be_bytes w part → to_be_bytes w (from_be_bytes w part) ≡ part → bytes_of_number w n ≡ part
@@ -96,7 +96,7 @@ number_missing w wide before after short = record {
 -- ---- digests
 
 pub digest_unique : (x y r s : List ℕ) → IsDigest x → IsDigest y → bytes_of_digest x ++ r ≡ bytes_of_digest y ++ s → (x ≡ y) × (r ≡ s)
-digest_unique x y r s one other e = behind x y r s (one ∙ sym other) e
+digest_unique x y r s one other e = same_halves x y r s (one ∙ sym other) e
 
 pub digest_read : (before front after : List ℕ) → 32 ≤ length before → front ≡ take 32 before → after ≡ drop 32 before → Reads bytes_of_digest IsDigest before after (Ok front)
 digest_read before front after long is rest =

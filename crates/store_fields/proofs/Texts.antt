@@ -13,7 +13,7 @@ use Rattle.store_fields.specs.declared.error.FieldError.TheVariants.{Wrong, Memo
 use Rattle.store_fields.specs.Fields.{bytes_of_number, bytes_of_byte, bytes_of_flag, bytes_of_text, bytes_of_blob, IsNumber, IsByte, IsFlag, IsText, IsBlob}
 use Rattle.store_fields.specs.Reading.{Reads, IsUnique}
 use Rattle.store_fields.specs.declared.limits.TheConstants.{MAX_TEXT}
-use Rattle.store_fields.proofs.Numbers.{behind as behind_front, wide16, wide32, wide64, number_unique}
+use Rattle.store_fields.proofs.Numbers.{same_halves as after_front, wide16, wide32, wide64, number_unique}
 use Rattle.store_fields.proofs.Composing.{taken, wrong, refused, out_of_memory}
 
 pub byte_unique : IsUnique bytes_of_byte IsByte
@@ -36,34 +36,34 @@ flag_missing before after end e reads = refused bytes_of_flag IsFlag bytes_of_by
 pub blob_unique : IsUnique bytes_of_blob IsBlob
 blob_unique x y r s small less e =
     let long = number_unique w32 wide32 (length x) (length y) (x ++ r) (y ++ s) small less (sym (append_assoc (bytes_of_number w32 (length x)) x r) ∙ e ∙ append_assoc (bytes_of_number w32 (length y)) y s) in
-    behind_front x y r s long.0 long.1
+    after_front x y r s long.0 long.1
 
 pub text_unique : (limit : ℕ) → limit ≤ MAX_TEXT → IsUnique bytes_of_text (IsText limit)
 text_unique limit most x y r s range other e =
     let a = encode_utf8_all x in
     let b = encode_utf8_all y in
     let long = number_unique w16 wide16 (length a) (length b) (a ++ r) (b ++ s) (omega (arith, range.fits)) (omega (arith, other.fits)) (sym (append_assoc (bytes_of_number w16 (length a)) a r) ∙ e ∙ append_assoc (bytes_of_number w16 (length b)) b s) in
-    let both = behind_front a b r s long.0 long.1 in
+    let both = after_front a b r s long.0 long.1 in
     (encodes_same x y both.0, both.1)
 
 -- the bytes that were decoded are those after the length
-pub text_read : (limit n : ℕ) (before behind front after : List ℕ) (result : Result (List ℕ) FieldError) → limit ≤ MAX_TEXT → n ≤ limit → Reads (bytes_of_number w16) (IsNumber w16) before behind (Ok n)
-    → n ≤ length behind → front ≡ take n behind → after ≡ drop n behind → length front ≡ n
+pub text_read : (limit n : ℕ) (before same_halves front after : List ℕ) (result : Result (List ℕ) FieldError) → limit ≤ MAX_TEXT → n ≤ limit → Reads (bytes_of_number w16) (IsNumber w16) before same_halves (Ok n)
+    → n ≤ length same_halves → front ≡ take n same_halves → after ≡ drop n same_halves → length front ≡ n
     → IfOk result (λ text. (all_scalars text ≡ true) × (encode_utf8_all text ≡ front)) → IfErr result (λ e. e ≡ Wrong → IsUtf8 front → ⊥)
     → Reads bytes_of_text (IsText limit) before after result
-text_read limit n before behind front after (Ok text) most fits number within is rest long ok refuses =
-    let parts : behind ≡ encode_utf8_all text ++ after = sym (take-append-drop n behind) ∙ ap (λ (l : List ℕ). l ++ drop n behind) (sym (ok.1 ∙ is)) ∙ ap (λ (l : List ℕ). encode_utf8_all text ++ l) (sym rest) in
+text_read limit n before same_halves front after (Ok text) most fits number within is rest long ok refuses =
+    let parts : same_halves ≡ encode_utf8_all text ++ after = sym (take-append-drop n same_halves) ∙ ap (λ (l : List ℕ). l ++ drop n same_halves) (sym (ok.1 ∙ is)) ∙ ap (λ (l : List ℕ). encode_utf8_all text ++ l) (sym rest) in
     let size : length (encode_utf8_all text) ≡ n = ap length ok.1 ∙ long in
     let spelled : before ≡ bytes_of_text text ++ after =
     number.found.1 ∙ ap (λ (l : List ℕ). bytes_of_number w16 n ++ l) parts ∙ sym (append_assoc (bytes_of_number w16 n) (encode_utf8_all text) after)
     ∙ ap (λ (k : ℕ). (bytes_of_number w16 k ++ encode_utf8_all text) ++ after) (sym size) in
     taken bytes_of_text (IsText limit) before after text (text_unique limit most) (record { scalars = ok.0; fits = omega (arith, size, fits) }) spelled
-text_read limit n before behind front after (Err Memory) most fits number within is rest long ok refuses = out_of_memory bytes_of_text (IsText limit) before after
-text_read limit n before behind front after (Err Wrong) most fits number within is rest long ok refuses =
+text_read limit n before same_halves front after (Err Memory) most fits number within is rest long ok refuses = out_of_memory bytes_of_text (IsText limit) before after
+text_read limit n before same_halves front after (Err Wrong) most fits number within is rest long ok refuses =
     wrong bytes_of_text (IsText limit) before after (λ text more range stands.
     let bytes = encode_utf8_all text in
     let read = number.only (length bytes) (bytes ++ more) (omega (arith, range.fits, most)) (stands ∙ append_assoc (bytes_of_number w16 (length bytes)) bytes more) in
-    let same : front ≡ bytes = (behind_front front bytes after more (long ∙ read.0) (sym (ap₂ (λ (a b : List ℕ). a ++ b) (sym is) (sym rest)) ∙ take-append-drop n behind ∙ read.1)).0 in
+    let same : front ≡ bytes = (after_front front bytes after more (long ∙ read.0) (sym (ap₂ (λ (a b : List ℕ). a ++ b) (sym is) (sym rest)) ∙ take-append-drop n same_halves ∙ read.1)).0 in
     refuses refl (text, (range.scalars, sym same)))
 
 pub scalars_of : (chars : List ℕ) → All IsScalar chars → all_scalars chars ≡ true

@@ -43,7 +43,7 @@ IsByte n = n < 256
 abbrev pub IsFlag : Bool → Type 0
 IsFlag b = ⊤
 
--- characters, of at most so many bytes in UTF-8
+-- characters, of at most that many bytes in UTF-8
 pub record IsText (limit : ℕ) (text : List ℕ) : Type 0 where
   pub scalars : all_scalars text ≡ true
   pub fits : length (encode_utf8_all text) ≤ limit

@@ -34,7 +34,7 @@ pub trait Form<T: Drop> {
         ensures in_range { OnOk result (is_in_range value.now) };
 }
 
-/// A count byte, and so many values.
+/// A count byte, and that many values.
 pub fn read_list<F: Form<T>, T: Drop>(
     alloc: Global,
     fields: &mut Fields<'_>,

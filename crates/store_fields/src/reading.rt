@@ -118,7 +118,7 @@ impl<'a> Fields<'a> {
         Ok(*digest)
     }
 
-    /// A text of at most so many bytes in UTF-8.
+    /// A text of at most that many bytes in UTF-8.
     pub fn text(&mut self, alloc: Global, limit: u16) -> Result<Text, FieldError>
         ensures reads { Reads bytes_of_text (IsText limit) self.old self.new result }
     {
@@ -199,10 +199,10 @@ fn u64_at(bytes: &[u8]) -> Option<(u64, &[u8])>
 fn u128_at(bytes: &[u8]) -> Option<(u128, &[u8])>
     ensures { ReadsFront (bytes_of_number w128) (IsNumber w128) bytes.now (option_map (λ read. (read.0, read.1.now)) result) }
 {
-    let Some((high, behind)) = u64_at(bytes) else {
+    let Some((high, after)) = u64_at(bytes) else {
         return None;
     };
-    let Some((low, rest)) = u64_at(behind) else {
+    let Some((low, rest)) = u64_at(after) else {
         return None;
     };
     Some((u128::from(high) * (1 << 64) + u128::from(low), rest))

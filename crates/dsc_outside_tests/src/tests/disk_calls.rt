@@ -9,7 +9,7 @@ use std::alloc::{AllocError, Global};
 pub enum Ask<'a> {
     Length,
 
-    /// To read from that place on, into room for so many bytes.
+    /// To read from that place on, into a slice of that many bytes.
     Read(u64, usize),
 
     Write(u64, &'a str),
@@ -40,10 +40,10 @@ fn is_read<D: Disk>(
     alloc: Global,
     disk: &mut D,
     at: u64,
-    room: usize,
+    capacity: usize,
     want: &Answer<'_>,
 ) -> Result<bool, AllocError> {
-    let mut buffer = vec![in alloc; 0; room]?;
+    let mut buffer = vec![in alloc; 0; capacity]?;
     Ok(match disk.read_at(at, &mut buffer) {
         Ok(count) => is_text(&buffer[..count], want),
         Err(Failed) => matches!(want, Answer::Lost),
@@ -58,7 +58,7 @@ fn is_change(outcome: Result<(), Failed>, want: &Answer<'_>) -> bool {
     }
 }
 
-/// Answers whether the call of a disk that has so many bytes, where it exposes them, answers that.
+/// Answers whether the call of a disk that has that many bytes, where it shows them, answers that.
 pub fn is_answered<D: Disk>(
     alloc: Global,
     disk: &mut D,
@@ -74,7 +74,7 @@ pub fn is_answered<D: Disk>(
             (Err(Failed), Answer::Lost) => true,
             _ => false,
         },
-        Ask::Read(at, room) => is_read(alloc, disk, *at, *room, want)?,
+        Ask::Read(at, capacity) => is_read(alloc, disk, *at, *capacity, want)?,
         Ask::Write(at, bytes) => {
             *at <= known && is_change(disk.write_at(*at, bytes.as_bytes()), want)
         }

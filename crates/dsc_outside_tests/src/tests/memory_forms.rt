@@ -3,10 +3,10 @@ use memory_outside::{MemorySink, MemorySource};
 use std::alloc::{AllocError, Global};
 use std::test::Fail;
 
-// Reads pieces of that room until nothing is left.
-fn drain(alloc: Global, source: &mut MemorySource, room: usize) -> Result<Vec<u8>, AllocError> {
+// Reads pieces of that size until nothing is left.
+fn drain(alloc: Global, source: &mut MemorySource, capacity: usize) -> Result<Vec<u8>, AllocError> {
     let mut all = Vec::new(alloc);
-    let mut buffer = vec![in alloc; 0; room]?;
+    let mut buffer = vec![in alloc; 0; capacity]?;
     for _ in 0..100 {
         match source.read(&mut buffer) {
             Ok(count) => all.extend_from_slice(&buffer[..count])?,
@@ -16,7 +16,7 @@ fn drain(alloc: Global, source: &mut MemorySource, room: usize) -> Result<Vec<u8
     Ok(all)
 }
 
-// The room for each read, the call that fails, and what is read, with a mark for the failure.
+// The size of each read, the call that fails, and what is read, with a mark for the failure.
 const READS: &[(usize, u64, &str)] = &[
     (1, 200, "abcde"),
     (2, 0, "!abcde"),
@@ -29,9 +29,9 @@ fn source(alloc: Global, failing: Vec<u64>) -> Result<MemorySource, AllocError> 
     Ok(MemorySource::new(b"abcde".to_vec(alloc)?, failing))
 }
 
-fn expect_read(alloc: Global, room: usize, failing: u64, read: &str) -> Result<(), Fail> {
+fn expect_read(alloc: Global, capacity: usize, failing: u64, read: &str) -> Result<(), Fail> {
     let mut source = source(alloc, [failing].to_vec(alloc)?)?;
-    let all = drain(alloc, &mut source, room)?;
+    let all = drain(alloc, &mut source, capacity)?;
     if all.as_slice() == read.as_bytes() && !source.short() {
         return Ok(());
     }
@@ -40,8 +40,8 @@ fn expect_read(alloc: Global, room: usize, failing: u64, read: &str) -> Result<(
 
 #[test]
 fn with_ample_memory_a_source_gives_its_bytes(rt: HostRuntime) -> Result<(), Fail> {
-    for (room, failing, read) in READS {
-        expect_read(rt.alloc(), *room, *failing, read)?;
+    for (capacity, failing, read) in READS {
+        expect_read(rt.alloc(), *capacity, *failing, read)?;
     }
     Ok(())
 }

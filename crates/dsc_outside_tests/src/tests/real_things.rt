@@ -50,11 +50,11 @@ impl Scripted {
     }
 
     // The next outcome, at most that many bytes.
-    fn next(&self, room: usize) -> io::Result<usize> {
+    fn next(&self, capacity: usize) -> io::Result<usize> {
         let at = self.at.get();
         self.at.set(at.saturating_add(1));
         match self.outcomes.get(at) {
-            Some(Ok(count)) => Ok((*count).min(room)),
+            Some(Ok(count)) => Ok((*count).min(capacity)),
             Some(Err(kind)) => Err(io::Error::from(*kind)),
             None => Err(io::Error::from(ErrorKind::Other)),
         }

@@ -51,14 +51,14 @@ fn a_file_is_a_store_or_fails_at_its_first_wrong_byte(rt: HostRuntime) -> Result
 }
 
 // A store of two bodies of twenty bytes has thirteen bytes left, and one cell too long for them fails at its length.
-fn room_is_what_is_left(alloc: Global) -> Result<bool, LogError> {
+fn capacity_is_what_is_left(alloc: Global) -> Result<bool, LogError> {
     let mut disk = with_memory(MemoryDisk::new(Vec::new(alloc), Vec::new(alloc)))?;
     let log = add_two(alloc, &mut disk)?;
     let mut bytes = with_memory(disk.after_stop())?;
-    let is_room = !log.has_room(20) && !log.has_room(9) && log.has_room(8) && log.has_room(0);
+    let is_enough = !log.has_room(20) && !log.has_room(9) && log.has_room(8) && log.has_room(0);
     bytes.truncate(58);
     bytes.extend_from_slice(b"\xA5\x00\x00\x00\x09123456789\x00")?;
-    Ok(is_room && answer(alloc, &bytes)? == Err(59))
+    Ok(is_enough && answer(alloc, &bytes)? == Err(59))
 }
 
 // The file has 98 bytes, of which the eighth makes the second bank live.
@@ -74,7 +74,7 @@ fn is_rewritten(alloc: Global) -> Result<bool, LogError> {
 
 #[test]
 fn a_bank_that_is_full_is_rewritten(rt: HostRuntime) -> Result<(), Fail> {
-    assert!(rt; room_is_what_is_left(rt.alloc())? && is_rewritten(rt.alloc())?);
+    assert!(rt; capacity_is_what_is_left(rt.alloc())? && is_rewritten(rt.alloc())?);
     Ok(())
 }
 

@@ -8,7 +8,7 @@ use std::test::Fail;
 /// What is done to a store of two bodies, `a` and `b`.
 #[derive(Clone, Copy, PartialEq)]
 enum Change {
-    /// A third body, `c`, of eight bytes: all the room that is left.
+    /// A third body, `c`, of eight bytes: all the bytes that are left.
     Append,
 
     /// One body, `c`, in place of the two.

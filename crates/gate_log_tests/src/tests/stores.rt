@@ -7,7 +7,7 @@ use dsc_outside::{Disk, Memory};
 use gate_log::{Bodies, Log, LogError, Shape, replay_log};
 use std::alloc::Global;
 
-/// What was made, or the store's error where memory was refused.
+/// What was made, or the store's error where it was out of memory.
 pub fn with_memory<T: Drop>(made: Result<T, Memory>) -> Result<T, LogError> {
     match made {
         Ok(value) => Ok(value),
@@ -40,7 +40,7 @@ pub fn bodies_of<D: Disk>(alloc: Global, disk: &mut D) -> Result<Bodies, LogErro
     Ok(bodies)
 }
 
-/// Appends a body where it has room.
+/// Appends a body where it fits.
 pub fn add<D: Disk>(log: &mut Log, disk: &mut D, body: &[u8]) -> Result<(), LogError>
     requires shape { log.old.shape ≡ record { bank = 64; largest = 32 } }
     requires of { IsReady D.Disk disk.old log.old }

@@ -566,7 +566,7 @@ fn lines(alloc: Global, count: usize, end: &[u8]) -> Result<Vec<u8>, AllocError>
     Ok(bytes)
 }
 
-// The front, the letter `a` up to so many bytes, and the end.
+// The front, the letter `a` up to that many bytes, and the end.
 fn filled(alloc: Global, front: &[u8], length: usize, end: &[u8]) -> Result<Vec<u8>, AllocError> {
     let mut bytes = Vec::from_slice(alloc, front)?;
     for _ in front.len()..length {
@@ -576,13 +576,13 @@ fn filled(alloc: Global, front: &[u8], length: usize, end: &[u8]) -> Result<Vec<
     Ok(bytes)
 }
 
-// A head that is filled to so many bytes, with the end, in two pieces split at that place.
+// A head that is filled to that many bytes, with the end, in two pieces split at that place.
 fn filled_head(alloc: Global, length: usize, end: &[u8], at: usize) -> Result<Read, AllocError> {
     let bytes = filled(alloc, LONG_HEAD, length, end)?;
     Ok(fed_at(alloc, &bytes, at))
 }
 
-// A body in chunks whose last one has so many bytes but its line ends.
+// A body in chunks whose last one has that many bytes but its line ends.
 fn filled_chunks(alloc: Global, length: usize) -> Result<Read, AllocError> {
     let front = joined(alloc, CHUNKED, b"0;")?;
     let length = CHUNKED.len().saturating_add(length);

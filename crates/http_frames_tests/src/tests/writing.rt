@@ -86,7 +86,7 @@ fn written_answer(alloc: Global, code: u16, body: &[u8]) -> Result<Vec<u8>, Fail
     Ok(write_answer(alloc, &reply)?)
 }
 
-// The bytes are a request with that body and so many headers.
+// The bytes are a request with that body and that many headers.
 fn is_read_back(alloc: Global, bytes: &[u8], body: &[u8], headers: usize) -> bool {
     let mut reader = RequestReader::new(alloc);
     match reader.feed(bytes) {

@@ -74,7 +74,7 @@ fn frame(alloc: Global) -> Frame
     }
 }
 
-// The report of the run of a row, or none where the run ends for lack of memory.
+// The report of the run of a row, or none where the run ends out of memory.
 fn reported(
     alloc: Global,
     document: &Document,
@@ -135,7 +135,7 @@ fn a_report_tells_why_resources_did_not_succeed(rt: HostRuntime) -> Result<(), F
 }
 
 #[test]
-fn with_ample_memory_a_document_of_each_size_has_room(rt: HostRuntime) -> Result<(), Fail> {
+fn with_ample_memory_a_document_of_each_size_has_capacity(rt: HostRuntime) -> Result<(), Fail> {
     for count in [0, 1, 2, 7, 63, 64, 65, 4096] {
         let document = generated_document(rt.alloc(), count)?;
         assert!(rt; room_for(rt.alloc(), &document).is_ok(), "{count}");

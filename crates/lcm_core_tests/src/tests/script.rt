@@ -40,7 +40,7 @@ impl Resources for Script {
     ghost use Rattle.std.specs.Prelude.{◌-◌, vec_capacity, vec_len};
     ghost use Rattle.resource_kinds.specs.Trace.{host_failures};
 
-    ghost kept = { λ s. s.calls.items };
+    ghost trace = { λ s. s.calls.items };
 
     ghost spare = { λ s. vec_capacity s.calls - vec_len s.calls };
 
@@ -134,7 +134,7 @@ pub fn set_of(alloc: Global, word: &str) -> SetAnswer {
     }
 }
 
-// the failure of this name, or none where it is the word of lack of memory
+// the failure of this name, or none where it is the word for out of memory
 fn failure_of(alloc: Global, word: &str) -> Option<Failure> {
     match word {
         "NoSuchResource" => Some(Failure::NoSuchResource),

@@ -1,4 +1,4 @@
-//! One character.
+//! The step of the walk over a text: the state after one more character.
 ghost use Rattle.std.specs.Prelude.{◌≡◌, drop};
 ghost use Rattle.mof_codec.specs.declared.machine.state.Half.TheVariants as halves;
 ghost use Rattle.mof_codec.specs.Machine.{letters, head_of, go, numbered, quoted, key_on, digit_on, step, is_whole};

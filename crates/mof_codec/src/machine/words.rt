@@ -19,7 +19,7 @@ fn letters(word: Keyword) -> &'static [char]
     }
 }
 
-/// The letter of the keyword after so many.
+/// The letter of the keyword after that many.
 pub(crate) fn letter(word: Keyword, read: usize) -> Option<char>
     ensures value { result ≡ head_of (drop read (letters word)) }
     ensures bound { IfSome result (λ l. read < 8) }
@@ -34,7 +34,7 @@ pub(crate) fn mark(begun: Event, place: Place, half: Half) -> Option<State>
     Some(State { place, half, begun })
 }
 
-/// A letter of the keyword, after so many.
+/// A letter of the keyword, after that many.
 pub(crate) fn keyed(
     begun: Event,
     word: Keyword,

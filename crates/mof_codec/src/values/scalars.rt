@@ -1,4 +1,4 @@
-//! Single values.
+//! Reading a single value: a text, a number, a name, a truth value or null.
 ghost use Rattle.std.specs.Prelude.{◌≡◌, IfOk, IfSome, IfNone};
 ghost use Rattle.std.specs.Str.{chars};
 ghost use Rattle.mof_syntax.specs.Grammar.{ConstantValue};

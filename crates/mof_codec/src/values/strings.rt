@@ -27,8 +27,8 @@ pub(crate) fn string(alloc: Global, text: &str) -> Result<Option<(Text, &str)>, 
         return Ok(None);
     };
     let mut left = rest;
-    while let Some(behind) = quote_rest(left) {
-        let Some(rest) = push_quoted(&mut read, behind)? else {
+    while let Some(after) = quote_rest(left) {
+        let Some(rest) = push_quoted(&mut read, after)? else {
             return Ok(None);
         };
         left = rest;
@@ -38,7 +38,7 @@ pub(crate) fn string(alloc: Global, text: &str) -> Result<Option<(Text, &str)>, 
 
 // After a quote that stands after separators.
 fn quote_rest(text: &str) -> Option<&str>
-    ensures some { IfSome result (λ behind. BeginsQuote (chars text.now) (chars behind.now)) }
+    ensures some { IfSome result (λ after. BeginsQuote (chars text.now) (chars after.now)) }
     ensures none { IfNone result (NoLiteralFirst (chars text.now)) }
 {
     char_rest(separators_rest(text), '"')
@@ -51,12 +51,12 @@ fn push_quoted<'a>(read: &mut Vec<char>, text: &'a str) -> Result<Option<&'a str
 {
     let mut left = text;
     loop {
-        let (plain, behind) = plain_front(left);
+        let (plain, after) = plain_front(left);
         push_chars(read, plain)?;
-        if let Some(rest) = char_rest(behind, '"') {
+        if let Some(rest) = char_rest(after, '"') {
             return Ok(Some(rest));
         }
-        let Some((c, rest)) = literal_char(behind) else {
+        let Some((c, rest)) = literal_char(after) else {
             return Ok(None);
         };
         read.push(c)?;

@@ -1,4 +1,4 @@
-//! Registrations.
+//! A registration of a node: the names that it sends.
 use super::made::Answer::Code;
 use super::made::{AGENT, link, meta, text};
 use mof_values::Memory;

@@ -10,7 +10,7 @@ const LONGEST: usize = 16_684;
 
 const SHORTEST: usize = 237;
 
-// The cell of a note, of so many bytes: 64 resources that were skipped, and a version that takes the rest.
+// The cell of a note, of that many bytes: 64 resources that were skipped, and a version that takes the rest.
 fn push_note(file: &mut Vec<u8>, alloc: Global, job: u64, size: usize) -> Result<(), AllocError> {
     let spare = size.saturating_sub(SHORTEST);
     let (id, version) = (spare / 64, spare % 64);
@@ -34,7 +34,7 @@ fn push_text(body: &mut Vec<u8>, size: usize) -> Result<(), AllocError> {
     body.resize(end, b'x')
 }
 
-// The bytes of the next note, where so many are left.
+// The bytes of the next note, where that many are left.
 fn size_of_note(more: usize) -> usize {
     if more <= LONGEST {
         more
@@ -58,7 +58,7 @@ fn front(alloc: Global, words: &str) -> Result<(Vec<u8>, u64), AllocError> {
     Ok((file, job))
 }
 
-/// The file of a store whose live bank has so many bytes left for a cell: the bodies of these words and then notes. The job
+/// The file of a store whose live bank has that many bytes left for a cell: the bodies of these words and then notes. The job
 /// after them.
 pub fn filled(alloc: Global, words: &str, left: usize) -> Result<(Vec<u8>, u64), AllocError> {
     let (mut file, mut job) = front(alloc, words)?;

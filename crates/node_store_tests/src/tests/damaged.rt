@@ -1,4 +1,4 @@
-//! Damaged files.
+//! Bodies and files of a node's store that are cut, or have one other byte.
 use crate::{body_of, kept_in, open_file, place_of, push_cell};
 use node_store::StoreError;
 use std::alloc::{AllocError, Global};

@@ -54,7 +54,7 @@ fn last_body(alloc: Global, word: &str, job: u64) -> Result<Vec<u8>, AllocError>
     Ok(body)
 }
 
-// A store whose bank has room for all but so many bytes of an event's cell, and the body of the event.
+// A store whose bank has capacity for all but that many bytes of an event's cell, and the body of the event.
 fn nearly_full(
     alloc: Global,
     words: &str,
@@ -274,7 +274,7 @@ fn is_committed(alloc: Global, row: &Row<'_>, parts: &[DiskPart]) -> Result<bool
     is_rewritten(alloc, rewrite, row.2)
 }
 
-// The first row whose event, for which one byte of room is missing, is not committed by a rewrite, or of which a stop leaves
+// The first row whose event, for which one free byte is missing, is not committed by a rewrite, or of which a stop leaves
 // something else.
 fn first_otherwise(alloc: Global, rows: &[Row<'_>]) -> Result<Option<usize>, StoreError> {
     let parts = &[DiskPart::Whole];
@@ -287,7 +287,7 @@ fn first_otherwise(alloc: Global, rows: &[Row<'_>]) -> Result<Option<usize>, Sto
 }
 
 #[test]
-fn settings_that_lack_one_byte_of_room_are_committed_by_a_rewrite(
+fn settings_that_lack_one_byte_of_capacity_are_committed_by_a_rewrite(
     rt: HostRuntime,
 ) -> Result<(), Fail> {
     assert_eq!(rt; first_otherwise(rt.alloc(), SETTINGS)?, None);
@@ -295,7 +295,7 @@ fn settings_that_lack_one_byte_of_room_are_committed_by_a_rewrite(
 }
 
 #[test]
-fn lists_that_lack_one_byte_of_room_are_committed_by_a_rewrite(
+fn lists_that_lack_one_byte_of_capacity_are_committed_by_a_rewrite(
     rt: HostRuntime,
 ) -> Result<(), Fail> {
     assert_eq!(rt; first_otherwise(rt.alloc(), LISTS)?, None);
@@ -303,7 +303,7 @@ fn lists_that_lack_one_byte_of_room_are_committed_by_a_rewrite(
 }
 
 #[test]
-fn reports_that_lack_one_byte_of_room_are_committed_by_a_rewrite(
+fn reports_that_lack_one_byte_of_capacity_are_committed_by_a_rewrite(
     rt: HostRuntime,
 ) -> Result<(), Fail> {
     assert_eq!(rt; first_otherwise(rt.alloc(), REPORTS)?, None);

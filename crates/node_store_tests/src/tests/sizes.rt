@@ -39,7 +39,7 @@ const REPORTS: &[(u8, usize, usize)] = &[
     (64, 256, 64),
 ];
 
-// A document of so many bytes, at least 44.
+// A document of that many bytes, at least 44.
 fn document(alloc: Global, size: usize) -> Result<Vec<u8>, AllocError> {
     let mut bytes = b"instance of OMI_ConfigurationDocument{};/*".to_vec(alloc)?;
     bytes.resize(size.saturating_sub(2), b'x')?;
@@ -47,7 +47,7 @@ fn document(alloc: Global, size: usize) -> Result<Vec<u8>, AllocError> {
     Ok(bytes)
 }
 
-// Appends a name of so many bytes, of which the last is that of its place.
+// Appends a name of that many bytes, of which the last is that of its place.
 fn push_name(body: &mut Vec<u8>, place: u8, size: usize) -> Result<(), AllocError> {
     let length = u16::try_from(size).unwrap_or(u16::MAX);
     body.extend_from_slice(&length.to_be_bytes())?;
@@ -59,7 +59,7 @@ fn push_name(body: &mut Vec<u8>, place: u8, size: usize) -> Result<(), AllocErro
     Ok(())
 }
 
-// Stages so many parts.
+// Stages that many parts.
 fn staged(alloc: Global, count: u8, name: usize, size: usize) -> Result<Vec<u8>, AllocError> {
     let bytes = document(alloc, size)?;
     let part = part_of(Text::of(Vec::new(alloc)), bytes);

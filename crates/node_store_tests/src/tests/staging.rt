@@ -12,7 +12,7 @@ use std::test::Fail;
 
 const SIZE: u32 = 2_000_000;
 
-// A document of so many bytes: a header and a comment.
+// A document of that many bytes: a header and a comment.
 fn document(alloc: Global, size: u32) -> Result<Vec<u8>, AllocError> {
     let mut bytes = b"instance of OMI_ConfigurationDocument{};/*".to_vec(alloc)?;
     bytes.resize((size as usize).saturating_sub(2), b'x')?;

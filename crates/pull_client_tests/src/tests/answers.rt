@@ -172,7 +172,7 @@ fn a_link_that_fails_gives_no_answer(rt: HostRuntime) {
     }
 }
 
-// Returns whether an answer of so many bytes, with no head in them, is refused so.
+// Returns whether an answer of that many bytes, with no head in them, is refused so.
 fn is_refused_at(alloc: Global, size: usize, wanted: &Wanted) -> bool {
     let mut answer = Vec::new(alloc);
     answer.resize(size, b'x').is_ok() && answers(alloc, Call::Report, &PLAIN, &answer, wanted)

@@ -139,7 +139,7 @@ const LONG_CONTENTS: &[(usize, &'static str, Wanted)] = &[
     ),
 ];
 
-// Returns whether a content of so many bytes comes to that.
+// Returns whether a content of that many bytes comes to that.
 fn gives_long(alloc: Global, size: usize, digest: &str, wanted: &Wanted) -> bool {
     let Ok(head) = format!(in alloc; "HTTP/1.1 200 OK\r\nChecksum: {digest}\r\n\r\n") else {
         return false;

@@ -141,7 +141,7 @@ fn most_parts(alloc: Global) -> Result<Vec<PartMark>, AllocError> {
     Ok(parts)
 }
 
-// So many characters of the code 1.
+// That many characters of the code 1.
 fn controls(alloc: Global, count: usize) -> Result<Text, AllocError> {
     let mut chars = Vec::new(alloc);
     for _ in 0..count {

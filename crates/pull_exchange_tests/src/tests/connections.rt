@@ -94,7 +94,7 @@ fn push_given(line: &mut String, bytes: Vec<u8>, most: usize) -> Result<(), Allo
     push_received(line, &receive(alloc, &mut conn))
 }
 
-// What a connection of these bytes gives, in pieces of at most so many.
+// What a connection of these bytes gives, in pieces of at most that many.
 fn shown(alloc: Global, bytes: &[u8], most: usize) -> Result<String, AllocError>
     requires { 0 < most }
 {
@@ -122,7 +122,7 @@ fn bytes_lead_to_the_same_in_any_pieces(rt: HostRuntime) -> Result<(), Fail> {
 const ANSWER: &[u8] =
     b"HTTP/1.1 404 Not Found\r\nConnection: close\r\nProtocolVersion: 2.0\r\nContent-Length: 0\r\n\r\n";
 
-// How many bytes of the answer 404 are written where each call takes at most so many and the call of that number fails.
+// How many bytes of the answer 404 are written where each call takes at most that many and the call of that number fails.
 fn sent(alloc: Global, most: usize, failing: u64) -> Result<(SendEnd, usize), AllocError>
     requires { 0 < most }
 {

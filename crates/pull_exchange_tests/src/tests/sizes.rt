@@ -28,7 +28,7 @@ fn refused(alloc: Global, error: &FrameError) -> Result<u16, AllocError> {
     }
 }
 
-// What comes of these bytes, in pieces of at most so many: 200 where they are a request with this body, or the code of a refusal.
+// What comes of these bytes, in pieces of at most that many: 200 where they are a request with this body, or the code of a refusal.
 fn code_of(alloc: Global, bytes: &[u8], most: usize, body: &[u8]) -> Result<u16, AllocError>
     requires { 0 < most }
 {
@@ -198,7 +198,7 @@ fn replies() -> &'static [(usize, usize)] {
     ]
 }
 
-// The head of the answer 200 with a body of so many bytes.
+// The head of the answer 200 with a body of that many bytes.
 fn head_of(alloc: Global, size: usize) -> Result<String, AllocError> {
     format!(in alloc;
         "HTTP/1.1 200 OK\r\nConnection: close\r\nProtocolVersion: 2.0\r\nContent-Length: {size}\r\n\r\n"
@@ -222,7 +222,7 @@ fn is_reply_sent(alloc: Global, head: &str, body: Vec<u8>, most: usize) -> bool
     }
 }
 
-// Whether the whole answer 200 with a body of so many bytes is written.
+// Whether the whole answer 200 with a body of that many bytes is written.
 fn is_sent(alloc: Global, size: usize, most: usize) -> Result<bool, AllocError>
     requires { 0 < most }
 {

@@ -2,7 +2,7 @@
 use std::alloc::{AllocError, Global};
 use std::test::Fail;
 
-/// The pieces in a row, each so many times.
+/// The pieces in a row, each that many times.
 pub fn joined(alloc: Global, pieces: &[(&str, usize)]) -> Result<String, AllocError> {
     let mut out = String::new(alloc);
     for (piece, count) in pieces {

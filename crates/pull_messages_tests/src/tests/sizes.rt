@@ -5,7 +5,7 @@ use pull_messages::*;
 use std::alloc::Global;
 use std::test::Fail;
 
-// A message is the front, a piece some times, and the end. With so many pieces it comes back, with others the field is
+// A message is the front, a piece some times, and the end. With that many pieces it comes back, with others the field is
 // wrong.
 struct Shape {
     front: &'static str,

@@ -42,7 +42,7 @@ const CONTENT: &str =
 
 const END: &str = "')/ConfigurationContent";
 
-// A value of so many pieces, which come back as that piece, or none from that byte on.
+// A value of that many pieces, which come back as that piece, or none from that byte on.
 const VALUES: &[(&str, usize, Result<&str, usize>)] = &[
     ("a", 1, Ok("a")),
     ("a", 2, Ok("a")),

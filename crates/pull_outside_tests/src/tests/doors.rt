@@ -14,7 +14,7 @@ fn counts() -> &'static [usize] {
     &[0, 1, 7, 300]
 }
 
-// A connection of so many bytes in pieces of at most 4,096.
+// A connection of that many bytes in pieces of at most 4,096.
 fn conn(alloc: Global, size: usize, numbers: usize) -> Result<MemoryConn, AllocError> {
     let failing = vec![in alloc; u64::MAX; numbers]?;
     let bytes = vec![in alloc; b'b'; size]?;
@@ -92,7 +92,7 @@ fn come<D: Door>(door: &mut D) -> u64 {
     0
 }
 
-// How many connections come through a door of so many, and how many it keeps.
+// How many connections come through a door of that many, and how many it keeps.
 fn served(alloc: Global, count: usize, size: usize) -> Result<(u64, usize), AllocError> {
     match MemoryDoor::new(alloc, conns(alloc, count, size)?, Vec::new(alloc)) {
         Ok(mut door) => {

@@ -92,7 +92,7 @@ fn shelf(alloc: Global, count: u32, size: usize) -> Result<MemoryShelf, AllocErr
     Ok(MemoryShelf::new(contents, Vec::new(alloc)))
 }
 
-// Whether the three items of that number are there, each of so many bytes, or none of them is.
+// Whether the three items of that number are there, each of that many bytes, or none of them is.
 fn is_as_wanted<S: Shelf>(
     alloc: Global,
     shelf: &mut S,

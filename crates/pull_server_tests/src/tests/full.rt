@@ -1,4 +1,4 @@
-//! A change that a bank has no room for.
+//! A change that a bank has no capacity for.
 ghost use Rattle.pull_store.specs.Store.{IsReady};
 
 use super::full_disk::FullDisk;
@@ -40,7 +40,7 @@ const REPORT: &str =
 const OTHER_REPORT: &str =
     "POST /PSDSCPullServer.svc/Nodes(AgentId='00000000-0000-0000-0000-000000000010')/SendReport HTTP/1.1\r\n";
 
-// A head, a body, and what is answered. A short registration has room in the live bank. A report has none, and is answered 200
+// A head, a body, and what is answered. A short registration fits the live bank. A report does not, and is answered 200
 // once the other bank is written: it takes the place of one that is as long.
 const ROWS: &[(&str, Body, u16)] = &[
     (LONG, Body::Long, 507),
@@ -133,6 +133,6 @@ fn first_other_of(alloc: Global) -> Result<Option<usize>, PullError> {
 }
 
 #[test]
-fn a_change_without_room_is_answered_507(rt: HostRuntime) {
+fn a_change_without_capacity_is_answered_507(rt: HostRuntime) {
     assert_eq!(rt; first_other_of(rt.alloc()), Ok(None));
 }

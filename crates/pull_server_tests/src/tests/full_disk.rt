@@ -9,10 +9,10 @@ const HEAD: &[u8] = b"DSCSTOR1";
 // How many agents have all the bytes that an agent may have.
 const WHOLE: u64 = 511;
 
-/// A disk that makes the bytes of a store when they are read, and keeps none that are written. It exposes nothing.
+/// A disk that makes the bytes of a store when they are read, and keeps none that are written. It shows nothing.
 ///
 /// The store has 512 agents with four reports of 131,072 bytes each. The texts of each registration have 131,072 bytes of UTF-8,
-/// in characters of four bytes, but those of the last agent, 0x511, which are empty. The live bank has room for 38,399 bytes
+/// in characters of four bytes, but those of the last agent, 0x511, which are empty. The live bank has capacity for 38,399 bytes
 /// more.
 #[derive(Drop)]
 pub struct FullDisk {
@@ -69,7 +69,7 @@ fn set_byte(bytes: &mut [u8], place: usize, byte: u8) {
     }
 }
 
-// Copies the bytes from that place on as far as there is room, and answers how many.
+// Copies the bytes from that place on as far as they fit, and answers how many.
 fn copy_from(bytes: &[u8], place: u64, into: &mut [u8]) -> usize
     ensures { result ≤ length into.new }
 {
@@ -143,8 +143,8 @@ impl Disk for FullDisk {
             self.set_number(number);
             return Ok(copy_from(&self.whole, place.checked_rem(size).unwrap_or(0), into));
         }
-        let behind = place.saturating_sub(size.saturating_mul(WHOLE));
-        Ok(copy_from(&self.last, behind, into))
+        let offset = place.saturating_sub(size.saturating_mul(WHOLE));
+        Ok(copy_from(&self.last, offset, into))
     }
 
     fn write_at(&mut self, _at: u64, _bytes: &[u8]) -> Result<(), Failed> {

@@ -10,7 +10,7 @@ use pull_store::{PullError, PullStore, open_pull};
 use std::alloc::{AllocError, Global};
 
 /// What stands on a shelf: configurations and packages of these sizes, of which the first has a name of one byte and each further
-/// one of a byte more; and so many keys, of which that of this place is k0.
+/// one of a byte more; and that many keys, of which that of this place is k0.
 #[derive(Clone, Copy)]
 pub struct Shelved<'a> {
     pub configurations: &'a [usize],
@@ -61,7 +61,7 @@ fn put_packages(
     Ok(())
 }
 
-// So many keys, of which that of this place is k0.
+// That many keys, of which that of this place is k0.
 fn put_keys(
     keys: &mut Vec<Bytes>,
     alloc: Global,

@@ -124,7 +124,7 @@ fn registrations() -> [Step; 14] {
     ]
 }
 
-// A report of so many errors and one text of so many bytes.
+// A report of that many errors and one text of that many bytes.
 fn report(errors: usize, data: usize) -> Step {
     coded(Asked::Report(errors, data), 200)
 }
@@ -141,7 +141,7 @@ fn reports() -> [Step; 6] {
     ]
 }
 
-// A query of so many clients, with names and checksums of so many bytes, and the status of each.
+// A query of that many clients, with names and checksums of that many bytes, and the status of each.
 fn query((clients, name, checksum): (usize, usize, usize), status: &'static str) -> Step {
     let query = Query {
         clients,
@@ -184,7 +184,7 @@ fn queries() -> [Step; 11] {
     ]
 }
 
-// A content or a package of so many bytes, under the checksum that `hashlib` of Python gives of so many bytes `c`.
+// A content or a package of that many bytes, under the checksum that `hashlib` of Python gives of that many bytes `c`.
 fn item(asked: Asked, size: usize, checksum: &'static str) -> Step {
     Step {
         first: 1,
@@ -386,7 +386,7 @@ fn the_first_64_keys_count(rt: HostRuntime) -> Result<(), Fail> {
     Ok(())
 }
 
-// The same, of so many agents from that number on.
+// The same, of that many agents from that number on.
 fn of_agents(first: u32, count: u32, step: Step) -> Step {
     Step {
         first,
@@ -397,7 +397,7 @@ fn of_agents(first: u32, count: u32, step: Step) -> Step {
     }
 }
 
-// The registration of agents with one name of so many bytes.
+// The registration of agents with one name of that many bytes.
 fn named(first: u32, count: u32, name: usize, code: u16, signature: &'static str) -> Step {
     of_agents(first, count, said((1, 1), (1, name), code, signature))
 }

@@ -8,16 +8,16 @@ pub enum Asked {
     /// To be registered under these names.
     Registration(Said),
 
-    /// To keep a report with so many errors, and one text of status data of so many bytes.
+    /// To keep a report with that many errors, and one text of status data of that many bytes.
     Report(usize, usize),
 
-    /// What to do about so many clients.
+    /// What to do about that many clients.
     Action(Query),
 
-    /// A configuration whose name has so many bytes.
+    /// A configuration whose name has that many bytes.
     Content(usize),
 
-    /// A package of the module whose name has so many bytes.
+    /// A package of the module whose name has that many bytes.
     Package(usize),
 }
 
@@ -34,7 +34,7 @@ pub struct Said {
     pub signature: &'static str,
 }
 
-/// A query: so many clients, each with a name and a checksum of so many bytes.
+/// A query: that many clients, each with a name and a checksum of that many bytes.
 #[derive(Clone, Copy)]
 pub struct Query {
     pub clients: usize,
@@ -47,7 +47,7 @@ pub struct Query {
 pub enum Wanted {
     Code,
 
-    /// A body of so many bytes under this checksum.
+    /// A body of that many bytes under this checksum.
     Item(usize, &'static str),
 
     /// This status of each client and of the node.
@@ -64,7 +64,7 @@ pub struct Step {
     pub wanted: Wanted,
 }
 
-// Adds a text of so many bytes in quotes.
+// Adds a text of that many bytes in quotes.
 fn push_text(text: &mut String, byte: char, size: usize) -> Result<(), AllocError> {
     text.push('"')?;
     for _ in 0..size {
@@ -73,7 +73,7 @@ fn push_text(text: &mut String, byte: char, size: usize) -> Result<(), AllocErro
     text.push('"')
 }
 
-// Adds so many texts, of which the first has so many bytes and each further one so many more.
+// Adds that many texts, of which the first has that many bytes and each further one that many more.
 fn push_texts(
     text: &mut String,
     byte: char,
@@ -165,7 +165,7 @@ pub fn body_of(alloc: Global, asked: Asked) -> Result<String, AllocError> {
     Ok(text)
 }
 
-// The begin of a target of an agent.
+// The beginning of a target of an agent.
 fn push_agent(text: &mut String, agent: u32) -> Result<(), AllocError> {
     let front = format!(in *text.allocator();
         "/PSDSCPullServer.svc/Nodes(AgentId='00000000-0000-0000-0000-{agent:012}')"
@@ -173,7 +173,7 @@ fn push_agent(text: &mut String, agent: u32) -> Result<(), AllocError> {
     text.push_str(front.as_str())
 }
 
-// A text of so many bytes in single quotes.
+// A text of that many bytes in single quotes.
 fn push_name(text: &mut String, size: usize) -> Result<(), AllocError> {
     text.push('\'')?;
     for _ in 0..size {

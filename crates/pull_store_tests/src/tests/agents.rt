@@ -28,7 +28,7 @@ fn register_below<D: Disk>(
     Ok(())
 }
 
-/// What came of further calls among so many agents.
+/// What came of further calls among that many agents.
 #[derive(Clone, Copy, Debug, Drop, PartialEq)]
 struct Answers {
     new_agent: Result<(), PullError>,
@@ -49,7 +49,7 @@ fn ask<D: Disk>(alloc: Global, store: &mut PullStore, disk: &mut D, message: &[u
     }
 }
 
-// The answers among so many agents, and the bytes of the disk after them.
+// The answers among that many agents, and the bytes of the disk after them.
 fn asked_among(alloc: Global, count: u128) -> Result<(Answers, Vec<u8>), PullError> {
     let message = said(alloc, b"n")?;
     let mut disk = new_disk(alloc)?;

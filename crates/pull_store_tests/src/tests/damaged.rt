@@ -1,4 +1,4 @@
-//! Damaged files.
+//! Bodies and files of the server's store that are cut.
 use crate::{file_of, place_of, shown_in};
 use pull_store::PullError;
 use std::alloc::{AllocError, Global};

@@ -82,7 +82,7 @@ fn a_file_is_a_store_or_fails_at_its_first_wrong_byte(rt: HostRuntime) -> Result
     Ok(())
 }
 
-// The body of a registration of the agent 65 with texts of so many bytes and so many names of so many bytes.
+// The body of a registration of the agent 65 with texts of that many bytes and that many names of that many bytes.
 fn registration(
     alloc: Global,
     texts: &[usize; 3],
@@ -147,7 +147,7 @@ fn a_registration_is_kept_up_to_its_sizes(rt: HostRuntime) -> Result<(), Fail> {
 
 const AGENT: &[u8] = b"\x01\0\0\0\0\0\0\0\0\0\0\0\0\0\0\0A\0\0\0\0\0\0\0";
 
-// Where a report of so many bytes is refused: its body begins at 42.
+// Where a report of that many bytes is refused: its body begins at 42.
 fn place_of_report(alloc: Global, size: usize) -> Result<Option<u64>, AllocError> {
     let mut body = b"\x02\0\0\0\0\0\0\0\0\0\0\0\0\0\0\0A".to_vec(alloc)?;
     body.resize(33usize.saturating_add(size), b'r')?;
@@ -161,7 +161,7 @@ fn a_report_is_kept_up_to_its_size(rt: HostRuntime) -> Result<(), Fail> {
     Ok(())
 }
 
-// The file with the registrations of so many agents, and of one of them again.
+// The file with the registrations of that many agents, and of one of them again.
 fn many(alloc: Global, count: u32, again: u32) -> Result<Vec<u8>, AllocError> {
     let mut file = crate::HEAD.to_vec(alloc)?;
     for agent in 0..count {

@@ -8,6 +8,6 @@ abbrev pub invariant-loop-place : goal.invariant-loop-place
 invariant-loop-place g l = record {
   heap : IsHeap (λ x y. nat_cmp y.0 x.0) (heap_items l.ready);
   passed : (r : ℕ) → r < l.place → times r (map (λ x. x.0) (heap_items l.ready)) ≡ none_left (slice_index l.waiting r);
-  behind : (r : ℕ) → l.place ≤ r → times r (map (λ x. x.0) (heap_items l.ready)) ≡ 0;
+  after : (r : ℕ) → l.place ≤ r → times r (map (λ x. x.0) (heap_items l.ready)) ≡ 0;
   steps : l.steps ≤ l.fn.steps + zeros (take l.place l.waiting);
 }

@@ -11,7 +11,7 @@ use Rattle.depend_order.proofs.Counting.{zeros_at_most}
 use Rattle.depend_order.proofs.Cycles.{never_both}
 use Rattle.depend_order.proofs.NumberLemmas.{numbers_of_read}
 use Rattle.depend_order.proofs.Orders.{earliest_count, earliest_none, earliest_push}
-use Rattle.depend_order.proofs.Placing.{all_placed, counted_first, counted_push, dependents_below, enough, least_left, readied_push, ready_next, ready_place, room, stuck, times_none}
+use Rattle.depend_order.proofs.Placing.{all_placed, counted_first, counted_push, dependents_below, enough, least_left, readied_push, ready_next, ready_place, place_left, stuck, times_none}
 use Rattle.depend_order.proofs.Ready.{least_popped, popped_some, times_popped}
 use Rattle.depend_order.proofs.numbers.order_of_counted.Goals as goal
 
@@ -85,7 +85,7 @@ loop-place-smaller g c =
     let ready = heap_items c.loop-place.ready in
     let some = popped_some {X = Reverse ℕ} (λ x. x.0) x ready (heap_items c.pop.new.self) c.in-Some.ensures.permutation in
     let top = c.in-Some.ensures.heap_order so_far.heap in
-    let within = room depends order c.loop-place.waiting.items (places ready) so_far.counted so_far.readied x.0 some
+    let within = place_left depends order c.loop-place.waiting.items (places ready) so_far.counted so_far.readied x.0 some
     (λ s has. least_popped {X = Reverse ℕ} (λ x. x.0) x ready top.1 s has) so_far.earliest in
     let smaller : length depends - length c.push.new.self.items < length depends - length order =
     omega (arith, within, c.in_ok-push.ensures.len, c.push.new.self.ok, c.loop-place.order.ok) in
@@ -173,7 +173,7 @@ returns-in_err-release-clause-steps g c =
     let ready = heap_items c.loop-place.ready in
     let some = popped_some {X = Reverse ℕ} (λ x. x.0) x ready (heap_items c.pop.new.self) c.in-Some.ensures.permutation in
     let top = c.in-Some.ensures.heap_order so_far.heap in
-    let within = room depends c.loop-place.order.items waiting (places ready) so_far.counted so_far.readied x.0 some
+    let within = place_left depends c.loop-place.order.items waiting (places ready) so_far.counted so_far.readied x.0 some
     (λ s has. least_popped {X = Reverse ℕ} (λ x. x.0) x ready top.1 s has) so_far.earliest in
     omega (
       arith,
@@ -198,7 +198,7 @@ returns-in_err-push-clause-steps g c =
     let ready = heap_items c.loop-place.ready in
     let some = popped_some {X = Reverse ℕ} (λ x. x.0) x ready (heap_items c.pop.new.self) c.in-Some.ensures.permutation in
     let top = c.in-Some.ensures.heap_order so_far.heap in
-    let within = room depends c.loop-place.order.items waiting (places ready) so_far.counted so_far.readied x.0 some
+    let within = place_left depends c.loop-place.order.items waiting (places ready) so_far.counted so_far.readied x.0 some
     (λ s has. least_popped {X = Reverse ℕ} (λ x. x.0) x ready top.1 s has) so_far.earliest in
     omega (
       arith,

@@ -21,7 +21,7 @@ module _ (properties : List Property) (n : ℕ) where
   in_take k name named =
       ⊎_elim
       (λ below. below)
-      (λ behind. absurd (cc (named, ap (option_map (λ p. p.name)) (slice_get_past (take n properties) k (simp length-take (omega arith))))))
+      (λ after. absurd (cc (named, ap (option_map (λ p. p.name)) (slice_get_past (take n properties) k (simp length-take (omega arith))))))
       (cases_lt k n)
 
   module _ (property : Property) (within : n < length properties) (is : property ≡ get_or properties n property) where

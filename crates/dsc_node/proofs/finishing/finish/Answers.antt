@@ -42,14 +42,14 @@ keep-requires-clause-known g c =
     let over = c.in-Over.over in
     let is = c.in-Over.ensures.step.0 in
     subst (λ (t : List Entry). All (λ e. place_of e < length over.document.resources) t) (sym c.calls.ensures)
-    (legal_places over.document is.mode is.order (g.M.Resources.kept c.run_step.new.machine) is.reported.ran.legal)
+    (legal_places over.document is.mode is.order (g.M.Resources.trace c.run_step.new.machine) is.reported.ran.legal)
 
 pub keep-requires-clause-ends : goal.keep-requires-clause-ends
 keep-requires-clause-ends g c =
     let over = c.in-Over.over in
     let is = c.in-Over.ensures.step.0 in
     subst (λ (t : List Entry). EndsAtYes t) (sym c.calls.ensures)
-    (legal_ends over.document is.mode is.order (g.M.Resources.kept c.run_step.new.machine) is.reported.ran.legal)
+    (legal_ends over.document is.mode is.order (g.M.Resources.trace c.run_step.new.machine) is.reported.ran.legal)
 
 pub returns-in-Nothing-clause-goes : goal.returns-in-Nothing-clause-goes
 returns-in-Nothing-clause-goes g c =
@@ -99,6 +99,6 @@ returns-in-Over-clause-goes g c =
     let lines = string_bytes c.keep.result.lines in
     let step = subst (λ (n : Node). IsOver machine n c.args.stopped readings c.args.start over before after × Took 1 readings left) node c.in-Over.ensures.step in
     let kept = subst (λ (t : List Entry). KeepGoes d old now c.reserve.new.self over t asked heard status lines) c.calls.ensures c.keep.ensures.goes in
-    let goes = subst (λ (s : StoreTerm). KeepGoes d old now s over (machine.kept after) asked heard status lines) is kept in
+    let goes = subst (λ (s : StoreTerm). KeepGoes d old now s over (machine.trace after) asked heard status lines) is kept in
     let shown = finish_kept (known d machine g.M.Machine g.C.Clock) old now reserved c.args.stopped readings left c.args.start asked heard before after status lines over step goes in
     (shown.0, ends_reserved d {before = store} {reserved = reserved} refl shown.1)

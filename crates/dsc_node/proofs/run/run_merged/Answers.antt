@@ -4,7 +4,7 @@ use Rattle.dsc_node.proofs.run.run_merged.Goals as goal
 
 pub returns-in-Err : goal.returns-in-Err
 returns-in-Err g c =
-    let none = c.reserve.ensures.kept ∙ c.requires.fresh in
+    let none = c.reserve.ensures.trace ∙ c.requires.fresh in
     rw none (record {
       legal = λ before e after p. absurd (omega (arith, ap length p, length-append before (e ∷ after)));
       whole = inr refl;

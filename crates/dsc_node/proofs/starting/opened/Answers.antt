@@ -13,7 +13,7 @@ returns-in-Some-clause-goes g c =
     record {
       ready = c.args.machine.now;
       run = None;
-      leaves = record { kept = refl; packages = g.met.M.Machine.still_changed c.args.machine.now c.args.machine.now (g.met.M.Resources.stays c.args.machine.now); later = omega arith };
+      leaves = record { trace = refl; packages = g.met.M.Machine.still_changed c.args.machine.now c.args.machine.now (g.met.M.Resources.stays c.args.machine.now); later = omega arith };
       ends = ends_here g.D.Disk c.requires.kept (λ from counts work. not_allowed c.in-Some.why is refl (c.silent.ensures.status, c.silent.ensures.lines));
     }
 
@@ -24,7 +24,7 @@ returns-then-waits-clause-goes g c =
     record {
       ready = c.args.machine.now;
       run = None;
-      leaves = record { kept = refl; packages = g.met.M.Machine.still_changed c.args.machine.now c.args.machine.now (g.met.M.Resources.stays c.args.machine.now); later = omega arith };
+      leaves = record { trace = refl; packages = g.met.M.Machine.still_changed c.args.machine.now c.args.machine.now (g.met.M.Resources.stays c.args.machine.now); later = omega arith };
       ends = ends_here g.D.Disk c.requires.kept (λ from counts work. waiting none is refl (c.silent-then-waits.ensures.status, c.silent-then-waits.ensures.lines));
     }
 
@@ -37,7 +37,7 @@ returns-in_default-started-clause-goes g c =
     record {
       ready = c.args.machine.now;
       run = None;
-      leaves = record { kept = refl; packages = g.met.M.Machine.still_changed c.args.machine.now c.args.machine.now (g.met.M.Resources.stays c.args.machine.now); later = omega arith };
+      leaves = record { trace = refl; packages = g.met.M.Machine.still_changed c.args.machine.now c.args.machine.now (g.met.M.Resources.stays c.args.machine.now); later = omega arith };
       ends = ends_here g.D.Disk c.requires.kept (λ from counts work.
           clock_failed allowed (sym c.reads_clock.ensures ∙ failed.0) failed.1 failed.2 failed.3 refl refl (c.silent-in_default-started.ensures.status, c.silent-in_default-started.ensures.lines));
     }
@@ -52,7 +52,7 @@ returns-then-not-is_run-clause-goes g c =
     record {
       ready = c.args.machine.now;
       run = None;
-      leaves = record { kept = refl; packages = g.met.M.Machine.still_changed c.args.machine.now c.args.machine.now (g.met.M.Resources.stays c.args.machine.now); later = omega arith };
+      leaves = record { trace = refl; packages = g.met.M.Machine.still_changed c.args.machine.now c.args.machine.now (g.met.M.Resources.stays c.args.machine.now); later = omega arith };
       ends =
           settle_goes (known g.D.Disk g.M.Resources g.M.Machine g.C.Clock) c.args.prepared.task c.in-Ok.start c.args.disk.now c.settle.new.disk c.args.store.now (beside c.args.machine.now (view_of g.L.Link c.args.link.now) c.args.clock.now)
           (beside c.args.machine.now (view_of g.L.Link c.settle.new.link) c.started.new.clock) c.settle.result.status (string_bytes c.settle.result.lines) allowed

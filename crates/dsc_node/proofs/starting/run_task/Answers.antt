@@ -22,7 +22,7 @@ returns-in-Err-clause-goes g c =
     record {
       ready = c.bring.new.machine;
       run = None;
-      leaves = record { kept = c.in-Err.ensures.kept; packages = c.in-Err.ensures.packages; later = c.in-Err.ensures.later };
+      leaves = record { trace = c.in-Err.ensures.trace; packages = c.in-Err.ensures.packages; later = c.in-Err.ensures.later };
       ends = ends_here g.D.Disk c.requires.kept (λ from counts work unread allowed runs reads.
           not_brought c.args.start c.in-Err.error allowed (subst (λ (b : Bool). ReadsBefore g.C.Clock b c.args.start unread c.args.clock.now) (sym (run_reads c.args.prepared.task runs)) reads) brought
           (c.silent.ensures.status ∙ c.status_of_pull.ensures, c.silent.ensures.lines));
@@ -34,7 +34,7 @@ returns-in-Err-commit_first-clause-goes g c =
     record {
       ready = c.bring.new.machine;
       run = None;
-      leaves = record { kept = c.in-Ok.ensures.kept; packages = c.in-Ok.ensures.packages; later = c.in-Ok.ensures.later };
+      leaves = record { trace = c.in-Ok.ensures.trace; packages = c.in-Ok.ensures.packages; later = c.in-Ok.ensures.later };
       ends = ends_as g.D.Disk c.in-Err-commit_first.ensures.goes (λ from counts work committed broken t unread allowed runs reads.
           first_refused c.args.start t.0 c.in-Err-commit_first.error committed broken allowed
           (subst (λ (b : Bool). ReadsBefore g.C.Clock b c.args.start unread c.args.clock.now) (sym (run_reads c.args.prepared.task runs)) reads)
@@ -57,7 +57,7 @@ returns-clause-goes g c =
     record {
       ready = c.bring.new.machine;
       run = ran.0;
-      leaves = record { kept = c.in-Ok.ensures.kept; packages = c.in-Ok.ensures.packages; later = c.in-Ok.ensures.later };
+      leaves = record { trace = c.in-Ok.ensures.trace; packages = c.in-Ok.ensures.packages; later = c.in-Ok.ensures.later };
       ends = ends_on g.D.Disk first ran.1 (λ from counts work committed broken t unread allowed runs reads.
           finished c.args.start (g.C.Clock.coming c.args.clock.now) (view_of g.L.Link c.bring.new.link) c.bring.new.machine c.in-Ok.first.event mid ran.0 committed broken allowed runs reads.0 reads.1 brought first.steps
           (subst (λ (b : Bool). Finish (known g.D.Disk g.M.Resources g.M.Machine g.C.Clock) from counts (work ++ events_of c.in-Ok.first.event) mid b (g.C.Clock.coming c.args.clock.now) (g.C.Clock.coming c.finish.new.clock) c.args.start (view_of g.L.Link c.bring.new.link) (view_of g.L.Link c.finish.new.link) c.bring.new.machine c.finish.new.machine c.finish.result.status (string_bytes c.finish.result.lines) ran.0 committed broken) stopped t));

@@ -6,13 +6,13 @@ use Rattle.gate_log.proofs.Cells.{cell_size}
 use Rattle.gate_log.proofs.appending.append_cell.Goals as goal
 
 pub returns-clause-any_moment : goal.returns-clause-any_moment
-returns-clause-any_moment g c = λ shape second bodies le room texts. c.write_cell.ensures.any_moment shape second bodies c.args.body.now texts le room c.fill-size.ensures.cell
+returns-clause-any_moment g c = λ shape second bodies le capacity texts. c.write_cell.ensures.any_moment shape second bodies c.args.body.now texts le capacity c.fill-size.ensures.cell
 
 pub returns-clause-ok : goal.returns-clause-ok
-returns-clause-ok g c = λ shape second bodies le room texts.
+returns-clause-ok g c = λ shape second bodies le capacity texts.
     subst (λ (n : ℕ). OnOk c.write_cell.result (Each (g.D.Disk.images c.write_cell.new.disk) (λ f. IsText shape second (c.args.closed + n) f (bodies ++ c.args.body.now ∷ []))))
     (cell_size _ c.args.body.now c.fill-size.ensures.cell)
-    (c.write_cell.ensures.ok shape second bodies c.args.body.now texts le room c.fill-size.ensures.cell)
+    (c.write_cell.ensures.ok shape second bodies c.args.body.now texts le capacity c.fill-size.ensures.cell)
 
 pub returns-clause-long : goal.returns-clause-long
 returns-clause-long g c = λ n long.

@@ -43,5 +43,5 @@ returns-clause-any_moment g c = λ shape second bodies texts.
 pub returns-clause-written : goal.returns-clause-written
 returns-clause-written g c =
     both_ok c.write_through.result c.write_through.ensures.written c.write_through.ensures.written (λ is also.
-    all_written (c.args.closed + 1) c.args.head.now c.args.tail.now (0 ∷ []) (g.D.Disk.shown c.args.disk.now) (g.D.Disk.shown c.write_on.new.disk) (g.D.Disk.shown c.write_on-2.new.disk) (g.D.Disk.shown c.write_through.new.disk) c.requires.room
+    all_written (c.args.closed + 1) c.args.head.now c.args.tail.now (0 ∷ []) (g.D.Disk.shown c.args.disk.now) (g.D.Disk.shown c.write_on.new.disk) (g.D.Disk.shown c.write_on-2.new.disk) (g.D.Disk.shown c.write_through.new.disk) c.requires.capacity
     c.in_ok-write_on.ensures.written c.in_ok-write_on-2.ensures.written is)

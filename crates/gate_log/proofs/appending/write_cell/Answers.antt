@@ -4,28 +4,28 @@ use Rattle.gate_log.proofs.Steps.{first_moment, second_moment, appended, both_ok
 use Rattle.gate_log.proofs.appending.write_cell.Goals as goal
 
 pub returns-in_err-write_through-clause-any_moment : goal.returns-in_err-write_through-clause-any_moment
-returns-in_err-write_through-clause-any_moment g c = λ shape second bodies body texts le room is_cell.
+returns-in_err-write_through-clause-any_moment g c = λ shape second bodies body texts le capacity is_cell.
     weaker g.D.Disk.moment g.D.Disk.left_since c.args.disk.now c.write_through.new.disk _ (TextBeforeOrAfter shape second c.args.closed bodies body) c.write_through.ensures.any_moment
-    (first_moment shape second c.args.closed bodies body c.args.cell.now is_cell le room (g.D.Disk.images c.args.disk.now) texts)
+    (first_moment shape second c.args.closed bodies body c.args.cell.now is_cell le capacity (g.D.Disk.images c.args.disk.now) texts)
 
 pub returns-clause-any_moment : goal.returns-clause-any_moment
-returns-clause-any_moment g c = λ shape second bodies body texts le room is_cell.
+returns-clause-any_moment g c = λ shape second bodies body texts le capacity is_cell.
     let disk = c.args.disk.now in
     let mid = c.write_through.new.disk in
     let P = TextBeforeOrAfter shape second c.args.closed bodies body in
     let first = weaker g.D.Disk.moment g.D.Disk.left_since disk mid _ P c.write_through.ensures.any_moment
-    (first_moment shape second c.args.closed bodies body c.args.cell.now is_cell le room (g.D.Disk.images disk) texts) in
+    (first_moment shape second c.args.closed bodies body c.args.cell.now is_cell le capacity (g.D.Disk.images disk) texts) in
     then_on g.D.Disk.moment g.D.Disk.left_since disk mid c.write_through-2.new.disk P _ first c.write_through-2.ensures.any_moment
-    (second_moment shape second c.args.closed bodies body c.args.cell.now is_cell le room (g.D.Disk.images disk) texts (g.D.Disk.shown disk) (g.D.Disk.shown mid) (g.met.D.Disk.honest disk) (g.D.Disk.images mid)
+    (second_moment shape second c.args.closed bodies body c.args.cell.now is_cell le capacity (g.D.Disk.images disk) texts (g.D.Disk.shown disk) (g.D.Disk.shown mid) (g.met.D.Disk.honest disk) (g.D.Disk.images mid)
     c.in_ok-write_through.ensures.written c.in_ok-write_through.ensures.only)
 
 pub returns-clause-ok : goal.returns-clause-ok
-returns-clause-ok g c = λ shape second bodies body texts le room is_cell.
+returns-clause-ok g c = λ shape second bodies body texts le capacity is_cell.
     let disk = c.args.disk.now in
     let mid = c.write_through.new.disk in
     let new = c.write_through-2.new.disk in
     both_ok c.write_through-2.result c.write_through-2.ensures.written c.write_through-2.ensures.only (λ is only.
-    appended shape second c.args.closed bodies body c.args.cell.now is_cell le room (g.D.Disk.images disk) texts (g.D.Disk.shown disk) (g.D.Disk.shown mid) (g.met.D.Disk.honest disk) (g.D.Disk.images mid)
+    appended shape second c.args.closed bodies body c.args.cell.now is_cell le capacity (g.D.Disk.images disk) texts (g.D.Disk.shown disk) (g.D.Disk.shown mid) (g.met.D.Disk.honest disk) (g.D.Disk.images mid)
     c.in_ok-write_through.ensures.written c.in_ok-write_through.ensures.only (g.D.Disk.shown new) (g.D.Disk.images new) (g.met.D.Disk.honest mid) is only)
 
 pub returns-clause-long : goal.returns-clause-long
@@ -34,4 +34,4 @@ returns-clause-long g c = λ n long.
     let mid = c.write_through.new.disk in
     let new = c.write_through-2.new.disk in
     both_ok c.write_through-2.result c.write_through-2.ensures.written c.write_through-2.ensures.only (λ is only.
-    lengths c.args.closed 165 c.args.cell.now (g.D.Disk.shown disk) (g.D.Disk.shown mid) (g.D.Disk.shown new) n c.in_ok-write_through.ensures.written is c.requires.room long)
+    lengths c.args.closed 165 c.args.cell.now (g.D.Disk.shown disk) (g.D.Disk.shown mid) (g.D.Disk.shown new) n c.in_ok-write_through.ensures.written is c.requires.capacity long)

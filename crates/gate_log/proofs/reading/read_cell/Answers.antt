@@ -74,7 +74,7 @@ returns-clause-cell g c =
     let mid = g.D.Disk.shown c.read_from.new.disk in
     let five : length head ≡ 5 = search rules in
     let gate : get_or head 0 0 ≡ 165 = search rules in
-    let room : size ≤ c.lengthen.new.buffer.len = search rules in
+    let capacity : size ≤ c.lengthen.new.buffer.len = search rules in
     let enough : size ≤ length c.read_front.new.buffer = search rules in
     let body = take size c.read_front.new.buffer in
     let long : length body ≡ size = length-take-le size c.read_front.new.buffer enough in
@@ -82,4 +82,4 @@ returns-clause-cell g c =
     let is_size : to_be_bytes w32 (length body) ≡ drop 1 head = ap (λ (n : ℕ). to_be_bytes w32 n) long ∙ c.length_in-size.ensures in
     let told = cell_told c.args.largest c.args.at (g.D.Disk.shown c.args.disk.now) mid head body c.in_ok-n.n c.in_ok-got.got five (omega (arith, c.if-n-lt5.false)) gate is_size (omega (arith, long, c.if-got-size.false)) (omega (arith, long, c.if-size-largest.false))
     c.in_ok-n.ensures.bytes c.read_from.ensures.still.same read in
-    subst (λ (l : List ℕ). IfSome (g.D.Disk.shown c.args.disk.now) (λ held. StandsAt c.args.largest c.args.at held (Some l))) (sym (all_of size c.lengthen.new.buffer.len c.read_front.new.buffer c.lengthen.new.buffer.items enough room)) told
+    subst (λ (l : List ℕ). IfSome (g.D.Disk.shown c.args.disk.now) (λ held. StandsAt c.args.largest c.args.at held (Some l))) (sym (all_of size c.lengthen.new.buffer.len c.read_front.new.buffer c.lengthen.new.buffer.items enough capacity)) told

@@ -15,7 +15,7 @@ loop-size-init g c =
       count = omega arith;
       limit = search rules;
       inside = search rules;
-      room = omega arith;
+      capacity = omega arith;
       handed = handed_none c.args.shape c.args.second _ (g.D.Disk.shown disk) (g.R.Replay.took c.args.replay.now) c.requires.some c.begin-at.ensures c.requires.first;
     }
 
@@ -32,7 +32,7 @@ loop-size-preserved g c =
       count = omega (arith, l.invariant.count, c.read_cell.ensures.count);
       limit = l.invariant.limit;
       inside = grind (arith, common_steps, fits);
-      room = omega (arith, l.invariant.room, c.read_cell.ensures.room);
+      capacity = omega (arith, l.invariant.capacity, c.read_cell.ensures.capacity);
       handed = handed_more c.args.shape c.args.second l.at c.in-Some.size (g.D.Disk.shown disk) (g.D.Disk.shown l.disk) (g.R.Replay.took l.replay) (g.R.Replay.took c.hand_on.new.replay) c.read_cell.new.buffer.items (take c.in-Some.size c.deref.result.now) l.invariant.handed is enough
           (grind (arith, common_steps, fits, l.invariant.limit)) l.invariant.still.same here (c.in_ok-hand_on.ensures.taken l.invariant.handed.bodies l.invariant.handed.took);
     }

@@ -10,7 +10,7 @@ invariant-loop-size g l = record {
   count : g.D.Disk.faults l.fn.disk ≤ g.D.Disk.faults l.disk;
   limit : l.limit ≡ begin l.shape l.second + l.shape.bank;
   inside : l.at < l.limit;
-  room : vec_capacity l.fn.buffer ≤ vec_capacity l.buffer;
+  capacity : vec_capacity l.fn.buffer ≤ vec_capacity l.buffer;
   handed : HandedUpTo l.shape l.second (g.D.Disk.shown l.fn.disk) (g.R.Replay.took l.replay) l.at;
 }
 

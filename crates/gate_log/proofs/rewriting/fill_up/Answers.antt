@@ -20,7 +20,7 @@ loop-end-preserved g c =
       size = l.invariant.size;
       past = omega (arith, l.invariant.past);
       upper = omega (arith, l.invariant.upper, l.invariant.past, c.piece-size.ensures.rest, c.loop-end-test.true);
-      end = subst (λ (n : ℕ). IfSome (g.D.Disk.shown c.write_on.new.disk) (λ held. l.end + n ≡ length held)) (length-take-le c.piece-size.result c.zero_front-room.new.buffer (omega (arith, c.piece-size.ensures.room, c.zero_front-room.ensures.room)))
+      end = subst (λ (n : ℕ). IfSome (g.D.Disk.shown c.write_on.new.disk) (λ held. l.end + n ≡ length held)) (length-take-le c.piece-size.result c.zero_front-capacity.new.buffer (omega (arith, c.piece-size.ensures.capacity, c.zero_front-capacity.ensures.capacity)))
           (filled_long l.end _ (g.D.Disk.shown l.disk) (g.D.Disk.shown c.write_on.new.disk) written l.invariant.end);
       holds = λ at bytes there. filled_holds at l.end bytes _ (g.D.Disk.shown l.disk) (g.D.Disk.shown c.write_on.new.disk) written l.invariant.end (l.invariant.holds at bytes there);
       ok = λ shape second closed bodies le texts f here.

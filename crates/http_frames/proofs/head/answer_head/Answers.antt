@@ -6,9 +6,9 @@ use Rattle.http_frames.proofs.head.answer_head.Goals as goal
 pub returns-in_ok-copy_answer-in-Some-clause-head : goal.returns-in_ok-copy_answer-in-Some-clause-head
 returns-in_ok-copy_answer-in-Some-clause-head c =
     let found = rw c.in-Some.is at c.in_ok-found.ensures in
-    let room : length c.read_answer.new.spans ≡ 64 = omega arith in
+    let capacity : length c.read_answer.new.spans ≡ 64 = omega arith in
     answer_read_at c.args.bytes.now c.front_of-front.result.now c.read_answer.new.spans c.in-Some.found
-    c.in_ok-copy_answer-in-Some.field-0 c.front_of-front.ensures room found.within found.head
+    c.in_ok-copy_answer-in-Some.field-0 c.front_of-front.ensures capacity found.within found.head
     c.in_ok-copy_answer-in-Some.ensures
 
 pub returns-else-bytes-ge-HEAD_BYTES-clause-more : goal.returns-else-bytes-ge-HEAD_BYTES-clause-more

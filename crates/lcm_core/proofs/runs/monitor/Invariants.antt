@@ -7,14 +7,14 @@ use Rattle.lcm_core.proofs.runs.monitor.Given as goal
 
 abbrev pub invariant-loop-place : goal.invariant-loop-place
 invariant-loop-place g l =
-    let kept = g.R.Resources.kept l.resources in
+    let trace = g.R.Resources.trace l.resources in
     record {
-      places : map place_of kept ≡ take l.place-index l.order;
-      legal : Legal l.document Monitor l.order kept;
-      goes_on : GoesOn kept;
-      chain : Chain g.R.Resources.does g.R.Resources.still l.document l.fn.resources kept l.resources;
-      faults : RoseBy (host_failures kept) (g.R.Resources.faults l.fn.resources) (g.R.Resources.faults l.resources);
+      places : map place_of trace ≡ take l.place-index l.order;
+      legal : Legal l.document Monitor l.order trace;
+      goes_on : GoesOn trace;
+      chain : Chain g.R.Resources.does g.R.Resources.still l.document l.fn.resources trace l.resources;
+      faults : RoseBy (host_failures trace) (g.R.Resources.faults l.fn.resources) (g.R.Resources.faults l.resources);
       later : g.R.Resources.faults l.fn.resources ≤ g.R.Resources.faults l.resources;
-      used : g.R.Resources.spare l.fn.resources ≤ g.R.Resources.spare l.resources + length kept;
-      room : length l.order ≤ g.R.Resources.spare l.resources + l.place-index;
+      used : g.R.Resources.spare l.fn.resources ≤ g.R.Resources.spare l.resources + length trace;
+      capacity : length l.order ≤ g.R.Resources.spare l.resources + l.place-index;
     }

@@ -13,18 +13,18 @@ returns-in-No-clause-turn g c =
     let place = c.args.place in
     let rest = c.set_and_test.ensures.rest in
     let first = Tested place tests.No in
-    let kept = g.R.Resources.kept c.args.resources.now in
+    let trace = g.R.Resources.trace c.args.resources.now in
     record {
       turn = first ∷ rest.rest;
       is_turn = rest.is_turn;
-      behind = rest.behind
-          ∙ ap (λ (l : List Entry). l ++ rest.rest) (c.test.ensures.kept ∙ ap (λ (a : TestAnswer). kept ++ Tested place a ∷ []) c.in-No.is)
-          ∙ append_assoc kept (first ∷ []) rest.rest;
+      follows = rest.follows
+          ∙ ap (λ (l : List Entry). l ++ rest.rest) (c.test.ensures.trace ∙ ap (λ (a : TestAnswer). trace ++ Tested place a ∷ []) c.in-No.is)
+          ∙ append_assoc trace (first ∷ []) rest.rest;
       last = rest.last;
       ends = (first ∷ rest.ends.0, ap (λ (l : List Entry). first ∷ l) rest.ends.1);
       shows = rest.shows;
       chain = (c.test.new.self, subst (λ (a : TestAnswer). g.R.Resources.does c.args.resources.now c.args.document.now (Tested place a) c.test.new.self) c.in-No.is c.test.ensures.does, rest.chain);
       failures = omega (arith, rest.failures, sum_by-cons entry_failures first rest.rest, ap (λ (a : TestAnswer). entry_failures (Tested place a)) c.in-No.is, c.test.ensures.cause);
       later = omega (arith, rest.later, c.test.ensures.later);
-      room = omega (arith, rest.room, c.test.ensures.room);
+      capacity = omega (arith, rest.capacity, c.test.ensures.capacity);
     }

@@ -10,11 +10,11 @@ use Rattle.lcm_program.proofs.test.monitor_document.Goals as goal
 
 pub outcome_of-requires-clause-known : goal.outcome_of-requires-clause-known
 outcome_of-requires-clause-known g c =
-    rw c.calls.ensures (legal_places c.args.ordered.now.document Monitor c.args.ordered.now.order (g.M.Resources.kept c.run_merged.new.machine) c.run_merged.ensures.legal)
+    rw c.calls.ensures (legal_places c.args.ordered.now.document Monitor c.args.ordered.now.order (g.M.Resources.trace c.run_merged.new.machine) c.run_merged.ensures.legal)
 
 pub outcome_of-requires-clause-ends : goal.outcome_of-requires-clause-ends
 outcome_of-requires-clause-ends g c =
-    rw c.calls.ensures (legal_ends c.args.ordered.now.document Monitor c.args.ordered.now.order (g.M.Resources.kept c.run_merged.new.machine) c.run_merged.ensures.legal)
+    rw c.calls.ensures (legal_ends c.args.ordered.now.document Monitor c.args.ordered.now.order (g.M.Resources.trace c.run_merged.new.machine) c.run_merged.ensures.legal)
 
 pub returns-in_err-outcome_of-in-Finished-clause-run : goal.returns-in_err-outcome_of-in-Finished-clause-run
 returns-in_err-outcome_of-in-Finished-clause-run g c =
@@ -36,7 +36,7 @@ returns-in_err-outcome_of-in-Finished-clause-run g c =
 pub returns-in_ok-outcome_of-in-Finished : goal.returns-in_ok-outcome_of-in-Finished
 returns-in_ok-outcome_of-in-Finished g c =
     let document = c.args.ordered.now.document in
-    let trace = g.M.Resources.kept c.run_merged.new.machine in
+    let trace = g.M.Resources.trace c.run_merged.new.machine in
     let overlaps = c.in_ok-overlap.overlap in
     let run : Monitored g.M.Resources nothing_further_of_runs document c.run_merged.result c.args.machine.now c.run_merged.new.machine = record {
       order = c.args.ordered.now.order;

@@ -11,7 +11,7 @@ returns-in_default-clause-usage c =
 
 pub returns-in_default-read_agent-clause-usage : goal.returns-in_default-read_agent-clause-usage
 returns-in_default-read_agent-clause-usage c =
-    subst (λ (words : List (List ℕ)). IsUsage (codes "init" ∷ words) 1)
+    subst (λ (arguments : List (List ℕ)). IsUsage (codes "init" ∷ arguments) 1)
     (first_and_rest string_bytes c.args.rest.now c.word-item.result c.deref.result.now c.in-len1-up.len_at_least c.word-item.is c.deref.ensures)
     (wrong_other (codes "init") IsAnyAgent init_form some_init c.deref.result.now _
     (λ named. c.in_default-read_agent.ensures.none named.0 named.1))
@@ -20,7 +20,7 @@ pub returns-in_default-more-clause-usage : goal.returns-in_default-more-clause-u
 returns-in_default-more-clause-usage c =
     let word = c.deref.result.now in
     let more = take (length c.args.rest.now - 1) (drop 1 c.args.rest.now) in
-    subst (λ (words : List (List ℕ)). IsUsage (codes "init" ∷ words) 2)
+    subst (λ (arguments : List (List ℕ)). IsUsage (codes "init" ∷ arguments) 2)
     (first_and_rest string_bytes c.args.rest.now c.word-item.result word c.in-len1-up.len_at_least c.word-item.is c.deref.ensures)
     (third_word (codes "init") IsAnyAgent init_form some_init word (map string_bytes more) (Init c.in-Some.agent)
     (omega (arith, length-map more string_bytes, c.in_default-more.len_at_least)) (word, refl, c.in-Some.ensures.some))

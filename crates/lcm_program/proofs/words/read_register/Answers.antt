@@ -11,7 +11,7 @@ returns-in_default-clause-usage c =
 
 pub returns-then-not-is_name-clause-usage : goal.returns-then-not-is_name-clause-usage
 returns-then-not-is_name-clause-usage c =
-    subst (λ (words : List (List ℕ)). IsUsage (codes "register" ∷ words) 1)
+    subst (λ (arguments : List (List ℕ)). IsUsage (codes "register" ∷ arguments) 1)
     (first_and_rest string_bytes c.args.rest.now c.word-item.result c.as_str-name.result.now c.in-len1-up.len_at_least c.word-item.is c.as_str-name.ensures.value)
     (wrong_other (codes "register") IsName register_form some_register c.as_str-name.result.now _ (λ named. true≢false (sym (c.if-not-is_name.ensures.1 named))))
 
@@ -19,7 +19,7 @@ pub returns-in_default-more-clause-usage : goal.returns-in_default-more-clause-u
 returns-in_default-more-clause-usage c =
     let word = c.as_str-name.result.now in
     let more = take (length c.args.rest.now - 1) (drop 1 c.args.rest.now) in
-    subst (λ (words : List (List ℕ)). IsUsage (codes "register" ∷ words) 2)
+    subst (λ (arguments : List (List ℕ)). IsUsage (codes "register" ∷ arguments) 2)
     (first_and_rest string_bytes c.args.rest.now c.word-item.result word c.in-len1-up.len_at_least c.word-item.is c.as_str-name.ensures.value)
     (third_word (codes "register") IsName register_form some_register word (map string_bytes more) (Register c.as_str-name.result)
     (omega (arith, length-map more string_bytes, c.in_default-more.len_at_least)) (refl, c.is_name.ensures.0 (search rules)))

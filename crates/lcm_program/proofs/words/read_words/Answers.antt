@@ -6,22 +6,22 @@ use Rattle.lcm_program.proofs.Forms.{TakesWord, first_and_rest, no_texts, no_wor
 use Rattle.lcm_program.proofs.words.read_words.Goals as goal
 
 pub returns-in_default-clause-usage : goal.returns-in_default-clause-usage
-returns-in_default-clause-usage c = rw (no_texts string_bytes c.args.words.now c.in_default.len_below) no_word
+returns-in_default-clause-usage c = rw (no_texts string_bytes c.args.arguments.now c.in_default.len_below) no_word
 
 -- the arguments begin with `generate`
 
 pub returns-then-eq-clause-ok : goal.returns-then-eq-clause-ok
 returns-then-eq-clause-ok c =
     let generate = (bytes_eq-Decides c.as_str.result.now (codes "generate")).0 (sym c.if-eq.ensures) in
-    subst (λ (words : List (List ℕ)). IfOk c.read_generate.result (λ command. IsForm command words))
-    (first_and_rest string_bytes c.args.words.now c.first-item.result (codes "generate") c.in-len1-up.len_at_least c.first-item.is (sym generate ∙ c.as_str.ensures.value))
+    subst (λ (arguments : List (List ℕ)). IfOk c.read_generate.result (λ command. IsForm command arguments))
+    (first_and_rest string_bytes c.args.arguments.now c.first-item.result (codes "generate") c.in-len1-up.len_at_least c.first-item.is (sym generate ∙ c.as_str.ensures.value))
     c.read_generate.ensures.ok
 
 pub returns-then-eq-clause-usage : goal.returns-then-eq-clause-usage
 returns-then-eq-clause-usage c =
     let generate = (bytes_eq-Decides c.as_str.result.now (codes "generate")).0 (sym c.if-eq.ensures) in
-    subst (λ (words : List (List ℕ)). IfErr c.read_generate.result (λ error. IsUsage words error.word))
-    (first_and_rest string_bytes c.args.words.now c.first-item.result (codes "generate") c.in-len1-up.len_at_least c.first-item.is (sym generate ∙ c.as_str.ensures.value))
+    subst (λ (arguments : List (List ℕ)). IfErr c.read_generate.result (λ error. IsUsage arguments error.word))
+    (first_and_rest string_bytes c.args.arguments.now c.first-item.result (codes "generate") c.in-len1-up.len_at_least c.first-item.is (sym generate ∙ c.as_str.ensures.value))
     c.read_generate.ensures.usage
 
 -- they begin with `init`
@@ -29,15 +29,15 @@ returns-then-eq-clause-usage c =
 pub returns-then-eq-2-clause-ok : goal.returns-then-eq-2-clause-ok
 returns-then-eq-2-clause-ok c =
     let init = (bytes_eq-Decides c.as_str-2.result.now (codes "init")).0 (sym c.if-eq-2.ensures) in
-    subst (λ (words : List (List ℕ)). IfOk c.read_init.result (λ command. IsForm command words))
-    (first_and_rest string_bytes c.args.words.now c.first-item.result (codes "init") c.in-len1-up.len_at_least c.first-item.is (sym init ∙ c.as_str-2.ensures.value))
+    subst (λ (arguments : List (List ℕ)). IfOk c.read_init.result (λ command. IsForm command arguments))
+    (first_and_rest string_bytes c.args.arguments.now c.first-item.result (codes "init") c.in-len1-up.len_at_least c.first-item.is (sym init ∙ c.as_str-2.ensures.value))
     c.read_init.ensures.ok
 
 pub returns-then-eq-2-clause-usage : goal.returns-then-eq-2-clause-usage
 returns-then-eq-2-clause-usage c =
     let init = (bytes_eq-Decides c.as_str-2.result.now (codes "init")).0 (sym c.if-eq-2.ensures) in
-    subst (λ (words : List (List ℕ)). IfErr c.read_init.result (λ error. IsUsage words error.word))
-    (first_and_rest string_bytes c.args.words.now c.first-item.result (codes "init") c.in-len1-up.len_at_least c.first-item.is (sym init ∙ c.as_str-2.ensures.value))
+    subst (λ (arguments : List (List ℕ)). IfErr c.read_init.result (λ error. IsUsage arguments error.word))
+    (first_and_rest string_bytes c.args.arguments.now c.first-item.result (codes "init") c.in-len1-up.len_at_least c.first-item.is (sym init ∙ c.as_str-2.ensures.value))
     c.read_init.ensures.usage
 
 -- they begin with `register`
@@ -45,15 +45,15 @@ returns-then-eq-2-clause-usage c =
 pub returns-then-eq-3-clause-ok : goal.returns-then-eq-3-clause-ok
 returns-then-eq-3-clause-ok c =
     let register = (bytes_eq-Decides c.as_str-3.result.now (codes "register")).0 (sym c.if-eq-3.ensures) in
-    subst (λ (words : List (List ℕ)). IfOk c.read_register.result (λ command. IsForm command words))
-    (first_and_rest string_bytes c.args.words.now c.first-item.result (codes "register") c.in-len1-up.len_at_least c.first-item.is (sym register ∙ c.as_str-3.ensures.value))
+    subst (λ (arguments : List (List ℕ)). IfOk c.read_register.result (λ command. IsForm command arguments))
+    (first_and_rest string_bytes c.args.arguments.now c.first-item.result (codes "register") c.in-len1-up.len_at_least c.first-item.is (sym register ∙ c.as_str-3.ensures.value))
     c.read_register.ensures.ok
 
 pub returns-then-eq-3-clause-usage : goal.returns-then-eq-3-clause-usage
 returns-then-eq-3-clause-usage c =
     let register = (bytes_eq-Decides c.as_str-3.result.now (codes "register")).0 (sym c.if-eq-3.ensures) in
-    subst (λ (words : List (List ℕ)). IfErr c.read_register.result (λ error. IsUsage words error.word))
-    (first_and_rest string_bytes c.args.words.now c.first-item.result (codes "register") c.in-len1-up.len_at_least c.first-item.is (sym register ∙ c.as_str-3.ensures.value))
+    subst (λ (arguments : List (List ℕ)). IfErr c.read_register.result (λ error. IsUsage arguments error.word))
+    (first_and_rest string_bytes c.args.arguments.now c.first-item.result (codes "register") c.in-len1-up.len_at_least c.first-item.is (sym register ∙ c.as_str-3.ensures.value))
     c.read_register.ensures.usage
 
 -- they begin with `remove`
@@ -61,15 +61,15 @@ returns-then-eq-3-clause-usage c =
 pub returns-then-eq-4-clause-ok : goal.returns-then-eq-4-clause-ok
 returns-then-eq-4-clause-ok c =
     let remove = (bytes_eq-Decides c.as_str-4.result.now (codes "remove")).0 (sym c.if-eq-4.ensures) in
-    subst (λ (words : List (List ℕ)). IfOk c.read_remove.result (λ command. IsForm command words))
-    (first_and_rest string_bytes c.args.words.now c.first-item.result (codes "remove") c.in-len1-up.len_at_least c.first-item.is (sym remove ∙ c.as_str-4.ensures.value))
+    subst (λ (arguments : List (List ℕ)). IfOk c.read_remove.result (λ command. IsForm command arguments))
+    (first_and_rest string_bytes c.args.arguments.now c.first-item.result (codes "remove") c.in-len1-up.len_at_least c.first-item.is (sym remove ∙ c.as_str-4.ensures.value))
     c.read_remove.ensures.ok
 
 pub returns-then-eq-4-clause-usage : goal.returns-then-eq-4-clause-usage
 returns-then-eq-4-clause-usage c =
     let remove = (bytes_eq-Decides c.as_str-4.result.now (codes "remove")).0 (sym c.if-eq-4.ensures) in
-    subst (λ (words : List (List ℕ)). IfErr c.read_remove.result (λ error. IsUsage words error.word))
-    (first_and_rest string_bytes c.args.words.now c.first-item.result (codes "remove") c.in-len1-up.len_at_least c.first-item.is (sym remove ∙ c.as_str-4.ensures.value))
+    subst (λ (arguments : List (List ℕ)). IfErr c.read_remove.result (λ error. IsUsage arguments error.word))
+    (first_and_rest string_bytes c.args.arguments.now c.first-item.result (codes "remove") c.in-len1-up.len_at_least c.first-item.is (sym remove ∙ c.as_str-4.ensures.value))
     c.read_remove.ensures.usage
 
 -- they begin with the argument of no command
@@ -87,8 +87,8 @@ returns-in_default-command_of-clause-usage c =
       | inr (inr (inl is)) ↦ true≢false (sym (remove.1 (c.as_str-4.ensures.value ∙ sym c.deref.ensures ∙ is)) ∙ sym c.if-eq-4.ensures)
       | inr (inr (inr is)) ↦ true≢false (sym (register.1 (c.as_str-3.ensures.value ∙ sym c.deref.ensures ∙ is)) ∙ sym c.if-eq-3.ensures)
     ] in
-    subst (λ (words : List (List ℕ)). IsUsage words 0)
-    (first_and_rest string_bytes c.args.words.now c.first-item.result word c.in-len1-up.len_at_least c.first-item.is c.deref.ensures)
+    subst (λ (arguments : List (List ℕ)). IsUsage arguments 0)
+    (first_and_rest string_bytes c.args.arguments.now c.first-item.result word c.in-len1-up.len_at_least c.first-item.is c.deref.ensures)
     (wrong_first word _ c.in_default-command_of.ensures.none other)
 
 -- an argument follows one that stands alone
@@ -96,7 +96,7 @@ returns-in_default-command_of-clause-usage c =
 pub returns-in_default-rest-clause-usage : goal.returns-in_default-rest-clause-usage
 returns-in_default-rest-clause-usage c =
     let word = c.deref.result.now in
-    let rest = take (length c.args.words.now - 1) (drop 1 c.args.words.now) in
-    subst (λ (words : List (List ℕ)). IsUsage words 1)
-    (first_and_rest string_bytes c.args.words.now c.first-item.result word c.in-len1-up.len_at_least c.first-item.is c.deref.ensures)
+    let rest = take (length c.args.arguments.now - 1) (drop 1 c.args.arguments.now) in
+    subst (λ (arguments : List (List ℕ)). IsUsage arguments 1)
+    (first_and_rest string_bytes c.args.arguments.now c.first-item.result word c.in-len1-up.len_at_least c.first-item.is c.deref.ensures)
     (second_word word (map string_bytes rest) c.in-Some.command (omega (arith, length-map rest string_bytes, c.in_default-rest.len_at_least)) c.in-Some.ensures.some)

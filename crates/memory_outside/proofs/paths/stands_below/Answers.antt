@@ -1,9 +1,9 @@
 use Rattle.std.proofs.Common.{sym, ◌∙◌}
-use Rattle.dsc_outside.proofs.Below.{below_rest, not_behind, begins_first, begins_none}
+use Rattle.dsc_outside.proofs.Below.{below_rest, not_after, begins_first, begins_none}
 use Rattle.memory_outside.proofs.paths.stands_below.Goals as goal
 
 pub returns-in_default : goal.returns-in_default
-returns-in_default c = sym (not_behind c.args.path.now c.args.other.now c.in_default.ensures.cases)
+returns-in_default c = sym (not_after c.args.path.now c.args.other.now c.in_default.ensures.cases)
 
 pub returns-in-empty : goal.returns-in-empty
 returns-in-empty c =

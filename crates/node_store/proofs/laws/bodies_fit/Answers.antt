@@ -7,4 +7,4 @@ returns-clause-events c = event_fits
 pub returns-clause-fronts : goal.returns-clause-fronts
 returns-clause-fronts c = λ agent node sound digests.
     let small = front_small agent node sound digests in
-    record { room = small.0; fit = small.1 }
+    record { capacity = small.0; fit = small.1 }

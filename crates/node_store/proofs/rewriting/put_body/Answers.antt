@@ -1,13 +1,13 @@
 use Rattle.std.proofs.Common.{ap, subst, Err}
 use Rattle.gate_log.specs.declared.error.LogError.{LogError}
 use Rattle.gate_log.specs.Log.{LogTerm, Put}
-use Rattle.node_store.proofs.RewriteSteps.{put_broke, put_more, room_left}
+use Rattle.node_store.proofs.RewriteSteps.{put_broke, put_more, capacity_left}
 use Rattle.node_store.proofs.rewriting.put_body.Goals as goal
 
-pub put-requires-clause-room : goal.put-requires-clause-room
-put-requires-clause-room g c =
+pub put-requires-clause-capacity : goal.put-requires-clause-capacity
+put-requires-clause-capacity g c =
     let can = c.requires.can in
-    room_left (g.D.Disk.shown c.args.disk.now) c.args.log.now can.put can.rest c.args.body.now can.putting.shape can.putting.has can.fits
+    capacity_left (g.D.Disk.shown c.args.disk.now) c.args.log.now can.put can.rest c.args.body.now can.putting.shape can.putting.has can.fits
 
 pub put-requires-clause-of : goal.put-requires-clause-of
 put-requires-clause-of g c = (c.requires.can.bodies, c.requires.can.putting.of c.requires.can.bodies c.requires.can.of)

@@ -29,7 +29,7 @@ loop-left-preserved g c =
       can = can_back g.D.Disk l.disk c.put_marked.new.disk l.log c.put_marked.new.log (f kept ∷ []) (map f rest)
           (subst (λ (xs : List Kept). CanPut g.D.Disk l.disk l.log (map f xs)) is l.invariant.can) c.in-Ok.ensures.puts;
       sizes = all_left (λ (k : Kept). ReportInSize k.report) kept left rest is l.invariant.sizes;
-      room = search rules;
+      capacity = search rules;
     }
 
 pub returns-clause-puts : goal.returns-clause-puts

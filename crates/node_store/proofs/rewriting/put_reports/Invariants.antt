@@ -13,7 +13,7 @@ invariant-loop-left g l = record {
       → Puts g.D.Disk l.fn.disk new l.fn.log log (map (marked_body l.sent) l.reports) result;
   can : CanPut g.D.Disk l.disk l.log (map (marked_body l.sent) l.left);
   sizes : All (λ kept. ReportInSize kept.report) l.left;
-  room : MAX_BODY ≤ vec_capacity l.room;
+  capacity : MAX_BODY ≤ vec_capacity l.buffer;
 }
 
 abbrev pub decreases-loop-left : goal.decreases-loop-left

@@ -4,13 +4,13 @@ use Rattle.gate_log.proofs.InPlace.{body_after}
 use Rattle.node_state.specs.declared.event.Event.{Event}
 use Rattle.node_state.specs.Table.{after}
 use Rattle.node_store.specs.Bodies.{body_of_event}
-use Rattle.node_store.specs.Split.{after_room, head_of, tail_of}
+use Rattle.node_store.specs.Split.{after_length, head_of, tail_of}
 use Rattle.node_store.proofs.Fronts.{brings}
 use Rattle.node_store.proofs.Split.{body_whole}
 use Rattle.node_store.proofs.writing.write.Goals as goal
 
 -- the log finds the body that was written in two pieces
-body_found : (head tail : List ℕ) (event : Event) → head ≡ after_room (head_of event) → tail ≡ tail_of event → body_in head tail ≡ body_of_event event
+body_found : (head tail : List ℕ) (event : Event) → head ≡ after_length (head_of event) → tail ≡ tail_of event → body_in head tail ≡ body_of_event event
 body_found head tail event is same =
     ap (λ (l : List ℕ). body_in l tail) is ∙ body_after (0 ∷ 0 ∷ 0 ∷ 0 ∷ []) (head_of event) tail refl ∙ ap (λ (l : List ℕ). head_of event ++ l) same ∙ body_whole event
 

@@ -49,11 +49,11 @@ returns-clause-ok c =
     let id = c.in_ok-id.id in
     finished_ok c.finished.result (Content id c.in_ok-name.name) c.args.chars.now c.in_ok-rest.rest.now c.finished.ensures
     (λ none.
-    let behind : Spells IsPart (quoted c.in_ok-name.name 41 ∷ word (codes "/ConfigurationContent") ∷ []) (name.0 ++ (last.0 ++ [])) =
+    let after : Spells IsPart (quoted c.in_ok-name.name 41 ∷ word (codes "/ConfigurationContent") ∷ []) (name.0 ++ (last.0 ++ [])) =
     (name.0, last.0 ++ [], refl, name.2, (last.0, [], refl, last.2, refl)) in
     let split = joined c.args.chars.now form.0 c.in_ok-id.rest.now (name.0 ++ last.0) c.in_ok-rest.rest.now form.1 (joined _ name.0 c.in_ok-name.rest.now last.0 c.in_ok-rest.rest.now name.1 last.1) in
     let whole : c.args.chars.now ≡ form.0 ++ (name.0 ++ (last.0 ++ [])) =
     split ∙ ap (λ (l : List ℕ). (form.0 ++ (name.0 ++ last.0)) ++ l) none ∙ append-nil (form.0 ++ (name.0 ++ last.0))
     ∙ ap (λ (l : List ℕ). form.0 ++ (name.0 ++ l)) (sym (append-nil last.0)) in
     subst (SpellsTarget (Content id c.in_ok-name.name)) (sym whole)
-    (spells_append IsPart (agent_parts id (word content_end ∷ [])) (quoted c.in_ok-name.name 41 ∷ word (codes "/ConfigurationContent") ∷ []) form.0 (name.0 ++ (last.0 ++ [])) form.2 behind))
+    (spells_append IsPart (agent_parts id (word content_end ∷ [])) (quoted c.in_ok-name.name 41 ∷ word (codes "/ConfigurationContent") ∷ []) form.0 (name.0 ++ (last.0 ++ [])) form.2 after))

@@ -32,7 +32,7 @@ longest-in-Ok c =
     let size = c.encoded_size.ensures ∙ ap (λ (l : List ℕ). length (encode_utf8_all l)) c.as_slice-chars.ensures.value in
     longest_front text bytes cs cs [] c.front_size-at.result c.in_ok-bytes.ensures decoded (sym (append-nil cs))
     (subst (λ n. IsFrontOf text n c.front_size-at.result) size c.front_size-at.ensures)
-    ([], refl, (c.in-Ok.target, subst (SpellsTarget c.in-Ok.target) (sym (append-nil cs)) spelled)) (λ more behind split begun. omega arith)
+    ([], refl, (c.in-Ok.target, subst (SpellsTarget c.in-Ok.target) (sym (append-nil cs)) spelled)) (λ more after split begun. omega arith)
 
 pub returns-in-Ok-clause-bad : goal.returns-in-Ok-clause-bad
 returns-in-Ok-clause-bad c = longest-in-Ok c
@@ -62,7 +62,7 @@ returns-in-Err-Left-clause-bad c =
     let size = c.encoded_size-in-Err-Left.ensures ∙ ap (λ (l : List ℕ). length (encode_utf8_all l)) front in
     longest_front text bytes cs ends.front ends.rest c.front_size-at-in-Err-Left.result c.in_ok-bytes.ensures decoded ends.split
     (subst (λ n. IsFrontOf text n c.front_size-at-in-Err-Left.result) size c.front_size-at-in-Err-Left.ensures) ends.begins
-    (λ more behind split begun. omega (arith, ends.size, ends.longest more behind split begun))
+    (λ more after split begun. omega (arith, ends.size, ends.longest more after split begun))
 
 pub returns-in-Err-Left-clause-refused : goal.returns-in-Err-Left-clause-refused
 returns-in-Err-Left-clause-refused c =

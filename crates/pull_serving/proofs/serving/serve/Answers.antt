@@ -11,10 +11,10 @@ no_values e = Err e
 
 pub returns-in-Err-Usage : goal.returns-in-Err-Usage
 returns-in-Err-Usage g c =
-    let words = map string_bytes c.args.words.now in
+    let arguments = map string_bytes c.args.arguments.now in
     let old = outside_of g.G.Door g.S.Shelf g.K.Ends c.args.door.now c.args.shelf.now c.args.disk.now c.args.output.now in
     let new = outside_of g.G.Door g.S.Shelf g.K.Ends c.args.door.now c.args.shelf.now c.args.disk.now c.refuse.new.output in
-    subst (λ (s : ServeStatus). Service g.D.Disk words old new s) (sym c.refuse.ensures.status)
+    subst (λ (s : ServeStatus). Service g.D.Disk arguments old new s) (sym c.refuse.ensures.status)
     (refused (c.in-Err-Usage.ensures.usage (ap no_values c.in-Err-Usage.field-0-is)) refl refl c.refuse.ensures.writes)
 
 pub returns-in-Err-Memory : goal.returns-in-Err-Memory
@@ -30,9 +30,9 @@ returns-in-Ok-open_pull g c =
 
 pub returns : goal.returns
 returns g c =
-    let words = map string_bytes c.args.words.now in
+    let arguments = map string_bytes c.args.arguments.now in
     let old = outside_of g.G.Door g.S.Shelf g.K.Ends c.args.door.now c.args.shelf.now c.args.disk.now c.args.output.now in
     let new = outside_of g.G.Door g.S.Shelf g.K.Ends c.args.door.now c.args.shelf.now c.open_pull.new.disk c.refuse-in-Err.new.output in
-    subst (λ (s : ServeStatus). Service g.D.Disk words old new s) (sym (c.refuse-in-Err.ensures.status ∙ c.status_of.ensures))
+    subst (λ (s : ServeStatus). Service g.D.Disk arguments old new s) (sym (c.refuse-in-Err.ensures.status ∙ c.status_of.ensures))
     (unopened c.in-Ok.values c.in-Err.error c.in-Ok.ensures.taken c.in-Err.ensures.cause c.open_pull.ensures.any_moment refl
     (subst (λ (s : ServeStatus). WritesRefusal s old.output new.output) c.status_of.ensures c.refuse-in-Err.ensures.writes))

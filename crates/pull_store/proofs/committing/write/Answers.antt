@@ -1,7 +1,7 @@
 use Rattle.std.proofs.Common.{◌≡◌, inl, inr, ◌+◌, ◌<◌, ◌≤◌, ◌∙◌, ◌++◌, ◌∷◌, [], ℕ, Bool, true, false, length, refl, sym, ap, subst, arith}
 use Rattle.std.proofs.lemmas.Bool.{cases_lt}
 use Rattle.gate_log.specs.declared.shape.Shape.{Shape}
-use Rattle.gate_log.specs.Log.{room_in}
+use Rattle.gate_log.specs.Log.{capacity_in}
 use Rattle.pull_store.specs.Rows.{after}
 use Rattle.pull_store.specs.Bodies.{bodies_of_row, bodies_of_rows}
 use Rattle.pull_store.specs.Store.{whole_need}
@@ -21,8 +21,8 @@ pub append_body-requires-clause-size : goal.append_body-requires-clause-size
 append_body-requires-clause-size g c =
     subst (λ (s : Shape). length c.deref.result.now ≤ s.largest) (sym c.requires.kept.shape) (omega (arith, c.requires.short, ap length c.deref.ensures.value))
 
-pub append_body-requires-clause-room : goal.append_body-requires-clause-room
-append_body-requires-clause-room g c =
+pub append_body-requires-clause-capacity : goal.append_body-requires-clause-capacity
+append_body-requires-clause-capacity g c =
     omega (arith, c.has_room.ensures.0 c.if-has_room.true, c.len.ensures, c.deref.ensures.len)
 
 pub append_body-requires-clause-of : goal.append_body-requires-clause-of
@@ -66,13 +66,13 @@ need_of_rows-requires-2-clause-rows g c = (c.around.ensures.sound c.requires.sou
 pub returns-then-need-gt-BANK-clause-answer : goal.returns-then-need-gt-BANK-clause-answer
 returns-then-need-gt-BANK-clause-answer g c =
     let front = c.around.result.0.now in
-    let behind = c.around.result.1.now in
+    let rest = c.around.result.1.now in
     let row = c.args.row.now in
-    let sum = needs c.args.rows.now c.args.change.now c.requires.in_size c.requires.accepted row c.requires.sound c.requires.row front behind (c.around.ensures.parts row refl) in
+    let sum = needs c.args.rows.now c.args.change.now c.requires.in_size c.requires.accepted row c.requires.sound c.requires.row front rest (c.around.ensures.parts row refl) in
     let is : c.need_of_rows.result + c.need_of_row.result + c.need_of_rows-2.result + 1 ≡ whole_need (after c.args.change.now c.args.rows.now) =
-    omega (arith, sum, c.need_of_rows.ensures.need, c.need_of_row.ensures.need, c.need_of_rows-2.ensures.need, cells_both (bodies_of_rows front) (bodies_of_row row ++ bodies_of_rows behind), cells_both (bodies_of_row row) (bodies_of_rows behind)) in (
+    omega (arith, sum, c.need_of_rows.ensures.need, c.need_of_row.ensures.need, c.need_of_rows-2.ensures.need, cells_both (bodies_of_rows front) (bodies_of_row row ++ bodies_of_rows rest), cells_both (bodies_of_row row) (bodies_of_rows rest)) in (
       record {
-        cell = omega (arith, lt_of c.has_room.result (5 + c.len.result) (room_in c.args.log.now) c.has_room.ensures.1 c.if-has_room.false, c.len.ensures, ap length c.requires.spelled);
+        cell = omega (arith, lt_of c.has_room.result (5 + c.len.result) (capacity_in c.args.log.now) c.has_room.ensures.1 c.if-has_room.false, c.len.ensures, ap length c.requires.spelled);
         needs = is;
         bank = refl;
         rows = omega (arith, c.if-need-gt-BANK.true);
@@ -91,15 +91,15 @@ rewrite-requires-clause-front g c = (c.around.ensures.sound c.requires.sound.eac
 pub rewrite-requires-clause-row : goal.rewrite-requires-clause-row
 rewrite-requires-clause-row g c = is_row c.args.change.now c.args.rows.now c.args.row.now c.requires.sound c.requires.in_size c.requires.row
 
-pub rewrite-requires-clause-behind : goal.rewrite-requires-clause-behind
-rewrite-requires-clause-behind g c = (c.around.ensures.sound c.requires.sound.each).1
+pub rewrite-requires-clause-after : goal.rewrite-requires-clause-after
+rewrite-requires-clause-after g c = (c.around.ensures.sound c.requires.sound.each).1
 
 pub rewrite-requires-clause-fits : goal.rewrite-requires-clause-fits
 rewrite-requires-clause-fits g c =
     let front = c.around.result.0.now in
-    let behind = c.around.result.1.now in
+    let rest = c.around.result.1.now in
     let row = c.args.row.now in
-    omega (arith, c.need_of_rows.ensures.need, c.need_of_row.ensures.need, c.need_of_rows-2.ensures.need, c.if-need-gt-BANK.false, cells_both (bodies_of_rows front) (bodies_of_row row ++ bodies_of_rows behind), cells_both (bodies_of_row row) (bodies_of_rows behind))
+    omega (arith, c.need_of_rows.ensures.need, c.need_of_row.ensures.need, c.need_of_rows-2.ensures.need, c.if-need-gt-BANK.false, cells_both (bodies_of_rows front) (bodies_of_row row ++ bodies_of_rows rest), cells_both (bodies_of_row row) (bodies_of_rows rest))
 
 pub rewrite-requires-clause-of : goal.rewrite-requires-clause-of
 rewrite-requires-clause-of g c = (c.requires.kept.bodies, c.requires.kept.of)
@@ -107,29 +107,29 @@ rewrite-requires-clause-of g c = (c.requires.kept.bodies, c.requires.kept.of)
 pub returns-clause-answer : goal.returns-clause-answer
 returns-clause-answer g c =
     let front = c.around.result.0.now in
-    let behind = c.around.result.1.now in
+    let rest = c.around.result.1.now in
     let row = c.args.row.now in
-    let sum = needs c.args.rows.now c.args.change.now c.requires.in_size c.requires.accepted row c.requires.sound c.requires.row front behind (c.around.ensures.parts row refl) in
+    let sum = needs c.args.rows.now c.args.change.now c.requires.in_size c.requires.accepted row c.requires.sound c.requires.row front rest (c.around.ensures.parts row refl) in
     written_of g.D.Disk c.args.disk.now c.rewrite.new.disk c.args.log.now c.rewrite.new.log c.args.rows.now c.args.change.now c.rewrite.result
-    (inr (omega (arith, sum, c.need_of_rows.ensures.need, c.need_of_row.ensures.need, c.need_of_rows-2.ensures.need, c.if-need-gt-BANK.false, cells_both (bodies_of_rows front) (bodies_of_row row ++ bodies_of_rows behind), cells_both (bodies_of_row row) (bodies_of_rows behind))))
+    (inr (omega (arith, sum, c.need_of_rows.ensures.need, c.need_of_row.ensures.need, c.need_of_rows-2.ensures.need, c.if-need-gt-BANK.false, cells_both (bodies_of_rows front) (bodies_of_row row ++ bodies_of_rows rest), cells_both (bodies_of_row row) (bodies_of_rows rest))))
     c.rewrite.ensures.ends
 
 pub returns-clause-kept : goal.returns-clause-kept
 returns-clause-kept g c =
     let front = c.around.result.0.now in
-    let behind = c.around.result.1.now in
+    let rest = c.around.result.1.now in
     let row = c.args.row.now in
     let kept = c.requires.kept in
-    kept_of g.D.Disk c.args.disk.now c.rewrite.new.disk c.args.log.now c.rewrite.new.log (after c.args.change.now c.args.rows.now) (bodies_of_rows front ++ (bodies_of_row row ++ bodies_of_rows behind)) c.rewrite.result kept.shape c.rewrite.ensures.ends
+    kept_of g.D.Disk c.args.disk.now c.rewrite.new.disk c.args.log.now c.rewrite.new.log (after c.args.change.now c.args.rows.now) (bodies_of_rows front ++ (bodies_of_row row ++ bodies_of_rows rest)) c.rewrite.result kept.shape c.rewrite.ensures.ends
     (c.rewrite.ensures.of kept.bodies kept.of)
-    (rewritten c.args.rows.now c.args.change.now c.requires.in_size c.requires.accepted row c.requires.sound c.requires.row front behind (c.around.ensures.parts row refl))
+    (rewritten c.args.rows.now c.args.change.now c.requires.in_size c.requires.accepted row c.requires.sound c.requires.row front rest (c.around.ensures.parts row refl))
 
 pub returns-clause-any_moment : goal.returns-clause-any_moment
 returns-clause-any_moment g c =
     let front = c.around.result.0.now in
-    let behind = c.around.result.1.now in
+    let rest = c.around.result.1.now in
     let row = c.args.row.now in
     let kept = c.requires.kept in
-    moment_of g.D.Disk c.args.disk.now c.rewrite.new.disk c.args.log.now kept.bodies (bodies_of_rows front ++ (bodies_of_row row ++ bodies_of_rows behind)) c.args.rows.now c.args.change.now kept.shape kept.replays
-    (rewritten c.args.rows.now c.args.change.now c.requires.in_size c.requires.accepted row c.requires.sound c.requires.row front behind (c.around.ensures.parts row refl))
+    moment_of g.D.Disk c.args.disk.now c.rewrite.new.disk c.args.log.now kept.bodies (bodies_of_rows front ++ (bodies_of_row row ++ bodies_of_rows rest)) c.args.rows.now c.args.change.now kept.shape kept.replays
+    (rewritten c.args.rows.now c.args.change.now c.requires.in_size c.requires.accepted row c.requires.sound c.requires.row front rest (c.around.ensures.parts row refl))
     (c.rewrite.ensures.any_moment kept.bodies kept.of)

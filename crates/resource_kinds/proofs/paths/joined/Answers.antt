@@ -4,7 +4,7 @@ use Rattle.std.proofs.lemmas.Iterator.Consumers.{YieldsList-at, YieldsList-end, 
 use Rattle.std.proofs.lemmas.Iterator.Splits.{YieldsList-from_slice_split}
 use Rattle.std.proofs.lemmas.List.Elements.{All-append, All-same, All-take, filter_passes}
 use Rattle.resource_kinds.specs.Paths.{all_segments, drive_segments, is_kept, is_separator, joined_path, kept_segments, segments}
-use Rattle.resource_kinds.proofs.JoinedPaths.{drive_kept, kept_behind, names_put}
+use Rattle.resource_kinds.proofs.JoinedPaths.{drive_kept, kept_after, names_put}
 use Rattle.resource_kinds.proofs.paths.joined.Goals as goal
 
 always_err : {T E P : Type 0} (result : Result T E) → P → OnErr result P
@@ -25,7 +25,7 @@ returns-in_err-put-clause-memory c =
     let turn = YieldsList-turn (YieldsList-from_filter {s = c.into_iter-name-iterator.result} _ is_kept
     (YieldsList-at (cc) (YieldsList-from_slice_split {s = c.split.result} _ is_separator c.args.parts.now.rest.now c.split.ensures.rest c.split.ensures.done c.split.ensures.closure (λ x b q k. search (rules, tests))))
     (cc) (λ x b q k. search (rules, tests))) c.loop-name.yielded _ c.loop-name.yielded_by _ _ c.in-Some.name c.in-Some.is c.next.ensures.steps in
-    let all = kept_behind c.args.parts.now.drive (segments c.args.parts.now.rest.now) c.requires in
+    let all = kept_after c.args.parts.now.drive (segments c.args.parts.now.rest.now) c.requires in
     let some : 0 < length (kept_segments (all_segments c.args.parts.now)) = omega (arith, ap length all, length-append (drive_segments c.args.parts.now.drive) (kept_segments (segments c.args.parts.now.rest.now)), turn.0) in
     always_err c.from_residual-in_err-put.result some
 
@@ -35,4 +35,4 @@ returns-clause-path c =
     (YieldsList-at (cc) (YieldsList-from_slice_split {s = c.split.result} _ is_separator c.args.parts.now.rest.now c.split.ensures.rest c.split.ensures.done c.split.ensures.closure (λ x b q k. search (rules, tests))))
     (cc) (λ x b q k. search (rules, tests))) c.loop-name.yielded _ c.loop-name.yielded_by _ _ c.in-None.is c.next.ensures.steps in
     c.loop-name.invariant ∙ ap (λ ss. joined_path (drive_segments c.args.parts.now.drive ++ ss)) all.0
-    ∙ ap joined_path (sym (kept_behind c.args.parts.now.drive (segments c.args.parts.now.rest.now) c.requires))
+    ∙ ap joined_path (sym (kept_after c.args.parts.now.drive (segments c.args.parts.now.rest.now) c.requires))

@@ -1,6 +1,6 @@
 use Rattle.std.proofs.Common.{rules, arith}
 use Rattle.mof_codec.proofs.Options.{of_some, of_none}
-use Rattle.mof_codec.proofs.ArraysRead.{array_start, reads_empty, lacks_first, reads_array, array_next, lacks_mark, lacks_room, lacks_element}
+use Rattle.mof_codec.proofs.ArraysRead.{array_start, reads_empty, lacks_first, reads_array, array_next, lacks_mark, lacks_capacity, lacks_element}
 use Rattle.mof_codec.proofs.values.arrays.array.Goals as goal
 
 pub returns-in-Some-clause-some : goal.returns-in-Some-clause-some
@@ -21,7 +21,7 @@ returns-in_default-mark_rest-2-clause-none c =
     lacks_mark _ _ _ c.elements.invariant.1 c.in_default-mark_rest.ensures.none c.in_default-mark_rest-2.ensures.none
 
 pub returns-then-len-eq-MAX_ELEMENTS-clause-none : goal.returns-then-len-eq-MAX_ELEMENTS-clause-none
-returns-then-len-eq-MAX_ELEMENTS-clause-none c = lacks_room _ _ _ c.elements.invariant.1 _ c.in-Some-mark_rest-2.ensures.some (omega arith)
+returns-then-len-eq-MAX_ELEMENTS-clause-none c = lacks_capacity _ _ _ c.elements.invariant.1 _ c.in-Some-mark_rest-2.ensures.some (omega arith)
 
 pub returns-in_default-3-clause-none : goal.returns-in_default-3-clause-none
 returns-in_default-3-clause-none c =

@@ -1,5 +1,5 @@
 use Rattle.std.proofs.Common.{rules, sym}
-use Rattle.mof_codec.proofs.LiteralsRead.{quoted_end, quoted_next, quoted_stuck, shorter_behind}
+use Rattle.mof_codec.proofs.LiteralsRead.{quoted_end, quoted_next, quoted_stuck, shorter_after}
 use Rattle.mof_codec.proofs.values.strings.push_quoted.Goals as goal
 
 pub returns-in-Some-clause-some : goal.returns-in-Some-clause-some
@@ -18,4 +18,4 @@ loop-rest-preserved c = (
 )
 
 pub loop-rest-smaller : goal.loop-rest-smaller
-loop-rest-smaller c = shorter_behind _ _ _ _ c.plain_front.ensures.split c.in-Some-literal_char.ensures.some.1
+loop-rest-smaller c = shorter_after _ _ _ _ c.plain_front.ensures.split c.in-Some-literal_char.ensures.some.1

@@ -3,7 +3,7 @@ use Rattle.pull_store.specs.declared.row.Row.{Row}
 use Rattle.pull_store.specs.Rows.{after, refusal}
 use Rattle.pull_store.specs.Sound.{AreRows}
 use Rattle.pull_store.specs.Steps.{with_row}
-use Rattle.pull_store.specs.Store.{StoreTerm, IsKept, HasRoom, whole_need, bank_room, is_spent}
+use Rattle.pull_store.specs.Store.{StoreTerm, IsKept, HasCapacity, whole_need, bank_capacity, is_spent}
 use Rattle.pull_store.proofs.Committed.{is_kept, still_moment}
 use Rattle.pull_store.proofs.SoundSteps.{no_rows, placed_after, sound_replayed}
 use Rattle.pull_store.proofs.store.PullStore.commit.Goals as goal
@@ -36,7 +36,7 @@ returns-clause-answer g c =
       record {
         unspent = unspent;
         accepted = accepted;
-        room = subst (λ (s : StoreTerm). HasRoom s change ⊎ (whole_need (after change s.rows) ≤ bank_room)) same c.in_default.ensures.answer;
+        capacity = subst (λ (s : StoreTerm). HasCapacity s change ⊎ (whole_need (after change s.rows) ≤ bank_capacity)) same c.in_default.ensures.answer;
       },
       c.place.ensures ∙ ap (λ (l : List Row). with_row c.in-Ok.row l) c.in-Ok.ensures.rows ∙ placed_after change rows c.in-Ok.row c.in-Ok.ensures.row ∙ ap (λ (s : StoreTerm). after change s.rows) c.self.view_is,
       c.in_default.ensures.kept.unspent,

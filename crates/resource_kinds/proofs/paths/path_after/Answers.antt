@@ -4,8 +4,8 @@ use Rattle.std.specs.String.{string_bytes}
 use Rattle.std.proofs.lemmas.Bool.Decides.{nat_tests}
 use Rattle.resource_kinds.specs.Paths.{all_segments, joined_path, kept_segments, segments}
 use Rattle.resource_kinds.proofs.JoinedPaths.{drive_no_parent, path_none, path_some}
-use Rattle.resource_kinds.proofs.paths.path_behind.Goals as goal
-use Rattle.resource_kinds.proofs.paths.path_behind.Goals.{then-is_empty, else-is_empty}
+use Rattle.resource_kinds.proofs.paths.path_after.Goals as goal
+use Rattle.resource_kinds.proofs.paths.path_after.Goals.{then-is_empty, else-is_empty}
 
 pub returns-clause-path : goal.returns-clause-path
 returns-clause-path c =
