@@ -44,7 +44,7 @@ impl Model for NodeStore {
 
     ghost Value = { StoreTerm };
 
-    ghost view = { λ s. record { log = s.log; node = s.node; reserved = is_some s.capacity } };
+    ghost view = { λ s. record { log = s.log; node = s.node; reserved = is_some s.room } };
 
     ghost invariant = { λ s. (s.text.items ≡ text_of_meta s.node.meta)
         × (MAX_BODY ≤ vec_capacity s.body) };
