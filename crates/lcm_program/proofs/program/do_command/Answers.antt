@@ -51,9 +51,9 @@ pub returns-in-Err-clause-did : goal.returns-in-Err-clause-did
 returns-in-Err-clause-did g c =
     rw c.in-Checksum.is (not_summed (known g.S.Ends g.K.Ends g.D.Disk g.M.Resources g.M.Machine g.L.Link g.C.Clock)
     (objects c.args.input.now c.args.output.now c.args.disk.now c.args.machine.now c.args.link.now c.args.clock.now)
-    (objects c.read_checksum.new.input c.print_unread-in-Err.new.output c.args.disk.now c.args.machine.now c.args.link.now c.args.clock.now)
-    (shown_decides (ReadsBytes checksum_limit) IsChecksumLine (bytes_decide checksum_limit)) c.in-Err.unread c.print_unread-in-Err.result
-    (record { offline = record { disk = refl; link = refl; clock = refl }; machine = refl }) c.in-Err.ensures.err c.print_unread-in-Err.ensures)
+    (objects c.read_checksum.new.input c.print_unread.new.output c.args.disk.now c.args.machine.now c.args.link.now c.args.clock.now)
+    (shown_decides (ReadsBytes checksum_limit) IsChecksumLine (bytes_decide checksum_limit)) c.in-Err.unread c.print_unread.result
+    (record { offline = record { disk = refl; link = refl; clock = refl }; machine = refl }) c.in-Err.ensures.err c.print_unread.ensures)
 
 -- starts
 

@@ -31,8 +31,8 @@ pub returns-in-Err-clause-nothing : goal.returns-in-Err-clause-nothing
 returns-in-Err-clause-nothing g c = λ none.
     did_nothing (known g.S.Ends g.K.Ends g.D.Disk g.M.Resources g.M.Machine g.L.Link g.C.Clock)
     (objects c.args.input.now c.args.output.now c.args.disk.now c.args.machine.now c.args.link.now c.args.clock.now)
-    (objects c.args.input.now c.refuse.new.output c.args.disk.now c.args.machine.now c.args.link.now c.args.clock.now)
-    _ c.in-Err.field-0.word c.refuse.result refl (record { offline = record { disk = refl; link = refl; clock = refl }; machine = refl }) c.in-Err.ensures.usage c.refuse.ensures
+    (objects c.args.input.now c.print_status.new.output c.args.disk.now c.args.machine.now c.args.link.now c.args.clock.now)
+    _ c.in-Err.field-0.word c.print_status.result refl (record { offline = record { disk = refl; link = refl; clock = refl }; machine = refl }) c.in-Err.ensures.usage c.print_status.ensures
 
 pub returns-in-Err-clause-goes_on : goal.returns-in-Err-clause-goes_on
 returns-in-Err-clause-goes_on g c = stays _
