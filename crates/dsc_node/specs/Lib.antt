@@ -5,6 +5,7 @@ pub mod Commits
 pub mod Endings
 pub mod Headline
 pub mod HostHeadline
+pub mod LineLaws
 pub mod Lines
 pub mod Path
 pub mod Quoted

@@ -1,4 +1,5 @@
-//! Laws of starts in a row. The calls do nothing; their clauses are the laws.
+//! Laws of starts in a row, and of the lines of a run. The calls do nothing; their clauses are the laws.
+ghost use Rattle.dsc_node.specs.LineLaws.{LinesSpellOneTrace};
 ghost use Rattle.dsc_node.specs.Starts.{FindsWhatIsRead, PartsAreBrought, StartsGoOn, StartsJoin};
 ghost use Rattle.dsc_node.specs.Work.{known};
 
@@ -18,4 +19,9 @@ pub fn starts_join<D: Disk, M: Machine, C: Clock>()
 /// it: it is the start's input, or the node's server gave it in that start under the digest that was announced for it.
 pub fn parts_are_brought<D: Disk, M: Machine, C: Clock>()
     ensures { PartsAreBrought (known D.Disk M.Resources M.Machine.own C.Clock) }
+{}
+
+/// The text of a run spells one trace, up to what is inside a fault, where the ids of the document differ.
+pub fn lines_spell_one_trace()
+    ensures { LinesSpellOneTrace }
 {}

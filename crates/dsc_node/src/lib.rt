@@ -23,8 +23,8 @@
 //!   host `specs/HostHeadline.antt`; one call after another `proofs/Commits.antt`; the headline row by row
 //!   `proofs/Headline.antt`, of its nodes `proofs/Nodes.antt`, of its run `proofs/HeadlineRuns.antt`
 //! - starts in a row: `specs/Starts.antt`, `src/laws.rt`, `proofs/Joining.antt`
-//! - what is printed of a run; what `get` and `reports` print: `src/lines.rt`, `specs/Lines.antt`; `specs/Shown.antt`,
-//!   `src/showing.rt`
+//! - what is printed of a run, and that it spells one trace: `src/lines.rt`, `specs/Lines.antt`,
+//!   `specs/LineLaws.antt`; what `get` and `reports` print: `specs/Shown.antt`, `src/showing.rt`
 //! - exit statuses: `src/status.rt`, `specs/Status.antt`
 #![tactic(auto)]
 
@@ -49,7 +49,7 @@ mod status;
 
 pub use answer::StartEnd;
 pub use command::Command;
-pub use laws::{parts_are_brought, starts_join};
+pub use laws::{lines_spell_one_trace, parts_are_brought, starts_join};
 pub use lines::{id, lines_of, push_resources};
 pub use order::ordered_of_merged;
 pub use run::{run_kinds, run_merged};
