@@ -13,6 +13,7 @@ pub mod Ran
 pub mod Readings
 pub mod Runs
 pub mod Sending
+pub mod SendingLaws
 pub mod Shown
 pub mod Start
 pub mod Starts

@@ -1,5 +1,6 @@
-//! Laws of starts in a row, and of the lines of a run. The calls do nothing; their clauses are the laws.
+//! Laws of starts in a row, of the lines of a run, and of the reports that are sent. The calls do nothing; their clauses are the laws.
 ghost use Rattle.dsc_node.specs.LineLaws.{LinesSpellOneTrace};
+ghost use Rattle.dsc_node.specs.SendingLaws.{ReportsAreMarkedInOrder, ReportsAreSentInOrder};
 ghost use Rattle.dsc_node.specs.Starts.{FindsWhatIsRead, PartsAreBrought, StartsGoOn, StartsJoin};
 ghost use Rattle.dsc_node.specs.Work.{known};
 
@@ -24,4 +25,12 @@ pub fn parts_are_brought<D: Disk, M: Machine, C: Clock>()
 /// The text of a run spells one trace, up to what is inside a fault, where the ids of the document differ.
 pub fn lines_spell_one_trace()
     ensures { LinesSpellOneTrace }
+{}
+
+/// Of the reports that are due, the oldest first, those before the first that is not accepted are sent, printed as sent and marked; the one
+/// at which the sending stops is printed as not sent, and nothing after it is sent. However the sending ends, those that are marked are the
+/// first of those that are due.
+pub fn reports_are_sent_in_order()
+    ensures sent { ReportsAreSentInOrder }
+    ensures marked { ReportsAreMarkedInOrder }
 {}

@@ -17,8 +17,8 @@
 //! - which run is made, and what its report says: `specs/Runs.antt`, `src/choosing.rt`, `src/running.rt`; the event
 //!   that keeps the report `src/finishing.rt`
 //! - a run over a merged document on a machine, or on a host: `src/run.rt`, `specs/Ran.antt`
-//! - the sending of reports; the clock's readings: `specs/Sending.antt`, `src/sending.rt`, what each exit of it says
-//!   `proofs/Sent.antt`; `specs/Readings.antt`
+//! - the sending of reports: `specs/Sending.antt`, `src/sending.rt`, what each exit of it says `proofs/Sent.antt`, as
+//!   a table over the list of those that are due `specs/SendingLaws.antt`; the clock's readings: `specs/Readings.antt`
 //! - what a crash at any moment of a start leaves, and the headline: `specs/Path.antt`, `specs/Headline.antt`, over a
 //!   host `specs/HostHeadline.antt`; one call after another `proofs/Commits.antt`; the headline row by row
 //!   `proofs/Headline.antt`, of its nodes `proofs/Nodes.antt`, of its run `proofs/HeadlineRuns.antt`
@@ -49,7 +49,7 @@ mod status;
 
 pub use answer::StartEnd;
 pub use command::Command;
-pub use laws::{lines_spell_one_trace, parts_are_brought, starts_join};
+pub use laws::{lines_spell_one_trace, parts_are_brought, reports_are_sent_in_order, starts_join};
 pub use lines::{id, lines_of, push_resources};
 pub use order::ordered_of_merged;
 pub use run::{run_kinds, run_merged};
