@@ -230,8 +230,17 @@ module _ (document : Document) (distinct : HasDistinctIds document) where
     refl,
   )
 
+after_lines : (trace : List Entry) (document : Document) (text after more : List ℕ) → text ≡ flat_map (line_of document) trace ++ after
+    → text ++ more ≡ flat_map (line_of document) trace ++ (after ++ more)
+after_lines trace document text after more is = ap (λ l. l ++ more) is ∙ append_assoc (flat_map (line_of document) trace) after more
+
+begins_so : (after more : List ℕ) → get_or after 0 0 ≡ 114 → get_or (after ++ more) 0 0 ≡ 114
+begins_so [] more is = omega (arith, is)
+begins_so (c ∷ after) more is = is
+
 pub lines_spell_one_trace : LinesSpellOneTrace
-lines_spell_one_trace document one other text distinct placed given first second =
+lines_spell_one_trace document one other text said more rest distinct placed given first second same =
     let a = lines_first document distinct one text first in
-    let b = lines_first document distinct other text second in
-    traces_same document distinct one other a.0 b.0 placed given a.2 b.2 (sym a.1 ∙ b.1)
+    let b = lines_first document distinct other said second in
+    traces_same document distinct one other (a.0 ++ more) (b.0 ++ rest) placed given (begins_so a.0 more a.2) (begins_so b.0 rest b.2)
+    (sym (after_lines one document text a.0 more a.1) ∙ same ∙ after_lines other document said b.0 rest b.1)

@@ -1,6 +1,6 @@
 -- The sending of reports as a table over a list.
-use Rattle.std.proofs.Common.{◌≡◌, ℕ, suc, ◌<◌, ◌==◌, ◌&&◌, ◌||◌, Bool, true, false, true≢false, cond, List, [], ◌∷◌, ◌++◌, get_or, length, map, Option, Some, None, Result, Ok, Err, refl, sym, ap, subst, ◌∙◌, arith, append_assoc, append-nil}
-use Rattle.std.specs.Prelude.{AllPairs, IsSome, ⊤}
+use Rattle.std.proofs.Common.{◌≡◌, inl, inr, ℕ, suc, ◌<◌, ◌==◌, ◌&&◌, ◌||◌, Bool, true, false, true≢false, cond, List, [], ◌∷◌, ◌++◌, get_or, length, map, Option, Some, None, Result, Ok, Err, refl, sym, ap, subst, ◌∙◌, arith, append_assoc, append-nil}
+use Rattle.std.specs.Prelude.{AllPairs, IsSome}
 use Rattle.std.proofs.lemmas.Bool.{and_parts}
 use Rattle.std.proofs.lemmas.Bool.Decides.{nat_tests}
 use Rattle.std.proofs.lemmas.Option.{none-some}
@@ -17,7 +17,7 @@ use Rattle.pull_client.specs.declared.error.PeerError.{PeerError}
 use Rattle.node_pull.specs.Reporting.{SendsReport}
 use Rattle.dsc_outside.specs.Link.{LinkView}
 use Rattle.dsc_node.specs.Sending.{Sends, ToSend, Tried, all_sent, before_later, first_unsent, no_memory, not_sent, sent, to_send, to_send_by, unmarked, unprinted}
-use Rattle.dsc_node.specs.SendingLaws.{AreSentInOrder, MarksInOrder, NodeSends, ReportsAreMarkedInOrder, ReportsAreSentInOrder, accepted_of, due, sent_event, unsent_reports}
+use Rattle.dsc_node.specs.SendingLaws.{AreSentInOrder, AreMarkedInOrder, NodeSends, ReportsAreMarkedInOrder, ReportsAreSentInOrder, accepted_of, due, sent_event, unsent_reports}
 
 -- ---- what is to be sent is the first that is due
 
@@ -142,43 +142,25 @@ sends_next node next asked heard result is sends =
     let has = has_to_send node next is in
     (next.server, next.agent, has.server, has.agent, sends)
 
-nothing_marked : (node : Node) (work : List Event) → MarksInOrder node work work
-nothing_marked node work = record { front = []; rest = due node; divided = refl; committed_is = sym (append-nil work) }
-
--- one that is marked stands before those after it
-one_more : (node : Node) (work committed : List Event) (next : ToSend) → Sound node → to_send node ≡ Some next
-    → MarksInOrder (after node (sent_event next.report)) (work ++ sent_event next.report ∷ []) committed → MarksInOrder node work committed
-one_more node work committed next sound is later = record {
-  front = next.report ∷ later.front;
-  rest = later.rest;
-  divided = due_first node next sound is ∙ ap (λ l. next.report ∷ l) later.divided;
-  committed_is = later.committed_is ∙ append_assoc work (sent_event next.report ∷ []) (map sent_event later.front);
-}
-
-marks : (from : Node) (counts : ℕ × ℕ) (node : Node) (work committed : List Event) (asked heard : LinkView) (tried : Result (List Tried) StoreError) (broken : Option Event)
-    → Sound node → Sends from counts work node asked heard tried committed broken → MarksInOrder node work committed
-marks from counts node work committed asked heard tried broken sound (all_sent w n view none) = nothing_marked node work
-marks from counts node work committed asked heard tried broken sound (not_sent w n a h next error is sends other) = nothing_marked node work
-marks from counts node work committed asked heard tried broken sound (no_memory w n a h next error is sends) = nothing_marked node work
-marks from counts node work committed asked heard tried broken sound (unmarked w n a h next error c b is sends refused) =
-    subst (MarksInOrder node work) (sym refused.committed_is) (nothing_marked node work)
-marks from counts node work committed asked heard tried broken sound (unprinted w n new a h next is sends step) =
-    one_more node work committed next sound is (nothing_marked (after node (sent_event next.report)) (work ++ sent_event next.report ∷ []))
-marks from counts node work committed asked heard tried broken sound (sent w n new a mid h next later c b is sends step on) =
-    one_more node work committed next sound is
-    (subst (λ (m : Node). MarksInOrder m (work ++ sent_event next.report ∷ []) committed) step.is
-    (marks from counts new (work ++ sent_event next.report ∷ []) committed mid heard later broken (steps_are_sound node (sent_event next.report) new sound step) on))
-
--- the same with what was tried, where the sending came to its end
+-- the list, however the sending ends
 abbrev IsTold : Node → List Event → LinkView → LinkView → Result (List Tried) StoreError → List Event → Option Event → Type 0
 IsTold node work asked heard (Ok tried) committed broken = AreSentInOrder node work asked heard tried committed × (broken ≡ None)
-IsTold node work asked heard (Err error) committed broken = ⊤
+IsTold node work asked heard (Err error) committed broken = AreMarkedInOrder node work asked heard error committed broken
 
 accepted_first : (node : Node) (work committed : List Event) (asked mid heard : LinkView) (next : ToSend) (later : Result (List Tried) StoreError) (broken : Option Event)
     → Sound node → to_send node ≡ Some next → NodeSends node next.report asked mid (Ok tt)
     → IsTold (after node (sent_event next.report)) (work ++ sent_event next.report ∷ []) mid heard later committed broken
     → IsTold node work asked heard (before_later (accepted_of next.report) later) committed broken
-accepted_first node work committed asked mid heard next (Err error) broken sound is sends later = tt
+accepted_first node work committed asked mid heard next (Err error) broken sound is sends later =
+    record {
+      front = next.report ∷ later.front;
+      rest = later.rest;
+      divided = due_first node next sound is ∙ ap (λ l. next.report ∷ l) later.divided;
+      mid = later.mid;
+      accepted = (mid, sends, later.accepted);
+      committed_is = later.committed_is ∙ append_assoc work (sent_event next.report ∷ []) (map sent_event later.front);
+      ended = later.ended;
+    }
 accepted_first node work committed asked mid heard next (Ok tried) broken sound is sends later = (
   record {
     front = next.report ∷ later.0.front;
@@ -212,9 +194,36 @@ sent_in_order from counts node work committed asked heard tried broken sound (no
   },
   refl,
 )
-sent_in_order from counts node work committed asked heard tried broken sound (no_memory w n a h next error is sends) = tt
-sent_in_order from counts node work committed asked heard tried broken sound (unmarked w n a h next error c b is sends refused) = tt
-sent_in_order from counts node work committed asked heard tried broken sound (unprinted w n new a h next is sends step) = tt
+sent_in_order from counts node work committed asked heard tried broken sound (no_memory w n a h next error is sends) =
+    record {
+      front = [];
+      rest = next.report ∷ due (after node (sent_event next.report));
+      divided = due_first node next sound is;
+      mid = asked;
+      accepted = refl;
+      committed_is = sym (append-nil work);
+      ended = inl (refl, refl, inr (next.report, due (after node (sent_event next.report)), error, refl, sends_next node next asked heard (Err error) is sends));
+    }
+sent_in_order from counts node work committed asked heard tried broken sound (unmarked w n a h next error c b is sends refused) =
+    record {
+      front = [];
+      rest = next.report ∷ due (after node (sent_event next.report));
+      divided = due_first node next sound is;
+      mid = asked;
+      accepted = refl;
+      committed_is = refused.committed_is ∙ sym (append-nil work);
+      ended = inr (next.report, due (after node (sent_event next.report)), refl, sends_next node next asked heard (Ok tt) is sends, refused.broken_is);
+    }
+sent_in_order from counts node work committed asked heard tried broken sound (unprinted w n new a h next is sends step) =
+    record {
+      front = next.report ∷ [];
+      rest = due (after node (sent_event next.report));
+      divided = due_first node next sound is;
+      mid = heard;
+      accepted = (heard, sends_next node next asked heard (Ok tt) is sends, refl);
+      committed_is = refl;
+      ended = inl (refl, refl, inl refl);
+    }
 sent_in_order from counts node work committed asked heard tried broken sound (sent w n new a mid h next later c b is sends step on) =
     accepted_first node work committed asked mid heard next later broken sound is (sends_next node next asked mid (Ok tt) is sends)
     (subst (λ (m : Node). IsTold m (work ++ sent_event next.report ∷ []) mid heard later committed broken) step.is
@@ -223,5 +232,5 @@ sent_in_order from counts node work committed asked heard tried broken sound (se
 pub reports_are_sent_in_order : ReportsAreSentInOrder
 reports_are_sent_in_order from node counts work committed asked heard tried broken sound sends = sent_in_order from counts node work committed asked heard (Ok tried) broken sound sends
 
-pub marks_in_order : ReportsAreMarkedInOrder
-marks_in_order from node counts work committed asked heard tried broken sound sends = marks from counts node work committed asked heard tried broken sound sends
+pub reports_are_marked_in_order : ReportsAreMarkedInOrder
+reports_are_marked_in_order from node counts work committed asked heard error broken sound sends = sent_in_order from counts node work committed asked heard (Err error) broken sound sends

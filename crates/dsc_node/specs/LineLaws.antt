@@ -1,5 +1,5 @@
 -- What the printed lines of a run say of its trace: they spell one trace, up to the name inside a fault.
-use Rattle.std.specs.Prelude.{◌≡◌, ◌<◌, ℕ, List, All, length, ⊤}
+use Rattle.std.specs.Prelude.{◌≡◌, ◌<◌, ℕ, List, ◌++◌, All, length, ⊤}
 use Rattle.std.specs.List.{AllZip}
 use Rattle.dsc_document.specs.declared.document.Document.{Document}
 use Rattle.dsc_document.specs.Dependencies.{HasDistinctIds}
@@ -39,7 +39,8 @@ IsSameEntry one other = ⊥
 abbrev pub HasPlaces : Document → List Entry → Type 0
 HasPlaces document trace = All (λ entry. place_of entry < length document.resources) trace
 
--- two traces with the same text are the same, entry by entry
+-- Two traces with the same text are the same, entry by entry; so they are where something is printed after the text, as the end of a start
+-- and the reports that were tried.
 abbrev pub LinesSpellOneTrace : Type 0
-LinesSpellOneTrace = (document : Document) (one other : List Entry) (text : List ℕ) → HasDistinctIds document → HasPlaces document one → HasPlaces document other
-    → IsRunText document one text → IsRunText document other text → AllZip IsSameEntry one other
+LinesSpellOneTrace = (document : Document) (one other : List Entry) (text said more rest : List ℕ) → HasDistinctIds document → HasPlaces document one → HasPlaces document other
+    → IsRunText document one text → IsRunText document other said → text ++ more ≡ said ++ rest → AllZip IsSameEntry one other

@@ -1,5 +1,5 @@
 -- The sending of reports as a table over a list: which are due, which of them were accepted, and at which one it stopped.
-use Rattle.std.specs.Prelude.{◌≡◌, ◌≢◌, ℕ, ◌&&◌, true, false, cond, List, [], ◌∷◌, ◌++◌, map, Option, Some, None, Result, Ok, Err}
+use Rattle.std.specs.Prelude.{◌≡◌, ◌≢◌, ◌⊎◌, ℕ, ◌&&◌, true, false, cond, List, [], ◌∷◌, ◌++◌, map, Option, Some, None, Result, Ok, Err}
 use Rattle.meta_config.specs.declared.server.Server.{Server}
 use Rattle.report_log.specs.declared.report.Report.{Report}
 use Rattle.node_state.specs.declared.node.Kept.{Kept}
@@ -8,10 +8,12 @@ use Rattle.node_state.specs.declared.event.Event.{Event}
 use Rattle.node_state.specs.declared.event.Event.TheVariants as events
 use Rattle.node_state.specs.Sound.{Sound}
 use Rattle.node_store.specs.declared.error.StoreError.{StoreError}
+use Rattle.node_store.specs.declared.error.StoreError.TheVariants as errors
 use Rattle.pull_client.specs.declared.error.PeerError.{PeerError}
 use Rattle.pull_client.specs.declared.error.PeerError.TheVariants.{Memory}
 use Rattle.node_pull.specs.Reporting.{SendsReport}
 use Rattle.dsc_outside.specs.Link.{LinkView}
+use Rattle.dsc_node.specs.Commits.{broken_by}
 use Rattle.dsc_node.specs.Sending.{Sends, Tried}
 
 -- the reports that were not sent, the oldest first
@@ -40,6 +42,11 @@ StopsAt node [] asked heard tried = (heard ≡ asked) × (tried ≡ [])
 StopsAt node (report ∷ reports) asked heard tried =
     (error : PeerError) × NodeSends node report asked heard (Err error) × (error ≢ Memory) × (tried ≡ record { job = report.job; sent = false } ∷ [])
 
+-- nothing was sent after those that were accepted, or the first of the rest was, and not accepted
+abbrev pub IsLastAsked : Node → List Report → LinkView → LinkView → Type 0
+IsLastAsked node rest mid heard =
+    (heard ≡ mid) ⊎ ((next : Report) × (later : List Report) × (error : PeerError) × (rest ≡ next ∷ later) × NodeSends node next mid heard (Err error))
+
 abbrev pub accepted_of : Report → Tried
 accepted_of report = record { job = report.job; sent = true }
 
@@ -58,12 +65,22 @@ pub record AreSentInOrder (node : Node) (work : List Event) (asked heard : LinkV
   pub tried_is : tried ≡ map accepted_of front ++ last
   pub committed_is : committed ≡ work ++ map sent_event front
 
--- however the sending ends, those that are marked are the first of those that are due
-pub record MarksInOrder (node : Node) (work committed : List Event) : Type 0 where
+-- how it ends otherwise: memory ran out, at the request for the first of the rest or after the last that is marked; or the first of the rest
+-- was accepted, and its mark was refused
+abbrev pub EndsBefore : Node → List Report → LinkView → LinkView → StoreError → Option Event → Type 0
+EndsBefore node rest mid heard error broken =
+    ((error ≡ errors.Memory) × (broken ≡ None) × IsLastAsked node rest mid heard)
+    ⊎ ((next : Report) × (later : List Report) × (rest ≡ next ∷ later) × NodeSends node next mid heard (Ok tt) × (broken ≡ broken_by (sent_event next) error))
+
+-- those that are marked are the first of those that are due, and were accepted one after another
+pub record AreMarkedInOrder (node : Node) (work : List Event) (asked heard : LinkView) (error : StoreError) (committed : List Event) (broken : Option Event) : Type 0 where
   pub front : List Report
   pub rest : List Report
   pub divided : due node ≡ front ++ rest
+  pub mid : LinkView
+  pub accepted : AreAccepted node front asked mid
   pub committed_is : committed ≡ work ++ map sent_event front
+  pub ended : EndsBefore node rest mid heard error broken
 
 -- what a start sends at its end, from the node after its other events
 abbrev pub ReportsAreSentInOrder : Type 0
@@ -71,5 +88,5 @@ ReportsAreSentInOrder = (from node : Node) (counts : ℕ × ℕ) (work committed
     → Sound node → Sends from counts work node asked heard (Ok tried) committed broken → AreSentInOrder node work asked heard tried committed × (broken ≡ None)
 
 abbrev pub ReportsAreMarkedInOrder : Type 0
-ReportsAreMarkedInOrder = (from node : Node) (counts : ℕ × ℕ) (work committed : List Event) (asked heard : LinkView) (tried : Result (List Tried) StoreError) (broken : Option Event)
-    → Sound node → Sends from counts work node asked heard tried committed broken → MarksInOrder node work committed
+ReportsAreMarkedInOrder = (from node : Node) (counts : ℕ × ℕ) (work committed : List Event) (asked heard : LinkView) (error : StoreError) (broken : Option Event)
+    → Sound node → Sends from counts work node asked heard (Err error) committed broken → AreMarkedInOrder node work asked heard error committed broken

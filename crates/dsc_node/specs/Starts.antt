@@ -103,7 +103,8 @@ IsExposed o one = (held : List ℕ) × (o.disk.shown one.before.disk ≡ Some he
 abbrev pub FindsPart : {D S C : Type 0} (o : Known D S C) → OneStart o → Part → Type 0
 FindsPart o one part = (node : Node) × Finds o one node × IsSlot node part
 
--- the start's input is the part, or its node's server gave the part in it under the digest that was announced
+-- the start's input is the part, or its node's server gave the part in it under the digest that was announced; over a link that does not show
+-- its exchanges the second says nothing
 abbrev pub Brings : {D S C : Type 0} (o : Known D S C) → OneStart o → Part → Type 0
 Brings o one part =
     (node : Node) × ReadsAs o.disk one.before.disk Stands node × IsBrought one.command node one.before.beside.link one.after.beside.link part

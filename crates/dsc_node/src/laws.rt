@@ -22,14 +22,15 @@ pub fn parts_are_brought<D: Disk, M: Machine, C: Clock>()
     ensures { PartsAreBrought (known D.Disk M.Resources M.Machine.own C.Clock) }
 {}
 
-/// The text of a run spells one trace, up to what is inside a fault, where the ids of the document differ.
+/// The text of a run spells one trace, up to what is inside a fault, where the ids of the document differ; so it does where more is printed
+/// after it.
 pub fn lines_spell_one_trace()
     ensures { LinesSpellOneTrace }
 {}
 
 /// Of the reports that are due, the oldest first, those before the first that is not accepted are sent, printed as sent and marked; the one
-/// at which the sending stops is printed as not sent, and nothing after it is sent. However the sending ends, those that are marked are the
-/// first of those that are due.
+/// at which the sending stops is printed as not sent, and nothing after it is sent. Where memory ran out, or the mark of one was refused,
+/// those that are marked are the first of those that are due, and each of them was accepted.
 pub fn reports_are_sent_in_order()
     ensures sent { ReportsAreSentInOrder }
     ensures marked { ReportsAreMarkedInOrder }
