@@ -8,7 +8,7 @@ use Rattle.node_state.specs.declared.event.Event.TheVariants as events
 use Rattle.node_store.specs.declared.error.StoreError.{StoreError}
 use Rattle.node_store.specs.declared.error.StoreError.TheVariants as errors
 use Rattle.dsc_outside.specs.Link.{LinkView}
-use Rattle.dsc_node.specs.declared.command.Task.{Task}
+use Rattle.dsc_node.specs.declared.plan.Plan.{Plan}
 use Rattle.dsc_node.specs.declared.status.Status.{Status}
 use Rattle.dsc_node.specs.declared.status.Status.TheVariants as statuses
 use Rattle.dsc_node.specs.Commits.{RefusedAfter}
@@ -95,15 +95,15 @@ finish_unbroken o from counts work node stopped readings left start asked heard 
     sent_ends counts broken (status_after node.meta.reboot_if_needed run.end report.missed) text (end_line run.end run.choice.pending report.missed) tried status lines
     (sends_broken from counts (work ++ event_of run.end run.choice.pending report ∷ []) noted asked heard tried committed broken sends) ends
 
-pub work_unbroken : {D S C : Type 0} (o : Known D S C) (task : Task) (from : Node) (counts : ℕ × ℕ) (work : List Event) (node : Node) (before after : Beside S C) (status : Status) (lines : List ℕ)
+pub work_unbroken : {D S C : Type 0} (o : Known D S C) (plan : Plan) (from : Node) (counts : ℕ × ℕ) (work : List Event) (node : Node) (before after : Beside S C) (status : Status) (lines : List ℕ)
     (ready : S) (run : Option Run) (committed : List Event) (broken : Option Event)
-    → StartTable o task from counts work node before after status lines ready run committed broken → (broken ≡ None) ⊎ (Rose counts.0 counts.1 × EndsBroken status)
-work_unbroken o task from counts work node before after status lines _ _ _ _ (not_allowed why is idle ends) = inl refl
-work_unbroken o task from counts work node before after status lines _ _ _ _ (waiting none is idle ends) = inl refl
-work_unbroken o task from counts work node before after status lines _ _ _ _ (clock_failed allowed reads gave took rose machine link ends) = inl refl
-work_unbroken o task from counts work node before after status lines _ _ _ _ (not_brought start error allowed reads brought ends) = inl refl
-work_unbroken o task from counts work node before after status lines _ _ _ _ (first_refused start event error committed broken allowed reads brought refused ends) =
+    → StartTable o plan from counts work node before after status lines ready run committed broken → (broken ≡ None) ⊎ (Rose counts.0 counts.1 × EndsBroken status)
+work_unbroken o plan from counts work node before after status lines _ _ _ _ (not_allowed why is idle ends) = inl refl
+work_unbroken o plan from counts work node before after status lines _ _ _ _ (waiting none is idle ends) = inl refl
+work_unbroken o plan from counts work node before after status lines _ _ _ _ (clock_failed allowed reads gave took rose machine link ends) = inl refl
+work_unbroken o plan from counts work node before after status lines _ _ _ _ (not_brought start error allowed reads brought ends) = inl refl
+work_unbroken o plan from counts work node before after status lines _ _ _ _ (first_refused start event error committed broken allowed reads brought refused ends) =
     refused_ends counts broken error [] status lines (refused_broken from counts work event error committed broken refused) (inl ends)
-work_unbroken o task from counts work node before after status lines _ _ _ _ (settled start first allowed ends reads brought answers) = inl refl
-work_unbroken o task from counts work node before after status lines _ _ _ _ (finished start readings heard ready first mid run committed broken allowed other gave took brought steps f) =
+work_unbroken o plan from counts work node before after status lines _ _ _ _ (settled start first mid text allowed ends reads brought steps answers) = inl refl
+work_unbroken o plan from counts work node before after status lines _ _ _ _ (finished start readings heard ready first mid run committed broken allowed other gave took brought steps f) =
     finish_unbroken o from counts _ mid _ readings _ start heard after.link ready after.machine status lines run committed broken f

@@ -1,6 +1,6 @@
--- The event that a task brings: what it leaves of a node, which parts it stages, and that it keeps no report.
-use Rattle.std.proofs.Common.{◌≡◌, ◌⊎◌, inl, inr, ℕ, Bool, true, false, List, [], ◌∷◌, Option, Some, None, Result, Ok, Err, refl, sym, ap, subst, ◌∙◌, arith}
-use Rattle.std.specs.Prelude.{All, Contains}
+-- The event that a command brings: what it leaves of a node, which parts it stages, and that it keeps no report.
+use Rattle.std.proofs.Common.{◌≡◌, ◌≢◌, ◌⊎◌, inl, inr, ℕ, Bool, true, false, List, [], ◌∷◌, Option, Some, None, Result, Ok, Err, refl, sym, ap, subst, ◌∙◌, arith}
+use Rattle.std.specs.Prelude.{All, Contains, IfSome}
 use Rattle.std.proofs.lemmas.List.Elements.{All-contains}
 use Rattle.dsc_outside.specs.declared.disk.Disk as disks
 use Rattle.dsc_document.specs.declared.document.Document.{Document}
@@ -15,13 +15,10 @@ use Rattle.node_state.specs.declared.list.Staged.{Staged}
 use Rattle.node_state.specs.declared.node.Node.{Node}
 use Rattle.node_state.specs.declared.event.Event.{Event}
 use Rattle.node_state.specs.declared.event.Event.TheVariants as events
-use Rattle.node_state.specs.declared.event.Stage.{Stage}
-use Rattle.node_state.specs.declared.event.Stage.TheVariants as slots
 use Rattle.node_state.specs.Slots.{IsIn, Stages, StagesPart}
 use Rattle.node_state.specs.StagedParts.{parts_of}
 use Rattle.node_state.specs.Staging.{AreFitting}
 use Rattle.node_state.specs.Table.{Steps}
-use Rattle.node_state.specs.Table.{after as after_of}
 use Rattle.node_state.proofs.SoundSteps.{only_one}
 use Rattle.node_pull.specs.declared.error.PullFault.{PullFault}
 use Rattle.node_pull.specs.declared.error.PullFault.TheVariants as pulls
@@ -42,19 +39,26 @@ use Rattle.pull_client.specs.Requests.{content_request}
 use Rattle.dsc_node.specs.declared.command.Command.{Command}
 use Rattle.dsc_node.specs.declared.command.Command.TheVariants as commands
 use Rattle.dsc_node.specs.declared.status.Status.{Status}
-use Rattle.dsc_node.specs.declared.command.Task.{Task}
-use Rattle.dsc_node.specs.declared.command.Task.TheVariants.{Init, Meta, Register, Pull, Push, Consistency, Boot, Get, Restore, Remove, Reports}
-use Rattle.dsc_node.specs.Bringing.{Brought, IsPull, events_of, held_among, held_of, registered_by, staged_by, status_of_pull}
-use Rattle.dsc_node.specs.Commands.{IsAllowed, IsTaskOf, boot_of, given_of, is_run}
-use Rattle.dsc_node.specs.Headline.{AddsPackages, IsBrought, IsPullFault, Keeps, KeepsReport, PulledPackages}
+use Rattle.dsc_node.specs.declared.plan.Bring.{Bring}
+use Rattle.dsc_node.specs.declared.plan.Bring.TheVariants as bring
+use Rattle.dsc_node.specs.declared.plan.Follows.{Follows}
+use Rattle.dsc_node.specs.declared.plan.Follows.TheVariants as follows
+use Rattle.dsc_node.specs.declared.plan.Plan.{Plan}
+use Rattle.dsc_node.specs.Bringing.{Brought, IsPull, boot_of, events_of, held_among, held_of, registered_by, staged_by, status_of_pull}
+use Rattle.dsc_node.specs.Commands.{IsAllowed, IsPlanOf}
+use Rattle.dsc_node.specs.Headline.{AddsPackages, AllowsPull, IsBrought, IsPullFault, Keeps, PulledPackages}
 use Rattle.dsc_node.proofs.Found.{WasSlot}
+use Rattle.dsc_node.proofs.Plans.{IsBringOf, IsQuiet, plan_facts, quiet_boot, quiet_registered, quiet_stage}
 
 -- ---- which event it is
 
-abbrev pub IsFirst : Node → Task → Option Event → Type 0
-IsFirst node (Register name) first = first ≡ Some events.Registered
-IsFirst node Pull first = (first ≡ None) ⊎ ((staged : Staged) × (first ≡ Some (events.Stage staged)))
-IsFirst node task first = first ≡ given_of node task
+abbrev pub IsFirst : Node → Bring → Option Event → Type 0
+IsFirst node bring.Nothing first = first ≡ None
+IsFirst node (bring.Event event) first = first ≡ Some event
+IsFirst node (bring.Push staged document) first = first ≡ Some (events.Stage staged)
+IsFirst node bring.Boot first = first ≡ boot_of node.reboot
+IsFirst node bring.Pull first = (first ≡ None) ⊎ ((staged : Staged) × (first ≡ Some (events.Stage staged)))
+IsFirst node (bring.Registration name) first = first ≡ Some events.Registered
 
 some_ok : {A E : Type 0} (a b : A) → (let x : Result A E = Ok a in x) ≡ Ok b → a ≡ b
 some_ok a b is = cc is
@@ -72,104 +76,57 @@ pulled_first first (Ok (Some staged)) is = inr (staged, some_ok first (Some (eve
 pulled_first first (Err error) is = no_ok first error is
 
 module _ {S : Type 0} (runs_on : resources.Ghosts S) (machine : machines.Ghosts S) (node : Node) (start : ℕ) (asked heard : LinkView) (before after : S) (first : Option Event) where
-  pub is_first : (task : Task) → Brought runs_on machine node task start asked heard before after (Ok first) → IsFirst node task first
-  is_first (Init agent) b = some_ok first (given_of node (Init agent)) b.1.1
-  is_first (Meta meta) b = some_ok first (given_of node (Meta meta)) b.1.1
-  is_first (Register name) b = registered_first first b.1.answer b.1.is
-  is_first Pull b = pulled_first first b.answer b.is
-  is_first (Push staged) b = some_ok first (given_of node (Push staged)) b.1.1
-  is_first Consistency b = some_ok first (given_of node Consistency) b.1.1
-  is_first Boot b = some_ok first (given_of node Boot) b.1.1
-  is_first Get b = some_ok first (given_of node Get) b.1.1
-  is_first Restore b = some_ok first (given_of node Restore) b.1.1
-  is_first (Remove stage) b = some_ok first (given_of node (Remove stage)) b.1.1
-  is_first Reports b = some_ok first (given_of node Reports) b.1.1
+  pub is_first : (brings : Bring) → Brought runs_on machine node brings start asked heard before after (Ok first) → IsFirst node brings first
+  is_first bring.Nothing b = some_ok first None b.is
+  is_first (bring.Event event) b = some_ok first (Some event) b.is
+  is_first (bring.Push staged document) b = some_ok first (Some (events.Stage staged)) b.is
+  is_first bring.Boot b = some_ok first (boot_of node.reboot) b.is
+  is_first bring.Pull b = pulled_first first b.answer b.is
+  is_first (bring.Registration name) b = registered_first first b.1.answer b.1.is
 
--- ---- what it leaves of a node
+-- ---- that it is quiet
 
-module _ {X : Type 0} (value : Node → X) (node mid : Node) (first : Option Event) (steps : Steps node (events_of first) mid) where
-  none_leaves : first ≡ None → value mid ≡ value node
-  none_leaves is = ap value (subst (λ (f : Option Event). Steps node (events_of f) mid) is steps)
+module _ (next : Follows) (first : Option Event) where
+  none_quiet : first ≡ None → IfSome first (IsQuiet next)
+  none_quiet is = subst (λ (f : Option Event). IfSome f (IsQuiet next)) (sym is) tt
 
-  some_leaves : (event : Event) → first ≡ Some event → value (after_of node event) ≡ value node → value mid ≡ value node
-  some_leaves event is same = leaves (subst (λ (f : Option Event). Steps node (events_of f) mid) is steps) where
-    leaves : Steps node (event ∷ []) mid → value mid ≡ value node
-    leaves (next, step, last) = ap value (last ∙ step.is) ∙ same
+  some_quiet : (event : Event) → IsQuiet next event → first ≡ Some event → IfSome first (IsQuiet next)
+  some_quiet event quiet is = subst (λ (f : Option Event). IfSome f (IsQuiet next)) (sym is) quiet
 
-  marked_leaves : (b : Bool) → first ≡ boot_of b → value (after_of node events.Boot) ≡ value node → value mid ≡ value node
-  marked_leaves true is same = some_leaves events.Boot is same
-  marked_leaves false is same = none_leaves is
+  marked_quiet : (marked : Bool) → first ≡ boot_of marked → IfSome first (IsQuiet next)
+  marked_quiet true is = some_quiet events.Boot (quiet_boot next) is
+  marked_quiet false is = none_quiet is
 
-  pull_leaves : (first ≡ None) ⊎ ((staged : Staged) × (first ≡ Some (events.Stage staged))) → ((staged : Staged) → value (after_of node (events.Stage staged)) ≡ value node) → value mid ≡ value node
-  pull_leaves (inl is) same = none_leaves is
-  pull_leaves (inr (staged, is)) same = some_leaves (events.Stage staged) is (same staged)
+  quiet_by : (command : Command) (node : Node) (brings : Bring) → IsBringOf command next brings → IsFirst node brings first → IfSome first (IsQuiet next)
+  quiet_by command node bring.Nothing facts is = none_quiet is
+  quiet_by command node (bring.Event event) facts is = some_quiet event facts.1 is
+  quiet_by command node (bring.Push staged document) facts is = some_quiet (events.Stage staged) (quiet_stage next staged) is
+  quiet_by command node bring.Boot facts is = marked_quiet node.reboot is
+  quiet_by command node bring.Pull facts (inl is) = none_quiet is
+  quiet_by command node bring.Pull facts (inr (staged, is)) = some_quiet (events.Stage staged) (quiet_stage next staged) is
+  quiet_by command node (bring.Registration name) facts is = some_quiet events.Registered (quiet_registered next) is
 
-without_job : (node : Node) (stage : Stage) → (after_of node (events.Remove stage)).next_job ≡ node.next_job
-without_job node slots.Pending = refl
-without_job node slots.Current = refl
-without_job node slots.Previous = refl
+-- what the plan of a command brings first is quiet
+pub first_quiet : {S : Type 0} (runs_on : resources.Ghosts S) (machine : machines.Ghosts S) (node : Node) (start : ℕ) (asked heard : LinkView) (before after : S) (first : Option Event)
+    (command : Command) (plan : Plan) → IsPlanOf command plan → Brought runs_on machine node plan.brings start asked heard before after (Ok first) → IfSome first (IsQuiet plan.follows)
+first_quiet runs_on machine node start asked heard before after first command plan is b =
+    quiet_by plan.follows first command node plan.brings (plan_facts command plan is).brings (is_first runs_on machine node start asked heard before after first plan.brings b)
 
 -- the next job
-pub first_job : (node mid : Node) (first : Option Event) → Steps node (events_of first) mid → (task : Task) → IsFirst node task first → mid.next_job ≡ node.next_job
-first_job node mid first steps (Init agent) is = some_leaves (λ n. n.next_job) node mid first steps (events.Init agent) is refl
-first_job node mid first steps (Meta meta) is = some_leaves (λ n. n.next_job) node mid first steps (events.SetMeta meta) is refl
-first_job node mid first steps (Register name) is = some_leaves (λ n. n.next_job) node mid first steps events.Registered is refl
-first_job node mid first steps Pull is = pull_leaves (λ n. n.next_job) node mid first steps is (λ staged. refl)
-first_job node mid first steps (Push staged) is = some_leaves (λ n. n.next_job) node mid first steps (events.Stage staged) is refl
-first_job node mid first steps Consistency is = none_leaves (λ n. n.next_job) node mid first steps is
-first_job node mid first steps Boot is = marked_leaves (λ n. n.next_job) node mid first steps node.reboot is refl
-first_job node mid first steps Get is = none_leaves (λ n. n.next_job) node mid first steps is
-first_job node mid first steps Restore is = some_leaves (λ n. n.next_job) node mid first steps events.Restore is refl
-first_job node mid first steps (Remove stage) is = some_leaves (λ n. n.next_job) node mid first steps (events.Remove stage) is (without_job node stage)
-first_job node mid first steps Reports is = none_leaves (λ n. n.next_job) node mid first steps is
-
-not_run : {A : Type 0} → false ≡ true → A
-not_run is = absurd (cc is)
+pub first_job : (node mid : Node) (first : Option Event) (next : Follows) → Steps node (events_of first) mid → IfSome first (IsQuiet next) → mid.next_job ≡ node.next_job
+first_job node mid None next steps quiet = ap (λ (n : Node). n.next_job) steps
+first_job node mid (Some event) next steps quiet = ap (λ (n : Node). n.next_job) (steps.2 ∙ steps.1.is) ∙ quiet.job node
 
 -- and before a run the meta-configuration
-pub first_meta : (node mid : Node) (first : Option Event) → Steps node (events_of first) mid → (task : Task) → is_run task ≡ true → IsFirst node task first → mid.meta ≡ node.meta
-first_meta node mid first steps (Init agent) runs is = not_run runs
-first_meta node mid first steps (Meta meta) runs is = not_run runs
-first_meta node mid first steps (Register name) runs is = not_run runs
-first_meta node mid first steps Pull runs is = pull_leaves (λ n. n.meta) node mid first steps is (λ staged. refl)
-first_meta node mid first steps (Push staged) runs is = some_leaves (λ n. n.meta) node mid first steps (events.Stage staged) is refl
-first_meta node mid first steps Consistency runs is = none_leaves (λ n. n.meta) node mid first steps is
-first_meta node mid first steps Boot runs is = marked_leaves (λ n. n.meta) node mid first steps node.reboot is refl
-first_meta node mid first steps Get runs is = not_run runs
-first_meta node mid first steps Restore runs is = some_leaves (λ n. n.meta) node mid first steps events.Restore is refl
-first_meta node mid first steps (Remove stage) runs is = not_run runs
-first_meta node mid first steps Reports runs is = not_run runs
+pub first_meta : (node mid : Node) (first : Option Event) (next : Follows) → next ≡ follows.Run → Steps node (events_of first) mid → IfSome first (IsQuiet next) → mid.meta ≡ node.meta
+first_meta node mid None next runs steps quiet = ap (λ (n : Node). n.meta) steps
+first_meta node mid (Some event) next runs steps quiet = ap (λ (n : Node). n.meta) (steps.2 ∙ steps.1.is) ∙ quiet.meta runs node
 
--- ---- reports
-
-module _ (report : Report) (first : Option Event) where
-  none_keeps : first ≡ None → Keeps (events_of first) report → ⊥
-  none_keeps is k = subst (λ (f : Option Event). Keeps (events_of f) report) is k
-
-  some_keeps : (event : Event) → (KeepsReport event report → ⊥) → first ≡ Some event → Keeps (events_of first) report → ⊥
-  some_keeps event none is k = keeps (subst (λ (f : Option Event). Keeps (events_of f) report) is k) where
-    keeps : Keeps (event ∷ []) report → ⊥
-    keeps (inl it) = none it
-    keeps (inr more) = more
-
-  boot_keeps : (b : Bool) → first ≡ boot_of b → Keeps (events_of first) report → ⊥
-  boot_keeps true is k = some_keeps events.Boot (λ none. none) is k
-  boot_keeps false is k = none_keeps is k
-
-  -- the first event keeps no report
-  pub first_keeps : (node : Node) (task : Task) → IsFirst node task first → Keeps (events_of first) report → ⊥
-  first_keeps node (Init agent) is k = some_keeps (events.Init agent) (λ none. none) is k
-  first_keeps node (Meta meta) is k = some_keeps (events.SetMeta meta) (λ none. none) is k
-  first_keeps node (Register name) is k = some_keeps events.Registered (λ none. none) is k
-  first_keeps node Pull (inl is) k = none_keeps is k
-  first_keeps node Pull (inr (staged, is)) k = some_keeps (events.Stage staged) (λ none. none) is k
-  first_keeps node (Push staged) is k = some_keeps (events.Stage staged) (λ none. none) is k
-  first_keeps node Consistency is k = none_keeps is k
-  first_keeps node Boot is k = boot_keeps node.reboot is k
-  first_keeps node Get is k = none_keeps is k
-  first_keeps node Restore is k = some_keeps events.Restore (λ none. none) is k
-  first_keeps node (Remove stage) is k = some_keeps (events.Remove stage) (λ none. none) is k
-  first_keeps node Reports is k = none_keeps is k
+-- it keeps no report
+pub first_keeps : (report : Report) (first : Option Event) (next : Follows) → IfSome first (IsQuiet next) → Keeps (events_of first) report → ⊥
+first_keeps report None next quiet k = k
+first_keeps report (Some event) next quiet (inl k) = quiet.report report k
+first_keeps report (Some event) next quiet (inr more) = more
 
 -- ---- parts
 
@@ -221,36 +178,22 @@ module _ {D S : Type 0} (d : disks.Ghosts D) (begin : D) (runs_on : resources.Gh
       (some_stages part first stages (events.Stage staged) (some_ok first (Some (events.Stage staged)) is)))
   pull_brings (Err error) server is_server agent is_agent pulled is = no_ok first error is
 
-  same_task : (task other : Task) → task ≡ other → Brought runs_on machine node task start asked heard before after (Ok first) → IsFirst node other first
-  same_task task other is b = subst (λ (t : Task). IsFirst node t first) is (is_first runs_on machine node start asked heard before after first task b)
+  brings_by : (command : Command) (next : Follows) (brings : Bring) → IsBringOf command next brings → Brought runs_on machine node brings start asked heard before after (Ok first)
+      → WasSlot d begin node part ⊎ IsBrought command node asked end part
+  brings_by command next bring.Nothing facts b = none_stages part first stages (some_ok first None b.is)
+  brings_by command next (bring.Event event) facts b = absurd (facts.2 part (some_stages part first stages event (some_ok first (Some event) b.is)))
+  brings_by command next (bring.Push staged document) facts b =
+      let is = only part facts.0 (parts_of staged) facts.2 (some_stages part first stages (events.Stage staged) (some_ok first (Some (events.Stage staged)) b.is)) in
+      inr (subst (λ (c : Command). IsBrought c node asked end part) (sym facts.1) is)
+  brings_by command next bring.Boot facts b = boot_stages part first stages node.reboot (some_ok first (boot_of node.reboot) b.is)
+  brings_by command next bring.Pull facts b =
+      subst (λ (c : Command). WasSlot d begin node part ⊎ IsBrought c node asked end part) (sym facts) (pull_brings b.answer b.server b.is_server b.agent b.is_agent b.pulled b.is)
+  brings_by command next (bring.Registration name) facts b = absurd (some_stages part first stages events.Registered (registered_first first b.1.answer b.1.is))
 
   -- each part that is staged was there, or was brought
-  pub brings : (command : Command) (task : Task) → IsTaskOf command task → Brought runs_on machine node task start asked heard before after (Ok first)
+  pub brings : (command : Command) (plan : Plan) → IsPlanOf command plan → Brought runs_on machine node plan.brings start asked heard before after (Ok first)
       → WasSlot d begin node part ⊎ IsBrought command node asked end part
-  brings (commands.Init agent) task is b = absurd (some_stages part first stages (events.Init agent) (same_task task (Init agent) is b))
-  brings (commands.Meta meta) task is b = absurd (some_stages part first stages (events.SetMeta meta) (same_task task (Meta meta) is b))
-  brings (commands.Register name) task is b = absurd (some_stages part first stages events.Registered (same_task task (Register name) is b))
-  brings commands.Pull task is b =
-      let p : IsPull machine runs_on.faults node asked heard before after (Ok first) = subst (λ (t : Task). Brought runs_on machine node t start asked heard before after (Ok first)) is b in
-      pull_brings p.answer p.server p.is_server p.agent p.is_agent p.pulled p.is
-  brings (commands.Push bytes) (Push staged) is b =
-      inr (only part bytes (parts_of staged) is (some_stages part first stages (events.Stage staged) (is_first runs_on machine node start asked heard before after first (Push staged) b)))
-  brings (commands.Push bytes) (Init agent) is b = absurd is
-  brings (commands.Push bytes) (Meta meta) is b = absurd is
-  brings (commands.Push bytes) (Register name) is b = absurd is
-  brings (commands.Push bytes) Pull is b = absurd is
-  brings (commands.Push bytes) Consistency is b = absurd is
-  brings (commands.Push bytes) Boot is b = absurd is
-  brings (commands.Push bytes) Get is b = absurd is
-  brings (commands.Push bytes) Restore is b = absurd is
-  brings (commands.Push bytes) (Remove stage) is b = absurd is
-  brings (commands.Push bytes) Reports is b = absurd is
-  brings commands.Consistency task is b = none_stages part first stages (same_task task Consistency is b)
-  brings commands.Boot task is b = boot_stages part first stages node.reboot (same_task task Boot is b)
-  brings commands.Get task is b = none_stages part first stages (same_task task Get is b)
-  brings commands.Restore task is b = absurd (some_stages part first stages events.Restore (same_task task Restore is b))
-  brings (commands.Remove stage) task is b = absurd (some_stages part first stages (events.Remove stage) (same_task task (Remove stage) is b))
-  brings commands.Reports task is b = none_stages part first stages (same_task task Reports is b)
+  brings command plan is b = brings_by command plan.follows plan.brings (plan_facts command plan is).brings b
 
 -- ---- packages
 
@@ -261,7 +204,7 @@ fault_error (pulls.Refused fault) = tt
 fault_error pulls.Memory = tt
 
 -- what a pull came to
-module _ {S : Type 0} (runs_on : resources.Ghosts S) (machine : machines.Ghosts S) (node : Node) (end : LinkView) (status : Status) (allowed : IsAllowed node Pull) where
+module _ {S : Type 0} (runs_on : resources.Ghosts S) (machine : machines.Ghosts S) (node : Node) (end : LinkView) (status : Status) (allowed : AllowsPull node) where
   -- a list that fits, and the packages of its document as far as they came
   came_adds : (server : Server) → node.meta.server ≡ Some server → (agent : ℕ) → node.agent ≡ Some agent → (asked listing heard : LinkView) (before after : S) (staged : Staged) (document : Document)
       (result : Result (Unit {0}) PullFault) → Listed node.meta server agent (held_of node) asked listing (Ok (parts_of staged)) → AreFitting node.meta (parts_of staged) → Merged (parts_of staged) document
@@ -303,37 +246,23 @@ module _ {S : Type 0} (runs_on : resources.Ghosts S) (machine : machines.Ghosts 
   abbrev pub Adds : Command → Type 0
   Adds command = AddsPackages command node asked end status (machine.packages before) (machine.packages after)
 
-  pull_adds : IsAllowed node Pull → IsPull machine runs_on.faults node asked heard before after result → Adds commands.Pull
+  pull_adds : AllowsPull node → IsPull machine runs_on.faults node asked heard before after result → Adds commands.Pull
   pull_adds allowed p =
       pulled_adds runs_on machine node end status allowed p.server p.is_server p.agent p.is_agent asked heard before after p.answer later
       (λ error is. fault error (p.is ∙ ap staged_by is)) p.pulled
 
-  as_task : (task other : Task) → task ≡ other → Brought runs_on machine node task start asked heard before after result → Brought runs_on machine node other start asked heard before after result
-  as_task task other is b = subst (λ (t : Task). Brought runs_on machine node t start asked heard before after result) is b
-
-  same : after ≡ before → machine.packages after ≡ machine.packages before
-  same is = ap machine.packages is
+  -- what is no pull leaves the machine
+  leaves_machine : (command : Command) (next : Follows) (brings : Bring) → command ≢ commands.Pull → IsBringOf command next brings
+      → Brought runs_on machine node brings start asked heard before after result → machine.packages after ≡ machine.packages before
+  leaves_machine command next bring.Nothing other facts b = ap machine.packages b.machine
+  leaves_machine command next (bring.Event event) other facts b = ap machine.packages b.machine
+  leaves_machine command next (bring.Push staged document) other facts b = ap machine.packages b.machine
+  leaves_machine command next bring.Boot other facts b = ap machine.packages b.machine
+  leaves_machine command next bring.Pull other facts b = absurd (other facts)
+  leaves_machine command next (bring.Registration name) other facts b = ap machine.packages b.0
 
   -- what a command adds before its run
-  pub command_adds : (command : Command) (task : Task) → IsTaskOf command task → IsAllowed node task → Brought runs_on machine node task start asked heard before after result → Adds command
-  command_adds (commands.Init agent) task is allowed b = same (as_task task (Init agent) is b).0
-  command_adds (commands.Meta meta) task is allowed b = same (as_task task (Meta meta) is b).0
-  command_adds (commands.Register name) task is allowed b = same (as_task task (Register name) is b).0
-  command_adds commands.Pull task is allowed b = pull_adds (subst (IsAllowed node) is allowed) (as_task task Pull is b)
-  command_adds (commands.Push bytes) (Push staged) is allowed b = same b.0
-  command_adds (commands.Push bytes) (Init agent) is allowed b = absurd is
-  command_adds (commands.Push bytes) (Meta meta) is allowed b = absurd is
-  command_adds (commands.Push bytes) (Register name) is allowed b = absurd is
-  command_adds (commands.Push bytes) Pull is allowed b = absurd is
-  command_adds (commands.Push bytes) Consistency is allowed b = absurd is
-  command_adds (commands.Push bytes) Boot is allowed b = absurd is
-  command_adds (commands.Push bytes) Get is allowed b = absurd is
-  command_adds (commands.Push bytes) Restore is allowed b = absurd is
-  command_adds (commands.Push bytes) (Remove stage) is allowed b = absurd is
-  command_adds (commands.Push bytes) Reports is allowed b = absurd is
-  command_adds commands.Consistency task is allowed b = same (as_task task Consistency is b).0
-  command_adds commands.Boot task is allowed b = same (as_task task Boot is b).0
-  command_adds commands.Get task is allowed b = same (as_task task Get is b).0
-  command_adds commands.Restore task is allowed b = same (as_task task Restore is b).0
-  command_adds (commands.Remove stage) task is allowed b = same (as_task task (Remove stage) is b).0
-  command_adds commands.Reports task is allowed b = same (as_task task Reports is b).0
+  pub command_adds : (command : Command) (plan : Plan) → IsPlanOf command plan → IsAllowed node plan → Brought runs_on machine node plan.brings start asked heard before after result → Adds command
+  command_adds commands.Pull plan is allowed b =
+      pull_adds (subst (IsAllowed node) is allowed) (subst (λ (p : Plan). Brought runs_on machine node p.brings start asked heard before after result) is b)
+  command_adds command plan is allowed b = leaves_machine command plan.follows plan.brings (λ pull. cc pull) (plan_facts command plan is).brings b

@@ -21,11 +21,12 @@ use Rattle.node_state.specs.Table.{after as after_of}
 use Rattle.node_store.specs.declared.error.StoreError.{StoreError}
 use Rattle.node_store.specs.declared.error.StoreError.TheVariants as errors
 use Rattle.dsc_node.specs.declared.command.Command.{Command}
-use Rattle.dsc_node.specs.declared.command.Task.{Task}
+use Rattle.dsc_node.specs.declared.plan.Plan.{Plan}
 use Rattle.dsc_node.specs.declared.status.Status.{Status}
 use Rattle.dsc_node.specs.declared.status.Status.TheVariants as statuses
 use Rattle.dsc_outside.specs.Link.{LinkView}
 use Rattle.dsc_node.specs.Bringing.{events_of}
+use Rattle.dsc_node.specs.Commands.{IsPlanOf}
 use Rattle.dsc_node.specs.Commits.{RefusedAfter, all_of}
 use Rattle.dsc_node.specs.Endings.{Answers}
 use Rattle.dsc_node.specs.Headline.{AreTold, HasHeadline, Headline, IsBrought, IsCurrent, IsPrinted, IsPromotable, IsPromoted, IsRun, Keeps}
@@ -36,7 +37,7 @@ use Rattle.dsc_node.specs.Sending.{EndsAfterSending, Sends, Tried, tried_text}
 use Rattle.dsc_node.specs.Start.{Opened, Outside}
 use Rattle.dsc_node.specs.Work.{Beside, Finish, Known, StartTable, clock_failed, finished, first_refused, no_run, not_allowed, not_brought, report_kept, report_refused, settled, unended, unready, waiting}
 use Rattle.dsc_node.proofs.Broken.{work_unbroken}
-use Rattle.dsc_node.proofs.Firsts.{brings, first_job, first_keeps, first_meta, is_first}
+use Rattle.dsc_node.proofs.Firsts.{brings, first_job, first_keeps, first_meta, first_quiet}
 use Rattle.dsc_node.proofs.Found.{WasSlot, was_found, was_there}
 use Rattle.dsc_node.proofs.HeadlineRuns.{faultless_compliant, is_true, pending_chosen, repaired, together, shown}
 use Rattle.dsc_node.proofs.Nodes.{are_sound, parts_there, steps_sound}
@@ -173,23 +174,23 @@ module _ {D S C : Type 0} (o : Known D S C) (begin now : D) (from : Node) (sound
         printed wanted (Err (errors.NotAStore at)) e = alone (statuses.NotAStore at) e
         printed wanted (Err (errors.NotAllowed why)) e = alone (statuses.NotAllowed why) e
 
-    work_facts : (task : Task) (before after : Beside S C) (ready : S) (run : Option Run) (committed : List Event) (broken : Option Event)
-        → StartTable o task from (disk_counts o.disk begin now) [] from before after status lines ready run committed broken → Facts ready after.machine status lines run committed broken
-    work_facts task before after _ _ _ _ (not_allowed why is same ends) = idle before.machine after.machine [] None (ap (λ (b : Beside S C). b.machine) same) (λ report k. k)
-    work_facts task before after _ _ _ _ (waiting allowed is same ends) = idle before.machine after.machine [] None (ap (λ (b : Beside S C). b.machine) same) (λ report k. k)
-    work_facts task before after _ _ _ _ (clock_failed allowed other gave took rose same link ends) = idle before.machine after.machine [] None same (λ report k. k)
-    work_facts task before after _ _ _ _ (not_brought start error allowed reads brought ends) = idle after.machine after.machine [] None refl (λ report k. k)
-    work_facts task before after _ _ _ _ (first_refused start event error committed broken allowed reads brought refused ends) =
+    work_facts : (command : Command) (plan : Plan) → IsPlanOf command plan → (before after : Beside S C) (ready : S) (run : Option Run) (committed : List Event) (broken : Option Event)
+        → StartTable o plan from (disk_counts o.disk begin now) [] from before after status lines ready run committed broken → Facts ready after.machine status lines run committed broken
+    work_facts command plan is_plan before after _ _ _ _ (not_allowed why is same ends) = idle before.machine after.machine [] None (ap (λ (b : Beside S C). b.machine) same) (λ report k. k)
+    work_facts command plan is_plan before after _ _ _ _ (waiting allowed is same ends) = idle before.machine after.machine [] None (ap (λ (b : Beside S C). b.machine) same) (λ report k. k)
+    work_facts command plan is_plan before after _ _ _ _ (clock_failed allowed other gave took rose same link ends) = idle before.machine after.machine [] None same (λ report k. k)
+    work_facts command plan is_plan before after _ _ _ _ (not_brought start error allowed reads brought ends) = idle after.machine after.machine [] None refl (λ report k. k)
+    work_facts command plan is_plan before after _ _ _ _ (first_refused start event error committed broken allowed reads brought refused ends) =
         idle after.machine after.machine committed broken refl
         (λ report k. first_refused_keeps report from (disk_counts o.disk begin now) event error committed broken
-        (first_keeps report (Some event) from task (is_first o.resources o.machine from start before.link after.link before.machine after.machine (Some event) task brought)) refused k)
-    work_facts task before after _ _ _ _ (settled start first allowed ends reads brought answers) =
+        (first_keeps report (Some event) plan.follows (first_quiet o.resources o.machine from start before.link after.link before.machine after.machine (Some event) command plan is_plan brought)) refused k)
+    work_facts command plan is_plan before after _ _ _ _ (settled start first mid text allowed ends reads brought steps answers) =
         idle after.machine after.machine (events_of first) None refl
-        (λ report k. first_keeps report first from task (is_first o.resources o.machine from start before.link after.link before.machine after.machine first task brought) k)
-    work_facts task before after _ _ _ _ (finished start readings heard ready first mid run committed broken allowed other gave took brought steps f) =
-        let is = is_first o.resources o.machine from start before.link heard before.machine ready first task brought in
-        finish_facts ready after.machine (events_of first) mid _ readings _ start heard after.link steps (first_job from mid first steps task is) (first_meta from mid first steps task other is)
-        (λ report k. first_keeps report first from task is k) run committed broken f
+        (λ report k. first_keeps report first plan.follows (first_quiet o.resources o.machine from start before.link after.link before.machine after.machine first command plan is_plan brought) k)
+    work_facts command plan is_plan before after _ _ _ _ (finished start readings heard ready first mid run committed broken allowed other gave took brought steps f) =
+        let quiet = first_quiet o.resources o.machine from start before.link heard before.machine ready first command plan is_plan brought in
+        finish_facts ready after.machine (events_of first) mid _ readings _ start heard after.link steps (first_job from mid first plan.follows steps quiet) (first_meta from mid first plan.follows other steps quiet)
+        (λ report k. first_keeps report first plan.follows quiet k) run committed broken f
 
 pub headline : {D S C : Type 0} (o : Known D S C) (command : Command) (before after : Outside D S C) (status : Status) (lines : List ℕ)
     → ((held : List ℕ) → o.disk.shown before.disk ≡ Some held → o.disk.images before.disk held)
@@ -197,20 +198,20 @@ pub headline : {D S C : Type 0} (o : Known D S C) (command : Command) (before af
     → Headline o command before after status lines opened.from opened.ready opened.run opened.ended.committed opened.ended.broken
 headline o command before after status lines honest opened =
     let all = all_of opened.ended.committed opened.ended.broken in
-    let facts = work_facts o before.disk after.disk opened.from opened.sound status lines opened.task before.beside after.beside opened.ready opened.run opened.ended.committed opened.ended.broken opened.ended.table in
+    let facts = work_facts o before.disk after.disk opened.from opened.sound status lines command opened.plan opened.is_plan before.beside after.beside opened.ready opened.run opened.ended.committed opened.ended.broken opened.ended.table in
     record {
       a_prefix_of_the_steps = record {
         moments = opened.ended.passes;
         left = opened.ended.left;
         unbroken =
-            work_unbroken o opened.task opened.from (disk_counts o.disk before.disk after.disk) [] opened.from before.beside after.beside status lines opened.ready opened.run opened.ended.committed opened.ended.broken opened.ended.table;
+            work_unbroken o opened.plan opened.from (disk_counts o.disk before.disk after.disk) [] opened.from before.beside after.beside status lines opened.ready opened.run opened.ended.committed opened.ended.broken opened.ended.table;
       };
       documents_are_whole = are_sound o.disk before.disk opened.from all opened.sound;
       parts_are_as_brought = λ node part way slot. was_there o.disk before.disk opened.from part (was_found o.disk before.disk opened.from honest opened.reads) (slots node part way slot);
       sets_follow_tests = record {
         packages = opened.leaves.packages;
         added =
-            work_adds o command opened.task opened.is_task opened.from (disk_counts o.disk before.disk after.disk) [] opened.from before.beside after.beside status lines opened.ready opened.run opened.ended.committed opened.ended.broken opened.ended.table;
+            work_adds o command opened.plan opened.is_plan opened.from (disk_counts o.disk before.disk after.disk) [] opened.from before.beside after.beside status lines opened.ready opened.run opened.ended.committed opened.ended.broken opened.ended.table;
         untested = opened.leaves.trace;
         later = opened.leaves.later;
         runs = facts.sets_follow_tests;
@@ -224,8 +225,8 @@ headline o command before after status lines honest opened =
     slots node part way slot =
         ⊎_elim (λ there. inl there)
         (λ staged.
-        let s = work_stages part o opened.task opened.from (disk_counts o.disk before.disk after.disk) opened.from before.beside after.beside status lines opened.ready opened.run opened.ended.committed opened.ended.broken opened.ended.table staged in
-        brings o.disk before.disk o.resources o.machine opened.from s.start before.beside.link s.heard after.beside.link s.later before.beside.machine s.ready part s.first s.stages command opened.task opened.is_task s.brought)
+        let s = work_stages part o opened.plan opened.from (disk_counts o.disk before.disk after.disk) opened.from before.beside after.beside status lines opened.ready opened.run opened.ended.committed opened.ended.broken opened.ended.table staged in
+        brings o.disk before.disk o.resources o.machine opened.from s.start before.beside.link s.heard after.beside.link s.later before.beside.machine s.ready part s.first s.stages command opened.plan opened.is_plan s.brought)
         (parts_there o.disk before.disk opened.from (all_of opened.ended.committed opened.ended.broken) node part way slot)
 
 -- ---- over the kinds of resources of a host

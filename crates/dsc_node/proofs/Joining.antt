@@ -51,7 +51,7 @@ module _ {D S C : Type 0} (o : Known D S C) (counts_now : (disk : D) (t : ℕ) (
   may_leave command before after status lines (refused error unmerged same ends) all image left =
       stood before.disk image all
       (untouched before.disk image (subst (λ (x : Outside D S C). o.disk.left_since x.disk (o.disk.moment before.disk) image ⊎ o.disk.images x.disk image) same left))
-  may_leave command before after status lines (unopened task error is count cause quiet moments ends) all image left =
+  may_leave command before after status lines (unopened plan error is count cause quiet moments ends) all image left =
       at_any before.disk after.disk (StoodFor o.disk before.disk Stands) image (moments all) left
   may_leave command before after status lines (opened s) all image left =
       at_any before.disk after.disk (IsOnTheWay o.disk before.disk s.from (all_of s.ended.committed s.ended.broken)) image (s.ended.passes all) left
@@ -61,7 +61,7 @@ module _ {D S C : Type 0} (o : Known D S C) (counts_now : (disk : D) (t : ℕ) (
       → (image : List ℕ) → o.disk.images after.disk image → StandsFor Stands (Leaves o command before after status lines start) image
   leaves command before after status lines (refused error unmerged same ends) all image there =
       stood before.disk image all (subst (λ (x : Outside D S C). o.disk.images x.disk image) same there)
-  leaves command before after status lines (unopened task error is count cause quiet moments ends) all image there =
+  leaves command before after status lines (unopened plan error is count cause quiet moments ends) all image there =
       at_any before.disk after.disk (StoodFor o.disk before.disk Stands) image (moments all) (inr there)
   leaves command before after status lines (opened s) all image there = s.ended.left image there
 
@@ -105,7 +105,7 @@ module _ {D S C : Type 0} (o : Known D S C) (counts_now : (disk : D) (t : ℕ) (
       → ((found : Node) × StoodFor o.disk before.disk Stands found × IsSlot found part)
       ⊎ ((read : Node) × ReadsAs o.disk before.disk Stands read × IsBrought command read before.beside.link after.beside.link part)
   of_one command before after status lines (refused error unmerged same ends) headline exposed node part found slot = inl (node, found, slot)
-  of_one command before after status lines (unopened task error is count cause quiet moments ends) headline exposed node part found slot = inl (node, found, slot)
+  of_one command before after status lines (unopened plan error is count cause quiet moments ends) headline exposed node part found slot = inl (node, found, slot)
   of_one command before after status lines (opened s) headline exposed node part way slot =
       ⊎_elim (λ there. inl (found_part before.disk exposed s.from part there)) (λ brought. inr (s.from, s.reads, brought)) ((headline s).parts_are_as_brought node part way slot)
 

@@ -23,7 +23,7 @@ pub begins_again : {D S C : Type 0} (o : Known D S C) (command : Command) (befor
     → Start o command before after status lines → AllStand o.disk before.disk Stands Any → AllStand o.disk after.disk Stands Any
 begins_again o command before after status lines counts (refused error unmerged same ends) all =
     λ c there. all c (subst (λ x. o.disk.images x.disk c) same there)
-begins_again o command before after status lines counts (unopened task error is count cause quiet moments ends) all =
+begins_again o command before after status lines counts (unopened plan error is count cause quiet moments ends) all =
     λ c there. stands_map (StoodFor o.disk before.disk Stands) Any (λ node stood. tt) c
     (at_the_end o.disk before.disk after.disk (StoodFor o.disk before.disk Stands) counts (moments all) c there)
 begins_again o command before after status lines counts (opened o_) all =

@@ -15,20 +15,19 @@ use Rattle.node_store.specs.declared.error.StoreError.{StoreError}
 use Rattle.node_store.specs.declared.error.StoreError.TheVariants as errors
 use Rattle.dsc_node.specs.declared.command.Command.{Command}
 use Rattle.dsc_node.specs.declared.command.Command.TheVariants as commands
-use Rattle.dsc_node.specs.declared.command.Task.{Task}
-use Rattle.dsc_node.specs.declared.command.Task.TheVariants.{Pull}
+use Rattle.dsc_node.specs.declared.plan.Plan.{Plan}
 use Rattle.dsc_node.specs.declared.status.Status.{Status}
 use Rattle.dsc_node.specs.declared.status.Status.TheVariants as statuses
 use Rattle.dsc_outside.specs.Link.{GoesOn, LinkView}
 use Rattle.node_pull.proofs.GoingOn.{on_and_on, sends_goes_on, stays}
 use Rattle.dsc_node.specs.Bringing.{Brought, events_of, status_of_pull}
-use Rattle.dsc_node.specs.Commands.{IsAllowed, IsTaskOf, waits, why_not}
+use Rattle.dsc_node.specs.Commands.{IsAllowed, IsPlanOf, waits, why_not}
 use Rattle.dsc_node.specs.Commits.{RefusedAfter, all_of, broken_by}
 use Rattle.dsc_node.specs.Runs.{Run, event_of}
 use Rattle.dsc_node.specs.Sending.{Sends, Tried, all_sent, no_memory, not_sent, sent, unmarked, unprinted}
 use Rattle.dsc_node.specs.Work.{Beside, Finish, Known, StartTable, clock_failed, finished, first_refused, no_run, not_allowed, not_brought, report_kept, report_refused, settled, unended, unready, waiting}
 use Rattle.dsc_node.specs.Endings.{Ends}
-use Rattle.dsc_node.specs.Headline.{AddsPackages, IsPullFault, IsPullRefused}
+use Rattle.dsc_node.specs.Headline.{AddsPackages, AllowsPull, IsPullFault, IsPullRefused}
 use Rattle.dsc_node.proofs.Firsts.{command_adds, fault_error}
 use Rattle.dsc_node.proofs.Sends.{sends_less}
 
@@ -115,30 +114,30 @@ module _ (part : Part) where
         last (inl is) = run_stages run.end run.choice.pending report is
         last (inr s) = s
 
-  -- a start stages what its task brought, and nothing else
-  pub record StagesBrought {D S C : Type 0} (o : Known D S C) (task : Task) (node : Node) (before after : Beside S C) : Type 0 where
+  -- a start stages what was brought, and nothing else
+  pub record StagesBrought {D S C : Type 0} (o : Known D S C) (plan : Plan) (node : Node) (before after : Beside S C) : Type 0 where
     pub start : ℕ
     pub heard : LinkView
     pub later : GoesOn heard after.link
     pub ready : S
     pub first : Option Event
-    pub brought : Brought o.resources o.machine node task start before.link heard before.machine ready (Ok first)
+    pub brought : Brought o.resources o.machine node plan.brings start before.link heard before.machine ready (Ok first)
     pub stages : Stages (events_of first) part
 
-  pub work_stages : {D S C : Type 0} (o : Known D S C) (task : Task) (from : Node) (counts : ℕ × ℕ) (node : Node) (before after : Beside S C) (status : Status) (lines : List ℕ)
+  pub work_stages : {D S C : Type 0} (o : Known D S C) (plan : Plan) (from : Node) (counts : ℕ × ℕ) (node : Node) (before after : Beside S C) (status : Status) (lines : List ℕ)
       (ready : S) (run : Option Run) (committed : List Event) (broken : Option Event)
-      → StartTable o task from counts [] node before after status lines ready run committed broken → Stages (all_of committed broken) part → StagesBrought o task node before after
-  work_stages o task from counts node before after status lines _ _ _ _ (not_allowed why is idle ends) s = absurd s
-  work_stages o task from counts node before after status lines _ _ _ _ (waiting none is idle ends) s = absurd s
-  work_stages o task from counts node before after status lines _ _ _ _ (clock_failed allowed reads gave took rose machine link ends) s = absurd s
-  work_stages o task from counts node before after status lines _ _ _ _ (not_brought start error allowed reads brought ends) s = absurd s
-  work_stages o task from counts node before after status lines _ _ _ _ (first_refused start event error committed broken allowed reads brought refused ends) s =
+      → StartTable o plan from counts [] node before after status lines ready run committed broken → Stages (all_of committed broken) part → StagesBrought o plan node before after
+  work_stages o plan from counts node before after status lines _ _ _ _ (not_allowed why is idle ends) s = absurd s
+  work_stages o plan from counts node before after status lines _ _ _ _ (waiting none is idle ends) s = absurd s
+  work_stages o plan from counts node before after status lines _ _ _ _ (clock_failed allowed reads gave took rose machine link ends) s = absurd s
+  work_stages o plan from counts node before after status lines _ _ _ _ (not_brought start error allowed reads brought ends) s = absurd s
+  work_stages o plan from counts node before after status lines _ _ _ _ (first_refused start event error committed broken allowed reads brought refused ends) s =
       ⊎_elim (λ none. absurd none)
       (λ is. record { start = start; heard = after.link; later = stays after.link; ready = after.machine; first = Some event; brought = brought; stages = inl is })
       (refused_stages from counts [] event error committed broken refused s)
-  work_stages o task from counts node before after status lines _ _ _ _ (settled start first allowed ends reads brought answers) s =
+  work_stages o plan from counts node before after status lines _ _ _ _ (settled start first mid text allowed ends reads brought steps answers) s =
       record { start = start; heard = after.link; later = stays after.link; ready = after.machine; first = first; brought = brought; stages = s }
-  work_stages o task from counts node before after status lines _ _ _ _ (finished start readings heard ready first mid run committed broken allowed other gave took brought steps f) s =
+  work_stages o plan from counts node before after status lines _ _ _ _ (finished start readings heard ready first mid run committed broken allowed other gave took brought steps f) s =
       record {
         start = start;
         heard = heard;
@@ -149,52 +148,43 @@ module _ (part : Part) where
         stages = finish_stages o from counts (events_of first) mid _ readings _ start heard after.link ready after.machine status lines run committed broken f s;
       }
 
-nothing_adds : {S : Type 0} (packages : S → Option (List Package)) (command : Command) (task : Task) → IsTaskOf command task → (node : Node) (asked heard : LinkView) (status : Status) (before ready : S)
-    → (task ≡ Pull → IsPullRefused node status) → ready ≡ before → AddsPackages command node asked heard status (packages before) (packages ready)
-nothing_adds packages (commands.Init agent) task is_task node asked heard status before ready refused is = ap packages is
-nothing_adds packages (commands.Meta meta) task is_task node asked heard status before ready refused is = ap packages is
-nothing_adds packages (commands.Register name) task is_task node asked heard status before ready refused is = ap packages is
-nothing_adds packages commands.Pull task is_task node asked heard status before ready refused is = inl (refused is_task, ap packages is)
-nothing_adds packages (commands.Push bytes) task is_task node asked heard status before ready refused is = ap packages is
-nothing_adds packages commands.Consistency task is_task node asked heard status before ready refused is = ap packages is
-nothing_adds packages commands.Boot task is_task node asked heard status before ready refused is = ap packages is
-nothing_adds packages commands.Get task is_task node asked heard status before ready refused is = ap packages is
-nothing_adds packages commands.Restore task is_task node asked heard status before ready refused is = ap packages is
-nothing_adds packages (commands.Remove stage) task is_task node asked heard status before ready refused is = ap packages is
-nothing_adds packages commands.Reports task is_task node asked heard status before ready refused is = ap packages is
+nothing_adds : {S : Type 0} (packages : S → Option (List Package)) (command : Command) (node : Node) (asked heard : LinkView) (status : Status) (before ready : S)
+    → (command ≡ commands.Pull → IsPullRefused node status) → ready ≡ before → AddsPackages command node asked heard status (packages before) (packages ready)
+nothing_adds packages commands.Pull node asked heard status before ready refused is = inl (refused refl, ap packages is)
+nothing_adds packages _ node asked heard status before ready refused is = ap packages is
 
 ends_fault : (wanted status : Status) (text lines : List ℕ) → IsPullFault wanted → Ends wanted text status lines → IsPullFault status
 ends_fault wanted status text lines fault ends = subst IsPullFault (sym ends.0) fault
 
--- a task that is refused, or that waits, is not allowed
-not_of : (node : Node) (task : Task) (why : Why) → why_not node task ≡ Some why → IsAllowed node task → ⊥
-not_of node task why is allowed = absurd (none-some why (sym allowed.allowed ∙ is))
+-- a plan that is refused, or that waits, is not allowed
+not_of : (node : Node) (plan : Plan) (why : Why) → why_not node plan.needs ≡ Some why → IsAllowed node plan → ⊥
+not_of node plan why is allowed = absurd (none-some why (sym allowed.allowed ∙ is))
 
-not_ready : (node : Node) (task : Task) → waits node task ≡ true → IsAllowed node task → ⊥
-not_ready node task is allowed = absurd (cc (is, allowed.ready))
+not_ready : (node : Node) (plan : Plan) → waits node plan ≡ true → IsAllowed node plan → ⊥
+not_ready node plan is allowed = absurd (cc (is, allowed.ready))
 
-as_pull : (node : Node) (task : Task) → task ≡ Pull → (IsAllowed node task → ⊥) → IsAllowed node Pull → ⊥
-as_pull node task is none = subst (λ (t : Task). IsAllowed node t → ⊥) is none
+as_pull : (node : Node) (command : Command) (plan : Plan) → IsPlanOf command plan → command ≡ commands.Pull → (IsAllowed node plan → ⊥) → AllowsPull node → ⊥
+as_pull node command plan is pull none = subst (λ (p : Plan). IsAllowed node p → ⊥) (subst (λ (c : Command). IsPlanOf c plan) pull is) none
 
 -- what a start adds to a machine's packages before its run
-pub work_adds : {D S C : Type 0} (o : Known D S C) (command : Command) (task : Task) → IsTaskOf command task → (from : Node) (counts : ℕ × ℕ) (work : List Event) (node : Node)
+pub work_adds : {D S C : Type 0} (o : Known D S C) (command : Command) (plan : Plan) → IsPlanOf command plan → (from : Node) (counts : ℕ × ℕ) (work : List Event) (node : Node)
     (before after : Beside S C) (status : Status) (lines : List ℕ) (ready : S) (run : Option Run) (committed : List Event) (broken : Option Event)
-    → StartTable o task from counts work node before after status lines ready run committed broken
+    → StartTable o plan from counts work node before after status lines ready run committed broken
     → AddsPackages command node before.link after.link status (o.machine.packages before.machine) (o.machine.packages ready)
-work_adds o command task is from counts work node before after status lines _ _ _ _ (not_allowed why why_is idle ends) =
-    nothing_adds o.machine.packages command task is node before.link after.link status before.machine before.machine (λ pull. inl (as_pull node task pull (not_of node task why why_is))) refl
-work_adds o command task is from counts work node before after status lines _ _ _ _ (waiting none waits_is idle ends) =
-    nothing_adds o.machine.packages command task is node before.link after.link status before.machine before.machine (λ pull. inl (as_pull node task pull (not_ready node task waits_is))) refl
-work_adds o command task is from counts work node before after status lines _ _ _ _ (clock_failed allowed reads gave took rose machine link ends) =
-    nothing_adds o.machine.packages command task is node before.link after.link status before.machine before.machine (λ pull. inr (ends_fault statuses.ClockFault status [] lines tt ends)) refl
-work_adds o command task is from counts work node before after status lines _ _ _ _ (not_brought start error allowed reads brought ends) =
+work_adds o command plan is from counts work node before after status lines _ _ _ _ (not_allowed why why_is idle ends) =
+    nothing_adds o.machine.packages command node before.link after.link status before.machine before.machine (λ pull. inl (as_pull node command plan is pull (not_of node plan why why_is))) refl
+work_adds o command plan is from counts work node before after status lines _ _ _ _ (waiting none waits_is idle ends) =
+    nothing_adds o.machine.packages command node before.link after.link status before.machine before.machine (λ pull. inl (as_pull node command plan is pull (not_ready node plan waits_is))) refl
+work_adds o command plan is from counts work node before after status lines _ _ _ _ (clock_failed allowed reads gave took rose machine link ends) =
+    nothing_adds o.machine.packages command node before.link after.link status before.machine before.machine (λ pull. inr (ends_fault statuses.ClockFault status [] lines tt ends)) refl
+work_adds o command plan is from counts work node before after status lines _ _ _ _ (not_brought start error allowed reads brought ends) =
     command_adds o.resources o.machine node start before.link after.link after.link (stays after.link) before.machine after.machine (Err error) status
-    (λ other same. ends_fault (status_of_pull error) status [] lines (fault_error error) ends) command task is allowed brought
-work_adds o command task is from counts work node before after status lines _ _ _ _ (first_refused start event error committed broken allowed reads brought refused ends) =
-    command_adds o.resources o.machine node start before.link after.link after.link (stays after.link) before.machine after.machine (Ok (Some event)) status (λ other same. absurd (cc same)) command task is allowed brought
-work_adds o command task is from counts work node before after status lines _ _ _ _ (settled start first allowed ends reads brought answers) =
-    command_adds o.resources o.machine node start before.link after.link after.link (stays after.link) before.machine after.machine (Ok first) status (λ other same. absurd (cc same)) command task is allowed brought
-work_adds o command task is from counts work node before after status lines _ _ _ _ (finished start readings heard ready first mid run committed broken allowed other gave took brought steps f) =
+    (λ other same. ends_fault (status_of_pull error) status [] lines (fault_error error) ends) command plan is allowed brought
+work_adds o command plan is from counts work node before after status lines _ _ _ _ (first_refused start event error committed broken allowed reads brought refused ends) =
+    command_adds o.resources o.machine node start before.link after.link after.link (stays after.link) before.machine after.machine (Ok (Some event)) status (λ other same. absurd (cc same)) command plan is allowed brought
+work_adds o command plan is from counts work node before after status lines _ _ _ _ (settled start first mid text allowed ends reads brought steps answers) =
+    command_adds o.resources o.machine node start before.link after.link after.link (stays after.link) before.machine after.machine (Ok first) status (λ other same. absurd (cc same)) command plan is allowed brought
+work_adds o command plan is from counts work node before after status lines _ _ _ _ (finished start readings heard ready first mid run committed broken allowed other gave took brought steps f) =
     command_adds o.resources o.machine node start before.link heard after.link
     (finish_goes_on o from counts (work ++ events_of first) mid _ readings _ start heard after.link ready after.machine status lines run committed broken f) before.machine ready (Ok first) status
-    (λ other same. absurd (cc same)) command task is allowed brought
+    (λ other same. absurd (cc same)) command plan is allowed brought

@@ -1,5 +1,5 @@
--- What a task brings before its run: at most one event, and what was asked of the server for it.
-use Rattle.std.specs.Prelude.{◌≡◌, ℕ, List, [], ◌∷◌, Option, Some, None, Result, Ok, Err}
+-- What a command brings, before anything follows: at most one event, and what was asked of the server for it.
+use Rattle.std.specs.Prelude.{◌≡◌, Bool, cond, ℕ, List, [], ◌∷◌, Option, Some, None, Result, Ok, Err}
 use Rattle.meta_config.specs.declared.server.Server.{Server}
 use Rattle.partial_merge.specs.declared.part.Part.{Part}
 use Rattle.resource_kinds.specs.declared.machine.Machine as machines
@@ -14,11 +14,10 @@ use Rattle.node_pull.specs.Pulling.{Pulled}
 use Rattle.node_pull.specs.Registering.{Registers}
 use Rattle.dsc_outside.specs.Link.{LinkView}
 use Rattle.dsc_node.specs.declared.bringing.First.{First}
-use Rattle.dsc_node.specs.declared.command.Task.{Task}
-use Rattle.dsc_node.specs.declared.command.Task.TheVariants.{Pull, Register}
+use Rattle.dsc_node.specs.declared.plan.Bring.{Bring}
+use Rattle.dsc_node.specs.declared.plan.Bring.TheVariants as bring
 use Rattle.dsc_node.specs.declared.status.Status.{Status}
 use Rattle.dsc_node.specs.declared.status.Status.TheVariants as statuses
-use Rattle.dsc_node.specs.Commands.{given_of}
 
 -- the event that comes first
 abbrev pub event_by : Result First PullFault → Result (Option Event) PullFault
@@ -80,15 +79,23 @@ pub record IsPull {S : Type 0} (machine : machines.Ghosts S) (faults : S → ℕ
   pub pulled : Pulled machine.packages faults node.meta server agent (held_of node) asked heard before after answer
   pub is : result ≡ staged_by answer
 
--- ---- any task
+-- ---- any of them
 
--- what a task brings that leaves the machine alone
-abbrev pub Asked : Node → Task → ℕ → LinkView → LinkView → Result (Option Event) PullFault → Type 0
-Asked node (Register name) start asked heard result = IsRegistration node name start asked heard result
-Asked node Pull start asked heard result = ⊥
-Asked node task start asked heard result = (heard ≡ asked) × (result ≡ Ok (given_of node task))
+-- the event that is known without asking anybody
+pub record IsGiven {S : Type 0} (event : Option Event) (asked heard : LinkView) (before after : S) (result : Result (Option Event) PullFault) : Type 0 where
+  pub machine : after ≡ before
+  pub unasked : heard ≡ asked
+  pub is : result ≡ Ok event
 
--- what the link and the machine were before, and what they are after it; a start of the task is the clock's first reading
-abbrev pub Brought : {S : Type 0} → resources.Ghosts S → machines.Ghosts S → Node → Task → ℕ → LinkView → LinkView → S → S → Result (Option Event) PullFault → Type 0
-Brought resources machine node Pull start asked heard before after result = IsPull machine resources.faults node asked heard before after result
-Brought resources machine node task start asked heard before after result = (after ≡ before) × Asked node task start asked heard result
+-- a boot that was asked for clears the mark
+abbrev pub boot_of : Bool → Option Event
+boot_of marked = cond marked (Some events.Boot) None
+
+-- what the link and the machine were before, and what they are after it; a start that reads the clock is its first reading
+abbrev pub Brought : {S : Type 0} → resources.Ghosts S → machines.Ghosts S → Node → Bring → ℕ → LinkView → LinkView → S → S → Result (Option Event) PullFault → Type 0
+Brought resources machine node bring.Nothing start asked heard before after result = IsGiven None asked heard before after result
+Brought resources machine node (bring.Event event) start asked heard before after result = IsGiven (Some event) asked heard before after result
+Brought resources machine node (bring.Push staged document) start asked heard before after result = IsGiven (Some (events.Stage staged)) asked heard before after result
+Brought resources machine node bring.Boot start asked heard before after result = IsGiven (boot_of node.reboot) asked heard before after result
+Brought resources machine node bring.Pull start asked heard before after result = IsPull machine resources.faults node asked heard before after result
+Brought resources machine node (bring.Registration name) start asked heard before after result = (after ≡ before) × IsRegistration node name start asked heard result

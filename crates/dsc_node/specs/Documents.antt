@@ -6,14 +6,7 @@ use Rattle.node_state.specs.declared.node.Node.{Node}
 use Rattle.node_state.specs.declared.event.Event.{Event}
 use Rattle.node_state.specs.declared.event.Event.TheVariants.{Stage}
 use Rattle.node_state.specs.StagedParts.{parts_of}
-use Rattle.dsc_node.specs.declared.command.Task.{Task}
-use Rattle.dsc_node.specs.declared.command.Task.TheVariants.{Push}
 use Rattle.dsc_node.specs.Bringing.{held_of}
-
--- the document of the parts that a push brings; no other task has one
-abbrev pub IsOfTask : Task → OrderedDocument → Type 0
-IsOfTask (Push staged) document = IsDocumentOf (parts_of staged) document
-IsOfTask _ document = ⊥
 
 -- the document of the parts that a node holds, of Pending or else of Current
 abbrev pub IsOfHeld : Node → OrderedDocument → Type 0

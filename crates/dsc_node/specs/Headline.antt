@@ -28,7 +28,8 @@ use Rattle.node_state.specs.Table.{Steps}
 use Rattle.node_store.specs.Stands.{Stands}
 use Rattle.dsc_node.specs.declared.command.Command.{Command}
 use Rattle.dsc_node.specs.declared.command.Command.TheVariants.{Pull, Push}
-use Rattle.dsc_node.specs.declared.command.Task.TheVariants as tasks
+use Rattle.dsc_node.specs.declared.plan.Bring.TheVariants as bring
+use Rattle.dsc_node.specs.declared.plan.Needs.TheVariants as need
 use Rattle.dsc_node.specs.declared.status.Status.{Status}
 use Rattle.dsc_node.specs.declared.status.Status.TheVariants as statuses
 use Rattle.node_pull.specs.Contents.{WasAccepted}
@@ -36,7 +37,7 @@ use Rattle.node_pull.specs.Listing.{Listed}
 use Rattle.node_pull.specs.Packages.{AddsAccepted, HasAll, modules_of}
 use Rattle.dsc_outside.specs.Link.{GoesOn, LinkView}
 use Rattle.dsc_node.specs.Bringing.{held_of}
-use Rattle.dsc_node.specs.Commands.{IsAllowed}
+use Rattle.dsc_node.specs.Commands.{IsAllowed, runs}
 use Rattle.dsc_node.specs.Commits.{all_of}
 use Rattle.dsc_node.specs.Lines.{IsRunText}
 use Rattle.dsc_node.specs.Path.{IsOnTheWay, Passes}
@@ -111,14 +112,18 @@ IsPullFault (statuses.PeerRefused fault) = ⊤
 IsPullFault statuses.Memory = ⊤
 IsPullFault _ = ⊥
 
+-- the node allows a pull
+abbrev pub AllowsPull : Node → Type 0
+AllowsPull node = IsAllowed node (runs need.Pull bring.Pull)
+
 -- the node did not allow the pull, or it ended so
 abbrev pub IsPullRefused : Node → Status → Type 0
-IsPullRefused node status = (IsAllowed node tasks.Pull → ⊥) ⊎ IsPullFault status
+IsPullRefused node status = (AllowsPull node → ⊥) ⊎ IsPullFault status
 
 -- The node's server listed these parts, which fit its meta-configuration, and then for the modules that their document names it gave the
 -- packages that the machine lacked. Unless the pull failed, the machine then has the package of each of these modules.
 pub record PulledPackages (node : Node) (asked heard : LinkView) (status : Status) (before ready : Option (List Package)) : Type 0 where
-  pub allowed : IsAllowed node tasks.Pull
+  pub allowed : AllowsPull node
   pub server : Server
   pub is_server : node.meta.server ≡ Some server
   pub agent : ℕ

@@ -21,4 +21,5 @@ pub mod Status
 pub mod Work
 -- for private clauses alone
 pub mod Documents
+pub mod Plans
 pub mod Running

@@ -1,5 +1,5 @@
 -- How far a start has come, and what a crash at any moment of it leaves. Nothing here is about bytes.
-use Rattle.std.specs.Prelude.{◌≡◌, ◌≢◌, ◌⊎◌, ℕ, ◌≤◌, true, List, [], ◌∷◌, ◌++◌, Option, Some, None, IfSome, Result, Ok, Err, codes}
+use Rattle.std.specs.Prelude.{◌≡◌, ◌≢◌, ◌⊎◌, ℕ, ◌≤◌, List, [], ◌∷◌, ◌++◌, Option, Some, None, IfSome, Result, Ok, Err, codes}
 use Rattle.dsc_outside.specs.declared.disk.Disk.{Ghosts}
 use Rattle.gate_log.specs.Standing.{AllStand, Any, StandsAtAnyMoment, StoodFor}
 use Rattle.node_state.specs.declared.node.Node.{Node}
@@ -10,20 +10,19 @@ use Rattle.node_store.specs.Stands.{Stands}
 use Rattle.node_store.specs.declared.error.StoreError.TheVariants as errors
 use Rattle.node_store.specs.Store.{StoreTerm}
 use Rattle.resource_kinds.specs.declared.entry.Entry.{Entry}
-use Rattle.node_pull.specs.declared.error.PullFault.{PullFault}
 use Rattle.dsc_outside.specs.Link.{LinkView}
 use Rattle.dsc_node.specs.declared.status.Status.{Status}
 use Rattle.dsc_node.specs.declared.status.Status.TheVariants as statuses
-use Rattle.dsc_node.specs.declared.command.Task.{Task}
+use Rattle.dsc_node.specs.declared.plan.Plan.{Plan}
 use Rattle.dsc_node.specs.declared.running.Over.{Over}
 use Rattle.dsc_node.specs.Lines.{overlap_line, run_lines}
 use Rattle.dsc_node.specs.Runs.{Run, end_line, event_of, status_after}
-use Rattle.dsc_node.specs.Bringing.{Asked, events_of, status_of_pull}
-use Rattle.dsc_node.specs.Commands.{IsAllowed, is_run}
+use Rattle.dsc_node.specs.Bringing.{events_of}
+use Rattle.dsc_node.specs.Commands.{IsAllowed}
 use Rattle.dsc_node.specs.Commits.{RefusedAfter, all_of}
-use Rattle.dsc_node.specs.Endings.{Answers, Ends, status_of}
+use Rattle.dsc_node.specs.Endings.{Answers, status_of}
 use Rattle.dsc_node.specs.Sending.{EndsAfterSending, Sends, Tried}
-use Rattle.dsc_node.specs.Work.{Beside, Known, LeavesEntries, ReadsBefore, StartTable, settled_text}
+use Rattle.dsc_node.specs.Work.{Beside, Known, LeavesEntries, ReadsBefore, StartTable}
 
 -- the node after a prefix of this work
 pub record AfterPrefix (from : Node) (work : List Event) (node : Node) : Type 0 where
@@ -84,21 +83,6 @@ FirstGoes d old now before first (Ok v) after = Carries d old now before after (
 FirstGoes d old now before first (Err error) after =
     EndsStart d old now before (λ from counts work committed broken. (event : Event) × (first ≡ Some event) × RefusedAfter from counts work event error committed broken)
 
--- What a task that runs nothing brought was committed, and this text is printed; or its event was refused; or nothing was brought.
-abbrev pub SettlesBy : {D : Type 0} → Ghosts D → D → D → StoreTerm → Result (Option Event) PullFault → List ℕ → Status → List ℕ → Type 0
-SettlesBy d old now before (Err error) text status lines =
-    EndsStart d old now before (λ from counts work committed broken. (committed ≡ work) × (broken ≡ None)) × Ends (status_of_pull error) [] status lines
-SettlesBy d old now before (Ok first) text status lines =
-    (EndsStart d old now before (λ from counts work committed broken. (committed ≡ work ++ events_of first) × (broken ≡ None)) × Answers statuses.Done text status lines)
-    ⊎ ((error : StoreError) × Ends (status_of error) [] status lines
-    × EndsStart d old now before (λ from counts work committed broken. (event : Event) × (first ≡ Some event) × RefusedAfter from counts work event error committed broken))
-
--- so did a task
-pub record SettleGoes {D : Type 0} (d : Ghosts D) (old now : D) (before : StoreTerm) (task : Task) (start : ℕ) (asked heard : LinkView) (status : Status) (lines : List ℕ) : Type 0 where
-  pub first : Result (Option Event) PullFault
-  pub brought : Asked before.node task start asked heard first
-  pub settles : SettlesBy d old now before first (settled_text task before.node) status lines
-
 -- the reports of the store's node were sent
 abbrev pub SendsOn : {D : Type 0} → Ghosts D → D → D → StoreTerm → LinkView → LinkView → Result (List Tried) StoreError → Type 0
 SendsOn d old now before asked heard tried = EndsStart d old now before (λ from counts work committed broken. Sends from counts work before.node asked heard tried committed broken)
@@ -150,18 +134,18 @@ NothingGoes d old now before asked heard status lines = EndsStart d old now befo
     IsNothingSo from counts work before.node asked heard status lines committed broken)
 
 -- a start of an opened store, on this machine before its run
-pub record OpenedGoes {D S C : Type 0} (o : Known D S C) (task : Task) (old now : D) (store : StoreTerm) (before after : Beside S C) (status : Status) (lines : List ℕ) : Type 0 where
+pub record OpenedGoes {D S C : Type 0} (o : Known D S C) (plan : Plan) (old now : D) (store : StoreTerm) (before after : Beside S C) (status : Status) (lines : List ℕ) : Type 0 where
   pub ready : S
   pub run : Option Run
   pub leaves : LeavesEntries o before.machine ready
   pub ends : EndsStart o.disk old now store (λ from counts work committed broken.
-      StartTable o task from counts work store.node before after status lines ready run committed broken)
+      StartTable o plan from counts work store.node before after status lines ready run committed broken)
 
--- of a task that comes to a run, after the clock was read
-pub record RunGoes {D S C : Type 0} (o : Known D S C) (task : Task) (start : ℕ) (old now : D) (store : StoreTerm) (before after : Beside S C) (status : Status) (lines : List ℕ) : Type 0 where
+-- of a plan that the node allows, after the clock was read where the plan reads it
+pub record AllowedGoes {D S C : Type 0} (o : Known D S C) (plan : Plan) (start : ℕ) (old now : D) (store : StoreTerm) (before after : Beside S C) (status : Status) (lines : List ℕ) : Type 0 where
   pub ready : S
   pub run : Option Run
   pub leaves : LeavesEntries o before.machine ready
   pub ends : EndsStart o.disk old now store (λ from counts work committed broken.
-      (unread : C) → IsAllowed store.node task → is_run task ≡ true → ReadsBefore o.clock true start unread before.clock
-      → StartTable o task from counts work store.node (record before { clock = unread }) after status lines ready run committed broken)
+      (unread : C) → IsAllowed store.node plan → ReadsBefore o.clock plan.reads_clock start unread before.clock
+      → StartTable o plan from counts work store.node (record before { clock = unread }) after status lines ready run committed broken)

@@ -1,4 +1,4 @@
--- What `get` and `reports` print of a node.
+-- What is printed of a node: by `get`, by `reports`, and where all is done.
 use Rattle.std.specs.Prelude.{ℕ, Bool, true, false, List, [], ◌++◌, Option, Some, None, codes, encode_utf8_all}
 use Rattle.std.specs.List.{flat_map}
 use Rattle.std.specs.Fmt.{decimal}
@@ -15,6 +15,8 @@ use Rattle.report_log.specs.declared.report.Outcome.{Outcome}
 use Rattle.report_log.specs.declared.report.Outcome.TheVariants.{Success, Failure, Reboot}
 use Rattle.node_state.specs.declared.node.Kept.{Kept}
 use Rattle.node_state.specs.declared.node.Node.{Node}
+use Rattle.dsc_node.specs.declared.plan.Printed.{Printed}
+use Rattle.dsc_node.specs.declared.plan.Printed.TheVariants as printed
 use Rattle.dsc_node.specs.Quoted.{quoted}
 
 abbrev pub yes_no : Bool → List ℕ
@@ -97,3 +99,10 @@ report_line kept = line (codes "report") (report_words kept)
 -- the oldest first
 abbrev pub reports_text : Node → List ℕ
 reports_text node = flat_map report_line node.reports
+
+-- ---- what is printed where nothing is run
+
+abbrev pub printed_text : Printed → Node → List ℕ
+printed_text printed.Done node = codes "ok\n"
+printed_text printed.Node node = node_text node
+printed_text printed.Reports node = reports_text node

@@ -31,7 +31,7 @@ pub record OneStart {D S C : Type 0} (o : Known D S C) : Type 0 where
 abbrev pub MayLeave : {D S C : Type 0} (o : Known D S C) (command : Command) (before after : Outside D S C) (status : Status) (lines : List ℕ)
     → Start o command before after status lines → Node → Type 0
 MayLeave o command before after status lines (refused error unmerged same ends) = StoodFor o.disk before.disk Stands
-MayLeave o command before after status lines (unopened task error is count cause quiet moments ends) = StoodFor o.disk before.disk Stands
+MayLeave o command before after status lines (unopened plan error is count cause quiet moments ends) = StoodFor o.disk before.disk Stands
 MayLeave o command before after status lines (opened start) = IsOnTheWay o.disk before.disk start.from (all_of start.ended.committed start.ended.broken)
 
 -- one for which an image stood at its begin, or, where the store was opened, the one after what was committed, or, where a commit answered
@@ -39,7 +39,7 @@ MayLeave o command before after status lines (opened start) = IsOnTheWay o.disk 
 abbrev pub Leaves : {D S C : Type 0} (o : Known D S C) (command : Command) (before after : Outside D S C) (status : Status) (lines : List ℕ)
     → Start o command before after status lines → Node → Type 0
 Leaves o command before after status lines (refused error unmerged same ends) = StoodFor o.disk before.disk Stands
-Leaves o command before after status lines (unopened task error is count cause quiet moments ends) = StoodFor o.disk before.disk Stands
+Leaves o command before after status lines (unopened plan error is count cause quiet moments ends) = StoodFor o.disk before.disk Stands
 Leaves o command before after status lines (opened start) =
     λ node. Steps start.from start.ended.committed node ⊎ Steps start.from (all_of start.ended.committed start.ended.broken) node
 

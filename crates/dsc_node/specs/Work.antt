@@ -14,19 +14,20 @@ use Rattle.node_store.specs.declared.error.StoreError.{StoreError}
 use Rattle.node_store.specs.declared.error.StoreError.TheVariants as errors
 use Rattle.node_pull.specs.declared.error.PullFault.{PullFault}
 use Rattle.dsc_outside.specs.Link.{LinkView}
-use Rattle.dsc_node.specs.declared.command.Task.{Task}
-use Rattle.dsc_node.specs.declared.command.Task.TheVariants.{Init, Meta, Register, Pull, Push, Consistency, Boot, Get, Restore, Remove, Reports}
+use Rattle.dsc_node.specs.declared.plan.Follows.TheVariants as follows
+use Rattle.dsc_node.specs.declared.plan.Plan.{Plan}
+use Rattle.dsc_node.specs.declared.plan.Printed.{Printed}
 use Rattle.dsc_node.specs.declared.status.Status.{Status}
 use Rattle.dsc_node.specs.declared.status.Status.TheVariants as statuses
 use Rattle.dsc_node.specs.Bringing.{Brought, events_of, status_of_pull}
-use Rattle.dsc_node.specs.Commands.{IsAllowed, is_run, reads_clock, stops, waits, why_not}
+use Rattle.dsc_node.specs.Commands.{IsAllowed, stops, waits, why_not}
 use Rattle.dsc_node.specs.Commits.{RefusedAfter}
 use Rattle.dsc_node.specs.Endings.{Answers, Ends, status_of}
 use Rattle.dsc_node.specs.Lines.{IsRunText}
 use Rattle.dsc_node.specs.Readings.{Gave, Took}
 use Rattle.dsc_node.specs.Runs.{Reported, Run, Unended, chosen_of, end_line, event_of, status_after}
 use Rattle.dsc_node.specs.Sending.{EndsAfterSending, Sends, Tried}
-use Rattle.dsc_node.specs.Shown.{node_text, reports_text}
+use Rattle.dsc_node.specs.Shown.{printed_text}
 
 -- ---- what a start works with
 
@@ -49,7 +50,7 @@ pub record Beside (S C : Type 0) : Type 0 where
 abbrev pub beside : {S C : Type 0} → S → LinkView → C → Beside S C
 beside machine link clock = record { machine = machine; link = link; clock = clock }
 
--- what brings a task's event leaves the machine's entries as they were, and all but its packages
+-- what brings the first event leaves the machine's entries as they were, and all but its packages
 pub record LeavesEntries {D S C : Type 0} (o : Known D S C) (before ready : S) : Type 0 where
   pub trace : o.resources.trace ready ≡ o.resources.trace before
   pub packages : o.machine.packages_changed before ready
@@ -88,52 +89,41 @@ pub data Finish {D S C : Type 0} (o : Known D S C) (from : Node) (counts : ℕ �
 
 -- ---- the table
 
--- a task that reads the clock reads it once before its first event, and the reading is the start
+-- a plan that reads the clock reads it once before its first event, and the reading is the start
 abbrev pub ReadsBefore : {C : Type 0} → clocks.Ghosts C → Bool → ℕ → C → C → Type 0
 ReadsBefore clock false start first last = last ≡ first
 ReadsBefore clock true start first last = Gave (clock.coming first) (Some start) × Took 1 (clock.coming first) (clock.coming last)
 
--- what a task prints that runs nothing: what the node is and holds, its reports, or that all is done
-abbrev pub settled_text : Task → Node → List ℕ
-settled_text (Init agent) node = codes "ok\n"
-settled_text (Meta meta) node = codes "ok\n"
-settled_text (Register name) node = codes "ok\n"
-settled_text Pull node = []
-settled_text (Push staged) node = []
-settled_text Consistency node = []
-settled_text Boot node = []
-settled_text Get node = node_text node
-settled_text Restore node = []
-settled_text (Remove stage) node = codes "ok\n"
-settled_text Reports node = reports_text node
-
 -- A start, after this work (none), which led to this node; the machine is this one before the run.
-pub data StartTable {D S C : Type 0} (o : Known D S C) (task : Task) (from : Node) (counts : ℕ × ℕ) (work : List Event) (node : Node)
+pub data StartTable {D S C : Type 0} (o : Known D S C) (plan : Plan) (from : Node) (counts : ℕ × ℕ) (work : List Event) (node : Node)
     (before after : Beside S C) (status : Status) (lines : List ℕ) : S → Option Run → List Event → Option Event → Type 0 where
-  not_allowed : (why : Why) → why_not node task ≡ Some why → after ≡ before → Ends (statuses.NotAllowed why) [] status lines
-      → StartTable o task from counts work node before after status lines before.machine None work None
-  waiting : why_not node task ≡ None → waits node task ≡ true → after ≡ before → Ends statuses.RebootWaiting [] status lines
-      → StartTable o task from counts work node before after status lines before.machine None work None
-  clock_failed : IsAllowed node task → reads_clock task ≡ true
+  not_allowed : (why : Why) → why_not node plan.needs ≡ Some why → after ≡ before → Ends (statuses.NotAllowed why) [] status lines
+      → StartTable o plan from counts work node before after status lines before.machine None work None
+  waiting : why_not node plan.needs ≡ None → waits node plan ≡ true → after ≡ before → Ends statuses.RebootWaiting [] status lines
+      → StartTable o plan from counts work node before after status lines before.machine None work None
+  clock_failed : IsAllowed node plan → plan.reads_clock ≡ true
       → Gave (o.clock.coming before.clock) None → Took 1 (o.clock.coming before.clock) (o.clock.coming after.clock) → Rose (o.clock.faults before.clock) (o.clock.faults after.clock)
       → after.machine ≡ before.machine → after.link ≡ before.link → Ends statuses.ClockFault [] status lines
-      → StartTable o task from counts work node before after status lines before.machine None work None
-  -- the server did not give what the task asked it for
-  not_brought : (start : ℕ) (error : PullFault) → IsAllowed node task → ReadsBefore o.clock (reads_clock task) start before.clock after.clock
-      → Brought o.resources o.machine node task start before.link after.link before.machine after.machine (Err error) → Ends (status_of_pull error) [] status lines
-      → StartTable o task from counts work node before after status lines after.machine None work None
-  -- the event that it brings was refused
+      → StartTable o plan from counts work node before after status lines before.machine None work None
+  -- the server did not give what it was asked for
+  not_brought : (start : ℕ) (error : PullFault) → IsAllowed node plan → ReadsBefore o.clock plan.reads_clock start before.clock after.clock
+      → Brought o.resources o.machine node plan.brings start before.link after.link before.machine after.machine (Err error) → Ends (status_of_pull error) [] status lines
+      → StartTable o plan from counts work node before after status lines after.machine None work None
+  -- the event that was brought was refused
   first_refused : (start : ℕ) (event : Event) (error : StoreError) (committed : List Event) (broken : Option Event)
-      → IsAllowed node task → ReadsBefore o.clock (reads_clock task) start before.clock after.clock
-      → Brought o.resources o.machine node task start before.link after.link before.machine after.machine (Ok (Some event))
+      → IsAllowed node plan → ReadsBefore o.clock plan.reads_clock start before.clock after.clock
+      → Brought o.resources o.machine node plan.brings start before.link after.link before.machine after.machine (Ok (Some event))
       → RefusedAfter from counts work event error committed broken → Ends (status_of error) [] status lines
-      → StartTable o task from counts work node before after status lines after.machine None committed broken
-  settled : (start : ℕ) (first : Option Event) → IsAllowed node task → is_run task ≡ false → ReadsBefore o.clock (reads_clock task) start before.clock after.clock
-      → Brought o.resources o.machine node task start before.link after.link before.machine after.machine (Ok first)
-      → Answers statuses.Done (settled_text task node) status lines
-      → StartTable o task from counts work node before after status lines after.machine None (work ++ events_of first) None
+      → StartTable o plan from counts work node before after status lines after.machine None committed broken
+  -- a text of the node after that event
+  settled : (start : ℕ) (first : Option Event) (mid : Node) (text : Printed) → IsAllowed node plan → plan.follows ≡ follows.Text text
+      → ReadsBefore o.clock plan.reads_clock start before.clock after.clock
+      → Brought o.resources o.machine node plan.brings start before.link after.link before.machine after.machine (Ok first) → Steps node (events_of first) mid
+      → Answers statuses.Done (printed_text text mid) status lines
+      → StartTable o plan from counts work node before after status lines after.machine None (work ++ events_of first) None
+  -- a run, if there was something to run
   finished : (start : ℕ) (readings : Option (List (Option ℕ))) (heard : LinkView) (ready : S) (first : Option Event) (mid : Node) (run : Option Run) (committed : List Event) (broken : Option Event)
-      → IsAllowed node task → is_run task ≡ true → Gave (o.clock.coming before.clock) (Some start) → Took 1 (o.clock.coming before.clock) readings
-      → Brought o.resources o.machine node task start before.link heard before.machine ready (Ok first) → Steps node (events_of first) mid
-      → Finish o from counts (work ++ events_of first) mid (stops node task) readings (o.clock.coming after.clock) start heard after.link ready after.machine status lines run committed broken
-      → StartTable o task from counts work node before after status lines ready run committed broken
+      → IsAllowed node plan → plan.follows ≡ follows.Run → Gave (o.clock.coming before.clock) (Some start) → Took 1 (o.clock.coming before.clock) readings
+      → Brought o.resources o.machine node plan.brings start before.link heard before.machine ready (Ok first) → Steps node (events_of first) mid
+      → Finish o from counts (work ++ events_of first) mid (stops node plan) readings (o.clock.coming after.clock) start heard after.link ready after.machine status lines run committed broken
+      → StartTable o plan from counts work node before after status lines ready run committed broken

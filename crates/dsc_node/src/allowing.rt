@@ -1,34 +1,34 @@
-//! Where a task is allowed.
+//! Where a plan is allowed, and where it waits or stops.
 ghost use Rattle.std.specs.Prelude.{◌≡◌};
 ghost use Rattle.node_state.specs.Table.{check};
-ghost use Rattle.dsc_node.specs.Commands.{declares_partials, has_names, has_source, is_disabled, is_one, is_pull, is_run, reads_clock, stops, waits, why_no_agent, why_no_pull, why_no_run, why_not};
+ghost use Rattle.dsc_node.specs.Commands.{declares_partials, has_names, has_source, is_disabled, is_one, is_pull, is_stop, stops, waits, why_no_agent, why_no_pull, why_no_run, why_not};
 
-use crate::command::Task;
+use crate::plan::{Needs, Plan};
 use meta_config::{AfterReboot, RefreshMode};
 use mof_values::Text;
 use node_state::{Node, Why};
 
-/// Why the node does not allow the task, where it does not: the first condition that fails.
-pub(crate) fn why_not(node: &Node, task: &Task) -> Option<Why>
-    ensures { result ≡ why_not node.now task.now }
+/// Why the node does not have what is needed, where it does not: the first condition that fails.
+pub(crate) fn why_not(node: &Node, needs: Needs) -> Option<Why>
+    ensures { result ≡ why_not node.now needs }
 {
-    match task {
-        Task::Init(_) => check(node.agent.is_none(), Why::HasAgent, None),
-        Task::Meta(_) | Task::Get | Task::Remove(_) | Task::Reports => why_no_agent(node, None),
-        Task::Register(_) => {
+    match needs {
+        Needs::NoAgent => check(node.agent.is_none(), Why::HasAgent, None),
+        Needs::Agent => why_no_agent(node, None),
+        Needs::Server => {
             let served = node.meta.server.is_some();
             why_no_agent(node, check(served, Why::NoServer, None))
         }
-        Task::Pull => why_no_run(node, why_no_pull(node)),
-        Task::Push(_) => {
+        Needs::Run => why_no_run(node, None),
+        Needs::NoPartials => {
             let whole = !declares_partials(node);
             why_no_run(node, check(whole, Why::PartsDeclared, None))
         }
-        Task::Restore => {
+        Needs::Pull => why_no_run(node, why_no_pull(node)),
+        Needs::Previous => {
             let kept = node.previous.is_some();
             why_no_run(node, check(kept, Why::NoPrevious, None))
         }
-        Task::Consistency | Task::Boot => why_no_run(node, None),
     }
 }
 
@@ -106,65 +106,25 @@ fn declares_partials(node: &Node) -> bool
     !node.meta.partials.as_slice().is_empty()
 }
 
-/// Returns whether the task waits for a reboot that was asked for.
-pub(crate) fn waits(node: &Node, task: &Task) -> bool
-    ensures { result ≡ waits node.now task.now }
+/// Returns whether the plan waits for a reboot that was asked for.
+pub(crate) fn waits(node: &Node, plan: &Plan) -> bool
+    ensures { result ≡ waits node.now plan.now }
 {
-    match task {
-        Task::Pull | Task::Push(_) | Task::Consistency | Task::Restore => node.reboot,
-        Task::Init(_)
-        | Task::Meta(_)
-        | Task::Register(_)
-        | Task::Boot
-        | Task::Get
-        | Task::Remove(_)
-        | Task::Reports => false,
-    }
+    plan.waits && node.reboot
 }
 
-/// Returns whether the task comes to a run, if there is something to run.
-pub(crate) fn is_run(task: &Task) -> bool
-    ensures { result ≡ is_run task.now }
+/// Returns whether the plan stops: a boot that was asked for, after which the node is to stop.
+pub(crate) fn stops(node: &Node, plan: &Plan) -> bool
+    ensures { result ≡ stops node.now plan.now }
 {
-    match task {
-        Task::Pull | Task::Push(_) | Task::Consistency | Task::Boot | Task::Restore => true,
-        Task::Init(_)
-        | Task::Meta(_)
-        | Task::Register(_)
-        | Task::Get
-        | Task::Remove(_)
-        | Task::Reports => false,
-    }
+    plan.stops && is_stop(node.meta.after, node.reboot)
 }
 
-/// Returns whether the task reads the clock.
-pub(crate) fn reads_clock(task: &Task) -> bool
-    ensures { result ≡ reads_clock task.now }
+fn is_stop(after: AfterReboot, marked: bool) -> bool
+    ensures { result ≡ is_stop after marked }
 {
-    match task {
-        Task::Register(_) => true,
-        _ => is_run(task),
-    }
-}
-
-/// Returns whether the task ends without a run: a boot that was asked for, after which the node is to stop.
-pub(crate) fn stops(node: &Node, task: &Task) -> bool
-    ensures { result ≡ stops node.now task.now }
-{
-    match task {
-        Task::Boot => match node.meta.after {
-            AfterReboot::ContinueConfiguration => false,
-            AfterReboot::StopConfiguration => node.reboot,
-        },
-        Task::Init(_)
-        | Task::Meta(_)
-        | Task::Register(_)
-        | Task::Pull
-        | Task::Push(_)
-        | Task::Consistency
-        | Task::Get
-        | Task::Restore
-        | Task::Remove(_)
-        | Task::Reports => false,
+    match after {
+        AfterReboot::ContinueConfiguration => false,
+        AfterReboot::StopConfiguration => marked,
     }
 }

@@ -6,11 +6,15 @@ ghost use Rattle.dsc_node.specs.Lines.{overlap_line, run_lines};
 ghost use Rattle.dsc_node.specs.Runs.{end_line, status_after};
 ghost use Rattle.dsc_node.specs.Endings.{Answers, Ends, status_of, status_of_input};
 ghost use Rattle.dsc_node.specs.Sending.{EndsAfterSending};
+ghost use Rattle.dsc_node.specs.Shown.{printed_text};
 
 use crate::lines::lines_of;
+use crate::plan::Printed;
+use crate::showing::{node_text, reports_text};
 use crate::status::{InputError, Status};
 use dsc_document::Document;
 use lcm_core::{RunEnd, count_succeeded};
+use node_state::Node;
 use node_store::StoreError;
 use partial_merge::MergeError;
 use resource_kinds::Entry;
@@ -81,6 +85,18 @@ fn joined(alloc: Global, first: &str, second: &str) -> Result<String, AllocError
     let mut text = String::from_str(alloc, first)?;
     text.push_str(second)?;
     Ok(text)
+}
+
+/// The end of a start that runs nothing: this text of the node.
+pub(crate) fn without_run(alloc: Global, text: Printed, node: &Node) -> StartEnd
+    ensures { Answers Status.Done (printed_text text node.now) result.status
+        (string_bytes result.lines) }
+{
+    match text {
+        Printed::Done => StartEnd::printing(alloc, Status::Done, "ok\n"),
+        Printed::Node => StartEnd::showing(alloc, node_text(alloc, node)),
+        Printed::Reports => StartEnd::showing(alloc, reports_text(alloc, node)),
+    }
 }
 
 /// The end of a start that ran: the run's lines, and these texts after them.

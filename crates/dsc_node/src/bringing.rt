@@ -1,23 +1,26 @@
-//! What a task brings before its run.
-ghost use Rattle.std.specs.Prelude.{◌≡◌, ◌≤◌, ℕ, true, None, IfOk, IfSome, option_map};
+//! What a command brings, before anything follows.
+ghost use Rattle.std.specs.Prelude.{◌≡◌, ◌≤◌, None, IfOk, IfSome, option_map};
 ghost use Rattle.node_state.specs.Sound.{Sound};
+ghost use Rattle.dsc_outside.specs.Clock.{last_moment};
 ghost use Rattle.dsc_outside.specs.LinkView.{view_of};
-ghost use Rattle.dsc_node.specs.Bringing.{Brought, IsPull, event_by, held_of, status_of_pull};
-ghost use Rattle.dsc_node.specs.Commands.{boot_of, is_run, why_not};
-ghost use Rattle.dsc_node.specs.Documents.{IsOfHeldAfter, IsOfTask};
+ghost use Rattle.dsc_node.specs.Bringing.{Brought, IsPull, IsRegistration, boot_of, event_by, held_of, registered_by, status_of_pull};
+ghost use Rattle.dsc_node.specs.Commands.{why_not};
+ghost use Rattle.dsc_node.specs.Documents.{IsOfHeldAfter};
+ghost use Rattle.dsc_node.specs.Plans.{CanBring};
 ghost use Rattle.node_state.specs.Table.{IsWithin};
 
-use crate::command::{Prepared, Task};
+use crate::plan::{Bring, Needs};
 use crate::status::Status;
 use depend_order::OrderedDocument;
 use dsc_outside::Link;
-use node_pull::{PullFault, PullOutcome, pull};
+use mof_values::Text;
+use node_pull::{PullFault, PullOutcome, pull, register_node};
 use node_state::{Event, Node, Staged};
 use partial_merge::Part;
 use resource_kinds::Machine;
 use std::alloc::Global;
 
-/// What a task brings before its run.
+/// What was brought.
 #[derive(Debug, Drop)]
 pub(crate) struct First {
     /// The event that comes first, if one does.
@@ -60,22 +63,21 @@ fn staging_event(list: Option<Staged>) -> Option<Event>
     }
 }
 
-/// The event that the task brings, if it brings one: what was pushed or pulled is staged. Only a pull asks the server, and adds packages to
-/// the machine.
+/// Brings it: an event, if it comes to one, and the document of what is staged, where it is known. Only a pull and a registration ask the
+/// server, and only a pull adds packages to the machine.
 pub(crate) fn bring<L: Link, M: Machine>(
     alloc: Global,
-    prepared: Prepared,
+    brings: Bring,
+    start: u64,
     node: &Node,
     link: &mut L,
     machine: &mut M,
 ) -> Result<First, PullFault>
     requires sound { Sound node.now }
-    requires allowed { why_not node.now prepared.task ≡ None }
-    requires runs { is_run prepared.task ≡ true }
-    requires document { IfSome prepared.document (IsOfTask prepared.task) }
-    ensures brought { (start : ℕ) → Brought M.Resources M.Machine.own node.now prepared.task start
-        (view_of L.Link link.old) (view_of L.Link link.new) machine.old machine.new
-        (event_by result) }
+    requires fits { CanBring node.now brings }
+    requires moment { start ≤ last_moment }
+    ensures brought { Brought M.Resources M.Machine.own node.now brings start (view_of L.Link link.old)
+        (view_of L.Link link.new) machine.old machine.new (event_by result) }
     ensures becomes { L.may_become link.old link.new }
     ensures within { IfOk result (λ first. IfSome first.event IsWithin) }
     ensures document { IfOk result (λ first.
@@ -84,22 +86,19 @@ pub(crate) fn bring<L: Link, M: Machine>(
     ensures packages { M.packages_changed machine.old machine.new }
     ensures later { M.faults machine.old ≤ M.faults machine.new }
 {
-    let Prepared { task, document } = prepared;
-    match task {
-        Task::Push(staged) => Ok(First {
+    match brings {
+        Bring::Nothing => Ok(First::plain(None)),
+        Bring::Event(event) => Ok(First::plain(Some(event))),
+        Bring::Push { staged, document } => Ok(First {
             event: Some(Event::Stage(staged)),
-            document,
+            document: Some(document),
         }),
-        Task::Restore => Ok(First::plain(Some(Event::Restore))),
-        Task::Consistency => Ok(First::plain(None)),
-        Task::Boot => Ok(First::plain(boot_event(node.reboot))),
-        Task::Pull => pulled(alloc, node, link, machine),
-        Task::Init(_)
-        | Task::Meta(_)
-        | Task::Register(_)
-        | Task::Get
-        | Task::Remove(_)
-        | Task::Reports => unreachable!(),
+        Bring::Boot => Ok(First::plain(boot_event(node.reboot))),
+        Bring::Pull => pulled(alloc, node, link, machine),
+        Bring::Registration(name) => match registered(alloc, &name, start, node, link) {
+            Ok(()) => Ok(First::plain(Some(Event::Registered))),
+            Err(error) => Err(error),
+        },
     }
 }
 
@@ -116,7 +115,7 @@ fn pulled<L: Link, M: Machine>(
     machine: &mut M,
 ) -> Result<First, PullFault>
     requires sound { Sound node.now }
-    requires allowed { why_not node.now Task.Pull ≡ None }
+    requires allowed { why_not node.now Needs.Pull ≡ None }
     ensures brought { IsPull M.Machine.own M.Resources.faults node.now (view_of L.Link link.old)
         (view_of L.Link link.new) machine.old machine.new (event_by result) }
     ensures becomes { L.may_become link.old link.new }
@@ -135,6 +134,26 @@ fn pulled<L: Link, M: Machine>(
         Ok(brought) => Ok(First::pulled(brought)),
         Err(error) => Err(error),
     }
+}
+
+// Registers the node's agent at its server.
+fn registered<L: Link>(
+    alloc: Global,
+    name: &Text,
+    start: u64,
+    node: &Node,
+    link: &mut L,
+) -> Result<(), PullFault>
+    requires allowed { why_not node.now Needs.Server ≡ None }
+    requires moment { start ≤ last_moment }
+    ensures registers { IsRegistration node.now name.now start (view_of L.Link link.old)
+        (view_of L.Link link.new) (registered_by result) }
+    ensures becomes { L.may_become link.old link.new }
+{
+    let (Some(server), Some(agent)) = (&node.meta.server, node.agent) else {
+        unreachable!()
+    };
+    register_node(alloc, link, &node.meta, server, agent, name, start)
 }
 
 // The parts that the node holds.

@@ -1,10 +1,7 @@
-//! What a node is asked to do, and the command with its merged document.
-ghost use Rattle.std.specs.Prelude.{◌≡◌, None};
-
+//! What a node is asked to do.
 use meta_config::Meta;
 use mof_values::{Bytes, Text};
-use node_state::{Stage, Staged};
-use partial_merge::OrderedDocument;
+use node_state::Stage;
 
 /// What a node is asked to do.
 #[derive(Debug, Drop)]
@@ -41,39 +38,4 @@ pub enum Command {
 
     /// Print the reports that are kept, the oldest first.
     Reports,
-}
-
-/// A command whose document, where it has one, is merged.
-#[derive(Debug, Drop)]
-pub(crate) enum Task {
-    Init(u128),
-    Meta(Meta),
-    Register(Text),
-    Pull,
-    Push(Staged),
-    Consistency,
-    Boot,
-    Get,
-    Restore,
-    Remove(Stage),
-    Reports,
-}
-
-/// A task, and for a push the document that its parts are merged to.
-#[derive(Debug, Drop)]
-pub(crate) struct Prepared {
-    pub(crate) task: Task,
-    pub(crate) document: Option<OrderedDocument>,
-}
-
-impl Prepared {
-    /// A task that has no document, or whose document is not known yet.
-    pub(crate) fn plain(task: Task) -> Prepared
-        ensures { result ≡ record { task = task; document = None } }
-    {
-        Prepared {
-            task,
-            document: None,
-        }
-    }
 }

@@ -8,7 +8,7 @@ use dsc_outside::Disk;
 use node_state::Event;
 use node_store::{NodeStore, StoreError};
 
-/// Commits the event that a task brings, if it brings one.
+/// Commits the event that was brought, if one was.
 pub(crate) fn commit_first<D: Disk>(
     event: Option<Event>,
     store: &mut NodeStore,

@@ -10,8 +10,10 @@
 //! Where a thing is:
 //! - the table of a start, what it asks the server for, commits, runs, sends, prints and answers: `specs/Work.antt`;
 //!   the steps in their order `src/starting.rt`
-//! - where a command is allowed: `specs/Commands.antt`, `src/allowing.rt`
-//! - what a command brings before its run; a registration: `specs/Bringing.antt`, `src/bringing.rt`; `src/settling.rt`
+//! - what a command asks of a start, its plan: the table of commands `specs/Commands.antt`, `src/preparing.rt`; what a
+//!   plan says `src/plan.rt`; what holds of each `proofs/Plans.antt`
+//! - where a plan is allowed, waits and stops: `specs/Commands.antt`, `src/allowing.rt`
+//! - what a command brings first, as an event, a pull or a registration: `specs/Bringing.antt`, `src/bringing.rt`
 //! - the document of a push, or of what a pull finds or brings, which its run need not merge again:
 //!   `specs/Documents.antt`, `proofs/KnownDocuments.antt`
 //! - which run is made, and what its report says: `specs/Runs.antt`, `src/choosing.rt`, `src/running.rt`; the event
@@ -38,11 +40,11 @@ mod finishing;
 mod laws;
 mod lines;
 mod order;
+mod plan;
 mod preparing;
 mod run;
 mod running;
 mod sending;
-mod settling;
 mod showing;
 mod starting;
 mod status;

@@ -1,47 +1,63 @@
-//! A command's document is merged, before the store is touched.
-ghost use Rattle.std.specs.Prelude.{◌≡◌, [], ◌∷◌, IfErr, IfOk, IfSome};
+//! The plan of a command, with its document merged, before the store is touched.
+ghost use Rattle.std.specs.Prelude.{◌≡◌, [], ◌∷◌, IfErr, IfOk};
 ghost use Rattle.node_state.specs.StagedParts.{parts_of};
+ghost use Rattle.partial_merge.specs.Merged.{IsDocumentOf};
 ghost use Rattle.partial_merge.specs.Parts.{unnamed_part};
 ghost use Rattle.partial_merge.specs.Refused.{Refused};
-ghost use Rattle.dsc_node.specs.Commands.{IsTaken, IsTakenTask, IsTaskOf, IsUnmerged};
-ghost use Rattle.partial_merge.specs.Merged.{IsDocumentOf};
-ghost use Rattle.dsc_node.specs.Documents.{IsOfTask};
+ghost use Rattle.dsc_node.specs.Commands.{IsPlanOf, IsUnmerged};
 
-use crate::command::{Command, Prepared, Task};
+use crate::command::Command;
+use crate::plan::{Bring, Follows, Needs, Plan, Printed};
 use meta_config::Meta;
 use mof_values::{Bytes, Text};
-use node_state::{StageError, Staged, staged_in_order};
+use node_state::{Event, StageError, Staged, staged_in_order};
 use partial_merge::{MergeError, OrderedDocument, part_of};
 use std::alloc::Global;
 
-/// The task that the command is, and the document of a push, whose bytes are merged as one part with an empty name.
-pub(crate) fn task_of(alloc: Global, command: Command) -> Result<Prepared, MergeError>
-    requires taken { IsTaken command }
-    ensures ok { IfOk result (λ prepared. IsTaskOf command prepared.task) }
-    ensures taken { IfOk result (λ prepared. IsTakenTask prepared.task) }
-    ensures document { IfOk result (λ prepared. IfSome prepared.document (IsOfTask prepared.task)) }
+/// What the command asks of a start: the table of commands. The bytes of a push are merged as one part with an empty name.
+pub(crate) fn plan_of(alloc: Global, command: Command) -> Result<Plan, MergeError>
+    ensures ok { IfOk result (IsPlanOf command) }
     ensures refused { IfErr result (IsUnmerged command) }
 {
-    let task = match command {
-        Command::Init(agent) => Task::Init(agent),
-        Command::Meta(meta) => Task::Meta(meta),
-        Command::Register(name) => Task::Register(name),
-        Command::Pull => Task::Pull,
+    match command {
+        Command::Init(agent) => {
+            let event = Event::Init(agent);
+            Ok(Plan::prints(Needs::NoAgent, Bring::Event(event), Printed::Done))
+        }
+        Command::Meta(meta) => {
+            let event = Event::SetMeta(meta);
+            Ok(Plan::prints(Needs::Agent, Bring::Event(event), Printed::Done))
+        }
+        Command::Register(name) => Ok(Plan {
+            needs: Needs::Server,
+            waits: false,
+            reads_clock: true,
+            brings: Bring::Registration(name),
+            stops: false,
+            follows: Follows::Text(Printed::Done),
+        }),
+        Command::Pull => Ok(Plan::runs(Needs::Pull, Bring::Pull)),
         Command::Push(bytes) => {
             let (staged, document) = staged_document(alloc, bytes)?;
-            return Ok(Prepared {
-                task: Task::Push(staged),
-                document: Some(document),
-            });
+            Ok(Plan::runs(Needs::NoPartials, Bring::Push { staged, document }))
         }
-        Command::Consistency => Task::Consistency,
-        Command::Boot => Task::Boot,
-        Command::Get => Task::Get,
-        Command::Restore => Task::Restore,
-        Command::Remove(stage) => Task::Remove(stage),
-        Command::Reports => Task::Reports,
-    };
-    Ok(Prepared::plain(task))
+        Command::Consistency => Ok(Plan::runs(Needs::Run, Bring::Nothing)),
+        Command::Boot => Ok(Plan {
+            needs: Needs::Run,
+            waits: false,
+            reads_clock: true,
+            brings: Bring::Boot,
+            stops: true,
+            follows: Follows::Run,
+        }),
+        Command::Get => Ok(Plan::prints(Needs::Agent, Bring::Nothing, Printed::Node)),
+        Command::Restore => Ok(Plan::runs(Needs::Previous, Bring::Event(Event::Restore))),
+        Command::Remove(stage) => {
+            let event = Event::Remove(stage);
+            Ok(Plan::prints(Needs::Agent, Bring::Event(event), Printed::Done))
+        }
+        Command::Reports => Ok(Plan::prints(Needs::Agent, Bring::Nothing, Printed::Reports)),
+    }
 }
 
 fn staged_document(alloc: Global, bytes: Bytes) -> Result<(Staged, OrderedDocument), MergeError>

@@ -1,5 +1,5 @@
-//! One start of the node: its store is opened, and the task of its command is done.
-ghost use Rattle.std.specs.Prelude.{◌≡◌, ◌≤◌, [], IfOk, IfSome, None, true, string_bytes};
+//! One start of the node: its store is opened, and what its command asks is done.
+ghost use Rattle.std.specs.Prelude.{◌≡◌, ◌≤◌, [], IfOk, None, string_bytes};
 ghost use Rattle.dsc_outside.specs.Clock.{last_moment};
 ghost use Rattle.gate_log.specs.Standing.{AllStand, Any};
 ghost use Rattle.resource_kinds.specs.Kinds.{calls_of};
@@ -7,23 +7,23 @@ ghost use Rattle.node_store.specs.Stands.{Stands};
 ghost use Rattle.node_store.specs.Store.{IsKept};
 ghost use Rattle.dsc_outside.specs.Link.{GoesOn};
 ghost use Rattle.dsc_outside.specs.LinkView.{view_of};
-ghost use Rattle.dsc_node.specs.Commands.{IsTaken, IsTakenTask, is_run, why_not};
-ghost use Rattle.dsc_node.specs.Documents.{IsOfTask};
+ghost use Rattle.dsc_node.specs.Commands.{IsTaken, why_not};
 ghost use Rattle.dsc_node.specs.Headline.{HasHeadline};
 ghost use Rattle.dsc_node.specs.HostHeadline.{HasHostHeadline, known_on_host};
-ghost use Rattle.dsc_node.specs.Path.{OpenedGoes, RunGoes};
+ghost use Rattle.dsc_node.specs.Path.{AllowedGoes, OpenedGoes};
+ghost use Rattle.dsc_node.specs.Plans.{IsPlan};
 ghost use Rattle.dsc_node.specs.Readings.{StartsAt};
 ghost use Rattle.dsc_node.specs.Start.{Start, outside};
 ghost use Rattle.dsc_node.specs.Work.{beside, known};
 
-use crate::allowing::{is_run, reads_clock, stops, waits, why_not};
-use crate::answer::{StartEnd, status_of, status_of_input};
+use crate::allowing::{stops, waits, why_not};
+use crate::answer::{StartEnd, status_of, status_of_input, without_run};
 use crate::bringing::{First, bring, status_of_pull};
-use crate::command::{Command, Prepared};
+use crate::command::Command;
 use crate::committing::commit_first;
 use crate::finishing::finish;
-use crate::preparing::task_of;
-use crate::settling::settle;
+use crate::plan::{Follows, Plan};
+use crate::preparing::plan_of;
 use crate::status::Status;
 use dsc_outside::{Clock, Disk, Failed, Host, Link};
 use lcm_core::{repair_laws, trace_laws};
@@ -58,14 +58,14 @@ pub fn start_over<D: Disk, M: Machine, L: Link, C: Clock>(
     ensures goes_on { GoesOn (view_of L.Link link.old) (view_of L.Link link.new) }
     ensures later { C.faults clock.old ≤ C.faults clock.new }
 {
-    let prepared = match task_of(alloc, command) {
-        Ok(prepared) => prepared,
+    let plan = match plan_of(alloc, command) {
+        Ok(plan) => plan,
         Err(error) => return StartEnd::silent(alloc, status_of_input(error)),
     };
     match open_store(alloc, disk) {
         Ok(store) => {
             let mut store = store;
-            opened(alloc, prepared, &mut store, disk, machine, link, clock)
+            opened(alloc, plan, &mut store, disk, machine, link, clock)
         }
         Err(error) => StartEnd::silent(alloc, status_of(error)),
     }
@@ -103,10 +103,10 @@ pub fn start<D: Disk, H: Host, L: Link, C: Clock>(
     start_over(alloc, command, disk, kinds, link, clock)
 }
 
-// Does the task in an opened store.
+// Carries the plan out over an opened store, where the node allows it.
 fn opened<D: Disk, M: Machine, L: Link, C: Clock>(
     alloc: Global,
-    prepared: Prepared,
+    plan: Plan,
     store: &mut NodeStore,
     disk: &mut D,
     machine: &mut M,
@@ -114,32 +114,28 @@ fn opened<D: Disk, M: Machine, L: Link, C: Clock>(
     clock: &mut C,
 ) -> StartEnd
     requires kept { IsKept D.Disk disk.old store.old }
-    requires taken { IsTakenTask prepared.task }
-    requires document { IfSome prepared.document (IsOfTask prepared.task) }
+    requires plan { IsPlan plan }
     requires fresh { M.trace machine.old ≡ [] }
-    ensures goes { OpenedGoes (known D.Disk M.Resources M.Machine.own C.Clock) prepared.task
-        disk.old disk.new store.old (beside machine.old (view_of L.Link link.old) clock.old)
+    ensures goes { OpenedGoes (known D.Disk M.Resources M.Machine.own C.Clock) plan disk.old
+        disk.new store.old (beside machine.old (view_of L.Link link.old) clock.old)
         (beside machine.new (view_of L.Link link.new) clock.new) result.status
         (string_bytes result.lines) }
     ensures becomes { L.may_become link.old link.new }
     ensures later { C.faults clock.old ≤ C.faults clock.new }
 {
-    if let Some(why) = why_not(store.state(), &prepared.task) {
+    if let Some(why) = why_not(store.state(), plan.needs) {
         return StartEnd::silent(alloc, Status::NotAllowed(why));
     }
-    if waits(store.state(), &prepared.task) {
+    if waits(store.state(), &plan) {
         return StartEnd::silent(alloc, Status::RebootWaiting);
     }
-    let Ok(start) = started(reads_clock(&prepared.task), clock) else {
+    let Ok(start) = started(plan.reads_clock, clock) else {
         return StartEnd::silent(alloc, Status::ClockFault);
     };
-    if !is_run(&prepared.task) {
-        return settle(alloc, prepared.task, start, store, disk, link);
-    }
-    run_task(alloc, prepared, start, store, disk, machine, link, clock)
+    carried_out(alloc, plan, start, store, disk, machine, link, clock)
 }
 
-// The start of a task: the clock's reading, where the task reads it.
+// The moment of a start: the clock's reading, where the plan reads it.
 fn started<C: Clock>(reads: bool, clock: &mut C) -> Result<u64, Failed>
     ensures starts { StartsAt C.Clock reads result clock.old clock.new }
     ensures moment { IfOk result (λ start. start ≤ last_moment) }
@@ -148,10 +144,10 @@ fn started<C: Clock>(reads: bool, clock: &mut C) -> Result<u64, Failed>
     if reads { clock.now() } else { Ok(0) }
 }
 
-// Brings what the task brings, and then comes to its run.
-fn run_task<D: Disk, M: Machine, L: Link, C: Clock>(
+// Brings what the plan brings, commits it, and does what follows.
+fn carried_out<D: Disk, M: Machine, L: Link, C: Clock>(
     alloc: Global,
-    prepared: Prepared,
+    plan: Plan,
     start: u64,
     store: &mut NodeStore,
     disk: &mut D,
@@ -160,27 +156,41 @@ fn run_task<D: Disk, M: Machine, L: Link, C: Clock>(
     clock: &mut C,
 ) -> StartEnd
     requires kept { IsKept D.Disk disk.old store.old }
-    requires allowed { why_not store.old.node prepared.task ≡ None }
-    requires runs { is_run prepared.task ≡ true }
-    requires document { IfSome prepared.document (IsOfTask prepared.task) }
+    requires allowed { why_not store.old.node plan.needs ≡ None }
+    requires plan { IsPlan plan }
     requires fresh { M.trace machine.old ≡ [] }
     requires moment { start ≤ last_moment }
-    ensures goes { RunGoes (known D.Disk M.Resources M.Machine.own C.Clock) prepared.task start
-        disk.old disk.new store.old (beside machine.old (view_of L.Link link.old) clock.old)
+    ensures goes { AllowedGoes (known D.Disk M.Resources M.Machine.own C.Clock) plan start disk.old
+        disk.new store.old (beside machine.old (view_of L.Link link.old) clock.old)
         (beside machine.new (view_of L.Link link.new) clock.new) result.status
         (string_bytes result.lines) }
     ensures becomes { L.may_become link.old link.new }
     ensures later { C.faults clock.old ≤ C.faults clock.new }
 {
-    let stopped = stops(store.state(), &prepared.task);
-    let First { event, document } = match bring(alloc, prepared, store.state(), link, machine) {
+    let stopped = stops(store.state(), &plan);
+    let Plan {
+        brings,
+        follows,
+        ..
+    } = plan;
+    let First { event, document } = match bring(
+        alloc,
+        brings,
+        start,
+        store.state(),
+        link,
+        machine,
+    ) {
         Ok(first) => first,
         Err(error) => return StartEnd::silent(alloc, status_of_pull(error)),
     };
     if let Err(error) = commit_first(event, store, disk) {
         return StartEnd::silent(alloc, status_of(error));
     }
-    finish(
-        alloc, start, stopped, document, store, disk, machine, link, clock,
-    )
+    match follows {
+        Follows::Run => finish(
+            alloc, start, stopped, document, store, disk, machine, link, clock,
+        ),
+        Follows::Text(text) => without_run(alloc, text, store.state()),
+    }
 }

@@ -3,7 +3,7 @@ use Rattle.std.specs.Prelude.{IfSome}
 use Rattle.node_state.specs.declared.event.Event.{Event}
 use Rattle.node_state.specs.Table.{IsWithin}
 use Rattle.dsc_node.specs.declared.bringing.First.{First}
-use Rattle.dsc_node.proofs.Tasks.{boot_within}
+use Rattle.dsc_node.proofs.Plans.{boot_within}
 use Rattle.dsc_node.proofs.bringing.bring.Goals as goal
 
 pub returns-in-Boot-clause-within : goal.returns-in-Boot-clause-within

@@ -5,7 +5,7 @@ use Rattle.node_pull.specs.Pulling.{Pulled, list_of}
 use Rattle.dsc_outside.specs.LinkView.{view_of}
 use Rattle.dsc_node.specs.Bringing.{event_by, staged_by}
 use Rattle.dsc_node.proofs.KnownDocuments.{pulled_held, staged_event}
-use Rattle.dsc_node.proofs.Tasks.{can_ask}
+use Rattle.dsc_node.proofs.Plans.{can_ask}
 use Rattle.dsc_node.proofs.bringing.pulled.Goals as goal
 
 pub pull-requires-clause-names : goal.pull-requires-clause-names

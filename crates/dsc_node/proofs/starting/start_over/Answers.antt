@@ -21,8 +21,8 @@ returns-in-Ok-open_store-clause-start g c =
     let store = c.in-Ok-open_store.store in
     let goes = c.opened.ensures.goes in
     opened (record {
-      task = c.in-Ok.prepared.task;
-      is_task = c.in-Ok.ensures.ok;
+      plan = c.in-Ok.plan;
+      is_plan = c.in-Ok.ensures.ok;
       from = store.node;
       ready = goes.ready;
       run = goes.run;
@@ -43,8 +43,8 @@ returns-in-Ok-open_store-clause-again g c =
     let before = outside begin c.args.machine.now (view_of g.L.Link c.args.link.now) c.args.clock.now in
     let after = outside c.opened.new.disk c.opened.new.machine (view_of g.L.Link c.opened.new.link) c.opened.new.clock in
     let start : Start (known g.D.Disk g.M.Resources g.M.Machine g.C.Clock) c.args.command before after status lines = opened (record {
-      task = c.in-Ok.prepared.task;
-      is_task = c.in-Ok.ensures.ok;
+      plan = c.in-Ok.plan;
+      is_plan = c.in-Ok.ensures.ok;
       from = store.node;
       ready = goes.ready;
       run = goes.run;
@@ -57,7 +57,7 @@ returns-in-Ok-open_store-clause-again g c =
 
 pub returns-in-Err-open_store-clause-start : goal.returns-in-Err-open_store-clause-start
 returns-in-Err-open_store-clause-start g c =
-    unopened c.in-Ok.prepared.task c.in-Err-open_store.error c.in-Ok.ensures.ok c.in-Err-open_store.ensures.count c.in-Err-open_store.ensures.cause refl c.in-Err-open_store.ensures.any_moment
+    unopened c.in-Ok.plan c.in-Err-open_store.error c.in-Ok.ensures.ok c.in-Err-open_store.ensures.count c.in-Err-open_store.ensures.cause refl c.in-Err-open_store.ensures.any_moment
     (c.silent-in-Err-open_store.ensures.status ∙ c.status_of.ensures, c.silent-in-Err-open_store.ensures.lines)
 
 -- the exchanges are only added
@@ -91,3 +91,6 @@ pub returns-in-Err-open_store-clause-headline : goal.returns-in-Err-open_store-c
 returns-in-Err-open_store-clause-headline g c =
     headline (known g.D.Disk g.M.Resources g.M.Machine g.C.Clock) c.args.command
     (outside c.args.disk.now c.args.machine.now (view_of g.L.Link c.args.link.now) c.args.clock.now) _ _ _ (g.met.D.Disk.honest c.args.disk.now)
+
+pub opened-requires-clause-plan : goal.opened-requires-clause-plan
+opened-requires-clause-plan g c = record { command = c.args.command; taken = c.requires.taken; is = c.in-Ok.ensures.ok }
