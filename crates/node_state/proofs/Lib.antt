@@ -1,4 +1,5 @@
 mod Claims
+pub mod FittingParts
 mod Merging
 mod Newest
 pub mod SoundSteps

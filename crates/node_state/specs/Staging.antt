@@ -1,5 +1,5 @@
 -- Why parts are not staged. A reason stands only where none that wins over it does.
-use Rattle.std.specs.Prelude.{◌≡◌, ◌≢◌, ℕ, ◌<◌, List, Some, None, ⊤}
+use Rattle.std.specs.Prelude.{◌≡◌, ◌≢◌, ℕ, ◌<◌, ◌≤◌, List, Some, None, ⊤}
 use Rattle.dsc_document.specs.declared.document.Document.{Document}
 use Rattle.meta_config.specs.declared.meta.Meta.{Meta}
 use Rattle.partial_merge.specs.declared.part.Part.{Part}
@@ -37,3 +37,7 @@ AreRefused meta parts (Merge error) = (error ≢ merging.Memory) × Refused part
 AreRefused meta parts (Fit error) = AreMisfits meta parts error
 AreRefused meta parts (TooLong bytes) = AreTooLong meta parts bytes
 AreRefused meta parts Memory = ⊤
+
+-- parts that fit, and are not too long together, are refused for memory alone
+abbrev pub FittingAreTaken : Type 0
+FittingAreTaken = (meta : Meta) (parts : List Part) (error : StageError) → AreFitting meta parts → bytes_of parts ≤ MAX_BYTES → AreRefused meta parts error → error ≡ Memory

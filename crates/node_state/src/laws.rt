@@ -2,6 +2,7 @@
 ghost use Rattle.node_state.specs.Pieces.{BuiltIsSound, FrontsAreSmall, FrontsBuild};
 ghost use Rattle.node_state.specs.Slots.{PartsComeFromStages};
 ghost use Rattle.node_state.specs.Sound.{StepsAreSound, StepsHaveAgents};
+ghost use Rattle.node_state.specs.Staging.{FittingAreTaken};
 
 /// A step leads from a sound node to a sound node, which has an agent.
 pub fn step_laws()
@@ -19,4 +20,9 @@ pub fn piece_laws()
     ensures built { FrontsBuild }
     ensures small { FrontsAreSmall }
     ensures sound { BuiltIsSound }
+{}
+
+/// Parts that fit the meta-configuration, and are not too long together, are refused for memory alone.
+pub fn fitting_are_taken()
+    ensures { FittingAreTaken }
 {}

@@ -13,7 +13,8 @@
 //! - where the parts of a node come from; a node in pieces: `specs/Slots.antt`; `specs/Pieces.antt`, `src/placing.rt`,
 //!   `proofs/Building.antt`
 //! - which lists of parts a node may keep, and which fit a meta-configuration: `specs/Lists.antt`,
-//!   `specs/Staging.antt`, `src/staging.rt`; `specs/Fits.antt`, `src/fitting.rt`
+//!   `specs/Staging.antt`, `src/staging.rt`; `specs/Fits.antt`, `src/fitting.rt`; that those that fit are staged
+//!   `proofs/FittingParts.antt`
 //! - its limits: `src/limits.rt`
 #![tactic(auto)]
 
@@ -34,7 +35,7 @@ mod table;
 pub use error::{FitError, StageError};
 pub use event::{Event, Stage, Why};
 pub use fitting::fits;
-pub use laws::{parts_come_from_stages, piece_laws, step_laws};
+pub use laws::{fitting_are_taken, parts_come_from_stages, piece_laws, step_laws};
 pub use limits::{MAX_BYTES, MAX_REPORTS, OLDER_REPORTS};
 pub use list::Staged;
 pub use node::{Kept, Node};
