@@ -137,7 +137,7 @@ module _ {S : Type 0} (packages : S → Option (List Package)) (faults : S → �
   one_accepted wanted modules (rows.is_added before after old looked new body has same asks adds) = added wanted modules before after old looked new body has same asks adds
   one_accepted wanted modules (rows.not_looked view old new rose same) = adds_same server (wanted ∷ modules) view view (packages old) (packages new) same
   one_accepted wanted modules (rows.not_given before after old new error has same asks) = adds_same server (wanted ∷ modules) before after (packages old) (packages new) same
-  one_accepted wanted modules (rows.not_added before after old looked new body has same asks rose whole) =
+  one_accepted wanted modules (rows.not_added before after old looked new body has same asks later rose whole) =
       added_or_not wanted modules before after old looked new body has same asks whole
   one_accepted wanted modules (rows.no_memory view old new same) = adds_same server (wanted ∷ modules) view view (packages old) (packages new) same
   one_accepted wanted modules (rows.no_memory_to_add before after old looked new body has same asks whole) =
@@ -145,7 +145,7 @@ module _ {S : Type 0} (packages : S → Option (List Package)) (faults : S → �
 
 pub packages_are_accepted : {S : Type 0} (packages : S → Option (List Package)) (faults : S → ℕ) → PackagesAreAccepted packages faults
 packages_are_accepted packages faults server [] _ _ _ _ _ (rows.no_more view state) = adds_same server [] view view (packages state) (packages state) refl
-packages_are_accepted packages faults server (_ ∷ _) _ _ _ _ _ (rows.one_more wanted modules before mid after old next new result one rest) =
+packages_are_accepted packages faults server (_ ∷ _) _ _ _ _ _ (rows.one_more wanted modules before mid after old next new result one later rest) =
     adds_both server (wanted ∷ modules) before after (packages old) (packages next) (packages new)
     (adds_on server (wanted ∷ modules) before mid after (packages old) (packages next) (packages_go_on rest) (one_accepted packages faults server wanted modules one))
     (adds_later server wanted modules before after (packages next) (packages new)
@@ -216,7 +216,7 @@ module _ {S : Type 0} (packages : S → Option (List Package)) (faults : S → �
 
 pub packages_are_there : {S : Type 0} (packages : S → Option (List Package)) (faults : S → ℕ) → PackagesAreThere packages faults
 packages_are_there packages faults server [] _ _ _ _ (rows.no_more view state) = has_none (packages state)
-packages_are_there packages faults server (_ ∷ _) _ _ _ _ (rows.one_more wanted modules before mid after old next new result one rest) =
+packages_are_there packages faults server (_ ∷ _) _ _ _ _ (rows.one_more wanted modules before mid after old next new result one later rest) =
     with_one wanted modules (packages new)
     (has_on server modules mid after wanted (packages next) (packages new) (packages_are_accepted packages faults server modules mid after next new (Ok tt) rest) (one_there packages faults server wanted one))
     (packages_are_there packages faults server modules mid after next new rest)

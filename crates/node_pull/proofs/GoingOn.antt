@@ -104,14 +104,14 @@ module _ {S : Type 0} {packages : S → Option (List Package)} {faults : S → �
   package_goes_on (rows.is_added before after old looked new body has same asks adds) = asks_goes_on server _ _ before after (Ok body) asks
   package_goes_on (rows.not_looked view old new rose same) = stays view
   package_goes_on (rows.not_given before after old new error has same asks) = asks_goes_on server _ _ before after (Err error) asks
-  package_goes_on (rows.not_added before after old looked new body has same asks rose whole) = asks_goes_on server _ _ before after (Ok body) asks
+  package_goes_on (rows.not_added before after old looked new body has same asks later rose whole) = asks_goes_on server _ _ before after (Ok body) asks
   package_goes_on (rows.no_memory view old new same) = stays view
   package_goes_on (rows.no_memory_to_add before after old looked new body has same asks whole) = asks_goes_on server _ _ before after (Ok body) asks
 
   pub packages_go_on : {modules : List Module} {before after : LinkView} {old new : S} {result : Result (Unit {0}) PullFault}
       → Packages packages faults server modules before after old new result → GoesOn before after
   packages_go_on (rows.no_more view state) = stays view
-  packages_go_on (rows.one_more wanted modules before mid after old next new result one rest) = on_and_on before mid after (package_goes_on one) (packages_go_on rest)
+  packages_go_on (rows.one_more wanted modules before mid after old next new result one later rest) = on_and_on before mid after (package_goes_on one) (packages_go_on rest)
   packages_go_on (rows.ended wanted modules before after old new error one) = package_goes_on one
 
   pub pulled_goes_on : {meta : Meta} {agent : ℕ} {held : List Part} {before after : LinkView} {old new : S} {result : Result (Option Staged) PullFault}

@@ -9,4 +9,5 @@ pub mod ListedParts
 pub mod PackageRows
 pub mod PartRows
 pub mod PullRows
+pub mod ServedPulls
 pub mod Since

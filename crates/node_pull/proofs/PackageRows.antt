@@ -1,5 +1,5 @@
 -- The package of one module, by what the calls on the machine answered.
-use Rattle.std.proofs.Common.{◌≡◌, ◌⊎◌, inl, inr, ℕ, ◌<◌, Bool, true, false, List, ◌∷◌, length, drop, encode_utf8_all, ◌∙◌, Option, Some, None, Result, Ok, Err, refl, sym, ap, subst}
+use Rattle.std.proofs.Common.{◌≡◌, ◌⊎◌, inl, inr, ℕ, ◌<◌, ◌≤◌, Bool, true, false, List, ◌∷◌, length, drop, encode_utf8_all, ◌∙◌, Option, Some, None, Result, Ok, Err, refl, sym, ap, subst}
 use Rattle.std.specs.Prelude.{IfSome}
 use Rattle.dsc_terms.specs.Counts.{Rose}
 use Rattle.dsc_outside.specs.Host.{has_package}
@@ -40,11 +40,12 @@ module _ {S : Type 0} (packages : S → Option (List Package)) (faults : S → �
   ended_looking Memory view old new rose same = no_memory view old new same
 
   pub ended_adding : (error : HostError) (before after : LinkView) (old looked new : S) (body : List ℕ) → Has packages old wanted false → SamePackages packages old looked
-      → AsksModule server wanted before after (Ok body) → (◌≡◌ {A = Result (Unit {0}) HostError} (Err error) (Err Failed) → Rose (faults looked) (faults new))
+      → AsksModule server wanted before after (Ok body) → faults old ≤ faults looked
+      → (◌≡◌ {A = Result (Unit {0}) HostError} (Err error) (Err Failed) → Rose (faults looked) (faults new))
       → (SamePackages packages looked new ⊎ Adds packages wanted body looked new)
       → OnePackage packages faults server wanted before after old new (Err (host_error error))
-  ended_adding Failed before after old looked new body has same asks rose whole = not_added before after old looked new body has same asks (rose refl) whole
-  ended_adding Memory before after old looked new body has same asks rose whole = no_memory_to_add before after old looked new body has same asks whole
+  ended_adding Failed before after old looked new body has same asks later rose whole = not_added before after old looked new body has same asks later (rose refl) whole
+  ended_adding Memory before after old looked new body has same asks later rose whole = no_memory_to_add before after old looked new body has same asks whole
 
   pub there : (view : LinkView) (old new : S) (n v : List ℕ) (found : Bool) → found ≡ true → n ≡ encode_utf8_all wanted.name → v ≡ encode_utf8_all wanted.version
       → IfSome (packages old) (λ list. found ≡ has_package list n v) → SamePackages packages old new → OnePackage packages faults server wanted view view old new (Ok tt)
@@ -61,12 +62,12 @@ module _ {S : Type 0} (packages : S → Option (List Package)) (faults : S → �
       is_added before after old looked new body has same asks (adds_is (packages looked) (packages new) n v b _ _ body named versioned full adds)
 
   pub not_put : (error : HostError) (before after : LinkView) (old looked new : S) (n v b body : List ℕ) → n ≡ encode_utf8_all wanted.name → v ≡ encode_utf8_all wanted.version → b ≡ body
-      → Has packages old wanted false → SamePackages packages old looked → AsksModule server wanted before after (Ok body)
+      → Has packages old wanted false → SamePackages packages old looked → AsksModule server wanted before after (Ok body) → faults old ≤ faults looked
       → (◌≡◌ {A = Result (Unit {0}) HostError} (Err error) (Err Failed) → Rose (faults looked) (faults new))
       → SamePackages packages looked new ⊎ AddsPackage (packages looked) (packages new) n v b
       → OnePackage packages faults server wanted before after old new (Err (host_error error))
-  not_put error before after old looked new n v b body named versioned full has same asks rose whole =
-      ended_adding error before after old looked new body has same asks rose (whole_is (packages looked) (packages new) n v b _ _ body named versioned full whole)
+  not_put error before after old looked new n v b body named versioned full has same asks later rose whole =
+      ended_adding error before after old looked new body has same asks later rose (whole_is (packages looked) (packages new) n v b _ _ body named versioned full whole)
 
 -- ---- of the modules that are left
 
@@ -76,11 +77,11 @@ module _ {S : Type 0} (packages : S → Option (List Package)) (faults : S → �
       subst (λ (ms : List Module). Packages packages faults server ms view view state state (Ok tt)) (sym (no_name modules lt)) (no_more view state)
 
   pub at_one : (modules left : List Module) (wanted : Module) (before mid after : LinkView) (old next new : S) (result : Result (Unit {0}) PullFault) → modules ≡ wanted ∷ drop 1 modules
-      → left ≡ drop 1 modules → OnePackage packages faults server wanted before mid old next (Ok tt) → Packages packages faults server left mid after next new result
+      → left ≡ drop 1 modules → OnePackage packages faults server wanted before mid old next (Ok tt) → faults old ≤ faults next → Packages packages faults server left mid after next new result
       → Packages packages faults server modules before after old new result
-  at_one modules left wanted before mid after old next new result first others one rest =
+  at_one modules left wanted before mid after old next new result first others one later rest =
       subst (λ (ms : List Module). Packages packages faults server ms before after old new result) (sym first)
-      (one_more wanted (drop 1 modules) before mid after old next new result one (subst (λ (ms : List Module). Packages packages faults server ms mid after next new result) others rest))
+      (one_more wanted (drop 1 modules) before mid after old next new result one later (subst (λ (ms : List Module). Packages packages faults server ms mid after next new result) others rest))
 
   pub at_error : (modules : List Module) (wanted : Module) (before after : LinkView) (old new : S) (error : PullFault) → modules ≡ wanted ∷ drop 1 modules
       → OnePackage packages faults server wanted before after old new (Err error) → Packages packages faults server modules before after old new (Err error)

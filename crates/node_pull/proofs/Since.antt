@@ -21,7 +21,7 @@ any_later P (x ∷ xs) ys any =
     let later = any_later P xs ys any in
     (suc later.0, later.1, omega (arith, later.2), later.3, later.4)
 
-any_one : {X : Type 0} (P : X → Type 0) (x : X) → P x → Any P (x ∷ [])
+pub any_one : {X : Type 0} (P : X → Type 0) (x : X) → P x → Any P (x ∷ [])
 any_one P x holds = (0, x, omega arith, refl, holds)
 
 told_more : (shown after : Option (List Exchange)) (exchanges : List Exchange) → shown ≡ Some exchanges → AddsExchanges shown after → (more : List Exchange) × (after ≡ Some (exchanges ++ more))

@@ -8,4 +8,5 @@ pub mod Packages
 pub mod Pulling
 pub mod Registering
 pub mod Reporting
+pub mod Serving
 pub mod Views

@@ -1,5 +1,5 @@
 -- The packages of modules that a document's resources name, and how they come to a machine.
-use Rattle.std.specs.Prelude.{◌≡◌, ◌⊎◌, ⊤, ℕ, Bool, true, false, not, ◌&&◌, List, [], ◌∷◌, ◌++◌, Option, Some, None, Result, Ok, Err, IfSome, IsTrue, All, Any, bytes_eq, codes, encode_utf8_all, filter_map, if◌then◌else◌}
+use Rattle.std.specs.Prelude.{◌≡◌, ◌⊎◌, ⊤, ℕ, ◌≤◌, Bool, true, false, not, ◌&&◌, List, [], ◌∷◌, ◌++◌, Option, Some, None, Result, Ok, Err, IfSome, IsTrue, All, Any, bytes_eq, codes, encode_utf8_all, filter_map, if◌then◌else◌}
 use Rattle.std.specs.List.{list_any}
 use Rattle.dsc_terms.specs.Counts.{Rose}
 use Rattle.dsc_outside.specs.Host.{has_package}
@@ -85,7 +85,7 @@ pub data OnePackage {S : Type 0} (packages : S → Option (List Package)) (fault
       → OnePackage packages faults server wanted before after old new (Err (error_of error))
   not_added : (before after : LinkView) (old looked new : S) (body : List ℕ)
       → Has packages old wanted false → SamePackages packages old looked → AsksModule server wanted before after (Ok body)
-      → Rose (faults looked) (faults new) → (SamePackages packages looked new ⊎ Adds packages wanted body looked new)
+      → faults old ≤ faults looked → Rose (faults looked) (faults new) → (SamePackages packages looked new ⊎ Adds packages wanted body looked new)
       → OnePackage packages faults server wanted before after old new (Err Host)
   no_memory : (view : LinkView) (old new : S) → SamePackages packages old new → OnePackage packages faults server wanted view view old new (Err Memory)
   no_memory_to_add : (before after : LinkView) (old looked new : S) (body : List ℕ)
@@ -93,11 +93,11 @@ pub data OnePackage {S : Type 0} (packages : S → Option (List Package)) (fault
       → (SamePackages packages looked new ⊎ Adds packages wanted body looked new)
       → OnePackage packages faults server wanted before after old new (Err Memory)
 
--- that of each module, one after the other, up to the first that does not come
+-- that of each module, one after the other, up to the first that does not come; the machine's count of faults does not fall
 pub data Packages {S : Type 0} (packages : S → Option (List Package)) (faults : S → ℕ) (server : Server) : List Module → LinkView → LinkView → S → S → Result (Unit {0}) PullFault → Type 0 where
   no_more : (view : LinkView) (state : S) → Packages packages faults server [] view view state state (Ok tt)
   one_more : (wanted : Module) (modules : List Module) (before mid after : LinkView) (old next new : S) (result : Result (Unit {0}) PullFault)
-      → OnePackage packages faults server wanted before mid old next (Ok tt)
+      → OnePackage packages faults server wanted before mid old next (Ok tt) → faults old ≤ faults next
       → Packages packages faults server modules mid after next new result
       → Packages packages faults server (wanted ∷ modules) before after old new result
   ended : (wanted : Module) (modules : List Module) (before after : LinkView) (old new : S) (error : PullFault)

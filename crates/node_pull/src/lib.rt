@@ -11,6 +11,8 @@
 //!   `specs/Listing.antt`, `specs/Contents.antt`, `src/listing.rt`; the packages `specs/Packages.antt`,
 //!   `src/modules.rt`, `src/packages.rt`
 //! - the names that a node registers and asks for: `specs/Names.antt`, `src/names.rt`
+//! - a server that gives what it is asked for, and what comes of that: `specs/Serving.antt`, `src/laws.rt`,
+//!   `proofs/ServedPulls.antt`
 #![tactic(auto)]
 
 mod error;
@@ -25,7 +27,7 @@ mod registering;
 mod reporting;
 
 pub use error::{PeerFault, PullFault};
-pub use laws::package_laws;
+pub use laws::{package_laws, serving_laws};
 pub use marks::marks_of;
 pub use modules::Module;
 pub use pulling::{PullOutcome, pull};

@@ -39,7 +39,7 @@ returns-in-Ok-clause-one g c =
     (c.deref-in-Ok.ensures ∙ c.in_ok-name.ensures) (c.deref-in-Ok-2.ensures ∙ c.in_ok-version.ensures) c.deref-in-Ok-3.ensures.value
     (lacks g.M.Machine.packages g.M.Resources.faults c.args.server.now c.args.wanted.now c.args.machine.now c.deref.result.now c.deref-2.result.now c.in-Ok-false.field-0
     c.in-Ok-false.field-0-test (c.deref.ensures ∙ c.in_ok-name.ensures) (c.deref-2.ensures ∙ c.in_ok-version.ensures) c.in-Ok-false.ensures.answer)
-    c.in-Ok-false.ensures.same c.in-Ok.ensures.asks c.in-Err-package_put.ensures.cause.failed c.in-Err-package_put.ensures.whole)
+    c.in-Ok-false.ensures.same c.in-Ok.ensures.asks c.in-Ok-false.ensures.cause.later c.in-Err-package_put.ensures.cause.failed c.in-Err-package_put.ensures.whole)
 
 pub returns-clause-one : goal.returns-clause-one
 returns-clause-one g c =
