@@ -48,18 +48,18 @@ use Rattle.dsc_node.proofs.WorkEvents.{work_adds, work_stages}
 
 -- ---- nodes
 
-agent_some : (agent : Option ℕ) → (agent ≡ None → ⊥) → is_some agent ≡ true
+pub agent_some : (agent : Option ℕ) → (agent ≡ None → ⊥) → is_some agent ≡ true
 agent_some None some = absurd (some refl)
 agent_some (Some agent) some = refl
 
-some_none : {A : Type 0} {X : Type 0} (x : X) (o : Option X) → o ≡ Some x → o ≡ None → A
+pub some_none : {A : Type 0} {X : Type 0} (x : X) (o : Option X) → o ≡ Some x → o ≡ None → A
 some_none x o is none = absurd (cc (is, none))
 
-next_is : (next job : ℕ) → job ≡ next → next < 2 ^ 64 - 1 → is_next next job ≡ true
+pub next_is : (next job : ℕ) → job ≡ next → next < 2 ^ 64 - 1 → is_next next job ≡ true
 next_is next job is below = rw (eq-eqb job next is, lt-ltb job (2 ^ 64 - 1) (omega (arith, is, below))) refl
 
 -- a sound node with Pending allows a promotion with its next job
-promotion_allowed : (node : Node) (report : Report) (parts : List Part) → Sound node → node.pending ≡ Some parts → report.job ≡ node.next_job → node.next_job < 2 ^ 64 - 1
+pub promotion_allowed : (node : Node) (report : Report) (parts : List Part) → Sound node → node.pending ≡ Some parts → report.job ≡ node.next_job → node.next_job < 2 ^ 64 - 1
     → refusal node (events.Promote report) ≡ None
 promotion_allowed node report parts sound pending job below =
     let agent = agent_some node.agent (λ none. some_none parts node.pending pending (sound.bare none).pending) in

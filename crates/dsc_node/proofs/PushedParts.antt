@@ -25,7 +25,7 @@ pub refused_of : {T : Type 0} (meta : Meta) (parts : List Part) (result : Result
 refused_of {T} meta parts result refusal error is same refused =
     (subst (λ (e : StageError). AreRefused meta parts e) same (subst (λ (r : Result T StageError). IfErr r (AreRefused meta parts)) is refused)).1
 
-memory_of : (error : MergeError) → (error ≢ merging.Memory → ⊥) → error ≡ merging.Memory
+pub memory_of : (error : MergeError) → (error ≢ merging.Memory → ⊥) → error ≡ merging.Memory
 memory_of merging.Memory none = refl
 memory_of (merging.TwoNames first second) none = absurd (none (λ is. cc is))
 memory_of (merging.Part index fault) none = absurd (none (λ is. cc is))

@@ -1,10 +1,12 @@
-//! Laws of starts in a row, of the lines of a run, and of the reports that are sent. The calls do nothing; their clauses are the laws.
+//! Laws of starts, of the lines of a run, and of the reports that are sent. The calls do nothing; their clauses are the laws.
+ghost use Rattle.dsc_node.specs.Complete.{ValidStartsComplete};
 ghost use Rattle.dsc_node.specs.LineLaws.{LinesSpellOneTrace};
 ghost use Rattle.dsc_node.specs.SendingLaws.{ReportsAreMarkedInOrder, ReportsAreSentInOrder};
 ghost use Rattle.dsc_node.specs.Starts.{FindsWhatIsRead, PartsAreBrought, StartsGoOn, StartsJoin};
 ghost use Rattle.dsc_node.specs.Work.{known};
 
 use dsc_outside::{Clock, Disk};
+use node_pull::serving_laws;
 use resource_kinds::Machine;
 
 /// A start finds a node that the start before it may have left, wherever that was stopped, and what that left at its end, where it came to it.
@@ -35,3 +37,11 @@ pub fn reports_are_sent_in_order()
     ensures sent { ReportsAreSentInOrder }
     ensures marked { ReportsAreMarkedInOrder }
 {}
+
+/// A start of valid input in which nothing failed is not refused: it ends with `Done`, where it runs something with `Done`, `NotCompliant` or
+/// `RebootAsked`, or memory ran out.
+pub fn valid_starts_complete<D: Disk, M: Machine, C: Clock>()
+    ensures { ValidStartsComplete (known D.Disk M.Resources M.Machine.own C.Clock) }
+{
+    serving_laws::<M>();
+}

@@ -24,7 +24,8 @@
 //! - what a crash at any moment of a start leaves, and the headline: `specs/Path.antt`, `specs/Headline.antt`, over a
 //!   host `specs/HostHeadline.antt`; one call after another `proofs/Commits.antt`; the headline row by row
 //!   `proofs/Headline.antt`, of its nodes `proofs/Nodes.antt`, of its run `proofs/HeadlineRuns.antt`
-//! - starts in a row: `specs/Starts.antt`, `src/laws.rt`, `proofs/Joining.antt`
+//! - starts in a row: `specs/Starts.antt`, `src/laws.rt`, `proofs/Joining.antt`; which input is valid, and that a start
+//!   of it is not refused: `specs/Complete.antt`, `proofs/Completing.antt`
 //! - what is printed of a run, and that it spells one trace: `src/lines.rt`, `specs/Lines.antt`,
 //!   `specs/LineLaws.antt`; what `get` and `reports` print: `specs/Shown.antt`, `src/showing.rt`
 //! - exit statuses: `src/status.rt`, `specs/Status.antt`
@@ -51,7 +52,10 @@ mod status;
 
 pub use answer::StartEnd;
 pub use command::Command;
-pub use laws::{lines_spell_one_trace, parts_are_brought, reports_are_sent_in_order, starts_join};
+pub use laws::{
+    lines_spell_one_trace, parts_are_brought, reports_are_sent_in_order, starts_join,
+    valid_starts_complete,
+};
 pub use lines::{id, lines_of, push_resources};
 pub use order::ordered_of_merged;
 pub use run::{run_kinds, run_merged};
