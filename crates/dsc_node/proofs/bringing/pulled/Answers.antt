@@ -1,9 +1,8 @@
-use Rattle.std.proofs.Common.{List, Option, Ok, Err, refl, sym, ap, subst, ◌∙◌}
+use Rattle.std.proofs.Common.{List, Ok, Err, refl, ap, subst, ◌∙◌}
 use Rattle.partial_merge.specs.declared.part.Part.{Part}
-use Rattle.node_state.specs.declared.list.Staged.{Staged}
-use Rattle.node_pull.specs.Pulling.{Pulled, list_of}
+use Rattle.node_pull.specs.Pulling.{Pulled}
 use Rattle.dsc_outside.specs.LinkView.{view_of}
-use Rattle.dsc_node.specs.Bringing.{event_by, staged_by}
+use Rattle.dsc_node.specs.Bringing.{event_by}
 use Rattle.dsc_node.proofs.KnownDocuments.{pulled_held, staged_event}
 use Rattle.dsc_node.proofs.Plans.{can_ask}
 use Rattle.dsc_node.proofs.bringing.pulled.Goals as goal
