@@ -14,4 +14,4 @@ with_reason sink ended status lines old new (Some given) some ends = ends given 
 pub returns-then-is_refusal : goal.returns-then-is_refusal
 returns-then-is_refusal g c =
     with_reason g.K.Ends c.args.end.status c.print_refused.result _ c.args.output.now c.print_refused.new.output (reason_of c.args.end.status)
-      (sym c.is_refusal.ensures ∙ c.if-is_refusal.true) c.print_refused.ensures
+    (sym c.is_refusal.ensures ∙ c.if-is_refusal.true) c.print_refused.ensures
