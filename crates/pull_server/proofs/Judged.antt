@@ -28,6 +28,7 @@ use Rattle.pull_server.specs.Answers.{by_table, failed, is_done}
 use Rattle.pull_server.specs.Asked.{asked}
 use Rattle.pull_server.specs.Judging.{IsPastHead, IsSaid, ItemReply, QueryReply, unnamed, was_spent, query_failed, answered, change_asked, past_outcome}
 use Rattle.pull_server.specs.Messages.{fault_text, query_in, registration_in, report_in}
+use Rattle.pull_server.specs.Own.{is_shared}
 use Rattle.pull_server.specs.Replies.{content_reply, message_reply, plain}
 use Rattle.pull_server.specs.Table.{Outcome, leaves, outcome_of, says}
 use Rattle.pull_server.proofs.Rows.{unnamed_query, spent_query, told_query, bad_query}
@@ -37,12 +38,13 @@ never b yes_is no_is = absurd (false≢true (sym no_is ∙ yes_is))
 
 module _ (store : StoreTerm) (request : Request) (aim : Result Target ℕ) (holds : Option Contents) (rose : Type 0) where
   -- a refusal of the table
-  pub refuses : (reply : Reply) (code : ℕ) (body : List ℕ) → reply ≡ saying code body → is_done code ≡ false → (code == 500) ≡ false
+  pub refuses : (reply : Reply) (code : ℕ) (body : List ℕ) → reply ≡ saying code body → is_done code ≡ false → is_shared code ≡ false
       → ((shelf : Contents) → holds ≡ Some shelf → outcome_of (asked store shelf request aim) ≡ Some (says code body)) → IsSaid store request aim holds rose reply
   refuses reply code body is undone other row = record {
     pulled = λ shelf told. by_table (says code body) (row shelf told) is refl;
     nothing = λ done. never (is_done code) (sym (ap (λ (r : Reply). is_done r.code) is) ∙ done) undone;
-    cause = λ fault. never (code == 500) (eq-eqb code 500 (sym (ap (λ (r : Reply). r.code) is) ∙ fault)) other;
+    cause = λ fault. never (is_shared code) (sym (ap (λ (r : Reply). is_shared r.code) is) ∙ ap is_shared fault) other;
+    own = λ shared. never (is_shared code) (sym (ap (λ (r : Reply). is_shared r.code) is) ∙ shared) other;
   }
 
   -- a count rose
@@ -51,6 +53,7 @@ module _ (store : StoreTerm) (request : Request) (aim : Result Target ℕ) (hold
     pulled = λ shelf told. failed rises is refl;
     nothing = λ done. never (is_done 500) (sym (ap (λ (r : Reply). is_done r.code) is) ∙ done) refl;
     cause = λ fault. inl rises;
+    own = λ shared. ap (λ (r : Reply). r.code) is;
   }
 
   -- the store is spent
@@ -60,6 +63,7 @@ module _ (store : StoreTerm) (request : Request) (aim : Result Target ℕ) (hold
     pulled = λ shelf told. by_table (says 500 []) (row shelf told) is refl;
     nothing = λ done. never (is_done 500) (sym (ap (λ (r : Reply). is_done r.code) is) ∙ done) refl;
     cause = λ fault. inr spent;
+    own = λ shared. ap (λ (r : Reply). r.code) is;
   }
 
   -- what is answered asks for no change
@@ -69,6 +73,7 @@ module _ (store : StoreTerm) (request : Request) (aim : Result Target ℕ) (hold
     pulled = λ shelf told. by_table (leaves reply) (row shelf told) refl refl;
     nothing = λ done. none;
     cause = λ fault. never (200 == 500) (eq-eqb 200 500 (sym is ∙ fault)) refl;
+    own = λ shared. never (is_shared 200) (sym (ap is_shared is) ∙ shared) refl;
   }
 
 abbrev told_by : Reply → Option Outcome

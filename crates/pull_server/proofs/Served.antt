@@ -26,7 +26,7 @@ use Rattle.pull_store.specs.Stands.{Stands}
 use Rattle.pull_store.specs.Store.{StoreTerm, IsReady, WasTried, bank_capacity, is_spent, whole_need}
 use Rattle.pull_store.proofs.Committed.{is_kept, kept_stands}
 use Rattle.pull_outside.specs.Shelf.{Contents}
-use Rattle.pull_server.specs.Answers.{IsAcknowledged, IsMade, LeavesRows, Pulled, Replies, by_table, Serves, is_done}
+use Rattle.pull_server.specs.Answers.{IsAcknowledged, IsCrowded, IsMade, IsOverfull, LeavesRows, Pulled, Replies, by_table, Serves, is_done}
 use Rattle.pull_server.specs.Answers.{failed as rose_failed}
 use Rattle.pull_server.specs.Asked.{Asks, IsAim, Over, asked, change_to, is_full_for}
 use Rattle.pull_server.specs.Judging.{Passes, change_asked, kept_outcome}
@@ -42,6 +42,14 @@ code_of reply = reply.code
 
 undone : {X : Type 0} (reply : Reply) (code : ℕ) → reply ≡ plain code → is_done code ≡ false → is_done reply.code ≡ true → X
 undone reply code is never_done done = never (is_done code) (sym (ap (λ (r : Reply). is_done r.code) is) ∙ done) never_done
+
+-- a change that was made is answered by a code that says so
+unlike : {X : Type 0} (other code : ℕ) (reply : Reply) → is_done code ≡ true → reply ≡ plain code → reply.code ≡ other → is_done other ≡ false → X
+unlike other code reply done is same isnt = never (is_done other) (sym (ap is_done same) ∙ ap (λ (r : Reply). is_done r.code) is ∙ done) isnt
+
+-- a reply has one code
+differs : {X : Type 0} (code other : ℕ) (reply : Reply) → reply ≡ plain code → reply.code ≡ other → (code == other) ≡ false → X
+differs code other reply is same isnt = never (code == other) (eq-eqb code other (sym (ap (λ (r : Reply). r.code) is) ∙ same)) isnt
 
 no_fault : {X : Type 0} (reply : Reply) (code : ℕ) → reply ≡ plain code → (code == 500) ≡ false → reply.code ≡ 500 → X
 no_fault reply code is other fault = never (code == 500) (eq-eqb code 500 (sym (ap (λ (r : Reply). r.code) is) ∙ fault)) other
@@ -72,17 +80,31 @@ module _ {D : Type 0} (d : Ghosts D) (request : Request) (old : StoreTerm) (befo
   acknowledges code rose reply new now ready (overfull unspent accepted full is same) done = undone reply 507 is refl done
   acknowledges code rose reply new now ready (failed unspent rises is rows) done = undone reply 500 is refl done
 
+  leaves : (code : ℕ) (rose : Type 0) (reply : Reply) (new : StoreTerm) → is_done code ≡ true → KeptBy old change code rose reply new
+      → is_done reply.code ≡ false → new.rows ≡ old.rows
+  leaves code rose reply new done (made tried is rows fresh) undone = never (is_done code) done (sym (ap (λ (r : Reply). is_done r.code) is) ∙ undone)
+  leaves code rose reply new done (was_spent spent is same) undone = ap (λ (s : StoreTerm). s.rows) same
+  leaves code rose reply new done (crowded unspent many is same) undone = ap (λ (s : StoreTerm). s.rows) same
+  leaves code rose reply new done (overfull unspent accepted full is same) undone = ap (λ (s : StoreTerm). s.rows) same
+  leaves code rose reply new done (failed unspent rises is rows) undone = rows
+
+  leaves_ok : (code : ℕ) (rose : Type 0) (result : Result Reply Memory) (new : StoreTerm) → is_done code ≡ true → IfOk result (λ reply. KeptBy old change code rose reply new)
+      → IfOk result (λ reply. is_done reply.code ≡ false → new.rows ≡ old.rows)
+  leaves_ok code rose (Ok reply) new done kept = leaves code rose reply new done kept
+  leaves_ok code rose (Err e) new done kept = tt
+
   acknowledges_ok : (code : ℕ) (rose : Type 0) (result : Result Reply Memory) (new : StoreTerm) (now : D) → IsReady d now new → IfOk result (λ reply. KeptBy old change code rose reply new)
       → IfOk result (λ reply. is_done reply.code ≡ true → IsAcknowledged d request old now new)
   acknowledges_ok code rose (Ok reply) new now ready kept = acknowledges code rose reply new now ready kept
   acknowledges_ok code rose (Err e) new now ready kept = tt
 
-  pub served : (code : ℕ) (result : Result Reply Memory) (new : StoreTerm) (now : D) → Keeps d old change code before result new now → Serves d request shelf old before result new now
-  served code result new now keeps = record {
+  pub served : (code : ℕ) (result : Result Reply Memory) (new : StoreTerm) (now : D) → is_done code ≡ true → Keeps d old change code before result new now → Serves d request shelf old before result new now
+  served code result new now done keeps = record {
     ready = keeps.ready;
     rows = leaves_rows new.rows keeps.rows;
     any_moment = λ kept. leaves_meanwhile now (keeps.any_moment kept);
     acknowledged = acknowledges_ok code (Rose (d.faults before) (d.faults now)) result new now keeps.ready keeps.reply;
+    undone = leaves_ok code (Rose (d.faults before) (d.faults now)) result new done keeps.reply;
     spent = keeps.spent;
     count = keeps.count;
     refused = keeps.refused;
@@ -100,6 +122,7 @@ unserved d request shelf store disk reply now ready none = record {
       let s = kept_stands d disk store kept c (now c left) in
       record { value = s.value; stands = s.stands; has = inl s.has });
   acknowledged = λ done. record { each = λ change asks. absurd (none done change asks) };
+  undone = λ undone. refl;
   spent = λ fresh over. never (is_spent store) over fresh;
   count = omega arith;
   refused = tt;
@@ -115,6 +138,7 @@ unserved_err d request shelf store disk e now ready = record {
       let s = kept_stands d disk store kept c (now c left) in
       record { value = s.value; stands = s.stands; has = inl s.has });
   acknowledged = tt;
+  undone = tt;
   spent = λ fresh over. never (is_spent store) over fresh;
   count = omega arith;
   refused = record { store = refl; disk = refl };
@@ -218,9 +242,37 @@ module _ {D : Type 0} (d : Ghosts D) (request : Request) (old : StoreTerm) (befo
   asks_is = subst (λ (a : Result Target ℕ). change_asked request a ≡ Some change) same asks
 
   pub kept_serves : (shelf : Option Contents) → (WasTried old change → Over shelf (λ contents. IsMade (asked old contents request (Ok target)))) → (code : ℕ) (result : Result Reply Memory) (new : StoreTerm) (now : D)
-      → Keeps d old change code before result new now → Serves d request shelf old before result new now
-  kept_serves shelf made_by code result new now keeps =
-      served d request old before target change target_is asks_is (λ other is. same_Some change other (sym asks ∙ only other is)) shelf made_by code result new now keeps
+      → is_done code ≡ true → Keeps d old change code before result new now → Serves d request shelf old before result new now
+  kept_serves shelf made_by code result new now done keeps =
+      served d request old before target change target_is asks_is (λ other is. same_Some change other (sym asks ∙ only other is)) shelf made_by code result new now done keeps
+
+  -- the causes of 503 and 507
+  is_asked : Asks request change
+  is_asked = record { target = target; aim = target_is; is_change = asks_is }
+
+  pub crowds : (code : ℕ) (rose : Type 0) (reply : Reply) (new : StoreTerm) → is_done code ≡ true → KeptBy old change code rose reply new → reply.code ≡ 503 → IsCrowded old request
+  crowds code rose reply new done (made tried is rows fresh) many = unlike 503 code reply done is many refl
+  crowds code rose reply new done (was_spent spent is same) many = differs 500 503 reply is many refl
+  crowds code rose reply new done (crowded unspent too_many is same) many = record { change = change; asks = is_asked; unspent = unspent; many = too_many }
+  crowds code rose reply new done (overfull unspent accepted full is same) many = differs 507 503 reply is many refl
+  crowds code rose reply new done (failed unspent rises is rows) many = differs 500 503 reply is many refl
+
+  pub overfills : (code : ℕ) (rose : Type 0) (reply : Reply) (new : StoreTerm) → is_done code ≡ true → KeptBy old change code rose reply new → reply.code ≡ 507 → IsOverfull old request
+  overfills code rose reply new done (made tried is rows fresh) over = unlike 507 code reply done is over refl
+  overfills code rose reply new done (was_spent spent is same) over = differs 500 507 reply is over refl
+  overfills code rose reply new done (crowded unspent too_many is same) over = differs 503 507 reply is over refl
+  overfills code rose reply new done (overfull unspent accepted full is same) over = record { change = change; asks = is_asked; unspent = unspent; accepted = accepted; full = full }
+  overfills code rose reply new done (failed unspent rises is rows) over = differs 500 507 reply is over refl
+
+  pub crowds_ok : (code : ℕ) (rose : Type 0) (result : Result Reply Memory) (new : StoreTerm) → is_done code ≡ true → IfOk result (λ reply. KeptBy old change code rose reply new)
+      → IfOk result (λ reply. reply.code ≡ 503 → IsCrowded old request)
+  crowds_ok code rose (Ok reply) new done kept = crowds code rose reply new done kept
+  crowds_ok code rose (Err e) new done kept = tt
+
+  pub overfills_ok : (code : ℕ) (rose : Type 0) (result : Result Reply Memory) (new : StoreTerm) → is_done code ≡ true → IfOk result (λ reply. KeptBy old change code rose reply new)
+      → IfOk result (λ reply. reply.code ≡ 507 → IsOverfull old request)
+  overfills_ok code rose (Ok reply) new done kept = overfills code rose reply new done kept
+  overfills_ok code rose (Err e) new done kept = tt
 
 -- over what the shelf holds
 module _ (store : StoreTerm) (request : Request) (holds : Option Contents) (aim : Result Target ℕ) where

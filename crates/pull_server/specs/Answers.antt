@@ -10,11 +10,12 @@ use Rattle.http_frames.specs.declared.message.Reply.{Reply}
 use Rattle.pull_messages.specs.declared.target_kinds.Target.{Target}
 use Rattle.pull_store.specs.declared.row.Row.{Row}
 use Rattle.pull_store.specs.declared.change.Change.{Change}
-use Rattle.pull_store.specs.Rows.{after}
+use Rattle.pull_store.specs.declared.change.Refusal.TheVariants.{TooMany}
+use Rattle.pull_store.specs.Rows.{after, refusal}
 use Rattle.pull_store.specs.Stands.{Stands}
 use Rattle.pull_store.specs.Store.{StoreTerm, IsKept, IsReady, Untouched, is_spent}
 use Rattle.pull_outside.specs.Shelf.{Contents}
-use Rattle.pull_server.specs.Asked.{Asked, Asks, IsAim, Over, asked, change_to, on, target_in}
+use Rattle.pull_server.specs.Asked.{Asked, Asks, IsAim, Over, asked, change_to, is_full_for, on, target_in}
 use Rattle.pull_server.specs.Replies.{plain}
 use Rattle.pull_server.specs.Table.{Outcome, leaves, makes, outcome_of}
 
@@ -46,6 +47,23 @@ pub record Replies (store : StoreTerm) (shelf : Contents) (request : Request) (r
   pub is_aim : IsAim request.target aim
   pub pulled : Pulled store shelf request aim rose reply rows
 
+-- ---- why a change is not made
+
+-- 503: the request asks for the registration of a new agent, while 512 have a row
+pub record IsCrowded (store : StoreTerm) (request : Request) : Type 0 where
+  pub change : Change
+  pub asks : Asks request change
+  pub unspent : is_spent store ≡ false
+  pub many : refusal change store.rows ≡ Some TooMany
+
+-- 507: the request asks for a change that is accepted, and the store answers Full to it
+pub record IsOverfull (store : StoreTerm) (request : Request) : Type 0 where
+  pub change : Change
+  pub asks : Asks request change
+  pub unspent : is_spent store ≡ false
+  pub accepted : refusal change store.rows ≡ None
+  pub full : is_full_for store (Some change) ≡ true
+
 -- ---- the store and the disk
 
 -- the change that is asked for is made
@@ -75,6 +93,7 @@ pub record Serves {D : Type 0} (d : Ghosts D) (request : Request) (shelf : Optio
   pub rows : LeavesRows old shelf request new.rows
   pub any_moment : IsKept d before old → StandsAtAnyMoment d before now Stands (LeavesRows old shelf request)
   pub acknowledged : IfOk result (λ reply. is_done reply.code ≡ true → IsAcknowledged d request old now new)
+  pub undone : IfOk result (λ reply. is_done reply.code ≡ false → new.rows ≡ old.rows)
   pub spent : is_spent old ≡ false → is_spent new ≡ true → Rose (d.faults before) (d.faults now) × IfOk result (λ reply. reply ≡ plain 500)
   pub count : d.faults before ≤ d.faults now
   -- out of memory, or where the store was spent before, nothing was touched

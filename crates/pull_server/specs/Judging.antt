@@ -21,6 +21,7 @@ use Rattle.pull_server.specs.declared.verdict.Verdict.TheVariants.{Says, Registe
 use Rattle.pull_server.specs.Actions.{action_for, asks_unnamed}
 use Rattle.pull_server.specs.Answers.{Pulled, is_done}
 use Rattle.pull_server.specs.Asked.{Asked, Asks, IsAim, Over, asked, change_to, on, target_in}
+use Rattle.pull_server.specs.Own.{is_shared}
 use Rattle.pull_server.specs.Replies.{content_reply, message_reply, plain}
 use Rattle.pull_server.specs.Table.{Outcome, Rule, bad_message, first, found, no_name, no_place, no_capacity, no_row, not_signed, not_there, outcome_of, registered, reported, spent, told}
 
@@ -57,6 +58,7 @@ pub record IsSaid (store : StoreTerm) (request : Request) (aim : Result Target �
   pub pulled : (shelf : Contents) → holds ≡ Some shelf → Pulled store shelf request aim rose reply store.rows
   pub nothing : is_done reply.code ≡ true → change_asked request aim ≡ None
   pub cause : reply.code ≡ 500 → rose ⊎ (is_spent store ≡ true)
+  pub own : is_shared reply.code ≡ true → reply.code ≡ 500
 
 -- a change that is to be kept
 pub record IsKeeping (store : StoreTerm) (request : Request) (aim : Result Target ℕ) (holds : Option Contents) (change : Change) : Type 0 where

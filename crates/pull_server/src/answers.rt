@@ -5,7 +5,7 @@ ghost use Rattle.pull_outside.specs.Shelf.{Contents};
 ghost use Rattle.pull_store.specs.Sound.{most_bytes};
 ghost use Rattle.pull_store.specs.Stands.{Stands};
 ghost use Rattle.pull_store.specs.Store.{IsKept, IsReady, is_spent};
-ghost use Rattle.pull_server.specs.Answers.{AnyFaultRose, IsAcknowledged, LeavesRows, Replies, Serves, is_done};
+ghost use Rattle.pull_server.specs.Answers.{AnyFaultRose, IsAcknowledged, IsCrowded, IsOverfull, LeavesRows, Replies, Serves, is_done};
 
 use crate::judging::judge;
 use crate::keeping::{keep_registration, keep_report};
@@ -21,8 +21,10 @@ use std::alloc::Global;
 ///
 /// The body has at most 131,072 bytes. A registration and a report are answered 204 and 200 only once every image of the disk
 /// stands for the rows after them. A crash at any moment leaves the rows before the request, or those after the change that the
-/// table makes. 500 comes only where the count of faults of the disk or of the shelf rose, or where the store was spent. Where it
-/// runs out of memory, or the store was spent before, store and disk are as they were.
+/// table makes. 500 comes only where the count of faults of the disk or of the shelf rose, or where the store was spent; 503 only
+/// to a registration that the rows refuse, and 507 only to a change that has no capacity. A reply that does not say that the request
+/// was done leaves the rows as they were. Where it runs out of memory, or the store was spent before, store and disk are as they
+/// were.
 pub fn answer<D: Disk, S: Shelf>(
     alloc: Global,
     store: &mut PullStore,
@@ -39,6 +41,10 @@ pub fn answer<D: Disk, S: Shelf>(
     ensures cause { IfOk result (λ reply. reply.code ≡ 500
         → AnyFaultRose D.Disk S.Shelf disk.old disk.new shelf.old shelf.new
         ⊎ (is_spent store.old ≡ true)) }
+    ensures crowded { IfOk result (λ reply. reply.code ≡ 503
+        → IsCrowded store.old request.now) }
+    ensures overfull { IfOk result (λ reply. reply.code ≡ 507
+        → IsOverfull store.old request.now) }
     ensures serves { Serves D.Disk request.now (S.holds shelf.old)
         store.old disk.old result store.new disk.new }
     ensures shelf { S.holds shelf.new ≡ S.holds shelf.old }

@@ -12,7 +12,7 @@ use Rattle.pull_server.specs.Replies.{plain}
 use Rattle.pull_serving.specs.declared.connection.ConnectionEnd.{ConnectionEnd}
 use Rattle.pull_serving.specs.declared.connection.ConnectionEnd.TheVariants as ends
 use Rattle.pull_serving.specs.Sent.{IsSentEnd}
-use Rattle.pull_serving.specs.Turn.{IsEnd, IsReply, ShowsFault, State, Turn}
+use Rattle.pull_serving.specs.Turn.{Answering, IsEnd, IsReply, ShowsFault, State, Turn}
 
 pub rose_earlier : (before mid after : ℕ) → before ≤ mid → Rose mid after → Rose before after
 rose_earlier before mid after le rose = omega (arith, le, rose)
@@ -29,12 +29,12 @@ pub record Broke (before after : State) (reply : Reply) : Type 0 where
   pub rose : Rose before.disk_faults after.disk_faults
   pub is : reply ≡ plain 500
 
-module _ (shelf : Option Contents) (came went : Known) (mid : ℕ) (later : came.faults ≤ mid) (before after : State) (r : Received) (reply : Reply) (broken : Bool)
+module _ (how : Answering) (shelf : Option Contents) (came went : Known) (mid : ℕ) (later : came.faults ≤ mid) (before after : State) (r : Received) (reply : Reply) (broken : Bool)
     (broke : broken ≡ true → Broke before after reply) where
   abbrev turn : ConnectionEnd → Turn
   turn end = record { came = came; went = went; received = r; before = before; after = after; end = end }
 
-  pub end_is : (end : ConnectionEnd) → IsReply shelf (turn end) r reply → IsSentEnd came.held went.held reply mid went.faults broken end → IsEnd shelf (turn end) end
+  pub end_is : (end : ConnectionEnd) → IsReply how shelf (turn end) r reply → IsSentEnd came.held went.held reply mid went.faults broken end → IsEnd how shelf (turn end) end
   end_is (ends.Answered code) is sent = record { reply = reply; is_reply = is; has_code = sent.1; written = sent.2 }
   end_is ends.DiskFault is sent =
       let b = broke sent.0 in
@@ -42,7 +42,7 @@ module _ (shelf : Option Contents) (came went : Known) (mid : ℕ) (later : came
         fresh = b.fresh;
         spent = b.spent;
         rose = b.rose;
-        is_reply = subst (λ (x : Reply). IsReply shelf (turn ends.DiskFault) r x) b.is is;
+        is_reply = subst (λ (x : Reply). IsReply how shelf (turn ends.DiskFault) r x) b.is is;
         written = subst (λ (x : Reply). Writes came.held went.held (answer_text x) came.faults went.faults) b.is (writes_earlier came.held went.held (answer_text reply) came.faults mid went.faults later sent.1);
       }
   end_is (ends.Torn at) is sent = absurd sent

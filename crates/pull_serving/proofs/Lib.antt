@@ -1,6 +1,8 @@
+mod Alone
 pub mod Ends
 pub mod Opened
 mod Parting
 pub mod Pushed
 pub mod Served
+pub mod ServerLinked
 pub mod Stepped

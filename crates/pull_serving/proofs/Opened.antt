@@ -9,15 +9,15 @@ use Rattle.pull_store.specs.Store.{IsOpened, StoreTerm}
 use Rattle.pull_serving.specs.declared.status.ServeStatus.{ServeStatus}
 use Rattle.pull_serving.specs.Printing.{Output, Printed}
 use Rattle.pull_serving.specs.Serving.{Around, IsOpenedRun}
-use Rattle.pull_serving.specs.Turn.{state}
+use Rattle.pull_serving.specs.Turn.{Answering, state}
 use Rattle.pull_serving.specs.Turns.{IsRun, Visits}
 
-pub opened_run : {D : Type 0} (d : Ghosts D) (count : ℕ) (before mid after : D) (old new : Around) (out out_after : Output) (status : ServeStatus) (opened last : StoreTerm)
+pub opened_run : {D : Type 0} (how : Answering) (d : Ghosts D) (count : ℕ) (before mid after : D) (old new : Around) (out out_after : Output) (status : ServeStatus) (opened last : StoreTerm)
     → IsOpened d before mid opened → d.faults before ≤ d.faults mid → AtAnyMoment d before mid (From KeepsRows (d.images before))
-    → IsRun d mid after old.shelf (state d mid opened old.shelf_faults) (state d after last new.shelf_faults) old.door new.door
+    → IsRun how d mid after old.shelf (state d mid opened old.shelf_faults) (state d after last new.shelf_faults) old.door new.door
     (Printed count (state d after last new.shelf_faults) old.door_faults new.door_faults out out_after status)
-    → new.shelf ≡ old.shelf → IsOpenedRun d count before after old new out out_after status
-opened_run d count before mid after old new out out_after status opened last is later opening run same =
+    → new.shelf ≡ old.shelf → IsOpenedRun how d count before after old new out out_after status
+opened_run how d count before mid after old new out out_after status opened last is later opening run same =
     let first = state d mid opened old.shelf_faults in
     record {
       disk = mid;

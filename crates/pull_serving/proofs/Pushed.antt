@@ -13,17 +13,17 @@ use Rattle.pull_exchange.specs.declared.exchange.Received.TheVariants as receive
 use Rattle.dsc_outside.specs.Streams.{AppendsPart}
 use Rattle.pull_store.specs.declared.row.Row.{Row}
 use Rattle.pull_store.specs.Stands.{Stands}
-use Rattle.pull_store.specs.Store.{IsKept, IsReady, StoreTerm, is_spent}
+use Rattle.pull_store.specs.Store.{IsKept, StoreTerm, is_spent}
 use Rattle.pull_store.proofs.Committed.{kept_stands}
 use Rattle.pull_serving.specs.declared.connection.ConnectionEnd.{ConnectionEnd}
 use Rattle.pull_serving.specs.Printing.{IsCutOff, line, lines}
-use Rattle.pull_serving.specs.Turn.{IsTurn, MayLeave, State, Turn, state}
-use Rattle.pull_serving.specs.Turns.{Doorway, Gave, IsRun, IsStep, Lasts, Passes, Runs, Took, Visits, came, handed_back}
+use Rattle.pull_serving.specs.Turn.{Answering, IsTurn, MayLeave, State, Turn, state}
+use Rattle.pull_serving.specs.Turns.{Doorway, Gave, GoesWith, IsRun, IsStep, Lasts, Passes, Runs, Took, Visits, came, handed_back}
 
-runs_push : (shelf : Option Contents) (first : State) (ts : List Turn) (mid : State) (t : Turn) → Runs shelf first ts mid → t.before ≡ mid → is_spent mid.store ≡ false → IsTurn shelf t
-    → Runs shelf first (ts ++ t ∷ []) t.after
-runs_push shelf first [] mid t runs before fresh is = (before ∙ runs, subst (λ (s : State). is_spent s.store ≡ false) runs fresh, is, refl)
-runs_push shelf first (u ∷ ts) mid t runs before fresh is = (runs.0, runs.1, runs.2, runs_push shelf u.after ts mid t runs.3 before fresh is)
+runs_push : (how : Answering) (shelf : Option Contents) (first : State) (ts : List Turn) (mid : State) (t : Turn) → Runs how shelf first ts mid → t.before ≡ mid → is_spent mid.store ≡ false → IsTurn how shelf t
+    → Runs how shelf first (ts ++ t ∷ []) t.after
+runs_push how shelf first [] mid t runs before fresh is = (before ∙ runs, subst (λ (s : State). is_spent s.store ≡ false) runs fresh, is, refl)
+runs_push how shelf first (u ∷ ts) mid t runs before fresh is = (runs.0, runs.1, runs.2, runs_push how shelf u.after ts mid t runs.3 before fresh is)
 
 map_push : {X Y : Type 0} (f : X → Y) (xs : List X) (x : X) → map f (xs ++ x ∷ []) ≡ map f xs ++ f x ∷ []
 map_push f [] x = refl
@@ -70,31 +70,30 @@ may_stay shelf received.Memory store = refl
 stays : (shelf : Option Contents) (r : Received) (store : StoreTerm) (c : List ℕ) → StandsFor Stands (λ rows. rows ≡ store.rows) c → StandsFor Stands (MayLeave shelf r store) c
 stays shelf r store c s = record { value = s.value; stands = s.stands; has = subst (λ (rows : List Row). MayLeave shelf r store rows) (sym s.has) (may_stay shelf r store) }
 
-visits_earlier : (shelf : Option Contents) (first : State) (ts : List Turn) (mid : State) (t : Turn) (c : List ℕ) → Runs shelf first ts mid → t.before ≡ mid
+visits_earlier : (how : Answering) (shelf : Option Contents) (first : State) (ts : List Turn) (mid : State) (t : Turn) (c : List ℕ) → Runs how shelf first ts mid → t.before ≡ mid
     → Visits shelf first ts c → Visits shelf first (ts ++ t ∷ []) c
-visits_earlier shelf first [] mid t c runs before stands = inl (stays shelf t.received t.before.store c (subst (λ (s : State). StandsFor Stands (λ rows. rows ≡ s.store.rows) c) (sym runs ∙ sym before) stands))
-visits_earlier shelf first (u ∷ ts) mid t c runs before (inl here) = inl here
-visits_earlier shelf first (u ∷ ts) mid t c runs before (inr later) = inr (visits_earlier shelf u.after ts mid t c runs.3 before later)
+visits_earlier how shelf first [] mid t c runs before stands = inl (stays shelf t.received t.before.store c (subst (λ (s : State). StandsFor Stands (λ rows. rows ≡ s.store.rows) c) (sym runs ∙ sym before) stands))
+visits_earlier how shelf first (u ∷ ts) mid t c runs before (inl here) = inl here
+visits_earlier how shelf first (u ∷ ts) mid t c runs before (inr later) = inr (visits_earlier how shelf u.after ts mid t c runs.3 before later)
 
 visits_last : (shelf : Option Contents) (first : State) (ts : List Turn) (t : Turn) (c : List ℕ) → StandsFor Stands (MayLeave shelf t.received t.before.store) c → Visits shelf first (ts ++ t ∷ []) c
 visits_last shelf first [] t c stands = inl stands
 visits_last shelf first (u ∷ ts) t c stands = inr (visits_last shelf u.after ts t c stands)
 
-lasts_push : {D : Type 0} (d : Ghosts D) (mid new : D) (shelf : Option Contents) (first half : State) (ts : List Turn) (t : Turn) → Runs shelf first ts half → t.before ≡ half
+lasts_push : {D : Type 0} (how : Answering) (d : Ghosts D) (mid new : D) (shelf : Option Contents) (first half : State) (ts : List Turn) (t : Turn) → Runs how shelf first ts half → t.before ≡ half
     → Lasts shelf (d.moment mid) (d.left_since mid) ts → StandsAtAnyMoment d mid new Stands (MayLeave shelf t.received t.before.store) → t.after.moment ≡ d.moment new
     → (is_spent t.after.store ≡ false → (c : List ℕ) → d.left_since new t.after.moment c → StandsFor Stands (λ rows. rows ≡ t.after.store.rows) c)
     → Lasts shelf (d.moment new) (d.left_since new) (ts ++ t ∷ [])
-lasts_push d mid new shelf first half [] t runs before lasts run ends stands = (omega (arith, ends), stands, tt)
-lasts_push d mid new shelf first half (u ∷ ts) t runs before lasts run ends stands = (
+lasts_push how d mid new shelf first half [] t runs before lasts run ends stands = (omega (arith, ends), stands, tt)
+lasts_push how d mid new shelf first half (u ∷ ts) t runs before lasts run ends stands = (
   omega (arith, lasts.0, run.later),
-  (λ unspent c here. ⊎_elim (λ past. visits_earlier shelf u.after ts half t c runs.3 before (lasts.1 unspent c past)) (λ now. visits_last shelf u.after ts t c now) (run.before u.after.moment c lasts.0 here)),
-  lasts_push d mid new shelf u.after half ts t runs.3 before lasts.2 run ends stands,
+  (λ unspent c here. ⊎_elim (λ past. visits_earlier how shelf u.after ts half t c runs.3 before (lasts.1 unspent c past)) (λ now. visits_last shelf u.after ts t c now) (run.before u.after.moment c lasts.0 here)),
+  lasts_push how d mid new shelf u.after half ts t runs.3 before lasts.2 run ends stands,
 )
 
-passes_push : {D : Type 0} (d : Ghosts D) (shelf : Option Contents) (old mid new : D) (ts : List Turn) (t : Turn) → Passes d shelf old ts mid → t.after ≡ state d new t.after.store t.after.shelf_faults → IsReady d new t.after.store
-    → StandsAtAnyMoment d mid new Stands (MayLeave shelf t.received t.before.store) → Passes d shelf old (ts ++ t ∷ []) new
-passes_push d shelf old mid new [] t passes is ready run = (new, is, ready, subst (λ x. StandsAtAnyMoment d x new Stands (MayLeave shelf t.received t.before.store)) passes run, refl)
-passes_push d shelf old mid new (u ∷ ts) t passes is ready run = (passes.0, passes.1, passes.2, passes.3, passes_push d shelf passes.0 mid new ts t passes.4 is ready run)
+passes_push : {D : Type 0} (d : Ghosts D) (shelf : Option Contents) (old mid new : D) (ts : List Turn) (t : Turn) → Passes d shelf old ts mid → GoesWith d shelf mid new t → Passes d shelf old (ts ++ t ∷ []) new
+passes_push d shelf old mid new [] t passes goes = (new, subst (λ x. GoesWith d shelf x new t) passes goes, refl)
+passes_push d shelf old mid new (u ∷ ts) t passes goes = (passes.0, passes.1, passes_push d shelf passes.0 mid new ts t passes.2 goes)
 
 took_none : (coming : Option (List Known)) → Took coming coming []
 took_none None = refl
@@ -105,10 +104,10 @@ gave_none None = refl
 gave_none (Some before) = ap some_handed_back (sym (append-nil before))
 
 -- no turn yet
-pub run_start : {D : Type 0} (d : Ghosts D) (disk : D) (store : StoreTerm) (shelf : Option Contents) (shelf_faults : ℕ) (door : Doorway) (Printed : List Turn → Type 0)
+pub run_start : {D : Type 0} (how : Answering) (d : Ghosts D) (disk : D) (store : StoreTerm) (shelf : Option Contents) (shelf_faults : ℕ) (door : Doorway) (Printed : List Turn → Type 0)
     → ((c : List ℕ) → d.left_since disk (d.moment disk) c → d.images disk c) → IsKept d disk store → Printed []
-    → IsRun d disk disk shelf (state d disk store shelf_faults) (state d disk store shelf_faults) door door Printed
-run_start d disk store shelf shelf_faults door Printed now kept printed = record {
+    → IsRun how d disk disk shelf (state d disk store shelf_faults) (state d disk store shelf_faults) door door Printed
+run_start how d disk store shelf shelf_faults door Printed now kept printed = record {
   turns = [];
   runs = refl;
   took = took_none door.coming;
@@ -121,31 +120,31 @@ run_start d disk store shelf shelf_faults door Printed now kept printed = record
 }
 
 -- one turn more
-pub run_push : {D : Type 0} (d : Ghosts D) (old mid new : D) (shelf now : Option Contents) (first half last : State) (door door1 door2 : Doorway) (end : ConnectionEnd) (Before After : List Turn → Type 0)
-    → IsRun d old mid shelf first half door door1 Before → IsStep d mid new now half last door1 door2 end → now ≡ shelf
+pub run_push : {D : Type 0} (how : Answering) (d : Ghosts D) (old mid new : D) (shelf now : Option Contents) (first half last : State) (door door1 door2 : Doorway) (end : ConnectionEnd) (Before After : List Turn → Type 0)
+    → IsRun how d old mid shelf first half door door1 Before → IsStep how d mid new now half last door1 door2 end → now ≡ shelf
     → ((ts : List Turn) (t : Turn) → Before ts → t.end ≡ end → After (ts ++ t ∷ []))
-    → IsRun d old new shelf first last door door2 After
-run_push d old mid new shelf now first half last door door1 door2 end Before After run stepped same printed =
-    let step = subst (λ (s : Option Contents). IsStep d mid new s half last door1 door2 end) same stepped in
+    → IsRun how d old new shelf first last door door2 After
+run_push how d old mid new shelf now first half last door door1 door2 end Before After run stepped same printed =
+    let step = subst (λ (s : Option Contents). IsStep how d mid new s half last door1 door2 end) same stepped in
     let turns = run.turns ++ step.turn ∷ [] in
     record {
       turns = turns;
-      runs = subst (λ (s : State). Runs shelf first turns s) step.leaves (runs_push shelf first run.turns half step.turn run.runs step.starts step.fresh step.is_turn);
+      runs = subst (λ (s : State). Runs how shelf first turns s) step.leaves (runs_push how shelf first run.turns half step.turn run.runs step.starts step.fresh step.is_turn);
       took = took_push door.coming door1.coming door2.coming run.turns step.turn run.took step.took;
       gave = gave_push door.back door1.back door2.back run.turns step.turn run.gave step.gave;
       none_out = step.none_out ∙ run.none_out;
       printed = printed run.turns step.turn run.printed step.ends;
-      passes = passes_push d shelf old mid new run.turns step.turn run.passes step.is_state step.ready step.any_moment;
+      passes = passes_push d shelf old mid new run.turns step.turn run.passes step.goes;
       any_moment = then_on d.moment d.left_since old mid new (Visits shelf first turns) (StandsFor Stands (MayLeave shelf step.turn.received step.turn.before.store))
-          (weaker d.moment d.left_since old mid (Visits shelf first run.turns) (Visits shelf first turns) run.any_moment (λ c here. visits_earlier shelf first run.turns half step.turn c run.runs step.starts here))
-          step.any_moment (λ c here. visits_last shelf first run.turns step.turn c here);
-      lasts = lasts_push d mid new shelf first half run.turns step.turn run.runs step.starts run.lasts step.any_moment step.ends_now step.stands;
+          (weaker d.moment d.left_since old mid (Visits shelf first run.turns) (Visits shelf first turns) run.any_moment (λ c here. visits_earlier how shelf first run.turns half step.turn c run.runs step.starts here))
+          step.goes.any_moment (λ c here. visits_last shelf first run.turns step.turn c here);
+      lasts = lasts_push how d mid new shelf first half run.turns step.turn run.runs step.starts run.lasts step.goes.any_moment step.ends_now step.stands;
     }
 
 -- the same turns, of which something else was printed
-pub run_printed : {D : Type 0} (d : Ghosts D) (old new : D) (shelf : Option Contents) (first last : State) (door door1 : Doorway) (Before After : List Turn → Type 0)
-    → IsRun d old new shelf first last door door1 Before → ((ts : List Turn) → Before ts → After ts) → IsRun d old new shelf first last door door1 After
-run_printed d old new shelf first last door door1 Before After run printed = record {
+pub run_printed : {D : Type 0} (how : Answering) (d : Ghosts D) (old new : D) (shelf : Option Contents) (first last : State) (door door1 : Doorway) (Before After : List Turn → Type 0)
+    → IsRun how d old new shelf first last door door1 Before → ((ts : List Turn) → Before ts → After ts) → IsRun how d old new shelf first last door door1 After
+run_printed how d old new shelf first last door door1 Before After run printed = record {
   turns = run.turns;
   runs = run.runs;
   took = run.took;

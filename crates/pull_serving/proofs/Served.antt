@@ -16,18 +16,18 @@ use Rattle.pull_outside.specs.Shelf.{Contents}
 use Rattle.pull_store.specs.Stands.{Stands}
 use Rattle.pull_store.specs.Store.{IsKept, StoreTerm, Untouched, is_spent}
 use Rattle.pull_store.proofs.Committed.{kept_stands}
-use Rattle.pull_server.specs.Answers.{IsAcknowledged, Replies, Serves, is_done}
+use Rattle.pull_server.specs.Answers.{IsAcknowledged, IsCrowded, IsOverfull, Serves, is_done}
 use Rattle.pull_serving.specs.declared.connection.ConnectionEnd.{ConnectionEnd}
 use Rattle.pull_serving.specs.declared.connection.ConnectionEnd.TheVariants as ends
 use Rattle.pull_serving.specs.Sent.{IsSentEnd}
-use Rattle.pull_serving.specs.Turn.{Acknowledges, IsEnd, IsServed, MayLeave, State, Leaves, Rests, state}
+use Rattle.pull_serving.specs.Turn.{Acknowledges, Answering, IsEnd, IsServed, MayLeave, State, Leaves, Rests, state}
 use Rattle.pull_serving.proofs.Ends.{Broke, end_is, newly, newly_is, shows}
 use Rattle.pull_serving.proofs.Pushed.{may_stay}
 
 never : {X : Type 0} (b : Bool) → b ≡ true → b ≡ false → X
 never b holds fails = absurd (cc (holds, fails))
 
-module _ {D : Type 0} (d : Ghosts D) (before : D) (shelf : Option Contents) (came went : Known) (store : StoreTerm) (shelf_faults : ℕ) where
+module _ {D : Type 0} (how : Answering) (d : Ghosts D) (before : D) (shelf : Option Contents) (came went : Known) (store : StoreTerm) (shelf_faults : ℕ) where
   -- ---- a request
 
   module _ (now : D) (new : StoreTerm) (shelf_faults_after : ℕ) (request : Request) (heard : IfSome came.left (λ bytes. IsReceived bytes (received.Request request))) where
@@ -47,11 +47,12 @@ module _ {D : Type 0} (d : Ghosts D) (before : D) (shelf : Option Contents) (cam
     acknowledges reply broken mid ends.Memory sent known = tt
 
     pub served_request : (reply : Reply) (broken : Bool) (mid : ℕ) (end : ConnectionEnd) → came.faults ≤ mid → broken ≡ (not (is_spent store) && is_spent new) → Serves d request shelf store before (Ok reply) new now
-        → ((contents : Contents) → shelf ≡ Some contents → Replies store contents request (Rose (d.faults before) (d.faults now) ⊎ Rose shelf_faults shelf_faults_after) reply new.rows)
+        → ((contents : Contents) → shelf ≡ Some contents → how store contents request (Rose (d.faults before) (d.faults now) ⊎ Rose shelf_faults shelf_faults_after) reply new.rows)
         → (reply.code ≡ 500 → (Rose (d.faults before) (d.faults now) ⊎ Rose shelf_faults shelf_faults_after) ⊎ (is_spent store ≡ true))
+        → (reply.code ≡ 503 → IsCrowded store request) → (reply.code ≡ 507 → IsOverfull store request)
         → IsSentEnd came.held went.held reply mid went.faults broken end → shelf_faults ≤ shelf_faults_after → came.faults ≤ went.faults
-        → IsServed d before now shelf came went old_state new_state end
-    served_request reply broken mid end later is_broken serves replies cause sent shelf_later conn_later =
+        → IsServed how d before now shelf came went old_state new_state end
+    served_request reply broken mid end later is_broken serves replies cause crowded overfull sent shelf_later conn_later =
         let broke : broken ≡ true → Broke old_state new_state reply = λ is.
         let n = newly (is_spent store) (is_spent new) broken is_broken is in
         let rose = serves.spent n.0 n.1 in
@@ -62,10 +63,17 @@ module _ {D : Type 0} (d : Ghosts D) (before : D) (shelf : Option Contents) (cam
             heard = heard;
             rows = serves.rows;
             leaves = tt;
-            end = end_is shelf came went mid later old_state new_state (received.Request request) reply broken broke end (record { table = replies; cause = cause }) sent;
+            end = end_is how shelf came went mid later old_state new_state (received.Request request) reply broken broke end (record {
+              table = replies;
+              cause = cause;
+              crowded = crowded;
+              overfull = overfull;
+              done = λ done change asks. ((serves.acknowledged done).each change asks).0;
+              undone = serves.undone;
+            }) sent;
             spent = λ fresh over. (
               (serves.spent fresh over).0,
-              shows shelf came went mid later old_state new_state (received.Request request) reply broken broke end sent (newly_is (is_spent store) (is_spent new) broken is_broken fresh over),
+              shows how shelf came went mid later old_state new_state (received.Request request) reply broken broke end sent (newly_is (is_spent store) (is_spent new) broken is_broken fresh over),
             );
             disk_count = serves.count;
             shelf_count = shelf_later;
@@ -78,7 +86,7 @@ module _ {D : Type 0} (d : Ghosts D) (before : D) (shelf : Option Contents) (cam
 
     -- memory was refused for the reply
     pub served_without_memory : (result : Result Reply Memory) → IsErr result → Serves d request shelf store before result new now → went.held ≡ came.held
-        → shelf_faults ≤ shelf_faults_after → came.faults ≤ went.faults → IsServed d before now shelf came went old_state new_state ends.Memory
+        → shelf_faults ≤ shelf_faults_after → came.faults ≤ went.faults → IsServed how d before now shelf came went old_state new_state ends.Memory
     served_without_memory (Ok reply) fails serves silent shelf_later conn_later = absurd (cc fails)
     served_without_memory (Err e) fails serves silent shelf_later conn_later = record {
       received = received.Request request;
@@ -127,8 +135,8 @@ module _ {D : Type 0} (d : Ghosts D) (before : D) (shelf : Option Contents) (cam
 
     -- what was received is no request
     pub served_otherwise : (r : Received) (end : ConnectionEnd) → IfSome came.left (λ bytes. IsReceived bytes r)
-        → IsEnd shelf (record { came = came; went = went; received = r; before = here; after = here; end = end }) end → Acknowledges d r store before store end → came.faults ≤ went.faults
-        → IsServed d before before shelf came went here here end
+        → IsEnd how shelf (record { came = came; went = went; received = r; before = here; after = here; end = end }) end → Acknowledges d r store before store end → came.faults ≤ went.faults
+        → IsServed how d before before shelf came went here here end
     served_otherwise r end heard is acknowledged later = record {
       received = r;
       turn = record {
@@ -147,14 +155,14 @@ module _ {D : Type 0} (d : Ghosts D) (before : D) (shelf : Option Contents) (cam
     }
 
     refused_end : (e : FrameError) (reply : Reply) (mid : ℕ) (end : ConnectionEnd) → came.faults ≤ mid → IsRefusal e → reply ≡ refusal_of e → IsSentEnd came.held went.held reply mid went.faults false end
-        → IsEnd shelf (record { came = came; went = went; received = received.Refused e; before = here; after = here; end = end }) end
+        → IsEnd how shelf (record { came = came; went = went; received = received.Refused e; before = here; after = here; end = end }) end
     refused_end e reply mid end later fault is sent =
-        end_is shelf came went mid later here here (received.Refused e) reply false (λ x. absurd (cc x)) end (fault, is) sent
+        end_is how shelf came went mid later here here (received.Refused e) reply false (λ x. absurd (cc x)) end (fault, is) sent
 
     quiet : (e : FrameError) (end : ConnectionEnd) → Acknowledges d (received.Refused e) store before store end
     quiet e end = tt
 
     -- what was received is no request, and was refused
     pub served_refused : (e : FrameError) (reply : Reply) (mid : ℕ) (end : ConnectionEnd) → IfSome came.left (λ bytes. IsReceived bytes (received.Refused e)) → came.faults ≤ mid → IsRefusal e → reply ≡ refusal_of e
-        → IsSentEnd came.held went.held reply mid went.faults false end → came.faults ≤ went.faults → IsServed d before before shelf came went here here end
+        → IsSentEnd came.held went.held reply mid went.faults false end → came.faults ≤ went.faults → IsServed how d before before shelf came went here here end
     served_refused e reply mid end heard later fault is sent conn_later = served_otherwise (received.Refused e) end heard (refused_end e reply mid end later fault is sent) (quiet e end) conn_later

@@ -7,18 +7,18 @@ use Rattle.pull_store.specs.Store.{IsKept, IsReady, StoreTerm}
 use Rattle.pull_store.proofs.Committed.{is_kept, kept_stands}
 use Rattle.pull_serving.specs.declared.connection.ConnectionEnd.{ConnectionEnd}
 use Rattle.pull_serving.specs.Parting.{parting_of}
-use Rattle.pull_serving.specs.Turn.{IsServed, state}
+use Rattle.pull_serving.specs.Turn.{Answering, IsServed, state}
 use Rattle.pull_serving.specs.Turns.{IsStep}
 
-pub stepped : {D : Type 0} (d : Ghosts D) (old new : D) (shelf : Option Contents) (store store_after : StoreTerm) (shelf_faults shelf_faults_after : ℕ) (came went : Known) (end : ConnectionEnd)
+pub stepped : {D : Type 0} (how : Answering) (d : Ghosts D) (old new : D) (shelf : Option Contents) (store store_after : StoreTerm) (shelf_faults shelf_faults_after : ℕ) (came went : Known) (end : ConnectionEnd)
     → IsKept d old store → IsReady d new store_after
-    → IsServed d old new shelf came went (state d old store shelf_faults) (state d new store_after shelf_faults_after) end
+    → IsServed how d old new shelf came went (state d old store shelf_faults) (state d new store_after shelf_faults_after) end
     → ((c : List ℕ) → d.left_since new (d.moment new) c → d.images new c)
     → (coming coming_after : Option (List Known)) (back back_after : Option (List HandedBack)) (out out_after : ℕ)
     → TakesFirst coming coming_after came → GetsBack back back_after (record { known = went; parting = parting_of end }) → out_after ≡ out
-    → IsStep d old new shelf (state d old store shelf_faults) (state d new store_after shelf_faults_after) (record { coming = coming; back = back; out = out })
+    → IsStep how d old new shelf (state d old store shelf_faults) (state d new store_after shelf_faults_after) (record { coming = coming; back = back; out = out })
     (record { coming = coming_after; back = back_after; out = out_after }) end
-stepped d old new shelf store store_after shelf_faults shelf_faults_after came went end kept ready served now coming coming_after back back_after out out_after took gave none_out = record {
+stepped how d old new shelf store store_after shelf_faults shelf_faults_after came went end kept ready served now coming coming_after back back_after out out_after took gave none_out = record {
   turn = record {
     came = came;
     went = went;
@@ -35,9 +35,13 @@ stepped d old new shelf store store_after shelf_faults shelf_faults_after came w
   took = took;
   gave = gave;
   none_out = none_out;
-  any_moment = served.any_moment kept;
-  is_state = refl;
-  ready = ready;
+  goes = record {
+    is_state = refl;
+    ready = ready;
+    any_moment = served.any_moment kept;
+    acknowledged = served.acknowledged;
+    rests = served.rests;
+  };
   ends_now = refl;
   stands = λ fresh c left. kept_stands d new store_after (is_kept d new store_after ready fresh) c (now c left);
 }

@@ -1,6 +1,9 @@
 -- what the layer above cites
+pub mod Alone
 pub mod Parting
 pub mod Printing
+pub mod ServerLink
+pub mod ServerLinks
 pub mod Serving
 pub mod Status
 pub mod Turn

@@ -5,10 +5,10 @@ use Rattle.pull_outside.specs.Shelf.{Contents}
 use Rattle.pull_outside.specs.declared.door.Parting.{Parting}
 use Rattle.pull_outside.specs.declared.door.Parting.TheVariants as partings
 use Rattle.pull_exchange.specs.declared.exchange.Received.TheVariants as received
-use Rattle.pull_server.specs.Answers.{is_done}
+use Rattle.pull_server.specs.Answers.{Replies, is_done}
 use Rattle.pull_serving.specs.declared.connection.ConnectionEnd.{ConnectionEnd}
 use Rattle.pull_serving.specs.declared.connection.ConnectionEnd.TheVariants as ends
-use Rattle.pull_serving.specs.Turn.{IsAnswered, IsTurn, Turn}
+use Rattle.pull_serving.specs.Turn.{Answering, IsAnswered, IsTurn, Turn}
 
 -- to end at once where the answer says that the request was done, after its peer otherwise
 abbrev pub parting_of : ConnectionEnd → Parting
@@ -20,13 +20,13 @@ parting_of ends.WriteFault = partings.AfterPeer
 parting_of ends.Memory = partings.AfterPeer
 
 -- a request was read whole, and the answer that it was done was written whole
-pub record IsDoneWith (shelf : Option Contents) (t : Turn) : Type 0 where
+pub record IsDoneWith (how : Answering) (shelf : Option Contents) (t : Turn) : Type 0 where
   pub request : Request
   pub is_read : t.received ≡ received.Request request
   pub code : ℕ
   pub says_done : is_done code ≡ true
-  pub is_answered : IsAnswered shelf t code
+  pub is_answered : IsAnswered how shelf t code
 
--- no other connection is to end at once
+-- of the pull server no other connection is to end at once
 abbrev pub OnlyDoneEndAtOnce : Type 0
-OnlyDoneEndAtOnce = (shelf : Option Contents) (t : Turn) → IsTurn shelf t → parting_of t.end ≡ partings.AtOnce → IsDoneWith shelf t
+OnlyDoneEndAtOnce = (shelf : Option Contents) (t : Turn) → IsTurn Replies shelf t → parting_of t.end ≡ partings.AtOnce → IsDoneWith Replies shelf t

@@ -18,7 +18,8 @@ use Rattle.pull_serving.specs.declared.status.ServeStatus.{ServeStatus}
 use Rattle.pull_serving.specs.declared.status.ServeStatus.TheVariants as statuses
 use Rattle.pull_serving.specs.Status.{status_of}
 use Rattle.pull_serving.specs.Printing.{Output, Printed, output_of, refusal_line}
-use Rattle.pull_serving.specs.Turn.{state}
+use Rattle.pull_server.specs.Answers.{Replies}
+use Rattle.pull_serving.specs.Turn.{Answering, state}
 use Rattle.pull_serving.specs.Turns.{Doorway, IsRun, Visits, doorway_of}
 
 -- what is known of the door and the shelf
@@ -42,13 +43,13 @@ outside_of g s k door shelf disk output = record { disk = disk; around = around_
 
 -- The run of an opened store: the rows that the disk read as, and the turns. A crash at any moment leaves rows that an image stood for
 -- before, or rows that one of the turns may leave.
-pub record IsOpenedRun {D : Type 0} (d : Ghosts D) (count : ℕ) (before after : D) (around around_after : Around) (out out_after : Output) (status : ServeStatus) : Type 0 where
+pub record IsOpenedRun {D : Type 0} (how : Answering) (d : Ghosts D) (count : ℕ) (before after : D) (around around_after : Around) (out out_after : Output) (status : ServeStatus) : Type 0 where
   pub disk : D
   pub opened : StoreTerm
   pub last : StoreTerm
   pub is_opened : IsOpened d before disk opened
   pub later : d.faults before ≤ d.faults disk
-  pub run : IsRun d disk after around.shelf (state d disk opened around.shelf_faults) (state d after last around_after.shelf_faults) around.door around_after.door
+  pub run : IsRun how d disk after around.shelf (state d disk opened around.shelf_faults) (state d after last around_after.shelf_faults) around.door around_after.door
       (Printed count (state d after last around_after.shelf_faults) around.door_faults around_after.door_faults out out_after status)
   pub any_moment : AtAnyMoment d before after (λ image. From KeepsRows (d.images before) image ⊎ Visits around.shelf (state d disk opened around.shelf_faults) run.turns image)
   pub shelf : around_after.shelf ≡ around.shelf
@@ -58,13 +59,17 @@ abbrev pub WritesRefusal : ServeStatus → Output → Output → Type 0
 WritesRefusal status old new = Writes old.held new.held (refusal_line status) old.faults new.faults
 
 -- the arguments were refused, or memory ran out for them; or the store was not opened; or it was, and connections were served
-pub data Service {D : Type 0} (d : Ghosts D) (arguments : List (List ℕ)) (old new : Outside D) : ServeStatus → Type 0 where
+pub data ServiceOf {D : Type 0} (how : Answering) (d : Ghosts D) (arguments : List (List ℕ)) (old new : Outside D) : ServeStatus → Type 0 where
   refused : fault_of serve_app arguments ≢ [] → new.disk ≡ old.disk → new.around ≡ old.around → WritesRefusal statuses.Usage old.output new.output
-      → Service d arguments old new statuses.Usage
-  no_memory : new ≡ old → Service d arguments old new statuses.Memory
+      → ServiceOf how d arguments old new statuses.Usage
+  no_memory : new ≡ old → ServiceOf how d arguments old new statuses.Memory
   unopened : (values : ServeWords) (error : PullError) → AreValues arguments values → Unopened d old.disk new.disk error
       → AtAnyMoment d old.disk new.disk (From KeepsRows (d.images old.disk)) → new.around ≡ old.around → WritesRefusal (status_of error) old.output new.output
-      → Service d arguments old new (status_of error)
+      → ServiceOf how d arguments old new (status_of error)
   ran : (values : ServeWords) (status : ServeStatus) → AreValues arguments values
-      → IsOpenedRun d values.connections old.disk new.disk old.around new.around old.output new.output status
-      → Service d arguments old new status
+      → IsOpenedRun how d values.connections old.disk new.disk old.around new.around old.output new.output status
+      → ServiceOf how d arguments old new status
+
+-- the same of the pull server's own answer table
+abbrev pub Service : {D : Type 0} → Ghosts D → List (List ℕ) → Outside D → Outside D → ServeStatus → Type 0
+Service d arguments old new status = ServiceOf Replies d arguments old new status

@@ -14,9 +14,12 @@ use Rattle.pull_exchange.specs.declared.exchange.Received.TheVariants as receive
 use Rattle.dsc_outside.specs.Streams.{AppendsPart}
 use Rattle.pull_exchange.specs.Exchange.{IsReceived, IsRefusal, Writes, refusal_of}
 use Rattle.pull_store.specs.declared.row.Row.{Row}
+use Rattle.pull_store.specs.declared.change.Change.{Change}
+use Rattle.pull_store.specs.Rows.{after}
 use Rattle.pull_store.specs.Stands.{Stands}
 use Rattle.pull_store.specs.Store.{StoreTerm, IsKept, Untouched, is_spent}
-use Rattle.pull_server.specs.Answers.{IsAcknowledged, LeavesRows, Replies, is_done}
+use Rattle.pull_server.specs.Asked.{Asks}
+use Rattle.pull_server.specs.Answers.{IsAcknowledged, IsCrowded, IsOverfull, LeavesRows, is_done}
 use Rattle.pull_server.specs.Replies.{plain}
 use Rattle.pull_serving.specs.declared.connection.ConnectionEnd.{ConnectionEnd}
 use Rattle.pull_serving.specs.declared.connection.ConnectionEnd.TheVariants as ends
@@ -43,6 +46,11 @@ pub record Turn : Type 0 where
 
 -- ---- the reply
 
+-- how a service answers: the reply to a request over its store and what the shelf holds, and the rows after it, where a count of faults rose in
+-- the call or did not
+abbrev pub Answering : Type 1
+Answering = StoreTerm → Contents → Request → Type 0 → Reply → List Row → Type 0
+
 -- in the turn the disk's count of faults rose
 abbrev pub DiskRose : Turn → Type 0
 DiskRose t = Rose t.before.disk_faults t.after.disk_faults
@@ -55,18 +63,23 @@ ConnectionRose t = Rose t.came.faults t.went.faults
 abbrev pub OutsideRose : Turn → Type 0
 OutsideRose t = DiskRose t ⊎ Rose t.before.shelf_faults t.after.shelf_faults
 
--- the reply to a request, and the rows after it: by the table, over what the shelf holds where it shows that; 500 has a cause whatever it holds
-pub record IsReplyTo (shelf : Option Contents) (t : Turn) (request : Request) (reply : Reply) : Type 0 where
-  pub table : (contents : Contents) → shelf ≡ Some contents → Replies t.before.store contents request (OutsideRose t) reply t.after.store.rows
+-- The reply to a request, and the rows after it: as the service answers, over what the shelf holds where it shows that. Whatever the shelf holds,
+-- 500, 503 and 507 have a cause, and the change that the request asks for was made where the reply says that it was done, and else none.
+pub record IsReplyTo (how : Answering) (shelf : Option Contents) (t : Turn) (request : Request) (reply : Reply) : Type 0 where
+  pub table : (contents : Contents) → shelf ≡ Some contents → how t.before.store contents request (OutsideRose t) reply t.after.store.rows
   pub cause : reply.code ≡ 500 → OutsideRose t ⊎ (is_spent t.before.store ≡ true)
+  pub crowded : reply.code ≡ 503 → IsCrowded t.before.store request
+  pub overfull : reply.code ≡ 507 → IsOverfull t.before.store request
+  pub done : is_done reply.code ≡ true → (change : Change) → Asks request change → t.after.store.rows ≡ after change t.before.store.rows
+  pub undone : is_done reply.code ≡ false → t.after.store.rows ≡ t.before.store.rows
 
 -- the reply to what was received
-abbrev pub IsReply : Option Contents → Turn → Received → Reply → Type 0
-IsReply shelf t (received.Request request) reply = IsReplyTo shelf t request reply
-IsReply shelf t (received.Refused e) reply = IsRefusal e × (reply ≡ refusal_of e)
-IsReply shelf t (received.Torn at) reply = ⊥
-IsReply shelf t received.ReadFault reply = ⊥
-IsReply shelf t received.Memory reply = ⊥
+abbrev pub IsReply : Answering → Option Contents → Turn → Received → Reply → Type 0
+IsReply how shelf t (received.Request request) reply = IsReplyTo how shelf t request reply
+IsReply how shelf t (received.Refused e) reply = IsRefusal e × (reply ≡ refusal_of e)
+IsReply how shelf t (received.Torn at) reply = ⊥
+IsReply how shelf t received.ReadFault reply = ⊥
+IsReply how shelf t received.Memory reply = ⊥
 
 -- ---- the end
 
@@ -75,24 +88,24 @@ abbrev pub WroteNothing : Turn → Type 0
 WroteNothing t = t.went.held ≡ t.came.held
 
 -- the reply was written whole
-pub record IsAnswered (shelf : Option Contents) (t : Turn) (code : ℕ) : Type 0 where
+pub record IsAnswered (how : Answering) (shelf : Option Contents) (t : Turn) (code : ℕ) : Type 0 where
   pub reply : Reply
-  pub is_reply : IsReply shelf t t.received reply
+  pub is_reply : IsReply how shelf t t.received reply
   pub has_code : reply.code ≡ code
   pub written : Appends t.came.held t.went.held (answer_text reply)
 
 -- the store was spent in this turn, since the disk failed, and the reply is 500
-pub record IsBroken (shelf : Option Contents) (t : Turn) : Type 0 where
+pub record IsBroken (how : Answering) (shelf : Option Contents) (t : Turn) : Type 0 where
   pub fresh : is_spent t.before.store ≡ false
   pub spent : is_spent t.after.store ≡ true
   pub rose : DiskRose t
-  pub is_reply : IsReply shelf t t.received (plain 500)
+  pub is_reply : IsReply how shelf t t.received (plain 500)
   pub written : Writes t.came.held t.went.held (answer_text (plain 500)) t.came.faults t.went.faults
 
 -- the connection failed, and a part from the front of the reply was written
-pub record IsCut (shelf : Option Contents) (t : Turn) : Type 0 where
+pub record IsCut (how : Answering) (shelf : Option Contents) (t : Turn) : Type 0 where
   pub reply : Reply
-  pub is_reply : IsReply shelf t t.received reply
+  pub is_reply : IsReply how shelf t t.received reply
   pub rose : ConnectionRose t
   pub written : AppendsPart t.came.held t.went.held (answer_text reply)
 
@@ -101,18 +114,18 @@ abbrev pub IsStoreSame : Turn → Type 0
 IsStoreSame t = t.after.store ≡ t.before.store
 
 -- there is a reply, whose text ran out of memory
-pub record IsUnsent (shelf : Option Contents) (t : Turn) : Type 0 where
+pub record IsUnsent (how : Answering) (shelf : Option Contents) (t : Turn) : Type 0 where
   pub reply : Reply
-  pub is_reply : IsReply shelf t t.received reply
+  pub is_reply : IsReply how shelf t t.received reply
 
 -- why the turn ended so
-abbrev pub IsEnd : Option Contents → Turn → ConnectionEnd → Type 0
-IsEnd shelf t (ends.Answered code) = IsAnswered shelf t code
-IsEnd shelf t ends.DiskFault = IsBroken shelf t
-IsEnd shelf t (ends.Torn at) = (t.received ≡ received.Torn at) × WroteNothing t
-IsEnd shelf t ends.ReadFault = (t.received ≡ received.ReadFault) × ConnectionRose t × WroteNothing t
-IsEnd shelf t ends.WriteFault = IsCut shelf t
-IsEnd shelf t ends.Memory = WroteNothing t × (IsStoreSame t ⊎ IsUnsent shelf t)
+abbrev pub IsEnd : Answering → Option Contents → Turn → ConnectionEnd → Type 0
+IsEnd how shelf t (ends.Answered code) = IsAnswered how shelf t code
+IsEnd how shelf t ends.DiskFault = IsBroken how shelf t
+IsEnd how shelf t (ends.Torn at) = (t.received ≡ received.Torn at) × WroteNothing t
+IsEnd how shelf t ends.ReadFault = (t.received ≡ received.ReadFault) × ConnectionRose t × WroteNothing t
+IsEnd how shelf t ends.WriteFault = IsCut how shelf t
+IsEnd how shelf t ends.Memory = WroteNothing t × (IsStoreSame t ⊎ IsUnsent how shelf t)
 
 -- ---- the turn
 
@@ -137,11 +150,11 @@ abbrev pub ShowsFault : ConnectionEnd → Type 0
 ShowsFault end = (end ≡ ends.DiskFault) ⊎ (end ≡ ends.Memory)
 
 -- the connection was served over what the shelf holds
-pub record IsTurn (shelf : Option Contents) (t : Turn) : Type 0 where
+pub record IsTurn (how : Answering) (shelf : Option Contents) (t : Turn) : Type 0 where
   pub heard : IfSome t.came.left (λ bytes. IsReceived bytes t.received)
   pub rows : MayLeave shelf t.received t.before.store t.after.store.rows
   pub leaves : Leaves t.received t.before t.after
-  pub end : IsEnd shelf t t.end
+  pub end : IsEnd how shelf t t.end
   pub spent : is_spent t.before.store ≡ false → is_spent t.after.store ≡ true → DiskRose t × ShowsFault t.end
   pub disk_count : t.before.disk_faults ≤ t.after.disk_faults
   pub shelf_count : t.before.shelf_faults ≤ t.after.shelf_faults
@@ -161,9 +174,9 @@ Rests received.ReadFault store untouched = untouched
 Rests received.Memory store untouched = untouched
 
 -- all that serving a connection did, and what a crash at any moment of it leaves
-pub record IsServed {D : Type 0} (d : Ghosts D) (before now : D) (shelf : Option Contents) (came went : Known) (old new : State) (end : ConnectionEnd) : Type 0 where
+pub record IsServed {D : Type 0} (how : Answering) (d : Ghosts D) (before now : D) (shelf : Option Contents) (came went : Known) (old new : State) (end : ConnectionEnd) : Type 0 where
   pub received : Received
-  pub turn : IsTurn shelf (record { came = came; went = went; received = received; before = old; after = new; end = end })
+  pub turn : IsTurn how shelf (record { came = came; went = went; received = received; before = old; after = new; end = end })
   pub any_moment : IsKept d before old.store → StandsAtAnyMoment d before now Stands (MayLeave shelf received old.store)
   pub acknowledged : Acknowledges d received old.store now new.store end
   pub rests : Rests received old.store (Untouched old.store new.store before now)

@@ -7,15 +7,15 @@ use Rattle.pull_outside.specs.Door.{GetsBack, HandedBack, Known, TakesFirst}
 use Rattle.pull_outside.specs.Shelf.{Contents}
 use Rattle.pull_outside.specs.declared.door.Door as doors
 use Rattle.pull_store.specs.Stands.{Stands}
-use Rattle.pull_store.specs.Store.{IsReady, is_spent}
+use Rattle.pull_store.specs.Store.{IsReady, Untouched, is_spent}
 use Rattle.pull_serving.specs.declared.connection.ConnectionEnd.{ConnectionEnd}
 use Rattle.pull_serving.specs.Parting.{parting_of}
-use Rattle.pull_serving.specs.Turn.{IsTurn, MayLeave, State, Turn, state}
+use Rattle.pull_serving.specs.Turn.{Acknowledges, Answering, IsTurn, MayLeave, Rests, State, Turn, state}
 
 -- each was served in its turn over what the one before it left, while the store was not spent
-abbrev pub Runs : Option Contents → State → List Turn → State → Type 0
-Runs shelf first [] last = last ≡ first
-Runs shelf first (t ∷ ts) last = (t.before ≡ first) × (is_spent first.store ≡ false) × IsTurn shelf t × Runs shelf t.after ts last
+abbrev pub Runs : Answering → Option Contents → State → List Turn → State → Type 0
+Runs how shelf first [] last = last ≡ first
+Runs how shelf first (t ∷ ts) last = (t.before ≡ first) × (is_spent first.store ≡ false) × IsTurn how shelf t × Runs how shelf t.after ts last
 
 abbrev pub came : Turn → Known
 came t = t.came
@@ -45,12 +45,19 @@ Lasts shelf now since [] = ⊤
 Lasts shelf now since (t ∷ ts) =
     (t.after.moment ≤ now) × (is_spent t.after.store ≡ false → (image : List ℕ) → since t.after.moment image → Visits shelf t.after ts image) × Lasts shelf now since ts
 
--- the disk went with the turns from one to the next, and at each moment of a turn left rows that the turn may leave
+-- The disk went with a turn: the store is of it or spent, a crash at any moment left rows that the turn may leave, what was acknowledged is on
+-- it, and what is no request left it as it was.
+pub record GoesWith {D : Type 0} (d : Ghosts D) (shelf : Option Contents) (old new : D) (t : Turn) : Type 0 where
+  pub is_state : t.after ≡ state d new t.after.store t.after.shelf_faults
+  pub ready : IsReady d new t.after.store
+  pub any_moment : StandsAtAnyMoment d old new Stands (MayLeave shelf t.received t.before.store)
+  pub acknowledged : Acknowledges d t.received t.before.store new t.after.store t.end
+  pub rests : Rests t.received t.before.store (Untouched t.before.store t.after.store old new)
+
+-- the disk went with the turns from one to the next
 abbrev pub Passes : {D : Type 0} → Ghosts D → Option Contents → D → List Turn → D → Type 0
 Passes {D = D} d shelf old [] new = new ≡ old
-Passes {D = D} d shelf old (t ∷ ts) new =
-    (mid : D) × (t.after ≡ state d mid t.after.store t.after.shelf_faults) × IsReady d mid t.after.store
-    × StandsAtAnyMoment d old mid Stands (MayLeave shelf t.received t.before.store) × Passes d shelf mid ts new
+Passes {D = D} d shelf old (t ∷ ts) new = (mid : D) × GoesWith d shelf old mid t × Passes d shelf mid ts new
 
 -- what is known of the door: the connections that are still to come, those that were handed back, each with its parting, and how many were given and not handed back
 pub record Doorway : Type 0 where
@@ -62,26 +69,24 @@ abbrev pub doorway_of : {G C : Type 0} → doors.Ghosts G C → G → Doorway
 doorway_of ghosts door = record { coming = ghosts.coming door; back = ghosts.back door; out = ghosts.out door }
 
 -- one turn: the next connection was taken, served, and handed back with the parting of the turn's end
-pub record IsStep {D : Type 0} (d : Ghosts D) (old new : D) (shelf : Option Contents) (first last : State) (door door_after : Doorway) (end : ConnectionEnd) : Type 0 where
+pub record IsStep {D : Type 0} (how : Answering) (d : Ghosts D) (old new : D) (shelf : Option Contents) (first last : State) (door door_after : Doorway) (end : ConnectionEnd) : Type 0 where
   pub turn : Turn
   pub starts : turn.before ≡ first
   pub leaves : turn.after ≡ last
   pub ends : turn.end ≡ end
   pub fresh : is_spent first.store ≡ false
-  pub is_turn : IsTurn shelf turn
+  pub is_turn : IsTurn how shelf turn
   pub took : TakesFirst door.coming door_after.coming turn.came
   pub gave : GetsBack door.back door_after.back (handed_back turn)
   pub none_out : door_after.out ≡ door.out
-  pub any_moment : StandsAtAnyMoment d old new Stands (MayLeave shelf turn.received turn.before.store)
-  pub is_state : turn.after ≡ state d new turn.after.store turn.after.shelf_faults
-  pub ready : IsReady d new turn.after.store
+  pub goes : GoesWith d shelf old new turn
   pub ends_now : turn.after.moment ≡ d.moment new
   pub stands : is_spent turn.after.store ≡ false → (image : List ℕ) → d.left_since new turn.after.moment image → StandsFor Stands (λ rows. rows ≡ turn.after.store.rows) image
 
 -- all turns of a run, and what a crash at any moment of it leaves; what was printed is said of them
-pub record IsRun {D : Type 0} (d : Ghosts D) (old new : D) (shelf : Option Contents) (first last : State) (door door_after : Doorway) (Printed : List Turn → Type 0) : Type 0 where
+pub record IsRun {D : Type 0} (how : Answering) (d : Ghosts D) (old new : D) (shelf : Option Contents) (first last : State) (door door_after : Doorway) (Printed : List Turn → Type 0) : Type 0 where
   pub turns : List Turn
-  pub runs : Runs shelf first turns last
+  pub runs : Runs how shelf first turns last
   pub took : Took door.coming door_after.coming turns
   pub gave : Gave door.back door_after.back turns
   pub none_out : door_after.out ≡ door.out

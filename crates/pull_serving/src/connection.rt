@@ -6,13 +6,12 @@ ghost use Rattle.pull_serving.specs.Parting.{parting_of};
 ghost use Rattle.pull_serving.specs.Sent.{IsSentEnd};
 ghost use Rattle.pull_serving.specs.Turn.{IsServed, state};
 
+use crate::answerer::Answerer;
 use dsc_outside::{Disk, Sink, Source};
 use http_frames::Reply;
 use mof_values::Memory;
 use pull_exchange::{Received, SendEnd, receive, refusal, send_reply};
 use pull_outside::{Parting, Shelf};
-use pull_server::answer;
-use pull_store::PullStore;
 use std::alloc::Global;
 
 /// How serving a connection ended.
@@ -51,23 +50,23 @@ impl ConnectionEnd {
     }
 }
 
-/// Reads one request, answers it, and writes the answer.
+/// Reads one request, has it answered, and writes the answer.
 ///
 /// What is no request leaves store, disk and shelf as they were. A crash at any moment leaves the rows before the request, or those
 /// after the change that the table makes.
-pub fn serve_connection<X: Source + Sink, D: Disk, S: Shelf>(
+pub fn serve_connection<A: Answerer, X: Source + Sink, D: Disk, S: Shelf>(
     alloc: Global,
     conn: &mut X,
-    store: &mut PullStore,
+    service: &mut A,
     disk: &mut D,
     shelf: &mut S,
 ) -> ConnectionEnd
-    requires { IsReady D.Disk disk.old store.old }
-    ensures ready { IsReady D.Disk disk.new store.new }
-    ensures served { IsServed D.Disk disk.old disk.new (S.holds shelf.old)
+    requires { IsReady D.Disk disk.old (A.store service.old) }
+    ensures ready { IsReady D.Disk disk.new (A.store service.new) }
+    ensures served { IsServed A.replies D.Disk disk.old disk.new (S.holds shelf.old)
         (known_of X.Ends conn.old) (known_of X.Ends conn.new)
-        (state D.Disk disk.old store.old (S.faults shelf.old))
-        (state D.Disk disk.new store.new (S.faults shelf.new)) result }
+        (state D.Disk disk.old (A.store service.old) (S.faults shelf.old))
+        (state D.Disk disk.new (A.store service.new) (S.faults shelf.new)) result }
     ensures shelf { S.holds shelf.new ≡ S.holds shelf.old }
     ensures shelf_count { S.faults shelf.old ≤ S.faults shelf.new }
     ensures count { D.faults disk.old ≤ D.faults disk.new }
@@ -75,9 +74,9 @@ pub fn serve_connection<X: Source + Sink, D: Disk, S: Shelf>(
 {
     match receive(alloc, conn) {
         Received::Request(request) => {
-            let was_spent = store.is_spent();
-            match answer(alloc, store, disk, shelf, &request) {
-                Ok(reply) => send(alloc, conn, &reply, is_newly_spent(was_spent, store)),
+            let was_spent = service.is_spent();
+            match service.answer(alloc, disk, shelf, &request) {
+                Ok(reply) => send(alloc, conn, &reply, is_newly_spent(was_spent, service)),
                 Err(Memory) => ConnectionEnd::Memory,
             }
         }
@@ -91,10 +90,10 @@ pub fn serve_connection<X: Source + Sink, D: Disk, S: Shelf>(
     }
 }
 
-fn is_newly_spent(was_spent: bool, store: &PullStore) -> bool
-    ensures { result ≡ (not was_spent && is_spent store.now) }
+fn is_newly_spent<A: Answerer>(was_spent: bool, service: &A) -> bool
+    ensures { result ≡ (not was_spent && is_spent (A.store service.now)) }
 {
-    !was_spent && store.is_spent()
+    !was_spent && service.is_spent()
 }
 
 // Writes the reply, in whose making the disk failed or did not.

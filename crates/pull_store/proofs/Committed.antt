@@ -3,10 +3,10 @@ use Rattle.std.proofs.Common.{◌≡◌, ◌⊎◌, inl, inr, ℕ, ◌+◌, ◌�
 use Rattle.dsc_outside.specs.declared.disk.Disk.{Ghosts}
 use Rattle.dsc_outside.proofs.Moments.{started, weaker}
 use Rattle.gate_log.specs.declared.shape.Shape.{Shape}
-use Rattle.gate_log.specs.Text.{Gives, cells}
+use Rattle.gate_log.specs.Text.{Gives, IsLive, cells}
 use Rattle.gate_log.specs.Log.{LogTerm, IsLogOf, AtAnyMoment, OldOrNew}
 use Rattle.gate_log.specs.Standing.{StandsFor, AllStand, StandsAtAnyMoment}
-use Rattle.gate_log.proofs.Cells.{text_gives}
+use Rattle.gate_log.proofs.Cells.{text_gives, text_live}
 use Rattle.pull_store.specs.declared.row.Row.{Row}
 use Rattle.pull_store.specs.declared.change.Change.{Change}
 use Rattle.pull_store.specs.declared.error.PullError.{PullError}
@@ -17,7 +17,7 @@ use Rattle.pull_store.specs.Puts.{Ends}
 use Rattle.pull_store.specs.Sound.{AreRows, IsInSize}
 use Rattle.pull_store.specs.Stands.{Replays, Stands, BeforeOrAfter, pull_shape}
 use Rattle.pull_store.specs.Steps.{agent_of, with_row, Makes}
-use Rattle.pull_store.specs.Store.{StoreTerm, IsKept, IsReady, HasCapacity, Changed, Written, whole_need, bank_capacity, is_spent}
+use Rattle.pull_store.specs.Store.{AddsCell, StoreTerm, IsKept, IsReady, HasCapacity, Changed, Written, whole_need, bank_capacity, is_spent}
 use Rattle.pull_store.proofs.Building.{replays_push, rows_read, bodies_append}
 use Rattle.pull_store.proofs.SoundSteps.{sound_with, placed_after}
 
@@ -86,6 +86,14 @@ module _ {D : Type 0} (d : Ghosts D) where
   still_moment disk store change now kept = started d.moment d.left_since disk (StandsFor Stands (BeforeOrAfter store.rows change)) (λ c left.
       let s = kept_stands disk store kept c (now c left) in
       record { value = s.value; stands = s.stands; has = inl s.has })
+
+  -- a disk that was not touched
+  pub still_cell : (disk : D) (log new : LogTerm) (change : Change) (e : PullError) → ((c : List ℕ) → d.left_since disk (d.moment disk) c → d.images disk c)
+      → AddsCell {T = Unit {0}} d disk disk log change (Err e) new
+  still_cell disk log new change e now = record {
+    log = tt;
+    same_bank = λ bodies of. started d.moment d.left_since disk (IsLive log.second) (λ c left. text_live log.shape log.second log.closed c bodies (of.each c (now c left)));
+  }
 
   pub is_kept : (disk : D) (store : StoreTerm) → IsReady d disk store → is_spent store ≡ false → IsKept d disk store
   is_kept disk store (inl spent) isnt = absurd (cc (spent, isnt))

@@ -1,10 +1,11 @@
 -- A store, the disk that it is of, and what its calls answer.
-use Rattle.std.specs.Prelude.{◌≡◌, ◌⊎◌, ℕ, ◌+◌, ◌<◌, ◌≤◌, Bool, true, false, List, [], length, Some, None, Result, Ok, Err, IfSome, ⊤}
+use Rattle.std.specs.Prelude.{◌≡◌, ◌⊎◌, ℕ, ◌+◌, ◌<◌, ◌≤◌, Bool, true, false, List, [], length, Some, None, Result, Ok, Err, IfSome, OnOk, ⊤}
 use Rattle.dsc_outside.specs.declared.disk.Disk.{Ghosts}
 use Rattle.dsc_outside.specs.Disk.{Still}
 use Rattle.dsc_terms.specs.Counts.{Rose}
 use Rattle.gate_log.specs.Text.{cells, need_of}
-use Rattle.gate_log.specs.Log.{LogTerm, IsLogOf, capacity_in}
+use Rattle.gate_log.specs.Calls.{StaysInBank}
+use Rattle.gate_log.specs.Log.{LogTerm, IsLogOf, grown, capacity_in}
 use Rattle.gate_log.specs.Standing.{ReadsAs}
 use Rattle.pull_store.specs.declared.row.Row.{Row}
 use Rattle.pull_store.specs.declared.change.Change.{Change}
@@ -91,6 +92,12 @@ Written d log rows change before now (Err Agents) new = ⊥
 Written d log rows change before now (Err NoAgent) new = ⊥
 Written d log rows change before now (Err (NotAStore at)) new = ⊥
 Written d log rows change before now (Err Memory) new = ⊥
+
+-- what a change does whose cell fits the live bank: after Ok the log has grown by that cell alone, and a crash at any
+-- moment leaves this bank live
+pub record AddsCell {T D : Type 0} (d : Ghosts D) (before now : D) (old : LogTerm) (change : Change) (result : Result T PullError) (new : LogTerm) : Type 0 where
+  pub log : OnOk result (new ≡ grown old (need_of (body_of change)))
+  pub same_bank : StaysInBank d before now old
 
 -- ---- an opening
 

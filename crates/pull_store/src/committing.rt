@@ -6,7 +6,7 @@ ghost use Rattle.pull_store.specs.Bodies.{body_of};
 ghost use Rattle.pull_store.specs.Sound.{AreRows, IsInSize};
 ghost use Rattle.pull_store.specs.Stands.{Stands, BeforeOrAfter};
 ghost use Rattle.pull_store.specs.Steps.{agent_of, Makes};
-ghost use Rattle.pull_store.specs.Store.{IsKept, Written};
+ghost use Rattle.pull_store.specs.Store.{AddsCell, HasCapacity, IsKept, Written};
 ghost use Rattle.pull_store.specs.declared.limits.TheConstants.{BODY_CAPACITY};
 
 use crate::change::Change;
@@ -52,6 +52,7 @@ pub fn write<D: Disk>(
     ensures answer { Written D.Disk log.old rows.now change.now disk.old disk.new result log.new }
     ensures kept { OnOk result (IsKept D.Disk disk.new (record { log = log.new; rows = after change.now rows.now })) }
     ensures any_moment { StandsAtAnyMoment D.Disk disk.old disk.new Stands (BeforeOrAfter rows.now change.now) }
+    ensures cell { HasCapacity (record { log = log.old; rows = rows.now }) change.now → AddsCell D.Disk disk.old disk.new log.old change.now result log.new }
     ensures count { D.faults disk.old ≤ D.faults disk.new }
     ensures capacity { vec_capacity buffer.old ≤ vec_capacity buffer.new }
 {

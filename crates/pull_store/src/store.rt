@@ -5,7 +5,7 @@ ghost use Rattle.pull_store.specs.declared.change.Change.TheVariants as changes;
 ghost use Rattle.pull_store.specs.Rows.{row_of};
 ghost use Rattle.pull_store.specs.Sound.{IsKeepable, IsKeepableChange, most_bytes};
 ghost use Rattle.pull_store.specs.Stands.{BeforeOrAfter, Stands};
-ghost use Rattle.pull_store.specs.Store.{Changed, IsKept, IsReady, is_spent};
+ghost use Rattle.pull_store.specs.Store.{AddsCell, Changed, HasCapacity, IsKept, IsReady, is_spent};
 ghost use Rattle.pull_store.specs.declared.limits.TheConstants.{BODY_CAPACITY};
 
 use crate::change::{Change, Refusal};
@@ -85,7 +85,8 @@ impl PullStore {
     /// Registers an agent: in a new row at the end, or in place of its last registration; its reports stay.
     ///
     /// Each text has at most 65,535 bytes, there are at most 16 names of 1 to 255 bytes, and all together have at most
-    /// 131,072 bytes. A crash at any moment leaves the rows before or after the registration, after `Ok` those after it.
+    /// 131,072 bytes. A crash at any moment leaves the rows before or after the registration, after `Ok` those after it. Where
+    /// the registration fits the live bank, it is added there, and no other bank is made live.
     ///
     /// # Errors
     ///
@@ -107,6 +108,9 @@ impl PullStore {
         ensures any_moment { IsKept D.Disk disk.old self.old
             → StandsAtAnyMoment D.Disk disk.old disk.new Stands
             (BeforeOrAfter self.old.rows (changes.Register agent registration)) }
+        ensures cell { let change = changes.Register agent registration in
+            HasCapacity self.old change
+            → AddsCell D.Disk disk.old disk.new self.old.log change result self.new.log }
         ensures count { D.faults disk.old ≤ D.faults disk.new }
     {
         let change = Change::Register {
@@ -139,6 +143,9 @@ impl PullStore {
         ensures any_moment { IsKept D.Disk disk.old self.old
             → StandsAtAnyMoment D.Disk disk.old disk.new Stands
             (BeforeOrAfter self.old.rows (changes.Report agent job body.items)) }
+        ensures cell { let change = changes.Report agent job body.items in
+            HasCapacity self.old change
+            → AddsCell D.Disk disk.old disk.new self.old.log change result self.new.log }
         ensures count { D.faults disk.old ≤ D.faults disk.new }
     {
         let change = Change::Report {
@@ -155,6 +162,7 @@ impl PullStore {
         ensures answer { Changed D.Disk self.old change.now disk.old disk.new result self.new }
         ensures ready { IsReady D.Disk disk.new self.new }
         ensures any_moment { IsKept D.Disk disk.old self.old → StandsAtAnyMoment D.Disk disk.old disk.new Stands (BeforeOrAfter self.old.rows change.now) }
+        ensures cell { HasCapacity self.old change.now → AddsCell D.Disk disk.old disk.new self.old.log change.now result self.new.log }
         ensures count { D.faults disk.old ≤ D.faults disk.new }
     {
         if self.log.is_spent() {

@@ -2,7 +2,8 @@
 ghost use Rattle.std.specs.Prelude.{◌≡◌, ◌++◌, ◌∷◌, [], ◌+◌, ◌<◌, ◌≤◌, ℕ, List, Vec, length, false, OnOk, vec_capacity};
 ghost use Rattle.std.specs.List.{AllByRecursion};
 ghost use Rattle.gate_log.specs.Text.{need_of, cells};
-ghost use Rattle.gate_log.specs.Log.{IsLogOf, AtAnyMoment, OldOrNew, capacity_in};
+ghost use Rattle.gate_log.specs.Calls.{StaysInBank};
+ghost use Rattle.gate_log.specs.Log.{IsLogOf, AtAnyMoment, OldOrNew, grown, capacity_in};
 ghost use Rattle.pull_store.specs.Bodies.{bodies_of_reports, bodies_of_row, bodies_of_rows};
 ghost use Rattle.pull_store.specs.Puts.{CanPut, Puts, Ends};
 ghost use Rattle.pull_store.specs.Sound.{IsId, IsReport, IsRow};
@@ -25,6 +26,8 @@ pub fn append_body<D: Disk>(log: &mut Log, disk: &mut D, body: &[u8]) -> Result<
     ensures of { (all : List (List ℕ)) → IsLogOf D.Disk disk.old log.old all → OnOk result (IsLogOf D.Disk disk.new log.new (all ++ body.now ∷ [])) }
     ensures any_moment { (all : List (List ℕ)) → IsLogOf D.Disk disk.old log.old all
         → AtAnyMoment D.Disk disk.old disk.new (OldOrNew log.old.shape all (all ++ body.now ∷ [])) }
+    ensures cell { OnOk result (log.new ≡ grown log.old (need_of body.now)) }
+    ensures same_bank { StaysInBank D.Disk disk.old disk.new log.old }
     ensures count { D.faults disk.old ≤ D.faults disk.new }
 {
     match log.append(disk, body) {

@@ -1,5 +1,5 @@
 //! The calls of a form in memory.
-ghost use Rattle.std.specs.Prelude.{◌≡◌, ◌≤◌, ◌↔◌, IsTrue, IsErr};
+ghost use Rattle.std.specs.Prelude.{◌≡◌, ◌≤◌, ◌<◌, ◌↔◌, IsTrue, IsErr};
 ghost use Rattle.dsc_outside.specs.Causes.{HasCause};
 ghost use Rattle.dsc_terms.specs.Counts.{Rose};
 ghost use Rattle.pull_outside.specs.Calls.{counted, is_to_fail, uncalled, with_fault};
@@ -47,6 +47,13 @@ impl Calls {
             return Err(Failed);
         }
         Ok(())
+    }
+
+    /// Whether a call failed.
+    pub fn failed(&self) -> bool
+        ensures { IsTrue result ↔ (0 < self.now.faults) }
+    {
+        self.faults > 0
     }
 
     /// Counts a failure of a call that began.

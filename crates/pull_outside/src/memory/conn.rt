@@ -64,6 +64,13 @@ impl MemoryConn {
     {
         self.short
     }
+
+    /// Answers whether a call failed, one that was to fail or one that ran out of memory.
+    pub fn failed(&self) -> bool
+        ensures { IsTrue result ↔ (0 < self.now.calls.faults) }
+    {
+        self.calls.failed()
+    }
 }
 
 impl Ends for MemoryConn {

@@ -14,7 +14,7 @@ use Rattle.pull_serving.proofs.turns.serve_turns.Goals as goal
 pub loop-number-init : goal.loop-number-init
 loop-number-init g c = record {
   kept = c.requires;
-  run = run_start g.D.Disk c.args.disk.now c.args.store.now (g.S.Shelf.holds c.args.shelf.now) (g.S.Shelf.faults c.args.shelf.now)
+  run = run_start g.A.Answerer.replies g.D.Disk c.args.disk.now (g.A.Answerer.store c.args.service.now) (g.S.Shelf.holds c.args.shelf.now) (g.S.Shelf.faults c.args.shelf.now)
       (doorway_of g.G.Door c.args.door.now)
       (λ turns. (length turns ≡ 0) × Appends (g.K.Ends.held c.args.output.now) (g.K.Ends.held c.args.output.now) (lines 1 turns))
       (g.met.D.Disk.only_now c.args.disk.now) c.requires (refl, Appends-nil (g.K.Ends.held c.args.output.now));
@@ -25,9 +25,9 @@ loop-number-init g c = record {
 
 pub returns-in-Err-clause-run : goal.returns-in-Err-clause-run
 returns-in-Err-clause-run g c =
-    let first = state g.D.Disk c.args.disk.now c.args.store.now (g.S.Shelf.faults c.args.shelf.now) in
-    let half = state g.D.Disk c.loop-number.disk c.loop-number.store (g.S.Shelf.faults c.loop-number.shelf) in
-    let last = state g.D.Disk c.serve_next.new.disk c.serve_next.new.store (g.S.Shelf.faults c.serve_next.new.shelf) in
+    let first = state g.D.Disk c.args.disk.now (g.A.Answerer.store c.args.service.now) (g.S.Shelf.faults c.args.shelf.now) in
+    let half = state g.D.Disk c.loop-number.disk (g.A.Answerer.store c.loop-number.service) (g.S.Shelf.faults c.loop-number.shelf) in
+    let last = state g.D.Disk c.serve_next.new.disk (g.A.Answerer.store c.serve_next.new.service) (g.S.Shelf.faults c.serve_next.new.shelf) in
     let door = doorway_of g.G.Door c.args.door.now in
     let door1 = doorway_of g.G.Door c.loop-number.door in
     let door2 = doorway_of g.G.Door c.serve_next.new.door in
@@ -35,7 +35,7 @@ returns-in-Err-clause-run g c =
     let new = output_of g.K.Ends c.write_all.new.sink in
     let is = c.as_bytes.ensures.value ∙ c.as_str.ensures.value ∙ c.line.ensures in
     let rose = rose_earlier old.faults (g.K.Ends.faults c.loop-number.output) new.faults c.loop-number.invariant.output c.in-Err.ensures.cause.failed in
-    run_push g.D.Disk c.args.disk.now c.loop-number.disk c.serve_next.new.disk (g.S.Shelf.holds c.args.shelf.now) (g.S.Shelf.holds c.loop-number.shelf) first half last door door1 door2 c.in-Ok.end
+    run_push g.A.Answerer.replies g.D.Disk c.args.disk.now c.loop-number.disk c.serve_next.new.disk (g.S.Shelf.holds c.args.shelf.now) (g.S.Shelf.holds c.loop-number.shelf) first half last door door1 door2 c.in-Ok.end
     (λ turns. (length turns ≡ c.loop-number.number) × Appends old.held (g.K.Ends.held c.loop-number.output) (lines 1 turns))
     (Printed c.args.count last (g.G.Door.faults c.args.door.now) (g.G.Door.faults c.serve_next.new.door) old new statuses.WriteFault)
     c.loop-number.invariant.run c.in-Ok.ensures.step c.loop-number.invariant.holds
@@ -45,9 +45,9 @@ returns-in-Err-clause-run g c =
 
 pub returns-then-is_spent-clause-run : goal.returns-then-is_spent-clause-run
 returns-then-is_spent-clause-run g c =
-    let first = state g.D.Disk c.args.disk.now c.args.store.now (g.S.Shelf.faults c.args.shelf.now) in
-    let half = state g.D.Disk c.loop-number.disk c.loop-number.store (g.S.Shelf.faults c.loop-number.shelf) in
-    let last = state g.D.Disk c.serve_next.new.disk c.serve_next.new.store (g.S.Shelf.faults c.serve_next.new.shelf) in
+    let first = state g.D.Disk c.args.disk.now (g.A.Answerer.store c.args.service.now) (g.S.Shelf.faults c.args.shelf.now) in
+    let half = state g.D.Disk c.loop-number.disk (g.A.Answerer.store c.loop-number.service) (g.S.Shelf.faults c.loop-number.shelf) in
+    let last = state g.D.Disk c.serve_next.new.disk (g.A.Answerer.store c.serve_next.new.service) (g.S.Shelf.faults c.serve_next.new.shelf) in
     let door = doorway_of g.G.Door c.args.door.now in
     let door1 = doorway_of g.G.Door c.loop-number.door in
     let door2 = doorway_of g.G.Door c.serve_next.new.door in
@@ -56,7 +56,7 @@ returns-then-is_spent-clause-run g c =
     let new = output_of g.K.Ends c.refuse-then-is_spent.new.output in
     let is = c.as_bytes.ensures.value ∙ c.as_str.ensures.value ∙ c.line.ensures in
     let spent = sym c.is_spent.ensures ∙ c.if-is_spent.true in
-    run_push g.D.Disk c.args.disk.now c.loop-number.disk c.serve_next.new.disk (g.S.Shelf.holds c.args.shelf.now) (g.S.Shelf.holds c.loop-number.shelf) first half last door door1 door2 c.in-Ok.end
+    run_push g.A.Answerer.replies g.D.Disk c.args.disk.now c.loop-number.disk c.serve_next.new.disk (g.S.Shelf.holds c.args.shelf.now) (g.S.Shelf.holds c.loop-number.shelf) first half last door door1 door2 c.in-Ok.end
     (λ turns. (length turns ≡ c.loop-number.number) × Appends old.held (g.K.Ends.held c.loop-number.output) (lines 1 turns))
     (Printed c.args.count last (g.G.Door.faults c.args.door.now) (g.G.Door.faults c.serve_next.new.door) old new c.refuse-then-is_spent.result)
     c.loop-number.invariant.run c.in-Ok.ensures.step c.loop-number.invariant.holds
@@ -67,17 +67,17 @@ returns-then-is_spent-clause-run g c =
 
 pub loop-number-preserved : goal.loop-number-preserved
 loop-number-preserved g c =
-    let first = state g.D.Disk c.args.disk.now c.args.store.now (g.S.Shelf.faults c.args.shelf.now) in
-    let half = state g.D.Disk c.loop-number.disk c.loop-number.store (g.S.Shelf.faults c.loop-number.shelf) in
-    let last = state g.D.Disk c.serve_next.new.disk c.serve_next.new.store (g.S.Shelf.faults c.serve_next.new.shelf) in
+    let first = state g.D.Disk c.args.disk.now (g.A.Answerer.store c.args.service.now) (g.S.Shelf.faults c.args.shelf.now) in
+    let half = state g.D.Disk c.loop-number.disk (g.A.Answerer.store c.loop-number.service) (g.S.Shelf.faults c.loop-number.shelf) in
+    let last = state g.D.Disk c.serve_next.new.disk (g.A.Answerer.store c.serve_next.new.service) (g.S.Shelf.faults c.serve_next.new.shelf) in
     let door = doorway_of g.G.Door c.args.door.now in
     let door1 = doorway_of g.G.Door c.loop-number.door in
     let door2 = doorway_of g.G.Door c.serve_next.new.door in
     let is = c.as_bytes.ensures.value ∙ c.as_str.ensures.value ∙ c.line.ensures in
     record {
-      kept = is_kept g.D.Disk c.serve_next.new.disk c.serve_next.new.store c.serve_next.ensures.ready (sym c.is_spent.ensures ∙ c.if-is_spent.false);
+      kept = is_kept g.D.Disk c.serve_next.new.disk (g.A.Answerer.store c.serve_next.new.service) c.serve_next.ensures.ready (sym c.is_spent.ensures ∙ c.if-is_spent.false);
       run =
-          run_push g.D.Disk c.args.disk.now c.loop-number.disk c.serve_next.new.disk (g.S.Shelf.holds c.args.shelf.now) (g.S.Shelf.holds c.loop-number.shelf) first half last door door1 door2 c.in-Ok.end
+          run_push g.A.Answerer.replies g.D.Disk c.args.disk.now c.loop-number.disk c.serve_next.new.disk (g.S.Shelf.holds c.args.shelf.now) (g.S.Shelf.holds c.loop-number.shelf) first half last door door1 door2 c.in-Ok.end
           (λ turns. (length turns ≡ c.loop-number.number) × Appends (g.K.Ends.held c.args.output.now) (g.K.Ends.held c.loop-number.output) (lines 1 turns))
           (λ turns. (length turns ≡ c.loop-number.number + 1) × Appends (g.K.Ends.held c.args.output.now) (g.K.Ends.held c.write_all.new.sink) (lines 1 turns))
           c.loop-number.invariant.run c.in-Ok.ensures.step c.loop-number.invariant.holds

@@ -1,9 +1,10 @@
-use Rattle.std.proofs.Common.{◌≡◌, inl, inr, ◌+◌, ◌<◌, ◌≤◌, ◌∙◌, ◌++◌, ◌∷◌, [], ℕ, Bool, true, false, length, refl, sym, ap, subst, arith}
+use Rattle.std.proofs.Common.{◌≡◌, inl, inr, ◌+◌, ◌<◌, ◌≤◌, ◌∙◌, ◌++◌, ◌∷◌, [], ℕ, Bool, true, false, List, length, OnOk, refl, sym, ap, subst, arith}
 use Rattle.std.proofs.lemmas.Bool.{cases_lt}
 use Rattle.gate_log.specs.declared.shape.Shape.{Shape}
-use Rattle.gate_log.specs.Log.{capacity_in}
+use Rattle.gate_log.specs.Log.{grown, capacity_in}
+use Rattle.gate_log.specs.Text.{need_of}
 use Rattle.pull_store.specs.Rows.{after}
-use Rattle.pull_store.specs.Bodies.{bodies_of_row, bodies_of_rows}
+use Rattle.pull_store.specs.Bodies.{body_of, bodies_of_row, bodies_of_rows}
 use Rattle.pull_store.specs.Store.{whole_need}
 use Rattle.pull_store.proofs.Putting.{cells_both}
 use Rattle.pull_store.proofs.SoundSteps.{is_row}
@@ -133,3 +134,24 @@ returns-clause-any_moment g c =
     moment_of g.D.Disk c.args.disk.now c.rewrite.new.disk c.args.log.now kept.bodies (bodies_of_rows front ++ (bodies_of_row row ++ bodies_of_rows rest)) c.args.rows.now c.args.change.now kept.shape kept.replays
     (rewritten c.args.rows.now c.args.change.now c.requires.in_size c.requires.accepted row c.requires.sound c.requires.row front rest (c.around.ensures.parts row refl))
     (c.rewrite.ensures.any_moment kept.bodies kept.of)
+
+pub returns-then-has_room-clause-cell : goal.returns-then-has_room-clause-cell
+returns-then-has_room-clause-cell g c = λ room. record {
+  log = subst (λ (body : List ℕ). OnOk c.append_body.result (c.append_body.new.log ≡ grown c.args.log.now (need_of body))) (c.deref.ensures.value ∙ c.requires.spelled) c.append_body.ensures.cell;
+  same_bank = c.append_body.ensures.same_bank;
+}
+
+-- a cell that has capacity is added to the live bank alone
+pub returns-then-need-gt-BANK-clause-cell : goal.returns-then-need-gt-BANK-clause-cell
+returns-then-need-gt-BANK-clause-cell g c = λ room.
+    let fits : need_of (body_of c.args.change.now) ≤ capacity_in c.args.log.now = room in
+    let full : capacity_in c.args.log.now < need_of (body_of c.args.change.now) =
+    omega (arith, lt_of c.has_room.result (5 + c.len.result) (capacity_in c.args.log.now) c.has_room.ensures.1 c.if-has_room.false, c.len.ensures, ap length c.requires.spelled) in
+    absurd (omega (arith, fits, full))
+
+pub returns-clause-cell : goal.returns-clause-cell
+returns-clause-cell g c = λ room.
+    let fits : need_of (body_of c.args.change.now) ≤ capacity_in c.args.log.now = room in
+    let full : capacity_in c.args.log.now < need_of (body_of c.args.change.now) =
+    omega (arith, lt_of c.has_room.result (5 + c.len.result) (capacity_in c.args.log.now) c.has_room.ensures.1 c.if-has_room.false, c.len.ensures, ap length c.requires.spelled) in
+    absurd (omega (arith, fits, full))

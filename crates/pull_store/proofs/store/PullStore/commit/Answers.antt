@@ -1,10 +1,14 @@
-use Rattle.std.proofs.Common.{◌≡◌, ◌⊎◌, inr, ◌≤◌, ◌∙◌, [], List, None, false, sym, ap, subst}
+use Rattle.std.proofs.Common.{◌≡◌, ◌⊎◌, inr, ◌≤◌, ◌∙◌, [], List, None, Ok, Err, false, sym, ap, subst}
+use Rattle.gate_log.specs.Log.{LogTerm, capacity_in}
+use Rattle.gate_log.specs.Text.{need_of}
 use Rattle.pull_store.specs.declared.row.Row.{Row}
+use Rattle.pull_store.specs.Bodies.{body_of}
 use Rattle.pull_store.specs.Rows.{after, refusal}
 use Rattle.pull_store.specs.Sound.{AreRows}
 use Rattle.pull_store.specs.Steps.{with_row}
-use Rattle.pull_store.specs.Store.{StoreTerm, IsKept, HasCapacity, whole_need, bank_capacity, is_spent}
-use Rattle.pull_store.proofs.Committed.{is_kept, still_moment}
+use Rattle.pull_store.specs.Store.{AddsCell, StoreTerm, IsKept, HasCapacity, whole_need, bank_capacity, is_spent}
+use Rattle.pull_store.specs.declared.error.PullError.TheVariants.{Agents, NoAgent, Memory, Spent}
+use Rattle.pull_store.proofs.Committed.{is_kept, still_cell, still_moment}
 use Rattle.pull_store.proofs.SoundSteps.{no_rows, placed_after, sound_replayed}
 use Rattle.pull_store.proofs.store.PullStore.commit.Goals as goal
 
@@ -49,3 +53,30 @@ returns-clause-ready g c =
     let placed = c.place.ensures ∙ ap (λ (l : List Row). with_row c.in-Ok.row l) c.in-Ok.ensures.rows ∙ placed_after change rows c.in-Ok.row c.in-Ok.ensures.row in
     let same : after change c.deref-2.result.now ≡ c.place.new.rows.items = ap (λ (l : List Row). after change l) (c.deref-2.ensures.value ∙ c.in-Ok.ensures.rows) ∙ sym placed in
     inr (subst (λ (l : List Row). IsKept g.D.Disk c.write.new.disk (record { log = c.write.new.log; rows = l })) same c.in_default.ensures.kept)
+
+-- where nothing is written, the live bank stays
+pub returns-then-is_spent-clause-cell : goal.returns-then-is_spent-clause-cell
+returns-then-is_spent-clause-cell g c = λ capacity. still_cell g.D.Disk c.args.disk.now c.args.self.now.log _ c.args.change.now Spent (g.met.D.Disk.only_now c.args.disk.now)
+
+pub returns-in-Some-TooMany-clause-cell : goal.returns-in-Some-TooMany-clause-cell
+returns-in-Some-TooMany-clause-cell g c = λ capacity. still_cell g.D.Disk c.args.disk.now c.args.self.now.log _ c.args.change.now Agents (g.met.D.Disk.only_now c.args.disk.now)
+
+pub returns-in-Some-Unknown-clause-cell : goal.returns-in-Some-Unknown-clause-cell
+returns-in-Some-Unknown-clause-cell g c = λ capacity. still_cell g.D.Disk c.args.disk.now c.args.self.now.log _ c.args.change.now NoAgent (g.met.D.Disk.only_now c.args.disk.now)
+
+pub returns-in-Err-clause-cell : goal.returns-in-Err-clause-cell
+returns-in-Err-clause-cell g c = λ capacity. still_cell g.D.Disk c.args.disk.now c.args.self.now.log _ c.args.change.now Memory (g.met.D.Disk.only_now c.args.disk.now)
+
+pub returns-clause-cell : goal.returns-clause-cell
+returns-clause-cell g c = λ capacity.
+    let change = c.args.change.now in
+    let same : c.self.inside.log ≡ c.args.self.now.log = ap (λ (s : StoreTerm). s.log) c.self.view_is in
+    subst (λ (l : LogTerm). AddsCell {T = Unit {0}} g.D.Disk c.args.disk.now c.write.new.disk l change (Ok tt) c.write.new.log) same
+    (c.in_default.ensures.cell (subst (λ (l : LogTerm). need_of (body_of change) ≤ capacity_in l) (sym same) capacity))
+
+pub returns-in-Err-write-clause-cell : goal.returns-in-Err-write-clause-cell
+returns-in-Err-write-clause-cell g c = λ capacity.
+    let change = c.args.change.now in
+    let same : c.self.inside.log ≡ c.args.self.now.log = ap (λ (s : StoreTerm). s.log) c.self.view_is in
+    subst (λ (l : LogTerm). AddsCell {T = Unit {0}} g.D.Disk c.args.disk.now c.write.new.disk l change (Err c.in-Err-write.error) c.write.new.log) same
+    (c.in-Err-write.ensures.cell (subst (λ (l : LogTerm). need_of (body_of change) ≤ capacity_in l) (sym same) capacity))

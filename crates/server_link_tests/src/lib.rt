@@ -1,0 +1,7 @@
+//! The tests of a pull server as a link: a node's own calls over it.
+#![tactic(auto)]
+
+#[cfg(test)]
+mod calls;
+#[cfg(test)]
+mod tests;
