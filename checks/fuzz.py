@@ -2,7 +2,7 @@
 import json, multiprocessing, os, random, re, select, shutil, socket, subprocess, sys, tempfile, threading, time
 
 from fuzz_inputs import BYTES, HEADER, changed, documents, made, metas, store_of, text_of
-from protocol import (PHRASES, answer, content, fetch, in_chunks, module, node, query, register, registration, report, request, statuses)
+from protocol import (PHRASES, answer, content, fetch, free_port, in_chunks, module, node, query, register, registration, report, request, statuses)
 
 AGENT = '00000000-0000-0000-0000-000000000010'
 REQUESTS = 20  # of each round, beside one input of each other kind
@@ -86,9 +86,7 @@ class Server:
         for name, data in (('keys', b'k0\nk1\n'), ('configurations/Web.mof', b'abc'), ('configurations/App.mof', b''), ('modules/xWeb_1.0.zip', bytes(range(256)))):
             write('%s/shelf/%s' % (folder, name), data)
         self.store, self.served = folder + '/store', 0
-        with socket.socket() as probe:
-            probe.bind(('127.0.0.1', 0))
-            self.port = probe.getsockname()[1]
+        self.port = free_port()
         words = ['--store', self.store, '--shelf', folder + '/shelf', '--listen', '127.0.0.1:%d' % self.port, '--connections', str(CONNECTIONS)]
         self.process = subprocess.Popen([program, *words], stdin=subprocess.DEVNULL, stdout=subprocess.PIPE, stderr=subprocess.PIPE)
         self.lines = b''

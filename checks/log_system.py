@@ -2,7 +2,7 @@
 the node and the server, of which the last two may be missing. The last line is how many passed and how many failed."""
 import concurrent.futures, os, re, shutil, signal, socket, subprocess, sys, tempfile, threading, time
 
-from protocol import answer, register, report
+from protocol import answer, free_port, register, report
 
 log_calls, node, server = sys.argv[1:4]
 scratch = tempfile.mkdtemp()
@@ -321,9 +321,7 @@ def asked(port, requests, process):
 REQUESTS = [register(1), report(1, 7)]
 
 def server_does(folder, requests, *front):
-    with socket.socket() as probe:
-        probe.bind(('127.0.0.1', 0))
-        port = probe.getsockname()[1]
+    port = free_port()
     words = ['--store', folder + '/store/file', '--shelf', folder + '/shelf', '--listen', '127.0.0.1:%d' % port, '--connections', str(len(requests))]
     process = subprocess.Popen([*front, server, *words], stdin=subprocess.DEVNULL, stdout=subprocess.PIPE, stderr=subprocess.PIPE)
     got = asked(port, requests, process)

@@ -1,6 +1,8 @@
 """The pull server with the real node, for checks/pair, which says what is run. The arguments are the node and the server."""
 import hashlib, os, shutil, signal, socket, struct, subprocess, sys, tempfile, threading, time
 
+from protocol import free_port
+
 program, server_program = sys.argv[1:3]
 passed = failed = 0
 scratch = tempfile.mkdtemp()
@@ -20,11 +22,6 @@ def digest(text):
     return hashlib.sha256(text.encode()).hexdigest().upper()
 
 # ---- the server
-
-def free_port():
-    with socket.socket() as probe:
-        probe.bind(('127.0.0.1', 0))
-        return probe.getsockname()[1]
 
 def listens(port):
     with open('/proc/net/tcp') as lines:

@@ -1,9 +1,20 @@
-"""The messages of the pull server and its nodes, written from the protocol, for checks/serve, checks/pair and checks/fuzz."""
-import base64, hashlib, hmac, json
+"""The messages of the pull server and its nodes, written from the protocol, for the checks that run a server."""
+import base64, hashlib, hmac, json, random, socket
 
 PHRASES = {200: 'OK', 204: 'No Content', 400: 'Bad Request', 401: 'Unauthorized', 404: 'Not Found', 405: 'Method Not Allowed',
            411: 'Length Required', 413: 'Payload Too Large', 500: 'Internal Server Error', 501: 'Not Implemented'}
 DATE = b'2026-01-02T03:04:05.0000000Z'
+
+# A port that nobody listens at, below those that the system gives to connections that go out: another one could take it before a server does.
+def free_port():
+    while True:
+        port = random.SystemRandom().randrange(20000, 32000)
+        with socket.socket() as probe:
+            try:
+                probe.bind(('127.0.0.1', port))
+                return port
+            except OSError:
+                continue
 
 def answer(code, body=b'', headers=()):
     lines = ['HTTP/1.1 %d %s' % (code, PHRASES[code]), 'Connection: close', 'ProtocolVersion: 2.0', *headers]
