@@ -1,19 +1,19 @@
 //! Walking to a path below the host's folder, name by name, through folders that are held.
 ghost use Rattle.std.specs.Prelude.{◌≡◌, ◌++◌, ◌∷◌, Err, IfOk, IfSome};
 ghost use Rattle.real_outside.specs.declared.above.Above.TheVariants as ways;
-ghost use Rattle.real_outside.specs.declared.spot.Kind.TheVariants as kinds;
+ghost use Rattle.real_outside.specs.declared.seen.Kind.TheVariants as kinds;
 ghost use Rattle.dsc_outside.specs.declared.host.HostError.TheVariants as errors;
 
 use crate::held_folder::{HeldFolder, sync_folder};
 use crate::identity::Identity;
 use crate::machine_folder::MachineFolder;
 use crate::places::path_in;
-use crate::spot::{Kind, Spot};
+use crate::seen::Kind;
+use crate::spot::{Spot, see_at};
 use dsc_outside::HostError;
 use std::fs;
 use std::io::ErrorKind;
 use std::os::fd::AsFd;
-use std::path::PathBuf;
 use std::rt::Files;
 
 /// What the folders above a path are.
@@ -55,8 +55,8 @@ impl<R: Files> MachineFolder<R>
 where
     R::File: AsFd,
 {
-    /// Walks to the folders of that path. Those that stand as they were found before stay held, and each is looked at
-    /// again.
+    /// Walks to the folders of that path. Those that are held and stand as they were found before stay so, and each is looked
+    /// at again.
     pub(super) fn walk(&mut self, folders: &str) -> Result<Above, HostError> {
         let kept = self.count_kept(folders)?;
         self.ancestors.keep(kept);
@@ -69,16 +69,23 @@ where
         Ok(Above::There)
     }
 
-    // How many of the folders stand as they were found before.
+    // How many of the folders are held, and stand as they were found before.
     fn count_kept(&self, folders: &str) -> Result<usize, HostError> {
-        let mut place = PathBuf::from_str(self.alloc(), self.host.as_str())?;
+        let mut above: Option<&HeldFolder> = None;
         let mut count = 0usize;
         for (name, ancestor) in folders.split('/').zip(self.ancestors.as_slice()) {
-            place.push(name)?;
-            match fs::symlink_metadata(&self.rt, place.as_str()) {
-                Ok(seen) if seen.is_dir() && ancestor.is(name, Identity::of(&seen)) => {}
+            let Some(folder) = ancestor.held_as(name) else {
+                return Ok(count);
+            };
+            let found = match above {
+                Some(above) => above.look_at(name),
+                None => see_at(&self.rt, ancestor.place()),
+            };
+            match found {
+                Ok(Some(seen)) if folder.is(&seen) => {}
                 _ => return Ok(count),
             }
+            above = Some(folder);
             count = count.saturating_add(1);
         }
         Ok(count)
@@ -102,13 +109,16 @@ where
     fn hold(&mut self, name: &str, spot: &Spot) -> Result<(), HostError> {
         let alloc = self.alloc();
         let folder = HeldFolder::open(&self.rt, alloc, spot)?;
-        Ok(self.ancestors.push(alloc, name, folder)?)
+        Ok(
+            self.ancestors
+                .push(alloc, name, spot.place.as_str(), folder)?,
+        )
     }
 
     // Looks at a name in the last folder, or in the host's.
     fn look_below(&self, name: &str) -> Result<Spot, HostError> {
         match self.ancestors.last()? {
-            Some(folder) => folder.look(&self.rt, self.alloc(), name),
+            Some(folder) => folder.look(self.alloc(), name),
             None => Spot::look(&self.rt, self.place_in_host(name)?),
         }
     }

@@ -4,8 +4,8 @@ use crate::identity::Identity;
 use dsc_outside::Failed;
 use std::alloc::{AllocError, Global};
 
-/// How many folders are held at least, from the host's folder on; of those further down the last alone is, so that a deep
-/// path does not use up the descriptors.
+/// How many folders stay held, from the host's folder on, so that a deep path does not use up the descriptors. Those further
+/// down are walked to anew, each from the one above it.
 const HELD: usize = 32;
 
 /// The folders above a path, from one in the host's folder down, as they were found.
@@ -18,14 +18,23 @@ pub struct Ancestors {
 #[derive(Drop)]
 pub struct Ancestor {
     name: String,
+    place: String,
     identity: Identity,
     folder: Option<HeldFolder>,
 }
 
 impl Ancestor {
-    /// Answers whether it has that name, and that identity.
-    pub fn is(&self, name: &str, identity: Identity) -> bool {
-        self.name.as_str() == name && self.identity == identity
+    /// The place at which it was seen.
+    pub fn place(&self) -> &str {
+        self.place.as_str()
+    }
+
+    /// The folder, where it is held and has that name.
+    pub fn held_as(&self, name: &str) -> Option<&HeldFolder> {
+        match &self.folder {
+            Some(folder) if self.name.as_str() == name => Some(folder),
+            _ => None,
+        }
     }
 }
 
@@ -63,24 +72,21 @@ impl Ancestors {
         }
     }
 
-    /// Keeps the first of them: that many, or fewer where the last of these is not held.
+    /// Keeps the first of them: that many.
     pub fn keep(&mut self, count: usize) {
-        let is_held = match count.checked_sub(1) {
-            None => true,
-            Some(index) => self.list.get(index).is_some_and(|a| a.folder.is_some()),
-        };
-        self.list
-            .truncate(if is_held { count } else { count.min(HELD) });
+        self.list.truncate(count);
     }
 
-    /// Adds the folder of that name in the last one.
+    /// Adds the folder of that name in the last one, which was seen at that place.
     pub fn push(
         &mut self,
         alloc: Global,
         name: &str,
+        place: &str,
         folder: HeldFolder,
     ) -> Result<(), AllocError> {
         let name = String::from_str(alloc, name)?;
+        let place = String::from_str(alloc, place)?;
         if self.list.len() > HELD {
             if let Some(last) = self.list.last_mut() {
                 last.folder = None;
@@ -89,6 +95,7 @@ impl Ancestors {
         let identity = folder.identity();
         self.list.push(Ancestor {
             name,
+            place,
             identity,
             folder: Some(folder),
         })?;

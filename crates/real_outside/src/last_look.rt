@@ -34,7 +34,7 @@ impl LastLook {
     /// Answers whether it found what is at the spot now.
     pub fn found(&self, spot: &Spot) -> bool {
         match &spot.seen {
-            Some(seen) => self.identity == Some(Identity::of(seen)),
+            Some(seen) => self.identity == Some(seen.identity),
             None => self.identity.is_none(),
         }
     }
@@ -47,7 +47,7 @@ fn identity_of(spot: &Option<Spot>) -> Option<Identity> {
                 seen: Some(seen),
                 ..
             },
-        ) => Some(Identity::of(seen)),
+        ) => Some(seen.identity),
         _ => None,
     }
 }

@@ -22,7 +22,7 @@ where
     {
         let place = variable_path(self.alloc(), name)?;
         match self.look_for(place.as_str())? {
-            Some(spot) => append_file(&self.rt, &spot, into),
+            Some(spot) => append_file(&self.rt, self.last_folder()?, &spot, into),
             None => Ok(false),
         }
     }
@@ -46,7 +46,7 @@ where
         let entry = join_lines(self.alloc(), id, message)?;
         let place = entry_path(self.alloc(), &entry)?;
         match self.look_for(place.as_str())? {
-            Some(spot) => file_holds(&self.rt, &spot, &entry),
+            Some(spot) => file_holds(&self.rt, self.last_folder()?, &spot, &entry),
             None => Ok(false),
         }
     }
@@ -79,8 +79,8 @@ where
     pub fn reboot_wanted(&self, id: &str) -> Result<bool, HostError> {
         let mut text = Vec::new(self.alloc());
         if let Some(host) = self.hold_host()? {
-            let spot = host.look(&self.rt, self.alloc(), REBOOT)?;
-            append_file(&self.rt, &spot, &mut text)?;
+            let spot = host.look(self.alloc(), REBOOT)?;
+            append_file(&self.rt, &host, &spot, &mut text)?;
         }
         Ok(has_line(&text, id.as_bytes()))
     }

@@ -1,4 +1,5 @@
-//! A folder that is a host, over files of the system of which each call is counted, and one fails.
+//! A folder that is a host, over files of the system of which each call is counted, and one fails. What stands at a name in a
+//! folder that is held is looked at by its descriptor, past these files: `checks/folder` has each of those looks fail.
 use super::host_calls::Answer::{Done, Empty, Failed, File, Folder, No, Nothing, Yes};
 use super::host_calls::Call::{
     AddEntry, AddPackage, HasEntry, HasPackage, Make, Put, Remove, Same, Set, State, Unset, Value,
@@ -32,8 +33,8 @@ const CASES: &[Case<'_>] = &[
     (
         (Put("a/file", b"new"), Done),
         &[
-            Look, Find, Look, Find, List, Look, Create, Write, Write, Sync, Compare, Mode, Compare,
-            Rename, Look, Open, SyncFolder,
+            Look, Find, Find, List, Create, Write, Write, Sync, Compare, Mode, Compare, Rename,
+            Look, Open, SyncFolder,
         ],
         &[(Same("a/file", b"old"), Yes)],
         &[(Same("a/file", b"new"), Yes)],
@@ -41,8 +42,8 @@ const CASES: &[Case<'_>] = &[
     (
         (Put("a/other", b"new"), Done),
         &[
-            Look, Find, Look, Find, List, Look, Find, Create, Write, Write, Sync, Compare, Rename,
-            Look, Open, SyncFolder,
+            Look, Find, Find, List, Create, Write, Write, Sync, Compare, Rename, Look, Open,
+            SyncFolder,
         ],
         &[(State("a/other"), Nothing)],
         &[(Same("a/other", b"new"), Yes)],
@@ -50,14 +51,14 @@ const CASES: &[Case<'_>] = &[
     (
         (Make("d"), Done),
         &[
-            Look, Find, Look, Find, MakeFolder, Open, SyncFolder, Look, Find, Open, SyncFolder,
+            Look, Find, MakeFolder, Open, SyncFolder, Find, Open, SyncFolder,
         ],
         &[(State("d"), Nothing)],
         &[(State("d"), Empty)],
     ),
     (
         (Remove("a/file"), Done),
-        &[Look, Find, Look, Find, Look, Unlink, Open, SyncFolder],
+        &[Look, Find, Find, Unlink, Open, SyncFolder],
         &[(Same("a/file", b"old"), Yes)],
         &[(State("a"), Empty)],
     ),
@@ -66,9 +67,7 @@ const CASES: &[Case<'_>] = &[
         &[
             Look,
             Find,
-            Look,
             Find,
-            Look,
             Find,
             Mounts,
             Open,
@@ -97,7 +96,6 @@ const CASES: &[Case<'_>] = &[
         &[
             Look,
             Find,
-            Look,
             Find,
             Mounts,
             Open,
@@ -131,37 +129,32 @@ const CASES: &[Case<'_>] = &[
         &[(State("b"), Folder)],
         &[(State("b/c"), Nothing)],
     ),
-    (
-        (State("a/file"), File),
-        &[Look, Find, Look, Find, Look],
-        &[],
-        &[],
-    ),
-    ((State("b"), Folder), &[Look, Find, Look, List], &[], &[]),
+    ((State("a/file"), File), &[Look, Find, Find], &[], &[]),
+    ((State("b"), Folder), &[Look, Find, List], &[], &[]),
     (
         (Same("a/file", b"old"), Yes),
-        &[Look, Find, Look, Find, Look, Open, Compare, Read, Read],
+        &[Look, Find, Find, Open, Compare, Read, Read],
         &[],
         &[],
     ),
     (
         (Value("path", b"old"), Yes),
-        &[Look, Find, Look, Open, Compare, Read, Read],
+        &[Look, Find, Open, Compare, Read, Read],
         &[],
         &[],
     ),
     (
         (Set("path", b"new"), Done),
         &[
-            Look, Find, List, Look, Create, Write, Write, Sync, Compare, Mode, Compare, Rename,
-            Look, Open, SyncFolder,
+            Look, Find, List, Create, Write, Write, Sync, Compare, Mode, Compare, Rename, Look,
+            Open, SyncFolder,
         ],
         &[(Value("path", b"old"), Yes)],
         &[(Value("path", b"new"), Yes)],
     ),
     (
         (Unset("path"), Done),
-        &[Look, Find, Look, Unlink, Open, SyncFolder],
+        &[Look, Find, Unlink, Open, SyncFolder],
         &[(Value("path", b"old"), Yes)],
         &[(Value("path", b""), No)],
     ),
@@ -169,7 +162,7 @@ const CASES: &[Case<'_>] = &[
         (AddEntry("i", "m"), Done),
         &[
             Look, MakeFolder, MakeFolder, Open, SyncFolder, Look, Find, Open, SyncFolder, List,
-            Look, Find, Create, Write, Write, Sync, Compare, Rename, Look, Open, SyncFolder,
+            Create, Write, Write, Sync, Compare, Rename, Look, Open, SyncFolder,
         ],
         &[(HasEntry("i", "m"), No)],
         &[(HasEntry("i", "m"), Yes)],
@@ -178,7 +171,7 @@ const CASES: &[Case<'_>] = &[
         (AddPackage("name", "1", b"new"), Done),
         &[
             Look, MakeFolder, MakeFolder, Open, SyncFolder, Look, Find, Open, SyncFolder, List,
-            Look, Find, Create, Write, Write, Sync, Compare, Rename, Look, Open, SyncFolder,
+            Create, Write, Write, Sync, Compare, Rename, Look, Open, SyncFolder,
         ],
         &[(HasPackage("name", "1"), No)],
         &[(HasPackage("name", "1"), Yes)],
@@ -312,26 +305,47 @@ fn each_call_takes_its_steps_and_one_that_fails_leaves_the_old_or_the_new(
     Ok(())
 }
 
+// What stands where nothing was changed.
+const UNCHANGED: &[Row<'_>] = &[
+    (Same("a/file", b"old"), Yes),
+    (State("b/c"), Empty),
+    (State("d"), Nothing),
+    (Value("path", b"old"), Yes),
+];
+
 // How a call of the system fails, its number, and the answer.
 const DENIED: &[(Row<'_>, ErrorKind, usize)] = &[
     ((State("a/file"), Failed), ErrorKind::PermissionDenied, 0),
     ((State("a/file"), Failed), ErrorKind::PermissionDenied, 1),
     ((State("a/file"), Failed), ErrorKind::PermissionDenied, 2),
-    ((State("a/file"), Failed), ErrorKind::PermissionDenied, 4),
     (
         (Same("a/file", b"old"), Failed),
         ErrorKind::PermissionDenied,
-        5,
+        3,
     ),
-    ((State("b/c"), Folder), ErrorKind::PermissionDenied, 5),
+    ((State("b/c"), Folder), ErrorKind::PermissionDenied, 3),
     ((Value("path", b""), Failed), ErrorKind::PermissionDenied, 0),
-    ((Value("path", b""), Failed), ErrorKind::PermissionDenied, 3),
+    ((Value("path", b""), Failed), ErrorKind::PermissionDenied, 2),
     ((HasEntry("i", "m"), Failed), ErrorKind::PermissionDenied, 0),
-    // As where /proc is missing: what is not found there may still be in the folder.
-    ((State("a/file"), Failed), ErrorKind::NotFound, 1),
-    ((State("a/none"), Failed), ErrorKind::NotFound, 5),
-    ((Value("none", b""), Failed), ErrorKind::NotFound, 3),
-    ((Remove("b/c"), Failed), ErrorKind::NotFound, 6),
+    // What goes after it was seen is not there.
+    ((Same("a/file", b"old"), No), ErrorKind::NotFound, 3),
+    ((Value("path", b""), No), ErrorKind::NotFound, 2),
+];
+
+// Calls that find nothing below /proc from that call of the system on, as where it is missing: what is not found there may
+// still be in the folder.
+const WITHOUT_PROC: &[(Row<'_>, usize)] = &[
+    ((State("a/file"), Failed), 1),
+    ((State("a/file"), Failed), 2),
+    ((Same("a/file", b"old"), Failed), 3),
+    ((Put("a/file", b"new"), Failed), 3),
+    ((Put("a/file", b"new"), Failed), 4),
+    ((Make("d"), Failed), 2),
+    ((Remove("a/file"), Failed), 3),
+    ((Remove("b/c"), Failed), 3),
+    ((Remove("b/c"), Failed), 4),
+    ((Value("path", b""), Failed), 2),
+    ((Unset("path"), Failed), 2),
 ];
 
 #[test]
@@ -339,6 +353,10 @@ fn what_may_not_be_looked_at_is_not_taken_for_nothing(rt: HostRuntime) -> Result
     for (row, kind, failing) in DENIED {
         let watch = Watch::new(&[], *failing, *kind);
         play(&rt, &watch, *row, &[], &[])?;
+    }
+    for (row, failing) in WITHOUT_PROC {
+        let watch = Watch::lasting(*failing, ErrorKind::NotFound);
+        play(&rt, &watch, *row, UNCHANGED, UNCHANGED)?;
     }
     Ok(())
 }
@@ -351,9 +369,9 @@ const ROWS: &[Row<'_>] = &[
 ];
 
 const HELD: &[SystemCall] = &[
-    Look, Find, Look, Find, Look, // The folders are held, and looked at again.
-    Look, Look, Look, Open, Compare, Read, Read, // The first of them is held.
-    Look, Look, List,
+    Look, Find, Find, // The folders are held, and looked at again.
+    Look, Open, Compare, Read, Read, // The first of them is held.
+    Look, List,
 ];
 
 #[test]

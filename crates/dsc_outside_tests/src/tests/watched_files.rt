@@ -38,12 +38,13 @@ pub enum SystemCall {
     List,
 }
 
-/// The calls that are to be made, the number of the one that fails, and how.
+/// The calls that are to be made, the number of the one that fails, and how; and whether all after it fail too.
 #[derive(Drop)]
 pub struct Watch<'a> {
     wanted: &'a [SystemCall],
     failing: usize,
     kind: ErrorKind,
+    lasts: bool,
     begun: Cell<usize>,
     differs: Cell<bool>,
 }
@@ -54,6 +55,19 @@ impl<'a> Watch<'a> {
             wanted,
             failing,
             kind,
+            lasts: false,
+            begun: Cell::new(0),
+            differs: Cell::new(false),
+        }
+    }
+
+    /// All calls from that one on fail, whatever they are.
+    pub fn lasting(failing: usize, kind: ErrorKind) -> Watch<'a> {
+        Watch {
+            wanted: &[],
+            failing,
+            kind,
+            lasts: true,
             begun: Cell::new(0),
             differs: Cell::new(false),
         }
@@ -73,7 +87,7 @@ impl<'a> Watch<'a> {
         if self.wanted.get(number) != Some(&call) {
             self.differs.set(true);
         }
-        if number == self.failing {
+        if number == self.failing || (self.lasts && number > self.failing) {
             return Err(io::Error::from(self.kind));
         }
         Ok(())
