@@ -1,19 +1,19 @@
 //! Walking to a path below the host's folder, name by name, through folders that are held.
 ghost use Rattle.std.specs.Prelude.{◌≡◌, ◌++◌, ◌∷◌, Err, IfOk, IfSome};
 ghost use Rattle.real_outside.specs.declared.above.Above.TheVariants as ways;
-ghost use Rattle.real_outside.specs.declared.seen.Kind.TheVariants as kinds;
+ghost use Rattle.real_outside.specs.declared.spot.Kind.TheVariants as kinds;
 ghost use Rattle.dsc_outside.specs.declared.host.HostError.TheVariants as errors;
 
 use crate::held_folder::{HeldFolder, sync_folder};
 use crate::identity::Identity;
 use crate::machine_folder::MachineFolder;
-use crate::places::path_in;
-use crate::seen::Kind;
-use crate::spot::{Spot, see_at};
+use crate::spot::{Kind, Spot};
 use dsc_outside::HostError;
+use std::alloc::AllocError;
 use std::fs;
 use std::io::ErrorKind;
 use std::os::fd::AsFd;
+use std::path::PathBuf;
 use std::rt::Files;
 
 /// What the folders above a path are.
@@ -71,21 +71,14 @@ where
 
     // How many of the folders are held, and stand as they were found before.
     fn count_kept(&self, folders: &str) -> Result<usize, HostError> {
-        let mut above: Option<&HeldFolder> = None;
+        let mut place = self.host_place(folders)?;
         let mut count = 0usize;
         for (name, ancestor) in folders.split('/').zip(self.ancestors.as_slice()) {
-            let Some(folder) = ancestor.held_as(name) else {
-                return Ok(count);
-            };
-            let found = match above {
-                Some(above) => above.look_at(name),
-                None => see_at(&self.rt, ancestor.place()),
-            };
-            match found {
-                Ok(Some(seen)) if folder.is(&seen) => {}
+            place.push(name)?;
+            match fs::symlink_metadata(&self.rt, place.as_str()) {
+                Ok(seen) if seen.is_dir() && ancestor.is_held(name, Identity::of(&seen)) => {}
                 _ => return Ok(count),
             }
-            above = Some(folder);
             count = count.saturating_add(1);
         }
         Ok(count)
@@ -109,22 +102,29 @@ where
     fn hold(&mut self, name: &str, spot: &Spot) -> Result<(), HostError> {
         let alloc = self.alloc();
         let folder = HeldFolder::open(&self.rt, alloc, spot)?;
-        Ok(
-            self.ancestors
-                .push(alloc, name, spot.place.as_str(), folder)?,
-        )
+        Ok(self.ancestors.push(alloc, name, folder)?)
     }
 
     // Looks at a name in the last folder, or in the host's.
     fn look_below(&self, name: &str) -> Result<Spot, HostError> {
         match self.ancestors.last()? {
-            Some(folder) => folder.look(self.alloc(), name),
+            Some(folder) => folder.look(&self.rt, self.alloc(), name),
             None => Spot::look(&self.rt, self.place_in_host(name)?),
         }
     }
 
-    pub(super) fn place_in_host(&self, name: &str) -> Result<String, HostError> {
-        Ok(path_in(self.alloc(), self.host.as_str(), name)?.into_string())
+    pub(super) fn place_in_host(&self, path: &str) -> Result<String, HostError> {
+        let mut place = self.host_place(path)?;
+        place.push(path)?;
+        Ok(place.into_string())
+    }
+
+    // The place of the host's folder, with capacity for that path in it.
+    fn host_place(&self, path: &str) -> Result<PathBuf, AllocError> {
+        let size = self.host.len().saturating_add(path.len());
+        let mut place = PathBuf::with_capacity(self.alloc(), size.saturating_add(1))?;
+        place.push(self.host.as_str())?;
+        Ok(place)
     }
 
     /// Walks to the folders of that path, and makes those that are missing, and the host's folder. Where one of them is the

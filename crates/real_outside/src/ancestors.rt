@@ -18,23 +18,14 @@ pub struct Ancestors {
 #[derive(Drop)]
 pub struct Ancestor {
     name: String,
-    place: String,
     identity: Identity,
     folder: Option<HeldFolder>,
 }
 
 impl Ancestor {
-    /// The place at which it was seen.
-    pub fn place(&self) -> &str {
-        self.place.as_str()
-    }
-
-    /// The folder, where it is held and has that name.
-    pub fn held_as(&self, name: &str) -> Option<&HeldFolder> {
-        match &self.folder {
-            Some(folder) if self.name.as_str() == name => Some(folder),
-            _ => None,
-        }
+    /// Answers whether it is held and has that name, and that identity.
+    pub fn is_held(&self, name: &str, identity: Identity) -> bool {
+        self.folder.is_some() && self.name.as_str() == name && self.identity == identity
     }
 }
 
@@ -77,16 +68,14 @@ impl Ancestors {
         self.list.truncate(count);
     }
 
-    /// Adds the folder of that name in the last one, which was seen at that place.
+    /// Adds the folder of that name in the last one.
     pub fn push(
         &mut self,
         alloc: Global,
         name: &str,
-        place: &str,
         folder: HeldFolder,
     ) -> Result<(), AllocError> {
         let name = String::from_str(alloc, name)?;
-        let place = String::from_str(alloc, place)?;
         if self.list.len() > HELD {
             if let Some(last) = self.list.last_mut() {
                 last.folder = None;
@@ -95,7 +84,6 @@ impl Ancestors {
         let identity = folder.identity();
         self.list.push(Ancestor {
             name,
-            place,
             identity,
             folder: Some(folder),
         })?;

@@ -31,8 +31,8 @@ use std::rt::Files;
 /// failure, since their file would be that of another pair.
 ///
 /// A file that is read is the plain file that was seen: what comes in its place between the look and the opening, by a link
-/// too, is opened and not read. A pipe that comes there is waited for until somebody writes to it: what calls the host has
-/// a limit of its own.
+/// too, there or above, is opened and not read. A pipe that comes there is waited for until somebody writes to it: what calls
+/// the host has a limit of its own.
 ///
 /// A removal takes away what the last look at that path found and nothing else, and a folder that was found empty only
 /// while it is; what another user put there since then is a failure. So is anything but the written file in the place of a

@@ -6,7 +6,6 @@ ghost use Rattle.dsc_outside.specs.declared.host.HostError.TheVariants as errors
 use crate::identity::Identity;
 use crate::names_below::open_folder;
 use crate::paths::is_single_name;
-use crate::seen::{Kind, Seen, look_below};
 use crate::spot::Spot;
 use dsc_outside::{Failed, HostError};
 use std::alloc::{AllocError, Global};
@@ -34,24 +33,19 @@ impl HeldFolder {
         let folder = open_folder(spot.place.as_str())?;
         let number = folder.as_raw_fd();
         let path = format!(in alloc; "/proc/self/fd/{number}")?;
-        let found = Seen::of(&fs::metadata(rt, path.as_str())?);
+        let found = fs::metadata(rt, path.as_str())?;
         if !spot.is(&found) {
             return Err(HostError::Failed);
         }
         Ok(HeldFolder {
             folder,
-            identity: found.identity,
+            identity: Identity::of(&found),
             path,
         })
     }
 
     pub fn identity(&self) -> Identity {
         self.identity
-    }
-
-    /// Answers whether that is this folder.
-    pub fn is(&self, seen: &Seen) -> bool {
-        seen.kind() == Kind::Folder && seen.identity == self.identity
     }
 
     /// The descriptor, which is open as long as the folder is held.
@@ -82,21 +76,13 @@ impl HeldFolder {
         Ok(place)
     }
 
-    /// What stands at a name in the folder, where something does. What is not one plain name is a failure.
-    pub fn look_at(&self, name: &str) -> Result<Option<Seen>, HostError>
-        ensures refused { is_single_name name.now ≡ false → result ≡ Err errors.Failed }
-    {
-        if !is_single_name(name) {
-            return Err(HostError::Failed);
-        }
-        Ok(look_below(&self.folder, name)?)
-    }
-
     /// Looks at a name in the folder.
-    pub fn look(&self, alloc: Global, name: &str) -> Result<Spot, HostError> {
-        let place = self.place_of(alloc, name)?;
-        let seen = look_below(&self.folder, name)?;
-        Ok(Spot { place, seen })
+    pub fn look<R: Files>(&self, rt: &R, alloc: Global, name: &str) -> Result<Spot, HostError> {
+        let spot = Spot::look(rt, self.place_of(alloc, name)?)?;
+        if spot.seen.is_none() {
+            self.confirm(rt)?;
+        }
+        Ok(spot)
     }
 
     /// Fails where the folder is not at its path, as without /proc: then nothing is found there, whatever it holds.

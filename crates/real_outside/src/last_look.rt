@@ -34,7 +34,7 @@ impl LastLook {
     /// Answers whether it found what is at the spot now.
     pub fn found(&self, spot: &Spot) -> bool {
         match &spot.seen {
-            Some(seen) => self.identity == Some(seen.identity),
+            Some(seen) => self.identity == Some(Identity::of(seen)),
             None => self.identity.is_none(),
         }
     }
@@ -47,7 +47,7 @@ fn identity_of(spot: &Option<Spot>) -> Option<Identity> {
                 seen: Some(seen),
                 ..
             },
-        ) => Some(seen.identity),
+        ) => Some(Identity::of(seen)),
         _ => None,
     }
 }

@@ -13,9 +13,8 @@
 //! - where the folder that is the host keeps what it holds: `specs/Folders.antt`, `src/places.rt`; its paths in
 //!   `src/tree.rt`, its variables, log, packages and reboots in `src/lists.rt`
 //! - how a path of it is walked, a file read and placed: `src/above.rt`, through folders that are held
-//!   (`src/held_folder.rt`, `src/ancestors.rt`), and what stands at a name looked at: `src/seen.rt`, `src/spot.rt`;
-//!   `src/plain_files.rt`; `src/placing.rt`, first under a name of `src/staging.rt`, which also takes away what
-//!   stops left
+//!   (`src/held_folder.rt`, `src/ancestors.rt`); `src/plain_files.rt`; `src/placing.rt`, first under a name of
+//!   `src/staging.rt`, which also takes away what stops left
 //! - what a removal may reach, and its walk: `src/removing.rt`, `src/mounts.rt`, `src/tree_walk.rt`
 #![tactic(auto)]
 
@@ -41,7 +40,6 @@ mod plain_files;
 mod program_arguments;
 mod reading;
 mod removing;
-mod seen;
 mod spot;
 mod staging;
 mod standard_descriptors;

@@ -22,7 +22,10 @@ where
     {
         let place = variable_path(self.alloc(), name)?;
         match self.look_for(place.as_str())? {
-            Some(spot) => append_file(&self.rt, self.last_folder()?, &spot, into),
+            Some(spot) => {
+                let path = self.place_in_host(place.as_str())?;
+                append_file(&self.rt, self.last_folder()?, &spot, path.as_str(), into)
+            }
             None => Ok(false),
         }
     }
@@ -46,7 +49,10 @@ where
         let entry = join_lines(self.alloc(), id, message)?;
         let place = entry_path(self.alloc(), &entry)?;
         match self.look_for(place.as_str())? {
-            Some(spot) => file_holds(&self.rt, self.last_folder()?, &spot, &entry),
+            Some(spot) => {
+                let path = self.place_in_host(place.as_str())?;
+                file_holds(&self.rt, self.last_folder()?, &spot, path.as_str(), &entry)
+            }
             None => Ok(false),
         }
     }
@@ -79,8 +85,9 @@ where
     pub fn reboot_wanted(&self, id: &str) -> Result<bool, HostError> {
         let mut text = Vec::new(self.alloc());
         if let Some(host) = self.hold_host()? {
-            let spot = host.look(self.alloc(), REBOOT)?;
-            append_file(&self.rt, &host, &spot, &mut text)?;
+            let spot = host.look(&self.rt, self.alloc(), REBOOT)?;
+            let path = self.place_in_host(REBOOT)?;
+            append_file(&self.rt, &host, &spot, path.as_str(), &mut text)?;
         }
         Ok(has_line(&text, id.as_bytes()))
     }

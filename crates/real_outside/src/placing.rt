@@ -2,12 +2,11 @@
 use crate::held_folder::HeldFolder;
 use crate::identity::Identity;
 use crate::places::staging_path;
-use crate::seen::{Kind, Seen};
-use crate::spot::Spot;
+use crate::spot::{Kind, Spot};
 use crate::staging::new_mark;
 use dsc_outside::HostError;
 use std::alloc::Global;
-use std::fs::{OpenFile, OpenOptions, Permissions};
+use std::fs::{Metadata, OpenFile, OpenOptions, Permissions};
 use std::io::{ErrorKind, Write};
 use std::os::fd::AsFd;
 use std::os::unix::fs::{MetadataExt, OpenOptionsExt, PermissionsExt, fchown};
@@ -37,7 +36,7 @@ pub fn place_file<R: Files>(
 where
     R::File: AsFd,
 {
-    let spot = folder.look(alloc, name)?;
+    let spot = folder.look(rt, alloc, name)?;
     if spot.kind() == Kind::Folder {
         return Err(HostError::Failed);
     }
@@ -77,9 +76,9 @@ where
 }
 
 // The file that was seen there. There is none where anything else was.
-fn replaced_file(spot: &Spot) -> Option<&Seen> {
+fn replaced_file(spot: &Spot) -> Option<&Metadata> {
     match &spot.seen {
-        Some(seen) if seen.kind() == Kind::File => Some(seen),
+        Some(found) if found.is_file() => Some(found),
         _ => None,
     }
 }
@@ -87,19 +86,19 @@ fn replaced_file(spot: &Spot) -> Option<&Seen> {
 // Gives the staged file the owner and the group, and answers its mode. The bits by which a program runs as its owner
 // or group are for them alone, and for a file with one name: another user may have given a program of somebody else a
 // second name here.
-fn kept_mode<F: OpenFile + AsFd>(staged: &F, replaced: &Seen) -> io::Result<u32> {
+fn kept_mode<F: OpenFile + AsFd>(staged: &F, replaced: &Metadata) -> io::Result<u32> {
     let own = staged.metadata()?;
-    let (user, group) = (replaced.user, replaced.group);
-    let bits = if replaced.names == 1 {
+    let (user, group) = (replaced.uid(), replaced.gid());
+    let bits = if replaced.nlink() == 1 {
         MODE_BITS
     } else {
         ACCESS_BITS
     };
     if (own.uid() == user && own.gid() == group) || may_own(staged, Some(user), Some(group))? {
-        return Ok(replaced.mode & bits);
+        return Ok(replaced.mode() & bits);
     }
     let _ = may_own(staged, None, Some(group))?;
-    Ok(replaced.mode & ACCESS_BITS)
+    Ok(replaced.mode() & ACCESS_BITS)
 }
 
 // Gives the file that owner and group, and answers whether that is allowed.

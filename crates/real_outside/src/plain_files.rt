@@ -4,25 +4,25 @@ ghost use Rattle.dsc_outside.specs.Host.{LeavesBuffer};
 use crate::comparing::gives_exactly;
 use crate::held_folder::HeldFolder;
 use crate::reading::read_rest;
-use crate::seen::{Kind, Seen};
-use crate::spot::Spot;
+use crate::spot::{Kind, Spot};
 use dsc_outside::HostError;
 use std::fs;
 use std::fs::OpenFile;
 use std::io::ErrorKind;
 use std::rt::Files;
 
-/// Appends the bytes of the plain file that was seen there in the folder, and answers whether it is there. A link, a folder,
-/// or anything else in its place is a failure.
+/// Appends the bytes of the plain file that was seen in the folder, and answers whether it is there. A link, a folder, or
+/// anything else in its place is a failure.
 pub fn append_file<R: Files>(
     rt: &R,
     folder: &HeldFolder,
     spot: &Spot,
+    path: &str,
     into: &mut Vec<u8>,
 ) -> Result<bool, HostError>
     ensures { LeavesBuffer result into.old.items into.new.items }
 {
-    let Some(mut file) = open_plain(rt, folder, spot)? else {
+    let Some(mut file) = open_plain(rt, folder, spot, path)? else {
         return Ok(false);
     };
     let kept = into.len();
@@ -35,15 +35,15 @@ pub fn append_file<R: Files>(
     }
 }
 
-/// Answers whether a plain file was seen there in the folder and has exactly these bytes. Anything else in its place is a
-/// failure.
+/// Answers whether a plain file was seen in the folder and has exactly these bytes. Anything else in its place is a failure.
 pub fn file_holds<R: Files>(
     rt: &R,
     folder: &HeldFolder,
     spot: &Spot,
+    path: &str,
     bytes: &[u8],
 ) -> Result<bool, HostError> {
-    match open_plain(rt, folder, spot)? {
+    match open_plain(rt, folder, spot, path)? {
         None => Ok(false),
         Some(mut file) => Ok(gives_exactly(&mut file, bytes)?),
     }
@@ -58,29 +58,48 @@ pub fn is_plain_file(spot: &Spot) -> Result<bool, HostError> {
     }
 }
 
-// What comes into the place of the file that was seen is not taken for it. A pipe that comes is waited for, until somebody
-// writes to it.
+// Opens the file that was seen in the folder. What the path leads to is not taken for it, but compared. A pipe that comes is
+// waited for, until somebody writes to it.
 fn open_plain<R: Files>(
     rt: &R,
     folder: &HeldFolder,
     spot: &Spot,
+    path: &str,
 ) -> Result<Option<R::File>, HostError> {
     if !is_plain_file(spot)? {
         return Ok(None);
     }
-    let file = match fs::open(rt, spot.place.as_str()) {
-        Ok(file) => file,
-        Err(e) if e.kind() == ErrorKind::NotFound => {
-            folder.confirm(rt)?;
-            return Ok(None);
-        }
-        Err(e) => return Err(HostError::from(e)),
+    let Some(file) = open_at(rt, folder, spot, path)? else {
+        return Ok(None);
     };
-    let found = Seen::of(&file.metadata()?);
-    if found.kind() != Kind::File || !spot.is(&found) {
+    let found = file.metadata()?;
+    if !found.is_file() || !spot.is(&found) {
         return Err(HostError::Failed);
     }
     Ok(Some(file))
+}
+
+// Opens what the path leads to, or else the name in the folder: a folder above it may have been moved, or the path be longer
+// than the system takes.
+fn open_at<R: Files>(
+    rt: &R,
+    folder: &HeldFolder,
+    spot: &Spot,
+    path: &str,
+) -> Result<Option<R::File>, HostError> {
+    match fs::open(rt, path) {
+        Ok(file) => return Ok(Some(file)),
+        Err(e) if matches!(e.kind(), ErrorKind::NotFound | ErrorKind::InvalidFilename) => {}
+        Err(e) => return Err(HostError::from(e)),
+    }
+    match fs::open(rt, spot.place.as_str()) {
+        Ok(file) => Ok(Some(file)),
+        Err(e) if e.kind() == ErrorKind::NotFound => {
+            folder.confirm(rt)?;
+            Ok(None)
+        }
+        Err(e) => Err(HostError::from(e)),
+    }
 }
 
 /// Takes the file or the link at that place in the folder away, where one is there, and syncs the folder. A folder in its

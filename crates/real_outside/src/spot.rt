@@ -1,29 +1,41 @@
 //! Looking at what stands at a place, without following a link.
-use crate::seen::{Kind, Seen};
+use crate::identity::Identity;
 use dsc_outside::HostError;
 use std::fs;
 use std::fs::Metadata;
 use std::io::ErrorKind;
 use std::rt::Files;
 
+/// What stands at a place.
+#[derive(Clone, Copy, Debug, PartialEq, Eq)]
+pub enum Kind {
+    Nothing,
+    File,
+    Folder,
+    Link,
+
+    /// None of these, as a pipe.
+    Other,
+}
+
 /// A place, and what was seen there.
 #[derive(Drop)]
 pub struct Spot {
     pub place: String,
-    pub seen: Option<Seen>,
+    pub seen: Option<Metadata>,
 }
 
 impl Spot {
     /// Looks at the place.
     pub fn look<R: Files>(rt: &R, place: String) -> Result<Spot, HostError> {
-        let seen = see_at(rt, place.as_str())?;
+        let seen = look_at(rt, place.as_str())?;
         Ok(Spot { place, seen })
     }
 
     /// Answers whether that is what was seen.
-    pub fn is(&self, found: &Seen) -> bool {
+    pub fn is(&self, found: &Metadata) -> bool {
         match &self.seen {
-            Some(seen) => found.identity == seen.identity,
+            Some(seen) => Identity::of(found) == Identity::of(seen),
             None => false,
         }
     }
@@ -31,16 +43,20 @@ impl Spot {
     pub fn kind(&self) -> Kind {
         match &self.seen {
             None => Kind::Nothing,
-            Some(seen) => seen.kind(),
+            Some(found) => kind_of(found),
         }
     }
 }
 
-/// What is seen at the place, where something stands there.
-pub fn see_at<R: Files>(rt: &R, place: &str) -> Result<Option<Seen>, HostError> {
-    match look_at(rt, place)? {
-        Some(found) => Ok(Some(Seen::of(&found))),
-        None => Ok(None),
+fn kind_of(found: &Metadata) -> Kind {
+    if found.is_file() {
+        Kind::File
+    } else if found.is_dir() {
+        Kind::Folder
+    } else if found.is_symlink() {
+        Kind::Link
+    } else {
+        Kind::Other
     }
 }
 

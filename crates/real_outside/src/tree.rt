@@ -11,8 +11,7 @@ use crate::machine_folder::MachineFolder;
 use crate::places::root_path;
 use crate::plain_files::{file_holds, take_away};
 use crate::removing::remove_folder;
-use crate::seen::Kind;
-use crate::spot::Spot;
+use crate::spot::{Kind, Spot};
 use dsc_outside::{HostError, PathState};
 use std::fs;
 use std::io::ErrorKind;
@@ -53,7 +52,8 @@ where
         let place = root_path(self.alloc(), path)?;
         match self.look_for(place.as_str())? {
             Some(spot) if spot.kind() == Kind::File => {
-                file_holds(&self.rt, self.last_folder()?, &spot, bytes)
+                let path = self.place_in_host(place.as_str())?;
+                file_holds(&self.rt, self.last_folder()?, &spot, path.as_str(), bytes)
             }
             _ => Ok(false),
         }
@@ -106,7 +106,7 @@ where
     // while it is.
     fn remove_name(&self, place: &str, name: &str, own: Option<Identity>) -> Result<(), HostError> {
         let folder = self.last_folder()?;
-        let spot = folder.look(self.alloc(), name)?;
+        let spot = folder.look(&self.rt, self.alloc(), name)?;
         let looked = match &self.last_look {
             Some(look) => look.at(place),
             None => None,

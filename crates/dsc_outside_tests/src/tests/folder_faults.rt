@@ -1,5 +1,4 @@
-//! A folder that is a host, over files of the system of which each call is counted, and one fails. What stands at a name in a
-//! folder that is held is looked at by its descriptor, past these files: `checks/folder` has each of those looks fail.
+//! A folder that is a host, over files of the system of which each call is counted, and one fails.
 use super::host_calls::Answer::{Done, Empty, Failed, File, Folder, No, Nothing, Yes};
 use super::host_calls::Call::{
     AddEntry, AddPackage, HasEntry, HasPackage, Make, Put, Remove, Same, Set, State, Unset, Value,
@@ -33,8 +32,8 @@ const CASES: &[Case<'_>] = &[
     (
         (Put("a/file", b"new"), Done),
         &[
-            Look, Find, Find, List, Create, Write, Write, Sync, Compare, Mode, Compare, Rename,
-            Look, Open, SyncFolder,
+            Look, Find, Look, Find, List, Look, Create, Write, Write, Sync, Compare, Mode, Compare,
+            Rename, Look, Open, SyncFolder,
         ],
         &[(Same("a/file", b"old"), Yes)],
         &[(Same("a/file", b"new"), Yes)],
@@ -42,8 +41,8 @@ const CASES: &[Case<'_>] = &[
     (
         (Put("a/other", b"new"), Done),
         &[
-            Look, Find, Find, List, Create, Write, Write, Sync, Compare, Rename, Look, Open,
-            SyncFolder,
+            Look, Find, Look, Find, List, Look, Find, Create, Write, Write, Sync, Compare, Rename,
+            Look, Open, SyncFolder,
         ],
         &[(State("a/other"), Nothing)],
         &[(Same("a/other", b"new"), Yes)],
@@ -51,14 +50,14 @@ const CASES: &[Case<'_>] = &[
     (
         (Make("d"), Done),
         &[
-            Look, Find, MakeFolder, Open, SyncFolder, Find, Open, SyncFolder,
+            Look, Find, Look, Find, MakeFolder, Open, SyncFolder, Look, Find, Open, SyncFolder,
         ],
         &[(State("d"), Nothing)],
         &[(State("d"), Empty)],
     ),
     (
         (Remove("a/file"), Done),
-        &[Look, Find, Find, Unlink, Open, SyncFolder],
+        &[Look, Find, Look, Find, Look, Unlink, Open, SyncFolder],
         &[(Same("a/file", b"old"), Yes)],
         &[(State("a"), Empty)],
     ),
@@ -67,7 +66,9 @@ const CASES: &[Case<'_>] = &[
         &[
             Look,
             Find,
+            Look,
             Find,
+            Look,
             Find,
             Mounts,
             Open,
@@ -96,6 +97,7 @@ const CASES: &[Case<'_>] = &[
         &[
             Look,
             Find,
+            Look,
             Find,
             Mounts,
             Open,
@@ -129,32 +131,37 @@ const CASES: &[Case<'_>] = &[
         &[(State("b"), Folder)],
         &[(State("b/c"), Nothing)],
     ),
-    ((State("a/file"), File), &[Look, Find, Find], &[], &[]),
-    ((State("b"), Folder), &[Look, Find, List], &[], &[]),
+    (
+        (State("a/file"), File),
+        &[Look, Find, Look, Find, Look],
+        &[],
+        &[],
+    ),
+    ((State("b"), Folder), &[Look, Find, Look, List], &[], &[]),
     (
         (Same("a/file", b"old"), Yes),
-        &[Look, Find, Find, Open, Compare, Read, Read],
+        &[Look, Find, Look, Find, Look, Open, Compare, Read, Read],
         &[],
         &[],
     ),
     (
         (Value("path", b"old"), Yes),
-        &[Look, Find, Open, Compare, Read, Read],
+        &[Look, Find, Look, Open, Compare, Read, Read],
         &[],
         &[],
     ),
     (
         (Set("path", b"new"), Done),
         &[
-            Look, Find, List, Create, Write, Write, Sync, Compare, Mode, Compare, Rename, Look,
-            Open, SyncFolder,
+            Look, Find, List, Look, Create, Write, Write, Sync, Compare, Mode, Compare, Rename,
+            Look, Open, SyncFolder,
         ],
         &[(Value("path", b"old"), Yes)],
         &[(Value("path", b"new"), Yes)],
     ),
     (
         (Unset("path"), Done),
-        &[Look, Find, Unlink, Open, SyncFolder],
+        &[Look, Find, Look, Unlink, Open, SyncFolder],
         &[(Value("path", b"old"), Yes)],
         &[(Value("path", b""), No)],
     ),
@@ -162,7 +169,7 @@ const CASES: &[Case<'_>] = &[
         (AddEntry("i", "m"), Done),
         &[
             Look, MakeFolder, MakeFolder, Open, SyncFolder, Look, Find, Open, SyncFolder, List,
-            Create, Write, Write, Sync, Compare, Rename, Look, Open, SyncFolder,
+            Look, Find, Create, Write, Write, Sync, Compare, Rename, Look, Open, SyncFolder,
         ],
         &[(HasEntry("i", "m"), No)],
         &[(HasEntry("i", "m"), Yes)],
@@ -171,7 +178,7 @@ const CASES: &[Case<'_>] = &[
         (AddPackage("name", "1", b"new"), Done),
         &[
             Look, MakeFolder, MakeFolder, Open, SyncFolder, Look, Find, Open, SyncFolder, List,
-            Create, Write, Write, Sync, Compare, Rename, Look, Open, SyncFolder,
+            Look, Find, Create, Write, Write, Sync, Compare, Rename, Look, Open, SyncFolder,
         ],
         &[(HasPackage("name", "1"), No)],
         &[(HasPackage("name", "1"), Yes)],
@@ -305,6 +312,32 @@ fn each_call_takes_its_steps_and_one_that_fails_leaves_the_old_or_the_new(
     Ok(())
 }
 
+// How a call of the system fails, its number, and the answer.
+const DENIED: &[(Row<'_>, ErrorKind, usize)] = &[
+    ((State("a/file"), Failed), ErrorKind::PermissionDenied, 0),
+    ((State("a/file"), Failed), ErrorKind::PermissionDenied, 1),
+    ((State("a/file"), Failed), ErrorKind::PermissionDenied, 2),
+    ((State("a/file"), Failed), ErrorKind::PermissionDenied, 4),
+    (
+        (Same("a/file", b"old"), Failed),
+        ErrorKind::PermissionDenied,
+        5,
+    ),
+    ((State("b/c"), Folder), ErrorKind::PermissionDenied, 5),
+    ((Value("path", b""), Failed), ErrorKind::PermissionDenied, 0),
+    ((Value("path", b""), Failed), ErrorKind::PermissionDenied, 3),
+    ((HasEntry("i", "m"), Failed), ErrorKind::PermissionDenied, 0),
+    // What is not found by its path, or whose path is too long, may still be in the folder that is held.
+    ((Same("a/file", b"old"), Yes), ErrorKind::InvalidFilename, 5),
+    ((Same("a/file", b"old"), Yes), ErrorKind::NotFound, 5),
+    ((Value("path", b"old"), Yes), ErrorKind::NotFound, 3),
+    // As where /proc is missing: what is not found there may still be in the folder.
+    ((State("a/file"), Failed), ErrorKind::NotFound, 1),
+    ((State("a/none"), Failed), ErrorKind::NotFound, 5),
+    ((Value("none", b""), Failed), ErrorKind::NotFound, 3),
+    ((Remove("b/c"), Failed), ErrorKind::NotFound, 6),
+];
+
 // What stands where nothing was changed.
 const UNCHANGED: &[Row<'_>] = &[
     (Same("a/file", b"old"), Yes),
@@ -313,39 +346,30 @@ const UNCHANGED: &[Row<'_>] = &[
     (Value("path", b"old"), Yes),
 ];
 
-// How a call of the system fails, its number, and the answer.
-const DENIED: &[(Row<'_>, ErrorKind, usize)] = &[
-    ((State("a/file"), Failed), ErrorKind::PermissionDenied, 0),
-    ((State("a/file"), Failed), ErrorKind::PermissionDenied, 1),
-    ((State("a/file"), Failed), ErrorKind::PermissionDenied, 2),
-    (
-        (Same("a/file", b"old"), Failed),
-        ErrorKind::PermissionDenied,
-        3,
-    ),
-    ((State("b/c"), Folder), ErrorKind::PermissionDenied, 3),
-    ((Value("path", b""), Failed), ErrorKind::PermissionDenied, 0),
-    ((Value("path", b""), Failed), ErrorKind::PermissionDenied, 2),
-    ((HasEntry("i", "m"), Failed), ErrorKind::PermissionDenied, 0),
+// Calls of which some calls of the system in a row find nothing: the numbers of the first and the last of these.
+const NOT_FOUND: &[(Row<'_>, usize, usize)] = &[
     // What goes after it was seen is not there.
-    ((Same("a/file", b"old"), No), ErrorKind::NotFound, 3),
-    ((Value("path", b""), No), ErrorKind::NotFound, 2),
-];
-
-// Calls that find nothing below /proc from that call of the system on, as where it is missing: what is not found there may
-// still be in the folder.
-const WITHOUT_PROC: &[(Row<'_>, usize)] = &[
-    ((State("a/file"), Failed), 1),
-    ((State("a/file"), Failed), 2),
-    ((Same("a/file", b"old"), Failed), 3),
-    ((Put("a/file", b"new"), Failed), 3),
-    ((Put("a/file", b"new"), Failed), 4),
-    ((Make("d"), Failed), 2),
-    ((Remove("a/file"), Failed), 3),
-    ((Remove("b/c"), Failed), 3),
-    ((Remove("b/c"), Failed), 4),
-    ((Value("path", b""), Failed), 2),
-    ((Unset("path"), Failed), 2),
+    ((Same("a/file", b"old"), No), 5, 6),
+    ((Value("path", b""), No), 3, 4),
+    // As where /proc goes meanwhile.
+    ((State("a/file"), Failed), 1, usize::MAX),
+    ((State("a/file"), Failed), 2, usize::MAX),
+    ((State("a/file"), Failed), 3, usize::MAX),
+    ((State("a/file"), Failed), 4, usize::MAX),
+    ((Same("a/file", b"old"), Failed), 5, usize::MAX),
+    ((Put("a/file", b"new"), Failed), 4, usize::MAX),
+    ((Put("a/file", b"new"), Failed), 5, usize::MAX),
+    ((Put("a/file", b"new"), Failed), 6, usize::MAX),
+    ((Make("d"), Failed), 2, usize::MAX),
+    ((Make("d"), Failed), 4, usize::MAX),
+    ((Remove("a/file"), Failed), 4, usize::MAX),
+    ((Remove("a/file"), Failed), 5, usize::MAX),
+    ((Remove("b/c"), Failed), 4, usize::MAX),
+    ((Remove("b/c"), Failed), 5, usize::MAX),
+    ((Value("path", b""), Failed), 2, usize::MAX),
+    ((Value("path", b""), Failed), 3, usize::MAX),
+    ((Unset("path"), Failed), 2, usize::MAX),
+    ((Unset("path"), Failed), 3, usize::MAX),
 ];
 
 #[test]
@@ -354,8 +378,8 @@ fn what_may_not_be_looked_at_is_not_taken_for_nothing(rt: HostRuntime) -> Result
         let watch = Watch::new(&[], *failing, *kind);
         play(&rt, &watch, *row, &[], &[])?;
     }
-    for (row, failing) in WITHOUT_PROC {
-        let watch = Watch::lasting(*failing, ErrorKind::NotFound);
+    for (row, first, last) in NOT_FOUND {
+        let watch = Watch::lasting(*first, *last, ErrorKind::NotFound);
         play(&rt, &watch, *row, UNCHANGED, UNCHANGED)?;
     }
     Ok(())
@@ -369,9 +393,9 @@ const ROWS: &[Row<'_>] = &[
 ];
 
 const HELD: &[SystemCall] = &[
-    Look, Find, Find, // The folders are held, and looked at again.
-    Look, Open, Compare, Read, Read, // The first of them is held.
-    Look, List,
+    Look, Find, Look, Find, Look, // The folders are held, and looked at again.
+    Look, Look, Look, Open, Compare, Read, Read, // The first of them is held.
+    Look, Look, List,
 ];
 
 #[test]

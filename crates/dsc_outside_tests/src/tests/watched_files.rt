@@ -38,13 +38,13 @@ pub enum SystemCall {
     List,
 }
 
-/// The calls that are to be made, the number of the one that fails, and how; and whether all after it fail too.
+/// The calls that are to be made, the numbers of the first and the last one that fail, and how.
 #[derive(Drop)]
 pub struct Watch<'a> {
     wanted: &'a [SystemCall],
-    failing: usize,
+    first: usize,
+    last: usize,
     kind: ErrorKind,
-    lasts: bool,
     begun: Cell<usize>,
     differs: Cell<bool>,
 }
@@ -53,21 +53,21 @@ impl<'a> Watch<'a> {
     pub fn new(wanted: &'a [SystemCall], failing: usize, kind: ErrorKind) -> Watch<'a> {
         Watch {
             wanted,
-            failing,
+            first: failing,
+            last: failing,
             kind,
-            lasts: false,
             begun: Cell::new(0),
             differs: Cell::new(false),
         }
     }
 
-    /// All calls from that one on fail, whatever they are.
-    pub fn lasting(failing: usize, kind: ErrorKind) -> Watch<'a> {
+    /// All calls from the first to the last of these fail, whatever they are.
+    pub fn lasting(first: usize, last: usize, kind: ErrorKind) -> Watch<'a> {
         Watch {
             wanted: &[],
-            failing,
+            first,
+            last,
             kind,
-            lasts: true,
             begun: Cell::new(0),
             differs: Cell::new(false),
         }
@@ -87,7 +87,7 @@ impl<'a> Watch<'a> {
         if self.wanted.get(number) != Some(&call) {
             self.differs.set(true);
         }
-        if number == self.failing || (self.lasts && number > self.failing) {
+        if self.first <= number && number <= self.last {
             return Err(io::Error::from(self.kind));
         }
         Ok(())
