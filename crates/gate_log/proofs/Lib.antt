@@ -1,6 +1,7 @@
 pub mod Holds
 pub mod Cells
 pub mod Steps
+pub mod Written
 pub mod Appends
 pub mod Switch
 pub mod Rewrites

@@ -1,4 +1,5 @@
 -- what the layer above cites
+pub mod Bytes
 pub mod Calls
 pub mod Laws
 pub mod Log

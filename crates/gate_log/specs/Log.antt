@@ -92,13 +92,14 @@ Appended old body before after (Err Disk) new = Rose before after × (new ≡ sp
 Appended old body before after (Err (NotAStore at)) new = ⊥
 Appended old body before after (Err Memory) new = ⊥
 
--- a body was put: the live bank is as it was
+-- a body was put: the live bank is as it was, and the file ends where it did, or within the other bank
 pub record PutMore (old : LogTerm) (body : List ℕ) (new : LogTerm) : Type 0 where
   pub shape : new.shape ≡ old.shape
   pub second : new.second ≡ old.second
   pub closed : new.closed ≡ old.closed
   pub spent : new.spent ≡ false
   pub capacity : capacity_to_put new + need_of body ≡ capacity_to_put old
+  pub long : new.long ≤ max old.long (begin old.shape (not old.second) + old.shape.bank)
 
 -- what an answer of put says
 abbrev pub Put : {T : Type 0} → LogTerm → List ℕ → ℕ → ℕ → Result T LogError → LogTerm → Type 0
@@ -107,13 +108,14 @@ Put old body before after (Err Disk) new = Rose before after × (new ≡ spoilt 
 Put old body before after (Err (NotAStore at)) new = ⊥
 Put old body before after (Err Memory) new = ⊥
 
--- the other bank is live, with the capacity that was left there
+-- the other bank is live, with the capacity that was left there; the file ends where it did, or within that bank
 pub record Switched (old new : LogTerm) : Type 0 where
   pub shape : new.shape ≡ old.shape
   pub second : new.second ≡ not old.second
   pub spent : new.spent ≡ false
   pub filled : new.filled ≡ None
   pub capacity : capacity_in new ≡ capacity_to_put old
+  pub long : new.long ≤ max old.long (begin old.shape (not old.second) + old.shape.bank)
 
 -- what an answer of finish_rewrite says
 abbrev pub Finished : {T : Type 0} → LogTerm → ℕ → ℕ → Result T LogError → LogTerm → Type 0

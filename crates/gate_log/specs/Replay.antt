@@ -1,8 +1,8 @@
 -- What an opening hands to the layer above, body by body, and where the first failure of a store stands.
-use Rattle.std.specs.Prelude.{ℕ, ◌≡◌, ◌+◌, ◌<◌, Bool, false, List, [], ◌∷◌, ◌++◌, length, IfSome, Result, Ok, Err}
+use Rattle.std.specs.Prelude.{ℕ, ◌≡◌, ◌+◌, ◌<◌, Bool, false, List, [], ◌∷◌, ◌++◌, length, IfSome, IsSomeAnd, Result, Ok, Err}
 use Rattle.dsc_outside.specs.declared.disk.Disk.{Ghosts}
 use Rattle.dsc_terms.specs.Counts.{Rose}
-use Rattle.dsc_outside.specs.Disk.{Still}
+use Rattle.dsc_outside.specs.Disk.{Only, Still}
 use Rattle.gate_log.specs.declared.shape.Shape.{Shape}
 use Rattle.gate_log.specs.declared.error.LogError.{LogError}
 use Rattle.gate_log.specs.declared.error.LogError.TheVariants.{Disk, NotAStore, Memory}
@@ -10,6 +10,7 @@ use Rattle.gate_log.specs.declared.replay.TakeError.{TakeError}
 use Rattle.gate_log.specs.declared.replay.TakeError.TheVariants as take
 use Rattle.gate_log.specs.Text.{Gives, IsLive, HasCells, FailsAt, wrong_magic, wrong_bank, end_of}
 use Rattle.gate_log.specs.Log.{LogTerm, IsLogOf}
+use Rattle.gate_log.specs.Bytes.{Opens}
 
 -- what an answer of take says, after these bodies
 abbrev pub Taken : {T : Type 0} → (List (List ℕ) → Type 0) → (List (List ℕ) → List ℕ → Type 0) → List (List ℕ) → List ℕ → Result T TakeError → Type 0
@@ -34,7 +35,8 @@ pub record IsRefused (shape : Shape) (Took : List (List ℕ) → Type 0) (Refuse
   pub long : 9 < length image
   pub fails : FailsFirst shape Took Refused image at
 
--- what an opening that ended well gives: the log is of the disk with these bodies, all of them were taken, and the disk read as them
+-- what an opening that ended well gives: the log is of the disk with these bodies, all of them were taken, and the disk read as
+-- them; it now reads as a new store, or without what stood after the closed gate, and a crash leaves that
 pub record Opened {D : Type 0} (d : Ghosts D) (old new : D) (shape : Shape) (Took : List (List ℕ) → Type 0) (log : LogTerm) : Type 0 where
   pub found : List (List ℕ)
   pub took : Took found
@@ -42,6 +44,8 @@ pub record Opened {D : Type 0} (d : Ghosts D) (old new : D) (shape : Shape) (Too
   pub spent : log.spent ≡ false
   pub of : IsLogOf d new log found
   pub gave : IfSome (d.shown old) (λ held. Gives shape held found)
+  pub bytes : IfSome (d.shown old) (λ held. IsSomeAnd (d.shown new) (Opens log.closed held))
+  pub only : Only (d.shown new) (d.images new)
 
 -- the cause of NotAStore, whose file is as it was
 pub record NotOpened {D : Type 0} (d : Ghosts D) (old new : D) (shape : Shape) (Took : List (List ℕ) → Type 0) (Refused : List (List ℕ) → List ℕ → Type 0) (at : ℕ) : Type 0 where

@@ -15,6 +15,7 @@
 //! - what takes the bodies of a store as they are read, and the first failure of a store: the trait `Replay` in
 //!   `src/replay.rt`, `specs/Replay.antt`; `src/bodies.rt` keeps them all. That an image whose bodies all have a
 //!   meaning is never refused: `never_refused` of `proofs/Both.antt`
+//! - the bytes that the calls leave: `specs/Bytes.antt`
 //! - what the images of a disk stand for, over any value: `specs/Standing.antt`
 //! - how a cell is appended, how the other bank is written and made live, how a store is opened: `src/appending.rt`,
 //!   `src/rewriting.rt`, `src/opening.rt` with `src/reading.rt`; what a torn write leaves `proofs/Cells.antt`,

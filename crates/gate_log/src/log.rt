@@ -2,13 +2,13 @@
 ghost use Rattle.std.specs.Prelude.{◌≡◌, ◌++◌, ℕ, ◌+◌, ◌-◌, ◌≤◌, ◌<◌, ◌^◌, ◌↔◌, IsTrue, List, length, false};
 ghost use Rattle.gate_log.specs.Text.{after_gate, body_in, need_of};
 
-use crate::appending::{append_cell, append_cell_in_place};
+use crate::appending::{AT_ONCE, append_cell, append_cell_in_place};
 use crate::error::LogError;
 use crate::reading::lengthen;
 use crate::rewriting::{finish_cells, put_cell, with_zeros};
 use crate::shape::{CELL_HEAD, Shape, begin};
 use dsc_outside::Disk;
-use std::cmp::max;
+use std::cmp::{max, min};
 use std::marker::Model;
 
 /// A log, without the disk that it is of.
@@ -49,6 +49,7 @@ impl Model for Log {
 
 impl Log {
     ghost use Rattle.gate_log.specs.Log.{IsLogOf, HasPutOn, Appended, Put, Finished, begun, capacity_in, capacity_to_put, log_at};
+    ghost use Rattle.gate_log.specs.Bytes.{AppendsBytes, PutsBytes, SwitchesBytes};
     ghost use Rattle.gate_log.specs.Calls.{AddsBody, LeavesWithOrWithout, StaysInBank, KeepsBodies, PutsBody, LeavesBodies, TakesPut, LeavesOldOrPut};
     ghost use Rattle.std.specs.Prelude.{vec_capacity};
 
@@ -97,6 +98,7 @@ impl Log {
         ensures answer { Appended self.old body.now (D.faults disk.old) (D.faults disk.new)
             result self.new }
         ensures ok { AddsBody D.Disk disk.old disk.new self.old self.new body.now result }
+        ensures bytes { AppendsBytes D.Disk disk.old disk.new self.old body.now result }
         ensures any_moment { LeavesWithOrWithout D.Disk disk.old disk.new self.old body.now }
         ensures same_bank { StaysInBank D.Disk disk.old disk.new self.old }
         ensures count { D.faults disk.old ≤ D.faults disk.new }
@@ -112,8 +114,8 @@ impl Log {
         Ok(())
     }
 
-    /// Adds a body to the live bank, as `append` does, but without a copy of it. The body is what stands in `head` after its first
-    /// four bytes, and then `tail`; both are written from where they lie.
+    /// Adds a body to the live bank, as `append` does, but without a copy of a long one. The body is what stands in `head` after its
+    /// first four bytes, and then `tail`; one of more than 65,536 bytes is written from where it lies, a shorter one at once.
     ///
     /// Whatever the answer, the body's length stands in those four bytes afterwards, and the rest of `head` is as it was.
     pub fn append_in_place<D: Disk>(
@@ -131,6 +133,8 @@ impl Log {
             Appended self.old body (D.faults disk.old) (D.faults disk.new) result self.new }
         ensures ok { let body = body_in head.old tail.now in
             AddsBody D.Disk disk.old disk.new self.old self.new body result }
+        ensures bytes { let body = body_in head.old tail.now in
+            AppendsBytes D.Disk disk.old disk.new self.old body result }
         ensures any_moment { let body = body_in head.old tail.now in
             LeavesWithOrWithout D.Disk disk.old disk.new self.old body }
         ensures same_bank { StaysInBank D.Disk disk.old disk.new self.old }
@@ -139,7 +143,8 @@ impl Log {
     {
         let need = head.len() as u64 + tail.len() as u64 + 1;
         self.spent = true; // until its gate is open
-        append_cell_in_place(disk, self.closed, head, tail)?;
+        lengthen(&mut self.buffer, min(head.len() + tail.len() + 1, AT_ONCE));
+        append_cell_in_place(disk, self.closed, &mut self.buffer, head, tail)?;
         self.spent = false;
         self.filled = None;
         self.long = max(self.long, self.closed + 1 + need);
@@ -179,6 +184,7 @@ impl Log {
             result self.new }
         ensures ok { KeepsBodies D.Disk disk.old disk.new self.old self.new result }
         ensures put { PutsBody D.Disk disk.old disk.new self.old self.new body.now result }
+        ensures bytes { PutsBytes D.Disk disk.old disk.new self.old body.now result }
         ensures any_moment { LeavesBodies D.Disk disk.old disk.new self.old }
         ensures count { D.faults disk.old ≤ D.faults disk.new }
     {
@@ -206,6 +212,7 @@ impl Log {
         requires begun { (put : List (List ℕ)) × HasPutOn D.Disk disk.old self.old put }
         ensures answer { Finished self.old (D.faults disk.old) (D.faults disk.new) result self.new }
         ensures ok { TakesPut D.Disk disk.old disk.new self.old self.new result }
+        ensures bytes { SwitchesBytes D.Disk disk.old disk.new self.old result }
         ensures any_moment { LeavesOldOrPut D.Disk disk.old disk.new self.old }
         ensures count { D.faults disk.old ≤ D.faults disk.new }
     {

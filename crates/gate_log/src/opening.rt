@@ -3,6 +3,7 @@ ghost use Rattle.std.specs.Prelude.{◌≡◌, ◌≢◌, ◌+◌, ◌≤◌, �
 ghost use Rattle.dsc_terms.specs.Counts.{Rose};
 ghost use Rattle.dsc_outside.specs.Causes.{HasCause};
 ghost use Rattle.dsc_outside.specs.Disk.{Each, From, Only, AnyMoment, Still};
+ghost use Rattle.gate_log.specs.Bytes.{Leaves, new_store};
 ghost use Rattle.gate_log.specs.Text.{IsLive, magic};
 ghost use Rattle.gate_log.specs.Log.{AtAnyMoment, Keeps};
 ghost use Rattle.gate_log.specs.Replay.{FailsFirst, Opened, Unopened};
@@ -26,8 +27,9 @@ const NEW: [u8; 9] = [0x44, 0x53, 0x43, 0x53, 0x54, 0x4F, 0x52, 0x31, 0x00];
 
 // A new file.
 fn make_new<D: Disk>(disk: &mut D) -> Result<(), Failed>
-    ensures ok { OnOk result (Each (D.images disk.new) (λ c. c ≡ magic ++ 49 ∷ 0 ∷ [])) }
+    ensures ok { OnOk result (Each (D.images disk.new) (λ c. c ≡ new_store)) }
     ensures shown { OnOk result (IfSome (D.shown disk.new) (λ held. 9 ≡ length held)) }
+    ensures bytes { OnOk result (Leaves D.Disk disk.old disk.new (λ held. new_store)) }
     ensures any_moment { Each (D.images disk.old) (λ c. length c ≤ 9) → AnyMoment D.moment D.left_since disk.old disk.new (From (λ d c. length c ≤ 9) (D.images disk.old)) }
     ensures cause { HasCause (D.faults disk.old) (D.faults disk.new) result }
 {
@@ -91,6 +93,7 @@ fn replay_old<D: Disk, R: Replay>(
     requires first { R.took replay.old [] }
     ensures ok { IfOk result (λ r. Replayed D.Disk disk.old disk.new shape (R.took replay.new) r.0 r.1) }
     ensures shown { IfOk result (λ r. IfSome (D.shown disk.new) (λ held. r.1 + 1 ≡ length held)) }
+    ensures bytes { IfOk result (λ r. Leaves D.Disk disk.old disk.new (take (r.1 + 1))) }
     ensures within { IfOk result (λ r. r.1 + 1 < 2 ^ 64) }
     ensures capacity { vec_capacity buffer.old ≤ vec_capacity buffer.new }
     ensures any_moment { AnyMoment D.moment D.left_since disk.old disk.new (From (Keeps shape) (D.images disk.old)) }

@@ -1,7 +1,8 @@
 //! The other bank is written, and made live.
-ghost use Rattle.std.specs.Prelude.{◌≡◌, [], ◌∷◌, ◌++◌, ◌+◌, ◌≤◌, ◌<◌, ◌^◌, max, take, length, IfSome, OnOk};
+ghost use Rattle.std.specs.Prelude.{◌≡◌, [], ◌∷◌, ◌++◌, ◌+◌, ◌≤◌, ◌<◌, ◌^◌, max, not, replicate, take, length, IfSome, OnOk};
 ghost use Rattle.dsc_outside.specs.Causes.{HasCause};
-ghost use Rattle.gate_log.specs.Text.{after_gate, need_of, Selects};
+ghost use Rattle.gate_log.specs.Bytes.{Leaves, ReadsAfter, selector_of, with_put, with_switch, with_zeros};
+ghost use Rattle.gate_log.specs.Text.{after_gate, need_of};
 ghost use Rattle.gate_log.specs.Steps.{KeepsBytes, KeepsLive, KeepsTexts, LeavesEitherBank, LeavesLive, LeavesTexts, PutsCell, SwitchesBanks};
 
 use crate::appending::fill;
@@ -27,6 +28,7 @@ fn fill_up<D: Disk>(disk: &mut D, buffer: &mut [u8], long: u64, to: u64) -> Resu
     requires buffer { 0 < length buffer.old }
     ensures size { length buffer.new ≡ length buffer.old }
     ensures long { OnOk result (IfSome (D.shown disk.new) (λ held. max long to ≡ length held)) }
+    ensures bytes { OnOk result (ReadsAfter D.Disk disk.old disk.new (with_zeros to)) }
     ensures holds { KeepsBytes D.Disk disk.old disk.new result }
     ensures ok { KeepsTexts D.Disk disk.old disk.new long result }
     ensures any_moment { LeavesTexts D.Disk disk.old disk.new long }
@@ -46,6 +48,7 @@ fn fill_up<D: Disk>(disk: &mut D, buffer: &mut [u8], long: u64, to: u64) -> Resu
 fn zero_front(buffer: &mut [u8]) -> usize
     requires { 0 < length buffer.old }
     ensures size { length buffer.new ≡ length buffer.old }
+    ensures zeros { take result buffer.new ≡ replicate result 0 }
     ensures some { 0 < result }
     ensures capacity { result ≤ length buffer.new }
 {
@@ -83,6 +86,7 @@ pub(crate) fn put_cell<D: Disk>(
     ensures long { let end = max (max long at) (at + 6 + length body.now) in
         OnOk result (IfSome (D.shown disk.new) (λ held. end ≡ length held)) }
     ensures holds { PutsCell D.Disk disk.old disk.new at body.now result }
+    ensures bytes { OnOk result (ReadsAfter D.Disk disk.old disk.new (with_put at body.now)) }
     ensures ok { KeepsLive D.Disk disk.old disk.new long at (1 + need_of body.now) result }
     ensures any_moment { LeavesLive D.Disk disk.old disk.new long at (1 + need_of body.now) }
     ensures cause { HasCause (D.faults disk.old) (D.faults disk.new) result }
@@ -116,6 +120,7 @@ pub(crate) fn finish_cells<D: Disk>(
     requires place { 8 ≤ at }
     ensures long { OnOk result (IfSome (D.shown disk.new) (λ held. max long (at + 1) ≡ length held)) }
     ensures ok { SwitchesBanks D.Disk disk.old disk.new long at second result }
+    ensures bytes { OnOk result (Leaves D.Disk disk.old disk.new (with_switch at (not second))) }
     ensures any_moment { LeavesEitherBank D.Disk disk.old disk.new long at second }
     ensures cause { HasCause (D.faults disk.old) (D.faults disk.new) result }
 {
@@ -126,7 +131,7 @@ pub(crate) fn finish_cells<D: Disk>(
 
 // The selector that makes a bank live.
 fn selector(second: bool) -> u8
-    ensures { Selects result second }
+    ensures { result ≡ selector_of second }
 {
     if second { 0x32 } else { 0x31 }
 }

@@ -18,4 +18,4 @@ pub use stores::{
     commit_all, commit_body, commit_word, kept_in, new_disk, run, shown, store_after,
 };
 #[cfg(test)]
-pub use words::{INIT, body_of};
+pub use words::{COMMITS, INIT, body_of};

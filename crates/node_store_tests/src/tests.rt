@@ -1,5 +1,6 @@
 //! What no clause of a store says.
 mod banks;
+mod calls;
 mod damaged;
 mod openings;
 mod rewrites;

@@ -17,6 +17,21 @@ const DOCUMENT: &[u8] = b"instance of OMI_ConfigurationDocument{};";
 const DIGEST: &[u8] =
     b"\xBB\x101\xD4=\xEC? ,k\xC7\xB3\xABq\xE3\xA9y\x06|\x92e\xFEL\xBE\xA5e7dA\xFA\x12=";
 
+/// The words of the events before one, and its own: one of each kind.
+pub const COMMITS: &[(&str, &str)] = &[
+    ("", "init"),
+    ("init", "meta"),
+    ("init meta", "registered"),
+    ("init", "A"),
+    ("init A promote B", "promote"),
+    ("init A", "note"),
+    ("init A", "ask"),
+    ("init A ask", "boot"),
+    ("init A note", "sent"),
+    ("init A promote", "drop-current"),
+    ("init A promote B promote", "restore"),
+];
+
 /// The body of the event or piece of this word, or bytes that are the body of none. A report is of this job, and of the job 0 where it is late; a word that names no
 /// event names the one part of a list that is staged.
 pub fn body_of(alloc: Global, word: &str, job: u64) -> Result<Vec<u8>, AllocError> {

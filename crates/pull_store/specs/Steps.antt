@@ -15,6 +15,14 @@ abbrev pub place_of : ℕ → List Row → ℕ
 place_of agent [] = 0
 place_of agent (row ∷ rows) = if row.agent == agent then 0 else suc (place_of agent rows)
 
+abbrev pub agent_in : Row → ℕ
+agent_in row = row.agent
+
+-- the place of the agent, or the number of agents
+abbrev pub place_in : ℕ → List ℕ → ℕ
+place_in agent [] = 0
+place_in agent (other ∷ agents) = if other == agent then 0 else suc (place_in agent agents)
+
 -- the place of the job's report, or the number of reports
 abbrev pub place_of_job : ℕ → List StoredReport → ℕ
 place_of_job job [] = 0

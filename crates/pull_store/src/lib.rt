@@ -12,10 +12,12 @@
 //!   `src/change.rt`; laws of rows `specs/Laws.antt`, `src/laws.rt`
 //! - which rows an image stands for, and what each answer means: `specs/Stands.antt`, `specs/Store.antt`
 //! - the bytes of a registration or a report: `specs/Bodies.antt`, `src/spelling.rt`, `src/reading.rt`
-//! - the opening of a store; one change of it: `src/opening.rt`; `src/committing.rt`
+//! - the opening of a store, and a change that it makes: `src/opening.rt`, `src/applying.rt`; one change of a store
+//!   that is open: `src/committing.rt`
 //! - its limits: `src/limits.rt`
 #![tactic(auto)]
 
+mod applying;
 mod change;
 mod committing;
 mod error;

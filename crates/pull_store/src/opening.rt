@@ -5,13 +5,11 @@ ghost use Rattle.gate_log.specs.Log.{AtAnyMoment};
 ghost use Rattle.pull_store.specs.Stands.{KeepsRows};
 ghost use Rattle.pull_store.specs.Store.{IsOpened, Unopened};
 
+use crate::applying::GrowingRows;
 use crate::change::Change;
-use crate::committing::prepare;
 use crate::error::PullError;
 use crate::limits::{BANK, BODY_CAPACITY, MAX_BODY};
 use crate::reading::read_change;
-use crate::row::Row;
-use crate::rows::{place, refusal};
 use crate::store::PullStore;
 use dsc_outside::Disk;
 use gate_log::{LogError, Replay, Shape, TakeError, replay_log};
@@ -27,14 +25,14 @@ const SHAPE: Shape = Shape {
 #[derive(Drop)]
 struct Reader {
     alloc: Global,
-    rows: Vec<Row>,
+    grown: GrowingRows,
 }
 
 impl Replay for Reader {
     ghost use Rattle.std.specs.Prelude.{[]};
     ghost use Rattle.pull_store.specs.Stands.{EndsAt, Replays};
 
-    ghost took = { λ reader bodies. Replays [] bodies reader.rows.items };
+    ghost took = { λ reader bodies. Replays [] bodies reader.grown.rows.items };
 
     ghost refused = { λ reader bodies body. EndsAt bodies body };
 
@@ -44,12 +42,11 @@ impl Replay for Reader {
             Err(FieldError::Wrong) => return Err(TakeError::Refused),
             Err(FieldError::Memory) => return Err(TakeError::Memory),
         };
-        match refusal(&self.rows, &change) {
+        match self.grown.refusal(&change) {
             Some(_) => return Err(TakeError::Refused),
             None => {}
         }
-        let row = prepare(self.alloc, &mut self.rows, &change)?;
-        place(&mut self.rows, row);
+        self.grown.apply(self.alloc, change)?;
         Ok(())
     }
 }
@@ -71,10 +68,10 @@ pub fn open_pull<D: Disk>(alloc: Global, disk: &mut D) -> Result<PullStore, Pull
     let buffer = Vec::with_capacity(alloc, BODY_CAPACITY)?;
     let mut reader = Reader {
         alloc,
-        rows: Vec::new(alloc),
+        grown: GrowingRows::new(alloc),
     };
     match replay_log(alloc, disk, SHAPE, &mut reader) {
-        Ok(log) => Ok(PullStore::of(alloc, log, reader.rows, buffer)),
+        Ok(log) => Ok(PullStore::of(alloc, log, reader.grown.rows, buffer)),
         Err(LogError::Disk) => Err(PullError::Disk),
         Err(LogError::NotAStore { at }) => Err(PullError::NotAStore { at }),
         Err(LogError::Memory) => Err(PullError::Memory),

@@ -1,12 +1,13 @@
 //! Rows as a list.
-ghost use Rattle.std.specs.Prelude.{◌≡◌, ◌++◌, ◌∷◌, [], ◌-◌, ◌+◌, ◌<◌, ◌≤◌, IfOk, length, drop, None, Some, option_map, vec_len, vec_capacity};
+ghost use Rattle.std.specs.Prelude.{◌≡◌, ◌++◌, ◌∷◌, [], ◌+◌, ◌<◌, ◌≤◌, IfOk, length, None, Some, option_map, vec_len, vec_capacity};
 ghost use Rattle.std.specs.List.{AllByRecursion};
-ghost use Rattle.pull_store.specs.Rows.{row_of, refusal, with_report};
+ghost use Rattle.pull_store.specs.Rows.{row_of, refusal};
 ghost use Rattle.pull_store.specs.Sound.{IsRow};
 ghost use Rattle.pull_store.specs.Steps.{agent_of, place_of, place_of_job, with_row, tail_of, reports_in, Makes};
 
+use crate::applying::with_report;
 use crate::change::{Change, Refusal};
-use crate::limits::{MAX_REPORTS, MAX_ROWS};
+use crate::limits::MAX_ROWS;
 use crate::row::{Row, StoredReport};
 use mof_values::{Bytes, Items};
 use pull_messages::Registration;
@@ -84,7 +85,8 @@ pub fn place(rows: &mut Vec<Row>, row: Row)
     }
 }
 
-fn add(rows: &mut Vec<Row>, row: Row)
+/// Puts a row at the end.
+pub fn add(rows: &mut Vec<Row>, row: Row)
     requires { vec_len rows.old < vec_capacity rows.old }
     ensures { rows.new.items ≡ rows.old.items ++ row ∷ [] }
 {
@@ -162,7 +164,8 @@ fn reported(
     ensures { IfOk result (Makes (Change.Report agent job body.now) (Some row.now)) }
 {
     let registration = row.registration.clone()?;
-    let reports = Items::of(with_report(alloc, row.reports.as_slice(), job, body.clone()?)?);
+    let reports = copied(alloc, row.reports.as_slice())?;
+    let reports = Items::of(with_report(reports, job, body.clone()?)?);
     Ok(Row {
         agent,
         registration,
@@ -180,27 +183,8 @@ fn reports_of(alloc: Global, rows: &[Row], agent: u128) -> Result<Items<StoredRe
     }
 }
 
-fn with_report(
-    alloc: Global,
-    reports: &[StoredReport],
-    job: u128,
-    body: Bytes,
-) -> Result<Vec<StoredReport>, AllocError>
-    ensures { IfOk result (λ v. v.items ≡ with_report job body reports.now) }
-{
-    let at = place_of_job(reports, job);
-    if at < reports.len() {
-        let mut kept = copied(alloc, reports)?;
-        kept[at] = StoredReport { job, body };
-        return Ok(kept);
-    }
-    let mut kept = copied(alloc, older_reports(reports))?;
-    kept.push(StoredReport { job, body })?;
-    Ok(kept)
-}
-
-// The place of a job's report, or the number of reports.
-fn place_of_job(reports: &[StoredReport], job: u128) -> usize
+/// The place of a job's report, or the number of reports.
+pub fn place_of_job(reports: &[StoredReport], job: u128) -> usize
     ensures place { result ≡ place_of_job job reports.now }
     ensures within { result ≤ length reports.now }
 {
@@ -214,14 +198,6 @@ fn place_of_job(reports: &[StoredReport], job: u128) -> usize
             }
         }
     }
-}
-
-// The reports that stay where one is added: the newest of them.
-fn older_reports(reports: &[StoredReport]) -> &[StoredReport]
-    ensures { result.now ≡ drop (length reports.now - (MAX_REPORTS - 1)) reports.now }
-{
-    let (_, rest) = reports.split_at(reports.len().saturating_sub(MAX_REPORTS - 1));
-    rest
 }
 
 fn copied(alloc: Global, reports: &[StoredReport]) -> Result<Vec<StoredReport>, AllocError>

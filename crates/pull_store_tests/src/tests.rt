@@ -1,7 +1,10 @@
 //! What no clause of a store says.
 mod agents;
+mod calls;
 mod damaged;
+mod full_bank;
 mod openings;
+mod rewrites;
 mod rows;
 mod sizes;
 mod stops;

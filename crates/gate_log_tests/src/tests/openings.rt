@@ -50,6 +50,28 @@ fn a_file_is_a_store_or_fails_at_its_first_wrong_byte(rt: HostRuntime) -> Result
     Ok(())
 }
 
+// Files, and what an opening leaves of them.
+const LEFT: &[(&[u8], &[u8])] = &[
+    (b"", b"DSCSTOR1\0"),
+    (b"anything!", b"DSCSTOR1\0"),
+    (b"DSCSTOR1\x57\xFF\xFF", b"DSCSTOR1\x57"),
+    (
+        b"DSCSTOR9\xA5\0\0\0\x01a\0\0\0\0\x02bc",
+        b"DSCSTOR9\xA5\0\0\0\x01a\0",
+    ),
+];
+
+#[test]
+fn an_opening_cuts_what_stands_after_the_closed_gate(rt: HostRuntime) -> Result<(), Fail> {
+    let alloc = rt.alloc();
+    for (bytes, left) in LEFT {
+        let mut disk = MemoryDisk::new(bytes.to_vec(alloc)?, Vec::new(alloc))?;
+        bodies_of(alloc, &mut disk)?;
+        assert!(rt; disk.bytes() == *left);
+    }
+    Ok(())
+}
+
 // A store of two bodies of twenty bytes has thirteen bytes left, and one cell too long for them fails at its length.
 fn capacity_is_what_is_left(alloc: Global) -> Result<bool, LogError> {
     let mut disk = with_memory(MemoryDisk::new(Vec::new(alloc), Vec::new(alloc)))?;

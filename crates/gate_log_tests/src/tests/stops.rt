@@ -71,14 +71,23 @@ const PARTS: &[DiskPart] = &[
     DiskPart::Filled(0xA5),
 ];
 
-// Whether each stop leaves the old bodies or the new ones, and the new ones once the run has ended.
+// How many calls an opening and the change make.
+fn count_of_calls(alloc: Global, change: Change) -> Result<u64, LogError> {
+    let mut whole = disk(alloc, None)?;
+    run(alloc, &mut whole, change)?;
+    Ok(whole.calls().len() as u64)
+}
+
+// Whether each stop leaves the old bodies or the new ones, and the new ones once the run has ended: it ends where the stop comes
+// after its last call, and nowhere else.
 fn all_stops(alloc: Global, change: Change) -> Result<bool, LogError> {
-    for call in 0..40 {
+    let count = count_of_calls(alloc, change)?;
+    for call in 0..=count {
         for part in PARTS {
-            let stop = DiskStop { call, part: *part };
-            match after_stop(alloc, change, stop)? {
-                (Found::Neither, _) | (Found::Old, true) => return Ok(false),
-                (Found::Old, false) | (Found::New, _) => {}
+            let (found, is_done) = after_stop(alloc, change, DiskStop { call, part: *part })?;
+            let is_either = found == Found::New || (found == Found::Old && !is_done);
+            if !is_either || is_done != (call == count) {
+                return Ok(false);
             }
         }
     }
@@ -104,10 +113,8 @@ const LAST_WRITES: &[(Change, u8, Found)] = &[
 
 // What the next opening finds after a stop in the last write, which one sync follows.
 fn after_last_write(alloc: Global, change: Change, byte: u8) -> Result<Found, LogError> {
-    let mut whole = disk(alloc, None)?;
-    run(alloc, &mut whole, change)?;
     let stop = DiskStop {
-        call: (whole.calls().len() as u64).saturating_sub(2),
+        call: count_of_calls(alloc, change)?.saturating_sub(2),
         part: DiskPart::Filled(byte),
     };
     Ok(after_stop(alloc, change, stop)?.0)

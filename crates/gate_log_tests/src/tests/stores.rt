@@ -69,6 +69,21 @@ pub fn rewrite<D: Disk>(log: &mut Log, disk: &mut D, body: &[u8]) -> Result<(), 
     log.finish_rewrite(disk)
 }
 
+/// Begins a rewrite of a store, and puts a body.
+#[tactic(auto, using(crate::proofs::Begun::begun_of, crate::proofs::Begun::begun_put))]
+pub fn begin_with<D: Disk>(log: &mut Log, disk: &mut D, body: &[u8]) -> Result<(), LogError>
+    requires shape { log.old.shape ≡ record { bank = 64; largest = 32 } }
+    requires of { IsReady D.Disk disk.old log.old }
+    ensures shape { log.new.shape ≡ record { bank = 64; largest = 32 } }
+    ensures of { IsReady D.Disk disk.new log.new }
+{
+    if log.is_spent() || body.len() > 32 {
+        return Ok(());
+    }
+    log.begin_rewrite();
+    log.put(disk, body)
+}
+
 /// Appends two bodies of twenty bytes, `a` and `b`.
 pub fn add_two<D: Disk>(alloc: Global, disk: &mut D) -> Result<Log, LogError>
     ensures shape { IfOk result (λ log. log.shape ≡ record { bank = 64; largest = 32 }) }

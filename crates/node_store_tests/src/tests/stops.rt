@@ -1,27 +1,12 @@
 //! Stops and failures in each call of a commit.
 ghost use Rattle.node_store.specs.Store.{IsReady};
 
-use crate::{commit_word, kept_in, new_disk, run, shown};
+use crate::{COMMITS, commit_word, kept_in, new_disk, run, shown};
 use dsc_outside::Disk;
 use memory_outside::{DiskPart, DiskStop, MemoryDisk};
 use node_store::{NodeStore, StoreError, open_store};
 use std::alloc::Global;
 use std::test::Fail;
-
-// The words of the events before one, and its own.
-const COMMITS: &[(&str, &str)] = &[
-    ("", "init"),
-    ("init", "meta"),
-    ("init meta", "registered"),
-    ("init", "A"),
-    ("init A promote B", "promote"),
-    ("init A", "note"),
-    ("init A", "ask"),
-    ("init A ask", "boot"),
-    ("init A note", "sent"),
-    ("init A promote", "drop-current"),
-    ("init A promote B promote", "restore"),
-];
 
 const PARTS: &[DiskPart] = &[
     DiskPart::Nothing,
@@ -77,51 +62,50 @@ fn left_by(alloc: Global, mut disk: MemoryDisk, word: &str) -> Result<Left, Stor
     })
 }
 
-// How many calls an opening of a disk with these bytes makes.
-fn calls_of_opening(alloc: Global, bytes: &[u8]) -> Result<u64, StoreError> {
+// How many calls an opening of a disk with these bytes makes, and how many it makes with a commit after it.
+fn count_of_calls(alloc: Global, bytes: &[u8], word: &str) -> Result<(u64, u64), StoreError> {
     let mut disk = MemoryDisk::new(bytes.to_vec(alloc)?, Vec::new(alloc))?;
-    match open_store(alloc, &mut disk) {
-        Ok(_) => Ok(disk.calls().len() as u64),
+    let mut store = match open_store(alloc, &mut disk) {
+        Ok(store) => store,
+        Err(error) => return Err(error),
+    };
+    let opening = disk.calls().len() as u64;
+    match commit_word(alloc, &mut store, &mut disk, word) {
+        Ok(()) => Ok((opening, disk.calls().len() as u64)),
         Err(error) => Err(error),
     }
 }
 
-// Whether a stop in this call of a commit, the fifth of which is none, leaves the node before it or after it, and the store in
-// memory as it was unless the commit was done.
-fn is_either(
-    alloc: Global,
-    bytes: &[u8],
-    word: &str,
-    stop: DiskStop,
-    lines: (&str, &str),
-) -> Result<bool, StoreError> {
-    let (before, after) = lines;
-    let disk = MemoryDisk::of(bytes.to_vec(alloc)?, Vec::new(alloc), Some(stop))?;
-    let left = left_by(alloc, disk, word)?;
+// Whether a commit that was done left the node after it, and one that was not the node before it or after it on the disk, and the
+// store in memory as it was.
+fn is_either(left: &Left, before: &str, after: &str) -> bool {
     let on_disk = left.disk.as_str();
-    Ok(if left.is_done {
+    if left.is_done {
         left.memory.as_str() == after && on_disk == after
     } else {
         left.memory.as_str() == before && (on_disk == before || on_disk == after)
-    })
+    }
 }
 
+// Whether this is so for a stop in each call of a commit, the last one too, and the commit is done where the stop comes after it.
 fn are_either(alloc: Global, words: &str, word: &str) -> Result<bool, StoreError> {
     let (before, bytes) = run(alloc, words)?;
     let mut more = String::from_str(alloc, words)?;
     more.push_str(if words.is_empty() { "" } else { " " })?;
     more.push_str(word)?;
     let (after, _) = run(alloc, &more)?;
-    let first = calls_of_opening(alloc, &bytes)?;
-    for call in first..first.saturating_add(5) {
+    let (first, count) = count_of_calls(alloc, &bytes, word)?;
+    for call in first..=count {
         for part in PARTS {
-            let stop = DiskStop { call, part: *part };
-            if !is_either(alloc, &bytes, word, stop, (&before, &after))? {
+            let stop = Some(DiskStop { call, part: *part });
+            let disk = MemoryDisk::of(bytes.to_vec(alloc)?, Vec::new(alloc), stop)?;
+            let left = left_by(alloc, disk, word)?;
+            if left.is_done != (call == count) || !is_either(&left, &before, &after) {
                 return Ok(false);
             }
         }
     }
-    Ok(true)
+    Ok(first < count)
 }
 
 fn first_neither(alloc: Global) -> Result<Option<usize>, StoreError> {
@@ -146,12 +130,12 @@ const GATES: &[(u8, &str)] = &[
     (0x57, "agent pending A job 1"),
 ];
 
-// What the next opening finds after a stop in the last but one call of a promotion, the write of the gate. Before it are the writes
-// of the two pieces of the cell and of a closed gate, and a sync.
+// What the next opening finds after a stop in the last but one call of a promotion, the write of the gate.
 fn after_gate(alloc: Global, byte: u8) -> Result<String, StoreError> {
     let (_, bytes) = run(alloc, "init A")?;
+    let (_, count) = count_of_calls(alloc, &bytes, "promote")?;
     let stop = DiskStop {
-        call: calls_of_opening(alloc, &bytes)?.saturating_add(4),
+        call: count.saturating_sub(2),
         part: DiskPart::Filled(byte),
     };
     let disk = MemoryDisk::of(bytes, Vec::new(alloc), Some(stop))?;

@@ -86,11 +86,16 @@ fn left_by(alloc: Global, mut disk: MemoryDisk, word: &str) -> Result<Left, Pull
     })
 }
 
-// How many calls an opening of a disk with these bytes makes.
-fn calls_of_opening(alloc: Global, bytes: &[u8]) -> Result<u64, PullError> {
+// How many calls an opening of a disk with these bytes makes, and how many it makes with a change after it.
+fn count_of_calls(alloc: Global, bytes: &[u8], word: &str) -> Result<(u64, u64), PullError> {
     let mut disk = MemoryDisk::new(bytes.to_vec(alloc)?, Vec::new(alloc))?;
-    match open_pull(alloc, &mut disk) {
-        Ok(_) => Ok(disk.calls().len() as u64),
+    let mut store = match open_pull(alloc, &mut disk) {
+        Ok(store) => store,
+        Err(error) => return Err(error),
+    };
+    let opening = disk.calls().len() as u64;
+    match call(alloc, &mut store, &mut disk, word) {
+        Ok(()) => Ok((opening, disk.calls().len() as u64)),
         Err(error) => Err(error),
     }
 }
@@ -106,7 +111,7 @@ fn is_either(left: &Left, before: &str, after: &str) -> bool {
     }
 }
 
-// Whether this is so for a stop in each call of a change, the fifth of which is none.
+// Whether this is so for a stop in each call of a change, the last one too, and the change is done where the stop comes after it.
 fn are_either(
     alloc: Global,
     words: &str,
@@ -115,17 +120,21 @@ fn are_either(
     after: &str,
 ) -> Result<bool, PullError> {
     let (_, bytes) = run(alloc, words)?;
-    let first = calls_of_opening(alloc, &bytes)?;
-    for call in first..first.saturating_add(5) {
+    let (first, count) = count_of_calls(alloc, &bytes, word)?;
+    for number in first..=count {
         for part in PARTS {
-            let stop = Some(DiskStop { call, part: *part });
+            let stop = Some(DiskStop {
+                call: number,
+                part: *part,
+            });
             let disk = MemoryDisk::of(bytes.to_vec(alloc)?, Vec::new(alloc), stop)?;
-            if !is_either(&left_by(alloc, disk, word)?, before, after) {
+            let left = left_by(alloc, disk, word)?;
+            if left.is_done != (number == count) || !is_either(&left, before, after) {
                 return Ok(false);
             }
         }
     }
-    Ok(true)
+    Ok(first < count)
 }
 
 #[test]
@@ -150,8 +159,9 @@ const GATES: &[(DiskPart, &str)] = &[
 
 fn after_gate(alloc: Global, part: DiskPart) -> Result<String, PullError> {
     let (_, bytes) = run(alloc, "RAx")?;
+    let (_, count) = count_of_calls(alloc, &bytes, "RBy")?;
     let stop = DiskStop {
-        call: calls_of_opening(alloc, &bytes)?.saturating_add(2),
+        call: count.saturating_sub(2),
         part,
     };
     let disk = MemoryDisk::of(bytes, Vec::new(alloc), Some(stop))?;
@@ -166,26 +176,26 @@ fn the_gate_decides(rt: HostRuntime) -> Result<(), Fail> {
     Ok(())
 }
 
-// A report for which this call of four fails, and the next opening of the disk that goes on.
-fn after_failure(alloc: Global, number: u64) -> Result<Left, PullError> {
-    let (_, bytes) = run(alloc, "RAx PA1a")?;
-    let failing = calls_of_opening(alloc, &bytes)?.saturating_add(number);
+// A report for which this call fails, and the next opening of the disk that goes on.
+fn after_failure(alloc: Global, bytes: &[u8], failing: u64) -> Result<Left, PullError> {
     left_by(
         alloc,
-        MemoryDisk::new(bytes, vec![in alloc; failing]?)?,
+        MemoryDisk::new(bytes.to_vec(alloc)?, vec![in alloc; failing]?)?,
         "PA2b",
     )
 }
 
 #[test]
 fn a_failed_call_spends_the_store(rt: HostRuntime) -> Result<(), Fail> {
-    for number in 0..4 {
-        let left = after_failure(rt.alloc(), number)?;
+    let (_, bytes) = run(rt.alloc(), "RAx PA1a")?;
+    let (first, count) = count_of_calls(rt.alloc(), &bytes, "PA2b")?;
+    for number in first..count {
+        let left = after_failure(rt.alloc(), &bytes, number)?;
         assert!(rt;
             !left.is_done && is_either(&left, "Ax:1a", "Ax:1a:2b"),
             "{number}"
         );
     }
-    assert!(rt; after_failure(rt.alloc(), 4)?.is_done);
+    assert!(rt; after_failure(rt.alloc(), &bytes, count)?.is_done);
     Ok(())
 }

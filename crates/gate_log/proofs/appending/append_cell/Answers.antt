@@ -1,6 +1,7 @@
-use Rattle.std.proofs.Common.{◌≡◌, ◌+◌, ◌∷◌, [], ◌++◌, ℕ, length, subst, max, OnOk}
+use Rattle.std.proofs.Common.{◌≡◌, ◌+◌, ◌∷◌, [], ◌++◌, ℕ, List, length, subst, max, OnOk}
 use Rattle.std.specs.Prelude.{IfSome}
-use Rattle.dsc_outside.specs.Disk.{Each}
+use Rattle.dsc_outside.specs.Disk.{Each, written}
+use Rattle.gate_log.specs.Bytes.{Leaves}
 use Rattle.gate_log.specs.Text.{IsText}
 use Rattle.gate_log.proofs.Cells.{cell_size}
 use Rattle.gate_log.proofs.appending.append_cell.Goals as goal
@@ -19,3 +20,7 @@ returns-clause-long g c = λ n long.
     subst (λ (m : ℕ). OnOk c.write_cell.result (IfSome (g.D.Disk.shown c.write_cell.new.disk) (λ now. max n (c.args.closed + 1 + m) ≡ length now)))
     (cell_size _ c.args.body.now c.fill-size.ensures.cell)
     (c.write_cell.ensures.long n long)
+
+pub returns-clause-bytes : goal.returns-clause-bytes
+returns-clause-bytes g c =
+    subst (λ (l : List ℕ). OnOk c.write_cell.result (Leaves g.D.Disk c.args.disk.now c.write_cell.new.disk (written c.args.closed (165 ∷ l)))) c.fill-size.ensures.cell c.write_cell.ensures.bytes

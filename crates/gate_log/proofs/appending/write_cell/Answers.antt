@@ -1,6 +1,9 @@
+use Rattle.std.proofs.Common.{◌+◌, ◌≤◌, [], ◌∷◌, length}
+use Rattle.dsc_outside.specs.Disk.{written}
 use Rattle.gate_log.specs.Steps.{TextBeforeOrAfter}
 use Rattle.dsc_outside.proofs.Moments.{weaker, then_on}
 use Rattle.gate_log.proofs.Steps.{first_moment, second_moment, appended, both_ok, lengths}
+use Rattle.gate_log.proofs.Written.{read_both, written_front}
 use Rattle.gate_log.proofs.appending.write_cell.Goals as goal
 
 pub returns-in_err-write_through-clause-any_moment : goal.returns-in_err-write_through-clause-any_moment
@@ -35,3 +38,13 @@ returns-clause-long g c = λ n long.
     let new = c.write_through-2.new.disk in
     both_ok c.write_through-2.result c.write_through-2.ensures.written c.write_through-2.ensures.only (λ is only.
     lengths c.args.closed 165 c.args.cell.now (g.D.Disk.shown disk) (g.D.Disk.shown mid) (g.D.Disk.shown new) n c.in_ok-write_through.ensures.written is c.requires.capacity long)
+
+pub returns-clause-bytes : goal.returns-clause-bytes
+returns-clause-bytes g c =
+    let closed = c.args.closed in
+    let cell = c.args.cell.now in
+    both_ok c.write_through-2.result c.write_through-2.ensures.written c.write_through-2.ensures.only (λ is only. record {
+      reads = read_both (written (closed + 1) cell) (written closed (165 ∷ [])) (written closed (165 ∷ cell)) (λ held. closed + 1 ≤ length held) (g.D.Disk.shown c.args.disk.now) (g.D.Disk.shown c.write_through.new.disk)
+          (g.D.Disk.shown c.write_through-2.new.disk) (λ held le. written_front closed (165 ∷ []) cell held le) c.requires.capacity c.in_ok-write_through.ensures.written is;
+      only = only;
+    })

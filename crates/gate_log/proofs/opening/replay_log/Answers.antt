@@ -1,5 +1,6 @@
-use Rattle.std.proofs.Common.{◌≡◌, ◌≤◌, ◌∙◌, [], ℕ, List, length, subst, arith, rules, false, Option}
-use Rattle.std.specs.Prelude.{IfSome}
+use Rattle.std.proofs.Common.{◌≡◌, ◌+◌, ◌≤◌, ◌∙◌, [], ℕ, List, length, take, ap, subst, arith, rules, false, Option}
+use Rattle.std.specs.Prelude.{IfSome, option_map}
+use Rattle.gate_log.specs.Bytes.{new_store}
 use Rattle.dsc_outside.specs.declared.disk.Disk.{Ghosts}
 use Rattle.dsc_outside.specs.Disk.{Each, From, Only, Still}
 use Rattle.gate_log.specs.declared.shape.Shape.{Shape}
@@ -7,7 +8,7 @@ use Rattle.dsc_outside.proofs.Moments.{still_then, weaker, then_on}
 use Rattle.gate_log.specs.Text.{Gives, fresh}
 use Rattle.gate_log.specs.Log.{AtAnyMoment, Keeps}
 use Rattle.gate_log.proofs.Steps.{if_some}
-use Rattle.gate_log.proofs.Opened.{told_length, fresh_keeps, new_text, opened, unopened}
+use Rattle.gate_log.proofs.Opened.{told_length, fresh_keeps, new_text, made_bytes, cut_bytes, opened, unopened}
 use Rattle.gate_log.proofs.Failing.{rose_sooner}
 use Rattle.dsc_terms.specs.Counts.{Rose}
 use Rattle.std.proofs.lemmas.Result.{err_from_is_err_and}
@@ -42,16 +43,24 @@ pub returns-then-end-le9-clause-ok : goal.returns-then-end-le9-clause-ok
 returns-then-end-le9-clause-ok g c =
     let gave = if_some (g.D.Disk.shown c.args.disk.now) (λ held is.
     fresh (short_one c.in_ok-end.end held c.if-end-le9.true (told_length (g.D.Disk.shown c.settle.new.disk) c.in_ok-end.end held (c.settle.ensures.still.same ∙ is) c.in_ok-end.ensures.length))) in
+    let same = c.length_of.ensures.still.same ∙ c.settle.ensures.still.same in
+    let long = subst (λ (o : Option (List ℕ)). IfSome o (λ held. c.in_ok-end.end ≡ length held)) c.settle.ensures.still.same c.in_ok-end.ensures.length in
+    let left = c.in_ok-make_new.ensures.bytes in
+    let bytes = made_bytes c.in_ok-end.end (g.D.Disk.shown c.args.disk.now) (g.D.Disk.shown c.make_new.new.disk) c.if-end-le9.true long (left.reads ∙ ap (λ (o : Option (List ℕ)). option_map (λ (held : List ℕ). new_store) o) same) in
     opened g.D.Disk c.args.disk.now c.make_new.new.disk c.args.shape (g.R.Replay.took c.args.replay.now) false 8 [] c.of.result c.of.ensures c.requires.first
-    (λ f here. new_text c.args.shape f c.requires.some (c.in_ok-make_new.ensures.ok f here)) c.in_ok-make_new.ensures.shown gave
+    (λ f here. new_text c.args.shape f c.requires.some (c.in_ok-make_new.ensures.ok f here)) c.in_ok-make_new.ensures.shown gave bytes left.only
 
 pub returns-clause-ok : goal.returns-clause-ok
 returns-clause-ok g c =
     let r = c.in_ok-second.ensures.ok in
     let same = c.length_of.ensures.still.same ∙ c.settle.ensures.still.same in
     let gave = subst (λ (o : Option (List ℕ)). IfSome o (λ held. Gives c.args.shape held r.found)) same r.gave in
+    let long = subst (λ (o : Option (List ℕ)). IfSome o (λ held. c.in_ok-end.end ≡ length held)) c.settle.ensures.still.same c.in_ok-end.ensures.length in
+    let left = c.in_ok-second.ensures.bytes in
+    let closed = c.in_ok-second.closed in
+    let bytes = cut_bytes c.in_ok-end.end closed (g.D.Disk.shown c.args.disk.now) (g.D.Disk.shown c.replay_old.new.disk) (omega (arith, c.if-end-le9.false)) long (left.reads ∙ ap (λ (o : Option (List ℕ)). option_map (take (closed + 1)) o) same) in
     opened g.D.Disk c.args.disk.now c.replay_old.new.disk c.args.shape (g.R.Replay.took c.replay_old.new.replay) c.in_ok-second.second c.in_ok-second.closed r.found c.of-2.result c.of-2.ensures r.took
-    r.each c.in_ok-second.ensures.shown gave
+    r.each c.in_ok-second.ensures.shown gave bytes left.only
 
 pub returns-in_err-second-clause-refused : goal.returns-in_err-second-clause-refused
 returns-in_err-second-clause-refused g c =

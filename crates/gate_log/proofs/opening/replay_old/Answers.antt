@@ -1,5 +1,6 @@
 use Rattle.std.proofs.lemmas.Result.{err_from_is_err_and}
-use Rattle.std.proofs.Common.{◌≡◌, ◌+◌, ◌<◌, ◌^◌, ℕ, Bool, List, IfSome}
+use Rattle.std.proofs.Common.{◌≡◌, ◌+◌, ◌<◌, ◌^◌, ◌∙◌, ℕ, Bool, List, take, ap, IfSome, Option}
+use Rattle.std.specs.Prelude.{option_map}
 use Rattle.dsc_outside.specs.declared.disk.Disk.{Ghosts}
 use Rattle.dsc_outside.specs.Disk.{Cut, From, Only, Still}
 use Rattle.gate_log.specs.declared.shape.Shape.{Shape}
@@ -70,3 +71,12 @@ returns-in_err-closed-clause-cause g c =
     (g.R.Replay.took c.read_cells.new.replay) (g.R.Replay.refused c.read_cells.new.replay) c.in_err-closed.field-0.0
     c.read_head.ensures.still.same c.in_ok-second.ensures.head (rose_sooner _ _ _ c.read_head.ensures.count) c.in_err-closed.ensures.cause in
     rw (p.1, p.2) cause
+
+pub returns-clause-bytes : goal.returns-clause-bytes
+returns-clause-bytes g c =
+    let disk = c.args.disk.now in
+    let still = still_then g.D.Disk.shown g.D.Disk.images g.D.Disk.moment g.D.Disk.left_since disk c.read_head.new.disk c.read_cells.new.disk c.read_head.ensures.still c.read_cells.ensures.still in
+    record {
+      reads = c.in_ok-cut_through.ensures.cut ∙ ap (λ (o : Option (List ℕ)). option_map (take (c.in_ok-closed.closed + 1)) o) still.same;
+      only = c.in_ok-cut_through.ensures.only;
+    }

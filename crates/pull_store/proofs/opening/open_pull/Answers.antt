@@ -6,4 +6,4 @@ use Rattle.pull_store.proofs.opening.open_pull.Goals as goal
 pub returns-in-Err-NotAStore-clause-cause : goal.returns-in-Err-NotAStore-clause-cause
 returns-in-Err-NotAStore-clause-cause g c =
     subst (λ (at : ℕ). NotOpened g.D.Disk c.args.disk.now c.replay_log.new.disk at) (sym c.in-Err-NotAStore.at-is)
-    (not_opened_of g.D.Disk c.args.disk.now c.replay_log.new.disk c.replay_log.new.replay.rows.items c.in-Err-NotAStore.field-0 c.in-Err-NotAStore.at c.in-Err-NotAStore.field-0-is c.in-Err-NotAStore.ensures.refused)
+    (not_opened_of g.D.Disk c.args.disk.now c.replay_log.new.disk c.replay_log.new.replay.grown.rows.items c.in-Err-NotAStore.field-0 c.in-Err-NotAStore.at c.in-Err-NotAStore.field-0-is c.in-Err-NotAStore.ensures.refused)
