@@ -33,21 +33,13 @@ impl LastLook {
 
     /// Answers whether it found what is at the spot now.
     pub fn found(&self, spot: &Spot) -> bool {
-        match &spot.seen {
-            Some(seen) => self.identity == Some(Identity::of(seen)),
-            None => self.identity.is_none(),
-        }
+        self.identity == spot.identity()
     }
 }
 
 fn identity_of(spot: &Option<Spot>) -> Option<Identity> {
     match spot {
-        Some(
-            Spot {
-                seen: Some(seen),
-                ..
-            },
-        ) => Some(Identity::of(seen)),
-        _ => None,
+        Some(spot) => spot.identity(),
+        None => None,
     }
 }

@@ -1,8 +1,10 @@
 //! Plain files: reading them, and taking them away.
+ghost use Rattle.std.specs.Prelude.{◌≡◌, Some, IfErr, IfOk};
 ghost use Rattle.dsc_outside.specs.Host.{LeavesBuffer};
 
 use crate::comparing::gives_exactly;
 use crate::held_folder::HeldFolder;
+use crate::identity::Identity;
 use crate::reading::read_rest;
 use crate::spot::{Kind, Spot};
 use dsc_outside::HostError;
@@ -58,8 +60,8 @@ pub fn is_plain_file(spot: &Spot) -> Result<bool, HostError> {
     }
 }
 
-// Opens the file that was seen in the folder. What the path leads to is not taken for it, but compared. A pipe that comes is
-// waited for, until somebody writes to it.
+// Opens the file that was seen in the folder. What the path leads to is not taken for it, but compared with what stands at its place.
+// A pipe that comes is waited for, until somebody writes to it.
 fn open_plain<R: Files>(
     rt: &R,
     folder: &HeldFolder,
@@ -73,10 +75,29 @@ fn open_plain<R: Files>(
         return Ok(None);
     };
     let found = file.metadata()?;
-    if !found.is_file() || !spot.is(&found) {
+    if !found.is_file() {
         return Err(HostError::Failed);
     }
+    let again = Spot::look(rt, spot.place.clone()?)?;
+    check_opened(spot.identity(), Identity::of(&found), again.identity())?;
     Ok(Some(file))
+}
+
+/// Whether a file that was opened is the one that stands at its place: it was seen there before, and is seen there while it is open. The
+/// first look alone does not tell: a file that was taken away gives its number to the next one that is made, wherever that is.
+fn check_opened(
+    seen: Option<Identity>,
+    opened: Identity,
+    again: Option<Identity>,
+) -> Result<(), HostError>
+    ensures same { IfOk result (λ done. (seen ≡ Some opened) × (again ≡ Some opened)) }
+    ensures other { IfErr result (λ error. seen ≡ Some opened → again ≡ Some opened → ⊥) }
+{
+    if seen == Some(opened) && again == Some(opened) {
+        Ok(())
+    } else {
+        Err(HostError::Failed)
+    }
 }
 
 // Opens what the path leads to, or else the name in the folder: a folder above it may have been moved, or the path be longer

@@ -32,12 +32,17 @@ impl Spot {
         Ok(Spot { place, seen })
     }
 
+    /// Which file or folder was seen, where something was.
+    pub fn identity(&self) -> Option<Identity> {
+        match &self.seen {
+            Some(seen) => Some(Identity::of(seen)),
+            None => None,
+        }
+    }
+
     /// Answers whether that is what was seen.
     pub fn is(&self, found: &Metadata) -> bool {
-        match &self.seen {
-            Some(seen) => Identity::of(found) == Identity::of(seen),
-            None => false,
-        }
+        self.identity() == Some(Identity::of(found))
     }
 
     pub fn kind(&self) -> Kind {

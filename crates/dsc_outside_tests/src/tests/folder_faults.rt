@@ -140,13 +140,15 @@ const CASES: &[Case<'_>] = &[
     ((State("b"), Folder), &[Look, Find, Look, List], &[], &[]),
     (
         (Same("a/file", b"old"), Yes),
-        &[Look, Find, Look, Find, Look, Open, Compare, Read, Read],
+        &[
+            Look, Find, Look, Find, Look, Open, Compare, Look, Read, Read,
+        ],
         &[],
         &[],
     ),
     (
         (Value("path", b"old"), Yes),
-        &[Look, Find, Look, Open, Compare, Read, Read],
+        &[Look, Find, Look, Open, Compare, Look, Read, Read],
         &[],
         &[],
     ),
@@ -394,7 +396,7 @@ const ROWS: &[Row<'_>] = &[
 
 const HELD: &[SystemCall] = &[
     Look, Find, Look, Find, Look, // The folders are held, and looked at again.
-    Look, Look, Look, Open, Compare, Read, Read, // The first of them is held.
+    Look, Look, Look, Open, Compare, Look, Read, Read, // The first of them is held.
     Look, Look, List,
 ];
 
@@ -411,4 +413,27 @@ fn folders_stay_held_from_one_call_to_the_next(rt: HostRuntime) -> Result<(), Fa
     expect_in(rt.alloc(), files, folder, ROWS)?;
     fs::remove_dir_all(&rt, scratch)?;
     watch.expect_all()
+}
+
+// The file is taken away between its look and its opening, another one is made at that place outside, which may be given the number of the
+// first, and a link to it stands where the first one stood.
+fn expect_failed_after_a_swap(rt: &HostRuntime, other: &str) -> Result<(), Fail> {
+    let scratch = make_folder(rt)?;
+    make_before(rt, &scratch)?;
+    let outside = format!(in rt.alloc(); "{scratch}/{other}")?;
+    let watch = Watch::swapping(&outside);
+    expect_watched(rt, &scratch, &watch, (Same("a/file", b"old"), Failed))?;
+    if !watch.has_swapped() {
+        return Err(Fail::new("nothing came in between"));
+    }
+    Ok(fs::remove_dir_all(rt, scratch)?)
+}
+
+#[test]
+fn a_file_that_comes_with_the_number_of_the_one_that_was_seen_is_not_read(
+    rt: HostRuntime,
+) -> Result<(), Fail> {
+    expect_failed_after_a_swap(&rt, "other")?;
+    expect_failed_after_a_swap(&rt, "host/root/b/other")?;
+    expect_failed_after_a_swap(&rt, "host/root/a/other")
 }

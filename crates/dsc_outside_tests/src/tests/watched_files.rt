@@ -47,6 +47,8 @@ pub struct Watch<'a> {
     kind: ErrorKind,
     begun: Cell<usize>,
     differs: Cell<bool>,
+    other: Option<&'a str>,
+    swapped: Cell<bool>,
 }
 
 impl<'a> Watch<'a> {
@@ -58,7 +60,22 @@ impl<'a> Watch<'a> {
             kind,
             begun: Cell::new(0),
             differs: Cell::new(false),
+            other: None,
+            swapped: Cell::new(false),
         }
+    }
+
+    /// None fails. When `a/file` is opened, it is taken away, the other one is made, and a link to that takes its place.
+    pub fn swapping(other: &'a str) -> Watch<'a> {
+        Watch {
+            other: Some(other),
+            ..Watch::new(&[], usize::MAX, ErrorKind::Other)
+        }
+    }
+
+    /// Answers whether the link took the place.
+    pub fn has_swapped(&self) -> bool {
+        self.swapped.get()
     }
 
     /// All calls from the first to the last of these fail, whatever they are.
@@ -70,6 +87,8 @@ impl<'a> Watch<'a> {
             kind,
             begun: Cell::new(0),
             differs: Cell::new(false),
+            other: None,
+            swapped: Cell::new(false),
         }
     }
 
@@ -190,6 +209,12 @@ impl<'a, R: Files> Files for WatchedFiles<'a, R> {
             (false, true) => SystemCall::Mounts,
             (false, false) => SystemCall::Open,
         })?;
+        if let (Some(other), true) = (self.watch.other, path.ends_with("/root/a/file")) {
+            self.rt.remove_file(path)?;
+            std::fs::write(&self.rt, other, b"old")?;
+            self.rt.symlink(other, path)?;
+            self.watch.swapped.set(true);
+        }
         Ok(WatchedFile {
             file: self.rt.open_file(how, path)?,
             watch: self.watch,
