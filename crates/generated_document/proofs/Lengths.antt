@@ -38,9 +38,9 @@ numbered_fits name word i small named prefixed =
     fits_more (1 + 10 + 3 + (1 + (14 + 4) + 1) + 2) 36 (canonical_property (text_property name (word ++ decimal i))) (omega arith)
     (line_fits (1 + (14 + 4) + 1) name (word ++ decimal i) named (literal_fits 14 word (decimal i) prefixed (number_fits i small)))
 
-dependency_fits : (i : ℕ) → i < MAX_RESOURCES → Fits 36 (flat_map canonical_property (dependency i))
-dependency_fits zero small = fits_word 36 [] refl (omega arith)
-dependency_fits (suc i) small =
+dependency_is_short : (i : ℕ) → i < MAX_RESOURCES → Fits 36 (flat_map canonical_property (dependency i))
+dependency_is_short zero small = fits_word 36 [] refl (omega arith)
+dependency_is_short (suc i) small =
     let line = canonical_property (text_property (codes "DependsOn") (id_of_number (i / 2))) in
     subst (Fits 36) (sym (append-nil line))
     (numbered_fits (codes "DependsOn") (codes "[Environment]R") (i / 2) (omega (arith, small)) (fits_word 10 (codes "DependsOn") refl (omega arith)) (fits_word 14 (flat_map literal_char (codes "[Environment]R")) refl (omega arith)))
@@ -56,11 +56,11 @@ properties_fit i small =
     (numbered_fits (codes "Name") (codes "V") i small (fits_word 10 (codes "Name") refl (omega arith)) (fits_word 14 (flat_map literal_char (codes "V")) refl (omega arith)))
     (fits_joined 36 36 (canonical_property (text_property (codes "Value") (decimal i))) (flat_map canonical_property (dependency i))
     (numbered_fits (codes "Value") [] i small (fits_word 10 (codes "Value") refl (omega arith)) (fits_word 14 [] refl (omega arith)))
-    (dependency_fits i small))))
+    (dependency_is_short i small))))
 
 -- the lines of a resource
-resource_fits : (i : ℕ) → i < MAX_RESOURCES → Fits 200 (canonical_instance (generated_resource i))
-resource_fits i small =
+resource_is_short : (i : ℕ) → i < MAX_RESOURCES → Fits 200 (canonical_instance (generated_resource i))
+resource_is_short i small =
     fits_more (52 + 144 + 3) 200 (canonical_instance (generated_resource i)) (omega arith)
     (fits_joined (52 + 144) 3 (codes "instance of MSFT_EnvironmentResource\n{\n" ++ flat_map canonical_property (generated_properties i)) (codes "};\n")
     (fits_joined 52 144 (codes "instance of MSFT_EnvironmentResource\n{\n") (flat_map canonical_property (generated_properties i))
@@ -71,7 +71,7 @@ text_fits : (n : ℕ) → n ≤ MAX_RESOURCES → Fits (n * 200 + 200) (canonica
 text_fits zero few = fits_word (0 * 200 + 200) (canonical_text (generated_instances zero)) refl (omega arith)
 text_fits (suc i) few =
     fits_more (200 + (i * 200 + 200)) (suc i * 200 + 200) (canonical_text (generated_instances (suc i))) (omega arith)
-    (fits_joined 200 (i * 200 + 200) (canonical_instance (generated_resource i)) (canonical_text (generated_instances i)) (resource_fits i (omega (arith, few))) (text_fits i (omega (arith, few))))
+    (fits_joined 200 (i * 200 + 200) (canonical_instance (generated_resource i)) (canonical_text (generated_instances i)) (resource_is_short i (omega (arith, few))) (text_fits i (omega (arith, few))))
 
 -- the text is within the limit of a document
 pub bytes_within : (n : ℕ) → n ≤ MAX_RESOURCES → length (canonical_bytes (generated_instances n)) ≤ document_limit

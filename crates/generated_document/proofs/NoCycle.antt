@@ -12,7 +12,7 @@ use Rattle.depend_order.proofs.Cycles.{closed}
 use Rattle.depend_order.proofs.Options.{some_of}
 use Rattle.generated_document.specs.Generated.{generated_resource, id_of_number}
 use Rattle.generated_document.proofs.Decimals.{same_number}
-use Rattle.generated_document.proofs.Resources.{resources, stands_at}
+use Rattle.generated_document.proofs.Resources.{resources, resource_stands_at}
 use Rattle.dsc_document.specs.declared.limits.TheConstants.{MAX_RESOURCES}
 
 -- where each step of a list leads further, its last place is after its first
@@ -41,8 +41,8 @@ module _ (document : Document) (n : ℕ) (few : n ≤ MAX_RESOURCES) (are : docu
       let from = some_of (slice_get document.resources r) (λ resource. IsSomeAnd (slice_get resource.depends k) (λ name. Means document.resources name q)) names in
       let named = some_of (slice_get from.0.depends k) (λ name. Means document.resources name q) from.2 in
       let to = some_of (slice_get document.resources q) (λ (resource : Resource). SameName named.0 resource.id) named.2 in
-      let one = stands_at 0 n r from.0 (subst (λ (rs : List Resource). slice_get rs r ≡ Some from.0) are from.1) in
-      let other = stands_at 0 n q to.0 (subst (λ (rs : List Resource). slice_get rs q ≡ Some to.0) are to.1) in
+      let one = resource_stands_at 0 n r from.0 (subst (λ (rs : List Resource). slice_get rs r ≡ Some from.0) are from.1) in
+      let other = resource_stands_at 0 n q to.0 (subst (λ (rs : List Resource). slice_get rs q ≡ Some to.0) are to.1) in
       let less = lesser one.number k named.0 (subst (λ (ds : List (List ℕ)). slice_get ds k ≡ Some named.0) one.depends named.1) in
       let same : SameName (id_of_number less.0) (id_of_number other.number) = ap fold_case (sym less.2) ∙ to.2 ∙ ap fold_case other.id in
       omega (arith, one.place, other.place, less.1, same_number less.0 other.number (omega (arith, few, less.1, one.place)) (omega (arith, few, other.place)) same)

@@ -50,19 +50,19 @@ each_resource P from zero each = tt
 each_resource P from (suc i) each = (each from i (omega arith), each_resource P (from + 1) i (λ m j within. each m j (omega (arith, within))))
 
 -- the resource at a place is that of the number that the place leaves
-pub record StandsAt (n k : ℕ) (r : Resource) : Type 0 where
+pub record IsResourceAt (n k : ℕ) (r : Resource) : Type 0 where
   pub number : ℕ
   pub place : number + k + 1 ≡ n
   pub id : r.id ≡ id_of_number number
   pub depends : r.depends ≡ depends_of (generated_resource number)
 
-pub stands_at : (from n k : ℕ) (r : Resource) → slice_get (resources from n) k ≡ Some r → StandsAt n k r
-stands_at from zero k r at = absurd (none-some r at)
-stands_at from (suc i) zero r at =
+pub resource_stands_at : (from n k : ℕ) (r : Resource) → slice_get (resources from n) k ≡ Some r → IsResourceAt n k r
+resource_stands_at from zero k r at = absurd (none-some r at)
+resource_stands_at from (suc i) zero r at =
     let same : resource from i ≡ r = same_Some (resource from i) r at in
     record { number = i; place = omega arith; id = ap (λ (x : Resource). x.id) (sym same); depends = ap (λ (x : Resource). x.depends) (sym same) }
-stands_at from (suc i) (suc k) r at =
-    let after = stands_at (from + 1) i k r at in
+resource_stands_at from (suc i) (suc k) r at =
+    let after = resource_stands_at (from + 1) i k r at in
     record { number = after.number; place = omega (arith, after.place); id = after.id; depends = after.depends }
 
 -- ---- dependencies are resources

@@ -31,7 +31,7 @@ after_is (Some change) old (makes reply) new is = is
 -- a turn is an exchange, or it is none
 data TurnIs (contents : Contents) (t : Turn) : Type 0 where
   no_exchange : IsNoExchange t → TurnIs contents t
-  exchange : (e : Exchange) → IsExchange t e → (IsOwnReply e → IsAnswered contents t.before.store.rows e) → TurnIs contents t
+  exchange : (e : Exchange) → IsExchange contents t e → (IsOwnReply e → IsAnswered contents t.before.store.rows e) → TurnIs contents t
 
 module _ (contents : Contents) (t : Turn) where
   -- by the table, or 500 since a count rose
@@ -42,6 +42,7 @@ module _ (contents : Contents) (t : Turn) where
       exchange (record { request = asks.request; aim = asks.aim; outcome = outcome }) (record {
         is_request = same;
         is_aim = is_aim;
+        came = inl row;
         wrote = subst (λ (r : Reply). Wrote t.end t r) is wrote;
         rows = after_is (change_of asks) t.before.store.rows outcome t.after.store.rows now;
       }) (λ unshared. record {
@@ -55,6 +56,7 @@ module _ (contents : Contents) (t : Turn) where
       exchange (record { request = asks.request; aim = asks.aim; outcome = leaves (plain 500) }) (record {
         is_request = same;
         is_aim = is_aim;
+        came = inr (rose, refl);
         wrote = subst (λ (r : Reply). Wrote t.end t r) is wrote;
         rows = now;
       }) (λ unshared. absurd (false≢true (sym unshared)))
@@ -95,7 +97,7 @@ rows_in s = s.store.rows
 -- the exchanges of a run, and that they are by the table
 pub record Answered (contents : Contents) (first : State) (turns : List Turn) (last : State) : Type 0 where
   pub exchanges : List Exchange
-  pub are : AreExchanges turns exchanges
+  pub are : AreExchanges contents turns exchanges
   pub answered : AllByRecursion IsOwnReply exchanges → AnsweredAll contents first.store.rows exchanges last.store.rows
 
 module _ (contents : Contents) (last : State) where

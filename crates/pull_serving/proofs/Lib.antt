@@ -1,4 +1,5 @@
 mod Alone
+mod Complete
 pub mod Ends
 pub mod Opened
 mod Parting

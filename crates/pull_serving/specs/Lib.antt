@@ -1,5 +1,6 @@
 -- what the layer above cites
 pub mod Alone
+pub mod Complete
 pub mod Parting
 pub mod Printing
 pub mod ServerLink

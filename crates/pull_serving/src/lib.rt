@@ -10,6 +10,7 @@
 //! Where a thing is:
 //! - what serving a connection comes to, or a run of many: `specs/Turn.antt`, `specs/Turns.antt`, `specs/Serving.antt`;
 //!   which connections end at once `src/connection.rt`, `specs/Parting.antt`
+//! - that a connection which nothing disturbs is answered: `specs/Complete.antt`
 //! - a service over a store: `src/answerer.rt`; the server as a link: `src/server_link.rt`, `specs/ServerLink.antt`; a
 //!   run in which each agent is alone: `specs/Alone.antt`
 //! - a line of the server, a status: `specs/Printing.antt`, `src/printing.rt`; `specs/Status.antt`, `src/status.rt`
@@ -26,7 +27,9 @@ mod turns;
 
 pub use answerer::Answerer;
 pub use connection::{ConnectionEnd, serve_connection};
-pub use laws::{only_done_requests_end_at_once, runs_leave_agents_alone};
+pub use laws::{
+    only_done_requests_end_at_once, runs_leave_agents_alone, undisturbed_connections_are_answered,
+};
 pub use server_link::ServerLink;
 pub use serving::{serve, serve_over};
 pub use status::ServeStatus;

@@ -1,0 +1,5 @@
+use Rattle.pull_serving.proofs.Complete.{undisturbed_answered}
+use Rattle.pull_serving.proofs.laws.undisturbed_connections_are_answered.Goals as goal
+
+pub returns : goal.returns
+returns c = undisturbed_answered
