@@ -1,5 +1,5 @@
 """The pull server with real clients, for checks/serve, which says what is run. The argument is the program."""
-import hashlib, json, os, random, shutil, signal, socket, struct, subprocess, sys, tempfile, threading, time
+import hashlib, json, os, random, resource, shutil, signal, socket, struct, subprocess, sys, tempfile, threading, time
 
 from protocol import (DATE, agent, answer, content, fetch, in_chunks, module, node, query, register, registration, report, request, signature,
                       statuses)
@@ -61,7 +61,7 @@ def listens(port):
     return False
 
 class Server:
-    def __init__(self, connections, folder=None, host='127.0.0.1', listen=None, port=None):
+    def __init__(self, connections, folder=None, host='127.0.0.1', listen=None, port=None, **limits):
         self.folder = folder or tempfile.mkdtemp(dir=scratch)
         self.store, self.shelf = self.folder + '/store', self.folder + '/shelf'
         self.host, self.port = host, port or free_port()
@@ -70,7 +70,7 @@ class Server:
             os.makedirs(self.shelf + '/modules')
             self.put('keys', b'k0\n')
             self.put('configurations/Web.mof', b'abc')
-        self.process = run(self.store, self.shelf, listen or '%s:%d' % (host, self.port), connections)
+        self.process = run(self.store, self.shelf, listen or '%s:%d' % (host, self.port), connections, stdout=subprocess.PIPE, stderr=subprocess.PIPE, **limits)
         until = time.monotonic() + 60
         while self.process.poll() is None and not listens(self.port) and time.monotonic() < until:
             time.sleep(0.005)
@@ -255,7 +255,7 @@ def contents_that_change():
 
     many = bytes(range(256)) * 8192
     texts = [b'abc', b'abd', b'abdc', b'ab', b'', b'abc', many, many[:-1] + b'x', many + b'y', many + b'z', b'z' + many, many[:-1] + b'x', b'abd']
-    server = Server(2 + 4 * len(texts) + 8)
+    server = Server(2 + 4 * len(texts) + 9)
     check('contents that change, an agent', server.ask(register(1, ('Web', 'App'))), answer(204))
     check('the first content', server.ask(fetch(1, 'Web')), content(b'abc'))
     before = b'other'
@@ -275,7 +275,11 @@ def contents_that_change():
     check('two contents, their checksums', server.ask(query(1, ('Web', sum_of(b'abd')), ('App', sum_of(b'App')))), statuses('Ok', ('Web', 'Ok'), ('App', 'Ok')))
     check('two contents, each the checksum of the other', server.ask(query(1, ('Web', sum_of(b'App')), ('App', sum_of(b'abd')))),
           statuses('GetConfiguration', ('Web', 'GetConfiguration'), ('App', 'GetConfiguration')))
-    check('contents that change, the lines', server.end(), served(204, *[200] * (1 + 4 * len(texts) + 8)))
+    clients = [('Web', ''), ('Web', sum_of(b'abd')), ('App', sum_of(b'App')), ('Web', sum_of(b'App')), ('App', ''), ('Web', sum_of(b'abd'))]
+    wanted = ['GetConfiguration', 'Ok', 'Ok', 'GetConfiguration', 'GetConfiguration', 'Ok']
+    check('two contents, each named often with several checksums', server.ask(query(1, *clients)),
+          statuses('GetConfiguration', *[(name, status) for (name, _), status in zip(clients, wanted)]))
+    check('contents that change, the lines', server.end(), served(204, *[200] * (1 + 4 * len(texts) + 9)))
 
 # ---- the second bank of a store, whose first one and most of whose reports are holes in the file
 
@@ -350,45 +354,166 @@ def long_registrations():
 
 # ---- clients that are slow, and others
 
-# A good client comes right after another one: how long it waits for its answer.
-def served_after(name, other, least, most, *ends):
+# How long it takes until a good client, which comes now, has its answer; None where that is another one.
+def time_of(server, sent, wanted):
+    begun = time.monotonic()
+    return time.monotonic() - begun if server.ask(sent) == wanted else None
+
+def is_prompt(took):
+    return took is not None and took <= 2
+
+# Runs what a client does with a connection of its own, which says how long it was borne; a good one that comes meanwhile is answered
+# at once.
+def beside(name, other, least, most, *ends):
     server = Server(3)
     server.put('configurations/Web.mof', bytes(16000000))
     check(name + ', an agent', server.ask(register(1)), answer(204))
+    took = []
     with server.connect() as conn:
-        stop = threading.Event()
-        thread = threading.Thread(target=other, args=(conn, stop), daemon=True)
+        thread = threading.Thread(target=lambda: took.append(other(conn)), daemon=True)
         thread.start()
         time.sleep(0.2)
+        check(name + ', a good one beside it is answered at once', is_prompt(time_of(server, request('DELETE', node(1)), answer(501))), True)
+        thread.join(60)
+        check('%s, how long it was borne: %s s' % (name, took), bool(took) and least <= took[0] <= most, True)
+    check(name + ', the lines', server.end(), lines('answer 204', *ends))
+
+# How long it takes until the server ends the connection.
+def until_ended(conn, each_second=lambda conn: None):
+    begun = time.monotonic()
+    conn.settimeout(1)
+    while True:
+        try:
+            if not conn.recv(1 << 16):
+                break
+        except TimeoutError:
+            pass
+        except OSError:
+            break
+        try:
+            each_second(conn)
+        except OSError:
+            break
+    return time.monotonic() - begun
+
+def dripping(conn):
+    return until_ended(conn, lambda conn: conn.sendall(b'G'))
+
+def never_closing(sent):
+    def client(conn):
+        conn.sendall(sent)
+        return until_ended(conn)
+    return client
+
+def never_reading():
+    server = Server(3)
+    server.put('configurations/Web.mof', bytes(16000000))
+    check('a client that never reads, an agent', server.ask(register(1)), answer(204))
+    with server.connect() as conn:
+        conn.sendall(fetch(1, 'Web'))
         begun = time.monotonic()
-        got = server.ask(request('DELETE', node(1)))
+        time.sleep(0.2)
+        check('a client that never reads, a good one after it', is_prompt(time_of(server, request('DELETE', node(1)), answer(501))), True)
+        check('a client that never reads, the lines', server.end(), served(204, 200, 501))
         took = time.monotonic() - begun
-        stop.set()
-    check(name + ', the answer after it', got, answer(501))
-    check('%s, the answer after it came after %.1f s' % (name, took), least <= took <= most, True)
-    check(name + ', the lines', server.end(), lines('answer 204', *ends, 'answer 501'))
+        check('a client that never reads, how long it was borne: %.1f s' % took, 9 <= took <= 20, True)
 
-def silent(conn, stop):
-    stop.wait(100)
+# 200 connections, of which 150 are silent and 20 are rude: each of 30 that ask properly has its answer in two seconds.
+def a_crowd(name, server, rude):
+    others = [server.connect() for _ in range(20)]
+    begun, stop = threading.Semaphore(0), threading.Event()
+    threads = [threading.Thread(target=rude, args=(conn, begun, stop), daemon=True) for conn in others]
+    for thread in threads:
+        thread.start()
+    for _ in threads:
+        begun.acquire(timeout=60)
+    silent = [server.connect() for _ in range(150)]
+    time.sleep(1)
+    took = []
+    good = [threading.Thread(target=lambda: took.append(time_of(server, fetch(1, 'Web'), content(b'abc')))) for _ in range(30)]
+    for thread in good:
+        thread.start()
+    for thread in good:
+        thread.join(60)
+    slowest = max(took, key=lambda it: 99 if it is None else it, default=None)
+    check('%s: each of 30 good ones is answered in 2 s, the slowest in %s s' % (name, slowest), [is_prompt(it) for it in took], [True] * 30)
+    stop.set()
+    for thread in threads:
+        thread.join(60)
+    for conn in silent + others:
+        conn.close()
 
-def dripping(conn, stop):
-    try:
+def a_crowd_of_drippers():
+    def drips(conn, begun, stop):
+        begun.release()
         while not stop.wait(1):
             conn.sendall(b'G')
-    except OSError:
-        pass
+    server = Server(31)
+    check('a crowd, an agent', server.ask(register(1)), answer(204))
+    a_crowd('a crowd, of which 20 send a byte a second', server, drips)
+    check('a crowd, the lines', server.end(), (lines('answer 204', *['answer 200'] * 30)[0] + 'let go 170\n', '', 0))
 
-def never_reading(conn, stop):
-    conn.sendall(fetch(1, 'Web'))
-    stop.wait(100)
+# The 20 come one after the other: it takes the server a while to make an answer of 60 MB, for which the others wait. Each then has the front
+# of its own, and takes nothing.
+def a_crowd_that_does_not_read():
+    turn = threading.Lock()
+    def asks(conn, begun, stop):
+        with turn:
+            conn.sendall(module('Large', '1'))
+            conn.recv(1, socket.MSG_PEEK)
+        begun.release()
+        stop.wait(60)
+    server = Server(51)
+    server.put('modules/Large_1.zip', b'')
+    os.truncate(server.shelf + '/modules/Large_1.zip', 60000000)
+    check('a crowd, an agent', server.ask(register(1)), answer(204))
+    a_crowd('a crowd, of which 20 ask for 60 MB and do not read', server, asks)
+    check('a crowd that does not read, the lines', server.end(), (lines('answer 204', *['answer 200'] * 50)[0] + 'let go 150\n', '', 0))
 
-def never_closing(conn, stop):
-    conn.sendall(request('DELETE', node(1)))
-    stop.wait(100)
+# Where 256 wait already, the one that has been silent longest is let go.
+def too_many():
+    server = Server(46)
+    check('too many, an agent', server.ask(register(1)), answer(204))
+    active = server.connect()
+    silent = [server.connect() for _ in range(150)]
+    time.sleep(0.5)
+    active.sendall(fetch(1, 'Web')[:20])
+    silent += [server.connect() for _ in range(149)]
+    time.sleep(0.5)
+    check('too many: those that have been silent longest are let go', [conn.recv(1) for conn in silent[:44]], [b''] * 44)
+    active.sendall(fetch(1, 'Web')[20:])
+    check('too many: one that sends is not', all_of(active), content(b'abc'))
+    check('too many, the lines', server.end(), (lines('answer 204', *['read fault'] * 44, 'answer 200')[0] + 'let go 255\n', '', 0))
+    for conn in silent:
+        conn.close()
 
-def never_closing_when_done(conn, stop):
-    conn.sendall(report(1, 1))
-    stop.wait(100)
+# A server that may open no more descriptors takes further connections once others have ended.
+def no_descriptors():
+    server = Server(42, preexec_fn=lambda: resource.setrlimit(resource.RLIMIT_NOFILE, (24, 24)))
+    check('no descriptors, an agent', server.ask(register(1)), answer(204))
+    silent = [server.connect() for _ in range(40)]
+    time.sleep(1)
+    check('no descriptors: the server goes on', server.process.poll(), None)
+    for conn in silent:
+        conn.close()
+    check('no descriptors: a good one is answered then', is_prompt(time_of(server, fetch(1, 'Web'), content(b'abc'))), True)
+    check('no descriptors, the lines', server.end(), lines('answer 204', *['torn 0'] * 40, 'answer 200'))
+
+# A whole answer arrives, whatever the peer sends after its request.
+def whole_answers():
+    whole = bytes(range(250)) * 80000
+    more = [('a second request', fetch(1, 'Web')), ('a line end', b'\r\n'), ('a megabyte', bytes(1000000))]
+    server = Server(1 + 2 * len(more))
+    server.put('configurations/Web.mof', whole)
+    check('whole answers, an agent', server.ask(register(1)), answer(204))
+    for name, after in more:
+        check('20 MB, and %s after its request' % name, server.ask(fetch(1, 'Web') + after) == content(whole), True)
+        with server.connect() as conn:
+            conn.sendall(fetch(1, 'Web'))
+            time.sleep(0.3)
+            conn.sendall(after)
+            check('20 MB, and %s while the answer waits' % name, all_of(conn) == content(whole), True)
+    check('whole answers, the lines', server.end(), served(204, *[200] * 2 * len(more)))
 
 def a_slow_reader():
     server = Server(2)
@@ -511,12 +636,13 @@ def a_common_client():
                                          report(1, 5).split(b'\r\n\r\n', 1)[1].decode()), answer(200))
     check('curl, the lines', server.end(), served(204, 200, 200))
 
-todo = [a_node, frames, a_shelf, contents_that_change, a_second_bank, a_full_second_bank, long_registrations, many_at_once, addresses, refusals, a_full_output, kills, a_common_client]
-slow = [lambda: served_after('a silent client', silent, 9, 14, 'read fault'),
-        lambda: served_after('a client that sends a byte a second', dripping, 28, 36, 'read fault'),
-        lambda: served_after('a client that never reads', never_reading, 9, 60, 'write fault'),
-        lambda: served_after('a client that never closes', never_closing, 4, 8, 'answer 501'),
-        lambda: served_after('a client that never closes, whose request was done', never_closing_when_done, 0, 2, 'answer 200'),
+todo = [a_node, frames, a_shelf, contents_that_change, a_second_bank, a_full_second_bank, long_registrations, many_at_once, too_many, no_descriptors, whole_answers,
+        a_crowd_of_drippers, a_crowd_that_does_not_read, addresses, refusals, a_full_output, kills, a_common_client]
+slow = [lambda: beside('a silent client', until_ended, 9, 14, 'answer 501', 'read fault'),
+        lambda: beside('a client that sends a byte a second', dripping, 28, 36, 'answer 501', 'read fault'),
+        lambda: beside('a client that never closes', never_closing(request('DELETE', node(1))), 0, 8, 'answer 501', 'answer 501'),
+        lambda: beside('a client that never closes, whose request was done', never_closing(report(1, 1)), 0, 2, 'answer 200', 'answer 501'),
+        never_reading,
         a_slow_reader]
 
 def guarded(part):

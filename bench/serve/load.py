@@ -1,5 +1,6 @@
 #!/usr/bin/env python3
-"""Registers an agent and fetches a configuration COUNT times, each on a connection of its own: load.py PORT COUNT NAME FOLDER
+"""Registers an agent and fetches a configuration COUNT times, each on a connection of its own, while IDLE more are open and send nothing:
+load.py PORT COUNT NAME FOLDER IDLE
 
 It ends with 1 where an answer is not the one that the content asks for."""
 import base64
@@ -10,7 +11,7 @@ import socket
 import sys
 import time
 
-port, count, name, folder = int(sys.argv[1]), int(sys.argv[2]), sys.argv[3], sys.argv[4]
+port, count, name, folder, idle = int(sys.argv[1]), int(sys.argv[2]), sys.argv[3], sys.argv[4], int(sys.argv[5])
 target = "/PSDSCPullServer.svc/Nodes(AgentId='00000000-0000-0000-0000-000000000001')"
 
 
@@ -42,6 +43,7 @@ lines = ["HTTP/1.1 200 OK", "Connection: close", "ProtocolVersion: 2.0", "Conten
          "Checksum: " + hashlib.sha256(content).hexdigest().upper(), "ChecksumAlgorithm: SHA-256", "Content-Length: %d" % len(content), "", ""]
 wanted = "\r\n".join(lines).encode() + content
 fetch = ("GET %s/Configurations(ConfigurationName='%s')/ConfigurationContent HTTP/1.1\r\nHost: s\r\n\r\n" % (target, name)).encode()
+silent = [connect() for _ in range(idle)]
 for _ in range(count):
     if ask(fetch) != wanted:
         sys.exit("another answer")

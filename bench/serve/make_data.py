@@ -1,11 +1,12 @@
 #!/usr/bin/env python3
-"""Makes a shelf with a content of 2 KB and one of 16 MB, and a store of 512 agents with four reports of 16 KB each: make_data.py FOLDER"""
+"""Makes a shelf with contents of 2 KB, 16 MB and 60 MB, a store of 512 agents with four reports of 16 KB each, and one in which 200,000
+registrations of theirs come after these: make_data.py FOLDER"""
 import os
 import sys
 
 folder = sys.argv[1]
 os.makedirs(folder + "/shelf/configurations", exist_ok=True)
-for name, size in (("Small", 2048), ("Large", 16 << 20)):
+for name, size in (("Small", 2048), ("Large", 16 << 20), ("Huge", 60 << 20)):
     with open("%s/shelf/configurations/%s.mof" % (folder, name), "wb") as file:
         file.write((b"instance of OMI_ConfigurationDocument{};\n" * (size // 40 + 1))[:size])
 with open(folder + "/shelf/keys", "w") as file:
@@ -30,11 +31,17 @@ def report(agent, job):
     return b"\2" + agent.to_bytes(16, "big") + job.to_bytes(16, "big") + body.encode()
 
 
-with open(folder + "/full", "wb") as file:
-    file.write(b"DSCSTOR1")
-    for agent in range(1, 513):
-        file.write(cell(registration(agent)))
-    for job in range(4):
-        for agent in range(1, 513):
-            file.write(cell(report(agent, job)))
-    file.write(b"\0")
+def write_store(name, more):
+    registrations = [cell(registration(agent)) for agent in range(1, 513)]
+    with open(folder + "/" + name, "wb") as file:
+        file.write(b"DSCSTOR1")
+        file.writelines(registrations)
+        for job in range(4):
+            for agent in range(1, 513):
+                file.write(cell(report(agent, job)))
+        file.writelines(registrations[at % 512] for at in range(more))
+        file.write(b"\0")
+
+
+write_store("full", 0)
+write_store("registrations", 200000)

@@ -1,18 +1,25 @@
-//! The digest that a shelf gave last.
+//! The digests that a shelf gave last.
 ghost use Rattle.std.specs.Prelude.{◌≡◌, IfSome};
 ghost use Rattle.sha2.specs.Sha256.{sha256};
 
 use sha2::{Digest, Sha256};
 use std::alloc::Global;
 
-/// The most bytes of an item that is kept with its digest. It is a measure of this crate's own: what a reader takes as a document
-/// is no matter here, and a longer item costs its digest at each request.
-pub const MOST_KEPT_BYTES: usize = 2_097_152;
+/// The most bytes of a small item. It is a measure of this crate's own: what a reader takes as a document is no matter here.
+pub const MOST_SMALL_BYTES: usize = 2_097_152;
 
-/// The digest that was computed last of an item of at most `MOST_KEPT_BYTES`, kept with a copy of the item.
+/// The digests that were computed last of a small item and of a larger one, each kept with a copy of the item, so that packages
+/// do not push out the configuration that a fleet asks for beside them.
 #[derive(Drop)]
 pub struct LastDigest {
-    kept: Option<Digested>,
+    small: Kept,
+    large: Kept,
+}
+
+// A digest that was computed last.
+#[derive(Drop)]
+struct Kept {
+    last: Option<Digested>,
 }
 
 // Bytes, and their SHA-256 digest (FIPS 180-4).
@@ -26,26 +33,39 @@ struct Digested {
 impl LastDigest {
     /// Nothing is kept; takes no memory.
     pub fn new() -> LastDigest {
-        LastDigest { kept: None }
+        LastDigest {
+            small: Kept { last: None },
+            large: Kept { last: None },
+        }
     }
 
-    /// The SHA-256 digest of the item. That of the bytes that are kept is not computed again; another one is kept in its place.
-    /// One that is longer leaves what is kept, and where memory runs out for the copy, nothing is kept.
+    /// The SHA-256 digest of the item. That of bytes that are kept is not computed again; another one is kept in the place of the
+    /// last of its kind. Where memory runs out for the copy, none of its kind is kept.
     pub fn digest(&mut self, alloc: Global, item: &[u8]) -> [u8; 32]
+        ensures { result ≡ sha256 item.now }
+    {
+        if item.len() <= MOST_SMALL_BYTES {
+            self.small.digest(alloc, item)
+        } else {
+            self.large.digest(alloc, item)
+        }
+    }
+}
+
+impl Kept {
+    fn digest(&mut self, alloc: Global, item: &[u8]) -> [u8; 32]
         ensures { result ≡ sha256 item.now }
     {
         if let Some(digest) = self.known(item) {
             return digest;
         }
         let digest = Sha256::digest(item);
-        if item.len() <= MOST_KEPT_BYTES {
-            // What was kept is freed before the copy is allocated.
-            self.kept = None;
-            self.kept = match item.to_vec(alloc) {
-                Ok(bytes) => Some(Digested { bytes, digest }),
-                Err(_) => None,
-            };
-        }
+        // What was kept is freed before the copy is allocated.
+        self.last = None;
+        self.last = match item.to_vec(alloc) {
+            Ok(bytes) => Some(Digested { bytes, digest }),
+            Err(_) => None,
+        };
         digest
     }
 
@@ -53,7 +73,7 @@ impl LastDigest {
     fn known(&self, item: &[u8]) -> Option<[u8; 32]>
         ensures { IfSome result (λ digest. digest ≡ sha256 item.now) }
     {
-        match &self.kept {
+        match &self.last {
             Some(kept) if kept.bytes.as_slice() == item => Some(kept.digest),
             _ => None,
         }

@@ -1,15 +1,16 @@
 //! The pull server program, over the files and the network of this machine.
 //!
 //! `serve` serves connections; its contract says what each was answered and what was printed. `main` makes the real
-//! objects that the arguments name, hands them to `serve` with the same arguments, and ends with the number of its
-//! status.
+//! objects that the arguments name, hands them to `serve` with the same arguments, lets the door finish, and ends with
+//! the number of the status.
 //!
 //! Where a thing is:
 //! - the command line, and a run of the server: `serve_words`; `pull_serving`
 #![tactic(auto)]
 
+use dsc_outside::{Failed, Sink, write_all};
 use mof_values::Memory;
-use pull_adapters::{FolderShelf, TcpDoor};
+use pull_adapters::{FolderShelf, PollDoor};
 use pull_serving::{ServeStatus, serve};
 use real_outside::{FileDisk, OutSink, arguments, hold_standard_descriptors};
 use serve_words::{ServeWords, WordsError, serve_words};
@@ -38,16 +39,33 @@ fn run_server(rt: &HostRuntime, arguments: &[String]) -> ServeStatus {
     };
     let mut disk = FileDisk::new(rt, places.store);
     let mut shelf = FolderShelf::new(rt, places.shelf);
-    let mut door = TcpDoor::new(rt, places.listen);
+    let mut door = PollDoor::new(rt, rt.alloc(), places.listen);
     let mut output = OutSink::new(rt);
-    serve(
+    let status = serve(
         rt.alloc(),
         arguments,
         &mut door,
         &mut shelf,
         &mut disk,
         &mut output,
-    )
+    );
+    let let_go = door.finish();
+    match status {
+        ServeStatus::Done if let_go > 0 => print_let_go(rt.alloc(), &mut output, let_go),
+        other => other,
+    }
+}
+
+// Prints how many connections came and were not served, since the server came to its count.
+fn print_let_go<K: Sink>(alloc: Global, output: &mut K, count: usize) -> ServeStatus {
+    let line = match format!(in alloc; "let go {count}\n") {
+        Ok(line) => line,
+        Err(AllocError) => return ServeStatus::Memory,
+    };
+    match write_all(output, line.as_bytes()) {
+        Ok(()) => ServeStatus::Done,
+        Err(Failed) => ServeStatus::WriteFault,
+    }
 }
 
 // What the arguments name.

@@ -2,6 +2,7 @@ pub mod Alone
 pub mod Judged
 pub mod Kept
 pub mod Keys
+pub mod Looks
 pub mod Own
 pub mod Rows
 pub mod Said

@@ -12,3 +12,4 @@ pub mod Table
 -- for private clauses alone
 pub mod Judging
 pub mod Keeping
+pub mod SeenContents

@@ -1,11 +1,15 @@
 //! What agents are to do.
-ghost use Rattle.std.specs.Prelude.{◌≡◌, IfOk, Some, bytes_eq, map, option_map};
-ghost use Rattle.std.specs.List.{list_any};
+ghost use Rattle.std.specs.Prelude.{◌≡◌, if◌then◌else◌, IfOk, OnOk, Some, bytes_eq, codes, map, option_map};
+ghost use Rattle.std.specs.List.{AllByRecursion, list_any};
+ghost use Rattle.sha2.specs.Sha256.{sha256};
 ghost use Rattle.dsc_outside.specs.Causes.{HasCauseOf};
 ghost use Rattle.pull_outside.specs.Shelf.{Contents};
-ghost use Rattle.pull_server.specs.Actions.{action_for, action_with, asks_unnamed, clients_of, detail_for, first_name, has_status, is_digest, is_unnamed, node_status, status_with, with_name, without_checksum};
+ghost use Rattle.pull_server.specs.Contents.{content_for};
+ghost use Rattle.pull_server.specs.SeenContents.{IsSeen};
+ghost use Rattle.pull_server.specs.Actions.{action_for, action_with, asks_unnamed, clients_of, detail_for, first_name, has_status, is_unnamed, node_status, status_with, with_name, without_checksum};
 
 use crate::fetching::content;
+use crate::seen::{Seen, is_same, known};
 use mof_values::{Items, Text, is_spelled};
 use pull_messages::{ActionAnswer, ActionQuery, Client, Detail};
 use pull_outside::{Shelf, ShelfError};
@@ -116,7 +120,7 @@ fn first_name(alloc: Global, names: &[Text]) -> Result<Text, AllocError>
     }
 }
 
-// A detail for each client.
+// A detail for each client. A content of which several hold something is looked at once, or twice where the first holds nothing.
 fn details<S: Shelf>(
     alloc: Global,
     shelf: &mut S,
@@ -130,8 +134,9 @@ fn details<S: Shelf>(
     ensures cause { HasCauseOf ShelfError.Failed (S.faults shelf.old) (S.faults shelf.new) result }
 {
     let mut details = Vec::new(alloc);
+    let mut seen = Vec::new(alloc);
     for client in clients {
-        details.push(detail_for(alloc, shelf, names, client)?)?;
+        details.push(detail_for(alloc, shelf, names, client, &mut seen)?)?;
     }
     Ok(details)
 }
@@ -141,15 +146,20 @@ fn detail_for<S: Shelf>(
     shelf: &mut S,
     names: &[Text],
     client: &Client,
+    seen: &mut Vec<Seen>,
 ) -> Result<Detail, ShelfError>
     ensures detail { IfOk result (λ detail. (contents : Contents)
         → S.holds shelf.old ≡ Some contents
+        → AllByRecursion (IsSeen contents names.now) seen.old.items
         → detail ≡ detail_for contents names.now client.now) }
+    ensures seen { OnOk result ((contents : Contents)
+        → S.holds shelf.old ≡ Some contents
+        → AllByRecursion (IsSeen contents names.now) seen.old.items
+        → AllByRecursion (IsSeen contents names.now) seen.new.items) }
     ensures same { S.holds shelf.new ≡ S.holds shelf.old }
     ensures cause { HasCauseOf ShelfError.Failed (S.faults shelf.old) (S.faults shelf.new) result }
 {
-    let found = content(alloc, shelf, names, &client.name)?;
-    let status = status_with(shelf, &client.checksum, &found)?;
+    let status = status_for(alloc, shelf, names, client, seen)?;
     Ok(Detail {
         name: client.name.clone()?,
         status: status_text(alloc, status)?,
@@ -157,35 +167,59 @@ fn detail_for<S: Shelf>(
 }
 
 // The status of a content that the agent may have, or of none, where it holds one of this checksum.
-fn status_with<S: Shelf>(
+fn status_for<S: Shelf>(
+    alloc: Global,
     shelf: &mut S,
-    checksum: &Text,
-    content: &Option<Vec<u8>>,
-) -> Result<&'static str, AllocError>
-    ensures status { IfOk result (λ status. status.now
-        ≡ status_with checksum.now (option_map (λ v. v.items) content.now)) }
+    names: &[Text],
+    client: &Client,
+    seen: &mut Vec<Seen>,
+) -> Result<&'static str, ShelfError>
+    ensures status { IfOk result (λ status. (contents : Contents)
+        → S.holds shelf.old ≡ Some contents
+        → AllByRecursion (IsSeen contents names.now) seen.old.items
+        → status.now ≡ status_with client.now.checksum (content_for contents names.now client.now.name)) }
+    ensures seen { OnOk result ((contents : Contents)
+        → S.holds shelf.old ≡ Some contents
+        → AllByRecursion (IsSeen contents names.now) seen.old.items
+        → AllByRecursion (IsSeen contents names.now) seen.new.items) }
     ensures same { S.holds shelf.new ≡ S.holds shelf.old }
-    ensures faults { S.faults shelf.new ≡ S.faults shelf.old }
+    ensures cause { HasCauseOf ShelfError.Failed (S.faults shelf.old) (S.faults shelf.new) result }
 {
-    let Some(content) = content else {
+    let text = client.checksum.to_utf8()?;
+    let held = read_checksum(text.as_bytes());
+    if let Some(same) = known(seen, &client.name, held) {
+        return Ok(status_of(same));
+    }
+    let Some(content) = content(alloc, shelf, names, &client.name)? else {
         return Ok("RETRY");
     };
-    let text = checksum.to_utf8()?;
-    if is_digest(shelf, read_checksum(text.as_bytes()), content) {
-        Ok("Ok")
-    } else {
-        Ok("GetConfiguration")
-    }
+    let digest = digest_for(shelf, held, &content);
+    let name = copied(&client.name)?;
+    seen.push(Seen { name, digest })?;
+    Ok(status_of(is_same(held, digest)))
 }
 
-fn is_digest<S: Shelf>(shelf: &mut S, held: Option<[u8; 32]>, content: &[u8]) -> bool
-    ensures is { result ≡ is_digest held content.now }
+fn copied(name: &Text) -> Result<Text, AllocError>
+    ensures { IfOk result (λ copy. copy ≡ name.now) }
+{
+    name.clone()
+}
+
+fn status_of(same: bool) -> &'static str
+    ensures { result.now ≡ (if same then codes "Ok" else codes "GetConfiguration") }
+{
+    if same { "Ok" } else { "GetConfiguration" }
+}
+
+// The digest of a content, where one is held.
+fn digest_for<S: Shelf>(shelf: &mut S, held: Option<[u8; 32]>, content: &[u8]) -> Option<[u8; 32]>
+    ensures digest { result ≡ option_map (λ digest. sha256 content.now) held }
     ensures same { S.holds shelf.new ≡ S.holds shelf.old }
     ensures faults { S.faults shelf.new ≡ S.faults shelf.old }
 {
     match held {
-        Some(held) => held == shelf.digest(content),
-        None => false,
+        Some(_) => Some(shelf.digest(content)),
+        None => None,
     }
 }
 

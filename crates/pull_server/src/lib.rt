@@ -9,6 +9,8 @@
 //! Where a thing is:
 //! - the answer table of the pull server: `specs/Table.antt`, row by row; what it looks at `specs/Asked.antt`, what an
 //!   answer says `specs/Answers.antt`; the rows in code `src/judging.rt`, what is kept `src/keeping.rt`
+//! - what a query is answered, and what is seen of contents meanwhile: `specs/Actions.antt`, `src/acting.rt`;
+//!   `specs/SeenContents.antt`, `src/seen.rt`
 #![tactic(auto)]
 
 mod acting;
@@ -18,6 +20,7 @@ mod judging;
 mod keeping;
 mod laws;
 mod replies;
+mod seen;
 mod signatures;
 mod verdict;
 
