@@ -188,6 +188,11 @@ class Worker:
                             ('remove previous', '')):
             self.run({0, 1}, *words.split(' '), text=text.encode())
             self.stores.append(bytes_of(self.store))
+        write(self.store, self.bare)
+        self.run({0}, 'meta', text=('instance of MSFT_DSCMetaConfiguration{ConfigurationMode="ApplyAndAutoCorrect";};' + PARTS).encode())
+        for name, text in (('A', variable('A')), ('B', variable('B', 'DependsOn="[Environment]A";')), ('A', variable('A') + variable('C'))):
+            self.run({0}, 'push', name, text=text.encode() + HEADER)
+            self.stores.append(bytes_of(self.store))
         for name, more, parts in (('one', 'ConfigurationNames={"Web"};', ''), ('two', '', PARTS)):
             write(self.store, self.bare)
             self.run({0}, 'meta', text=(MANAGER % (self.peer.url, more, self.peer.url) + parts).encode())
@@ -282,8 +287,8 @@ class Worker:
         before = listing(self.host)
         status, out = self.run({0, 5, 7}, 'get')
         demand(status != 7 or out == b'refused NotAllowed NoAgent\n', 'the line', output=out)
-        words = rng.choice(('reports', 'consistency', 'boot', 'restore', 'remove current', 'pull', 'push'))
-        text = variable('Z').encode() + HEADER if words == 'push' else b''
+        words = rng.choice(('reports', 'consistency', 'boot', 'restore', 'remove current', 'pull', 'push', 'push A', 'push b'))
+        text = variable('Z').encode() + HEADER if words.startswith('push') else b''
         if status == 5:
             demand(re.fullmatch(rb'refused NotAStore \d+\n', out) and int(out.split()[2]) <= len(store), 'the place', output=out)
             demand(self.run({5}, *words.split(' '), text=text)[1] == out, 'another refusal')
@@ -294,7 +299,9 @@ class Worker:
         # a server that such a store names is not asked
         if b'http' in opened.lower() and words not in ('reports', 'remove current', 'restore'):
             return
-        status, out = self.run({0, 7} if words in ('reports', 'remove current') else START, *words.split(' '), text=text)
+        # the other parts that the store holds may not go with the one that is pushed
+        ends = {0, 7} if words in ('reports', 'remove current') else START | {3} if words.startswith('push ') else START
+        status, out = self.run(ends, *words.split(' '), text=text)
         if REFUSED.fullmatch(out):
             # a store that holds nothing is begun anew by each start
             same = (opened, b'DSCSTOR1\0') if len(opened) < 10 else (opened,)

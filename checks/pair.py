@@ -91,6 +91,7 @@ class Server:
 class Relay:
     def __init__(self, server):
         self.server, self.requests, self.cut, self.reset, self.instead, self.plan = server, [], None, False, None, []
+        self.body = b''  # of the last query
         self.listener = socket.create_server(('127.0.0.1', 0))
         self.port = self.listener.getsockname()[1]
         threading.Thread(target=self.serve, daemon=True).start()
@@ -123,6 +124,8 @@ class Relay:
                     lengths = [line.split(b':')[1] for line in head.lower().split(b'\r\n') if line.startswith(b'content-length:')]
                     size = len(head) + 4 + int(lengths[0] if lengths else 0)
             self.requests.append(request.split(b' HTTP/', 1)[0].decode())
+            if self.requests[-1].endswith('/GetDscAction'):
+                self.body = request.partition(b'\r\n\r\n')[2]
             far.sendall(request)
             answer = b''.join(iter(lambda: far.recv(1 << 16), b''))
         answer = (self.plan.pop(0) if self.plan else self.instead) or answer
@@ -185,9 +188,10 @@ def meta(url, key='k0', names=('Web',), settings='ConfigurationMode="ApplyAndAut
     text += 'instance of MSFT_WebDownloadManager{ServerURL="%s";RegistrationKey="%s";ConfigurationNames={%s};};' % (url, key, names)
     if reports:
         text += 'instance of MSFT_WebReportManager{ServerURL="%s";};' % url
-    for name, depends in partials:
+    for name, depends, *mode in partials:
         depends = ','.join('"[PartialConfiguration]%s"' % it for it in depends)
-        text += 'instance of MSFT_PartialConfiguration{ResourceID="[PartialConfiguration]%s";DependsOn={%s};};' % (name, depends)
+        mode = ''.join('RefreshMode="%s";' % it for it in mode)
+        text += 'instance of MSFT_PartialConfiguration{ResourceID="[PartialConfiguration]%s";%sDependsOn={%s};};' % (name, mode, depends)
     return text
 
 # A node with an agent and this meta-configuration.
@@ -288,6 +292,103 @@ def partials():
     check('a push of a whole document', node.does('push', text=HEADER), ('refused NotAllowed PartsDeclared\n', 7))
     server.configure('App', variable('a', '3').replace('Name="a"', 'Name="Z"') + HEADER)
     check('two parts with one id', node.does('pull'), ('refused PeerRefused Document DuplicateId 0.0 1.0\n', 6))
+    server.kill()
+
+# ---- a part that is pulled beside one that is pushed
+
+MODES, ORDERED_MODES = (('Base', ()), ('App', (), 'Push')), (('Base', ()), ('App', ('Base',), 'Push'))
+
+# The parts of a slot, by their names and the digests of their texts.
+def slot(node, name):
+    words = [line.split(' ') for line in node.does('get')[0].splitlines() if line.startswith(name + ' ')][0][1:]
+    return [] if words == ['-'] else list(zip((word.strip('"') for word in words[::2]), words[1::2]))
+
+def parts(*texts):
+    return [(name, digest(text)) for name, text in texts]
+
+SERVICE = 'instance of MSFT_ServiceResource{ResourceID="[Service]S";};' + HEADER
+MISSED = 'test "[Service]S" fault NoSuchResource\nresources 2 succeeded 1\nnot compliant 1\nend noted\n'
+
+def two_modes():
+    server = Server()
+    relay = Relay(server)
+    base, app = variable('A', '1') + HEADER, variable('B', '1') + HEADER
+    server.configure('Base', base)
+    node = new_node(meta(relay.url(), names=(), partials=MODES))
+    check('a registration of two modes', node.does('register', 'n'), ('ok\n', 0))
+    relay.asked()
+    check('a push of a part', node.does('push', 'App', text=HEADER), (ends(0, 'promoted', 1), 0))
+    check('it alone is there', slot(node, 'current'), parts(('App', HEADER)))
+    check('a push asks for nothing', relay.asked(), ['POST NODE/SendReport'])
+    check('a pull of the other part', node.does('pull'), (said_no('A') + ends(1, 'promoted', 2), 0))
+    fetch = "GET NODE/Configurations(ConfigurationName='Base')/ConfigurationContent"
+    check('it alone was fetched', relay.asked(), ['POST NODE/GetDscAction', fetch, 'POST NODE/SendReport'])
+    check('it alone was asked about', (relay.body.count(b'"ConfigurationName"'), b'"Base"' in relay.body), (1, True))
+    check('both are there', slot(node, 'current'), parts(('Base', base), ('App', HEADER)))
+    check('a push of a part that is pulled', node.does('push', 'Base', text=app), ('refused NotAllowed PartNotPush\n', 7))
+    check('a push of no part', node.does('push', 'X', text=app), ('refused NotAllowed NoPartial\n', 7))
+    check('a push of a whole document', node.does('push', text=app), ('refused NotAllowed PartsDeclared\n', 7))
+    check('a new content that is pushed', node.does('push', 'app', text=app), (said_yes('A') + said_no('B') + ends(2, 'promoted', 3), 0))
+    for name in ('A', 'B'):
+        node.variable(name, 'drift')
+    check('drift of both is put right', node.does('consistency'), (said_no('A', 'B') + ends(2, 'noted', 4), 0))
+    relay.asked()
+    check('a pull of what is there', node.does('pull'), (said_yes('A', 'B') + ends(2, 'noted', 5), 0))
+    check('nothing was fetched', relay.asked(), ['POST NODE/GetDscAction', 'POST NODE/SendReport'])
+    before = node.does('get')
+    for name, text, line in (('an id of the other part', variable('a', '2'), 'DuplicateId 0.0 1.0'), ('no document', 'x', 'Part 0 Syntax 0'),
+                             ('an id that is not there', variable('B', '2', 'DependsOn="[Environment]C";'), 'DependsUnknown 1.0 "[Environment]C"')):
+        check('a push of ' + name, node.does('push', 'App', text=text if text == 'x' else text + HEADER), ('refused %s\n' % line, 3))
+    check('the node after them', (node.does('get'), relay.asked(), node.variable('A'), node.variable('B')), (before, [], '1', '1'))
+    # a pulled content that the pushed part cannot stand beside
+    server.configure('Base', variable('b', '1') + HEADER)
+    check('a pull of an id of the other part', node.does('pull'), ('refused PeerRefused Document DuplicateId 0.0 1.0\n', 6))
+    check('the node after it', (node.does('get'), node.variable('A'), node.variable('B')), (before, '1', '1'))
+    base = variable('A', '2') + HEADER
+    server.configure('Base', base)
+    check('a new content that is pulled', node.does('pull'), (said_no('A') + said_yes('B') + ends(2, 'promoted', 6), 0))
+    check('the pushed part stays', slot(node, 'current'), parts(('Base', base), ('App', app)))
+    # one Pending: a part that fails holds the other back, and both go back together
+    failing = SERVICE
+    check('a part that fails', node.does('push', 'App', text=failing), (said_yes('A') + MISSED + 'report 7 sent\n', 1))
+    newest = variable('A', '3') + HEADER
+    server.configure('Base', newest)
+    check('a pull over it', node.does('pull'), (said_no('A') + MISSED + 'report 8 sent\n', 1))
+    check('both are Pending', (slot(node, 'pending'), slot(node, 'current')), (parts(('Base', newest), ('App', failing)), parts(('Base', base), ('App', app))))
+    last = variable('B', '3') + HEADER
+    check('a part that does not fail', node.does('push', 'App', text=last), (said_yes('A') + said_no('B') + ends(2, 'promoted', 9), 0))
+    check('both are Current', (slot(node, 'pending'), slot(node, 'current')), ([], parts(('Base', newest), ('App', last))))
+    check('both go back', node.does('restore'), (said_no('A', 'B') + ends(2, 'promoted', 10), 0))
+    check('to what they were', (slot(node, 'current'), node.variable('A'), node.variable('B')), (parts(('Base', base), ('App', app)), '2', '1'))
+    # each team goes on without the other
+    server.kill()
+    check('a pull without a server', node.does('pull'), ('refused LinkFault\n', 4))
+    got = node.does('push', 'App', text=last)
+    wanted = said_yes('A') + said_no('B') + 'resources 2 succeeded 2\ncompliant\nend promoted\nreport 11 not sent\n'
+    check('a push without a server', got, (wanted, 0))
+    check('the pulled part stays', slot(node, 'current'), parts(('Base', base), ('App', last)))
+
+def ordered_modes():
+    server = Server()
+    relay = Relay(server)
+    base, app = variable('A', '1') + HEADER, variable('B', '1', 'DependsOn="[Environment]A";') + HEADER
+    server.configure('Base', base)
+    node = new_node(meta(relay.url(), names=(), partials=ORDERED_MODES, reports=False))
+    check('a registration of modes in an order', node.does('register', 'n'), ('ok\n', 0))
+    check('a push before the part that it depends on', node.does('push', 'App', text=HEADER), ('refused Fit MissingPart 0\n', 3))
+    check('nothing of it was kept', 'pending -\ncurrent -\n' in node.does('get')[0], True)
+    check('the pull of that part', node.does('pull'), (said_no('A') + 'resources 1 succeeded 1\ncompliant\nend promoted\n', 0))
+    check('the push after it', node.does('push', 'App', text=app), (said_yes('A') + said_no('B') + 'resources 2 succeeded 2\ncompliant\nend promoted\n', 0))
+    server.configure('Base', HEADER)
+    check('a pull without what the other part needs', node.does('pull'), ('refused PeerRefused Document DependsUnknown 1.0 "[Environment]A"\n', 6))
+    check('both stay', slot(node, 'current'), parts(('Base', base), ('App', app)))
+    # the other way round: a part that is pulled depends on one that is pushed
+    node = new_node(meta(relay.url(), names=(), partials=(('Base', ('App',)), ('App', (), 'Push')), reports=False))
+    check('a registration in the other order', node.does('register', 'n'), ('ok\n', 0))
+    check('a pull before a push', node.does('pull'), ('refused PeerRefused Fit MissingPart 1\n', 6))
+    check('a push before the pull', node.does('push', 'App', text=HEADER)[1], 0)
+    check('the pull after it', node.does('pull')[1], 0)
+    check('the pushed part is the first', slot(node, 'current'), parts(('App', HEADER), ('Base', HEADER)))
     server.kill()
 
 # A part that is held is found under its name in any case, and keeps its own spelling.
@@ -679,6 +780,37 @@ def killed_nodes():
     check('%d of %d pulls were killed' % (reached, KILLS), reached >= KILLS * 2 // 3, True)
     server.kill()
 
+# A push of one part that is killed beside one that was pulled: the list of before or the new one, whole, and the next start goes on.
+def killed_pushes():
+    server = Server()
+    base = variable('A', '1') + HEADER
+    server.configure('Base', base)
+    node = new_node(meta(server.url(), names=(), settings='ConfigurationMode="ApplyAndMonitor";', partials=ORDERED_MODES, reports=False))
+    check('a registration', node.does('register', 'n'), ('ok\n', 0))
+    check('a pull of a variable', node.does('pull')[1], 0)
+    text = files('begin')
+    check('a push of %d files' % FILES, (node.does('push', 'App', text=text)[1], files_are(node, 'begin')), (0, 'right'))
+    reached, count = 0, KILLS // 2
+    for number in range(count):
+        old, prefix = parts(('Base', base), ('App', text)), 'text%d' % number
+        text = files(prefix)
+        new = parts(('Base', base), ('App', text))
+        process = node.start('push', 'App', text=text)
+        wait_for_kill(2 * number, process, node, prefix)
+        process.kill()
+        process.communicate()
+        reached += process.returncode == -signal.SIGKILL
+        found = slot(node, 'pending'), slot(node, 'current')
+        check('the lists after kill %d of a push' % number, found in (([], old), (new, old), ([], new)), True)
+        got = node.does('consistency')
+        check('the start after kill %d of a push' % number, (got[1], got[0].splitlines()[-1:] in (['end promoted'], ['end noted'])), (0, True))
+        if found == ([], old):
+            check('the push after kill %d' % number, node.does('push', 'App', text=text)[1], 0)
+        check('the files of the push', (files_are(node, prefix), node.variable('A')), ('right', '1'))
+        check('its Current', (slot(node, 'pending'), slot(node, 'current')), ([], new))
+    check('%d of %d pushes were killed' % (reached, count), reached >= count * 2 // 3, True)
+    server.kill()
+
 # Kills the server some time after the process began, and starts it again.
 def killed_after(server, wait):
     time.sleep(wait)
@@ -742,8 +874,9 @@ def killed_reports():
 
 for thread in SILENT_THREADS:
     thread.start()
-for part in (two_programs, a_life, partials, a_name_in_another_case, a_flood, packages, sizes, cut_answers, refused_answers, refused_lists,
-             a_second_package, clocks, long_lists, killed_nodes, killed_registrations, killed_reports, silent_servers):
+PARTS = (two_programs, a_life, partials, two_modes, ordered_modes, a_name_in_another_case, a_flood, packages, sizes, cut_answers, refused_answers,
+         refused_lists, a_second_package, clocks, long_lists, killed_nodes, killed_pushes, killed_registrations, killed_reports, silent_servers)
+for part in PARTS:
     begun = time.monotonic()
     try:
         part()

@@ -12,22 +12,29 @@ use Rattle.meta_config.specs.declared.modes.ConfigMode.{ConfigMode}
 use Rattle.meta_config.specs.declared.modes.RefreshMode.{RefreshMode}
 use Rattle.meta_config.specs.declared.modes.RefreshMode.TheVariants as refreshes
 use Rattle.meta_config.specs.declared.server.Server.{Server}
+use Rattle.meta_config.specs.Parts.{is_pull, partial_named}
 use Rattle.partial_merge.specs.declared.error.MergeError.{MergeError}
 use Rattle.partial_merge.specs.declared.error.MergeError.TheVariants as merging
 use Rattle.partial_merge.specs.declared.part.Part.{Part}
-use Rattle.partial_merge.specs.Parts.{unnamed_part}
-use Rattle.partial_merge.proofs.OneMerge.{never_both}
+use Rattle.partial_merge.specs.Parts.{DeclaresDocument, named, text_part, unnamed_part}
+use Rattle.partial_merge.specs.Refused.{IsFaultAt}
+use Rattle.partial_merge.proofs.OneMerge.{never_both, no_fault}
+use Rattle.partial_merge.proofs.OnePart.{are_joined, refused_first}
 use Rattle.lcm_core.specs.declared.modes.RunEnd.{RunEnd}
 use Rattle.lcm_core.specs.declared.modes.RunEnd.TheVariants as ends
 use Rattle.report_log.specs.declared.report.Report.{Report}
 use Rattle.node_state.specs.declared.event.Event.{Event}
 use Rattle.node_state.specs.declared.event.Event.TheVariants as events
+use Rattle.node_state.specs.declared.error.StageError.{StageError}
+use Rattle.node_state.specs.declared.error.StageError.TheVariants as staging
 use Rattle.node_state.specs.declared.event.Why.{Why}
+use Rattle.node_state.specs.declared.event.Why.TheVariants.{PartNotPush}
 use Rattle.node_state.specs.declared.list.Staged.{Staged}
 use Rattle.node_state.specs.declared.node.Kept.{Kept}
 use Rattle.node_state.specs.declared.node.Node.{Node}
 use Rattle.node_state.specs.Sound.{Sound}
-use Rattle.node_state.specs.Table.{Steps, is_next, is_unsent, refusal}
+use Rattle.node_state.specs.Table.{Steps, check, is_next, is_unsent, refusal}
+use Rattle.node_state.proofs.FittingParts.{fitting_are_taken}
 use Rattle.node_store.specs.declared.error.StoreError.{StoreError}
 use Rattle.node_store.specs.declared.error.StoreError.TheVariants as errors
 use Rattle.node_store.specs.Stands.{FailsAt, Stands}
@@ -38,8 +45,11 @@ use Rattle.node_pull.specs.declared.error.PullFault.TheVariants as pulls
 use Rattle.node_pull.specs.Names.{CanAskOf, HasOneName}
 use Rattle.node_pull.specs.Registering.{Registers}
 use Rattle.node_pull.specs.Pulling.{Pulled}
-use Rattle.node_pull.specs.Serving.{RegistrationsSucceed, AcceptsRegistration, PullsSucceed, Serves}
+use Rattle.node_pull.specs.Laying.{AreLaid, AreLaidRefused}
+use Rattle.node_pull.specs.Serving.{RegistrationsSucceed, AcceptsRegistration, MayBeStaged, PullsSucceed, Serves}
 use Rattle.meta_config.specs.declared.meta.Meta.{Meta as MetaTerm}
+use Rattle.dsc_node.specs.declared.bringing.Unbrought.{Unbrought}
+use Rattle.dsc_node.specs.declared.bringing.Unbrought.TheVariants.{Pull, Staging}
 use Rattle.dsc_node.specs.declared.command.Command.{Command}
 use Rattle.dsc_node.specs.declared.command.Command.TheVariants as commands
 use Rattle.dsc_node.specs.declared.plan.Bring.TheVariants as bring
@@ -51,11 +61,11 @@ use Rattle.dsc_node.specs.declared.plan.Printed.{Printed}
 use Rattle.dsc_node.specs.declared.plan.Printed.TheVariants as print
 use Rattle.dsc_node.specs.declared.status.Status.{Status}
 use Rattle.dsc_node.specs.declared.status.Status.TheVariants as statuses
-use Rattle.dsc_node.specs.Bringing.{Brought, IsPull, IsRegistration, boot_of, events_of, held_of, registered_by, staged_by, status_of_pull}
-use Rattle.dsc_node.specs.Commands.{IsPlanOf, IsUnmerged, is_any, is_disabled, is_one, is_pull, prints, runs, waits, why_no_run, why_not}
+use Rattle.dsc_node.specs.Bringing.{Brought, IsPull, IsPushedPart, IsRegistration, Lays, boot_of, events_of, held_of, pushed_by, registered_by, staged_by, status_of_pull, status_of_unbrought}
+use Rattle.dsc_node.specs.Commands.{IsPlanOf, IsUnmerged, is_any, is_disabled, is_one, is_push, prints, pulls_of, runs, waits, why_no_push, why_no_run, why_not}
 use Rattle.dsc_node.specs.Commits.{RefusedAfter}
-use Rattle.dsc_node.specs.Complete.{IsEndOfRun, IsEndOf, MayPush, MayRegister, MayRestore, MayPull, IsValid, IsValidFor, MayRun, NothingFailed, ValidStartsComplete}
-use Rattle.dsc_node.specs.Endings.{Answers, status_of, status_of_input}
+use Rattle.dsc_node.specs.Complete.{IsEndOfRun, IsEndOf, MayPush, MayPushPart, MayRegister, MayRestore, MayPull, IsValid, IsValidFor, MayRun, NothingFailed, ValidStartsComplete}
+use Rattle.dsc_node.specs.Endings.{Answers, status_of, status_of_input, status_of_staging}
 use Rattle.dsc_node.specs.Path.{disk_counts}
 use Rattle.dsc_node.specs.Runs.{Choice, Run, chosen_among, chosen_of, end_line, event_of, status_after}
 use Rattle.dsc_node.specs.Sending.{EndsAfterSending, Sends, ToSend, Tried, all_sent, before_later, first_unsent, no_memory, not_sent, sent, to_send, unmarked, unprinted}
@@ -63,7 +73,7 @@ use Rattle.dsc_node.specs.Start as starts
 use Rattle.dsc_node.specs.Start.{Opened, Outside}
 use Rattle.dsc_node.specs.Work.{Beside, Finish, Known, StartTable, clock_failed, finished, first_refused, no_run, not_allowed, not_brought, report_kept, report_refused, settled, unended, unready, waiting}
 use Rattle.dsc_node.specs.Shown.{printed_text}
-use Rattle.dsc_node.proofs.Firsts.{first_job, first_quiet, is_first}
+use Rattle.dsc_node.proofs.Firsts.{first_job, first_quiet, is_first, pushed_first}
 use Rattle.dsc_node.proofs.Headline.{agent_some, next_is, promotion_allowed, some_none}
 use Rattle.dsc_node.proofs.HeadlineRuns.{no_choice, pending_chosen}
 use Rattle.dsc_node.proofs.Nodes.{steps_sound}
@@ -225,7 +235,7 @@ finish_completes o from counts still work node steps sound job stopped readings 
 record IsReady {D S C : Type 0} (o : Known D S C) (node : Node) (plan : Plan) (asked heard : LinkView) (before after : S) : Type 0 where
   allowed : why_not node plan.needs ≡ None
   ready : waits node plan ≡ false
-  brings : (start : ℕ) (error : PullFault) → Brought o.resources o.machine node plan.brings start asked heard before after (Err error) → error ≡ pulls.Memory
+  brings : (start : ℕ) (error : Unbrought) → Brought o.resources o.machine node plan.brings start asked heard before after (Err error) → status_of_unbrought error ≡ statuses.Memory
   first : (start : ℕ) (view : LinkView) (ready : S) (event : Event) → Brought o.resources o.machine node plan.brings start asked view before ready (Ok (Some event)) → refusal node event ≡ None
   job : plan.follows ≡ follows.Run → node.next_job < 2 ^ 64 - 1
 
@@ -248,7 +258,7 @@ table_completes o command plan from counts before after status lines _ _ _ _ ask
 table_completes o command plan from counts before after status lines _ _ _ _ asked sound still ticks is (waiting none waits_is idle ended) = no_wait (waits from plan) is.ready waits_is
 table_completes o command plan from counts before after status lines _ _ _ _ asked sound still ticks is (clock_failed allowed reads gave took rose machine link ended) = absurd (ticks rose)
 table_completes o command plan from counts before after status lines _ _ _ _ asked sound still ticks is (not_brought start error allowed reads brought ended) =
-    inr (inr (ended.0 ∙ ap status_of_pull (is.brings start error brought)))
+    inr (inr (ended.0 ∙ is.brings start error brought))
 table_completes o command plan from counts before after status lines _ _ _ _ asked sound still ticks is (first_refused start event error committed broken allowed reads brought refused ended) =
     inr (inr (ended.0 ∙ ap status_of
     (event_refused from from counts [] event error committed broken still refl (is.first start after.link after.machine event brought) refused)))
@@ -283,12 +293,16 @@ module _ (node : Node) where
   names_there meta [] can = one_name meta.names can
   names_there meta (partial ∷ partials) can = refl
 
+  pulls_there : (partials : List Partial) → (partials ≡ [] → node.meta.refresh ≡ refreshes.Pull) → CanAskOf node.meta partials → pulls_of node.meta partials ≡ true
+  pulls_there [] mode can = ap is_pull (mode refl)
+  pulls_there (partial ∷ partials) mode can = can
+
   pull_allowed : (before after : LinkView) → MayPull node before after → why_not node need.Pull ≡ None
   pull_allowed before after served =
       rw (
         served.runs.runs.agent,
         enabled_is node.meta.refresh served.runs.runs.enabled,
-        ap is_pull served.mode,
+        pulls_there node.meta.partials served.mode served.names,
         ap (λ (s : Option Server). is_some s) served.is_server,
         served.pulls,
         served.registered,
@@ -297,6 +311,11 @@ module _ (node : Node) where
 
   push_allowed : (bytes : List ℕ) → MayPush node bytes → why_not node need.NoPartials ≡ None
   push_allowed bytes pushed = rw (pushed.runs.runs.agent, enabled_is node.meta.refresh pushed.runs.runs.enabled, pushed.whole) refl
+
+  part_allowed : (name bytes : List ℕ) → MayPushPart node name bytes → why_not node (need.PushedPartial name) ≡ None
+  part_allowed name bytes pushed =
+      runs_allowed pushed.runs.runs (why_no_push node.meta (partial_named node.meta.partials name))
+      ∙ ap (why_no_push node.meta) pushed.is_partial ∙ ap (λ (m : RefreshMode). check (is_push m) PartNotPush None) pushed.mode
 
   register_allowed : (name : List ℕ) (before after : LinkView) → MayRegister node name before after → why_not node need.Server ≡ None
   register_allowed name before after valid = rw (ap (λ (a : Option ℕ). is_some a) valid.is_agent, ap (λ (s : Option Server). is_some s) valid.is_server) refl
@@ -313,7 +332,7 @@ module _ {D S C : Type 0} (o : Known D S C) (node : Node) (asked heard : LinkVie
 
   -- a plan that asks nobody
   alone : (plan : Plan) (given : Option Event) → why_not node plan.needs ≡ None → waits node plan ≡ false → (plan.follows ≡ follows.Run → node.next_job < 2 ^ 64 - 1)
-      → ((start : ℕ) (view : LinkView) (ready : S) (result : Result (Option Event) PullFault) → Brought o.resources o.machine node plan.brings start asked view before ready result → result ≡ Ok given)
+      → ((start : ℕ) (view : LinkView) (ready : S) (result : Result (Option Event) Unbrought) → Brought o.resources o.machine node plan.brings start asked view before ready result → result ≡ Ok given)
       → ((event : Event) → given ≡ Some event → refusal node event ≡ None) → IsReady o node plan asked heard before after
   alone plan given allowed ready job brings first = record {
     allowed = allowed;
@@ -322,7 +341,7 @@ module _ {D S C : Type 0} (o : Known D S C) (node : Node) (asked heard : LinkVie
     first = λ start view machine event brought. first event (given_is event (brings start view machine (Ok (Some event)) brought));
     job = job;
   } where
-    given_is : (event : Event) → (let x : Result (Option Event) PullFault = Ok (Some event) in x) ≡ Ok given → given ≡ Some event
+    given_is : (event : Event) → (let x : Result (Option Event) Unbrought = Ok (Some event) in x) ≡ Ok given → given ≡ Some event
     given_is event is = cc is
 
   one_event : (one event : Event) → refusal node one ≡ None → Some one ≡ Some event → refusal node event ≡ None
@@ -338,18 +357,24 @@ module _ {D S C : Type 0} (o : Known D S C) (node : Node) (asked heard : LinkVie
   -- ---- that ask the server
 
   module _ (register : RegistrationsSucceed) (pull : PullsSucceed o.machine.packages o.resources.faults) where
-    registered_error : (answer : Result (Unit {0}) PullFault) (error : PullFault) → Err error ≡ registered_by answer → answer ≡ Err error
+    registered_error : (answer : Result (Unit {0}) PullFault) (error : Unbrought) → Err error ≡ registered_by answer → (cause : PullFault) × (answer ≡ Err cause) × (error ≡ Pull cause)
     registered_error (Ok done) error is = absurd (cc is)
-    registered_error (Err e) error is = cc is
+    registered_error (Err e) error is = (e, refl, cc is)
 
-    register_refused : (name : List ℕ) → MayRegister node name asked heard → (start : ℕ) (error : PullFault) → IsRegistration node name start asked heard (Err error) → error ≡ pulls.Memory
+    -- where memory alone was refused
+    memory_alone : (error : Unbrought) (cause : PullFault) → error ≡ Pull cause → cause ≡ pulls.Memory → status_of_unbrought error ≡ statuses.Memory
+    memory_alone error cause is memory = ap status_of_unbrought is ∙ ap status_of_pull memory
+
+    register_refused : (name : List ℕ) → MayRegister node name asked heard → (start : ℕ) (error : Unbrought) → IsRegistration node name start asked heard (Err error)
+        → status_of_unbrought error ≡ statuses.Memory
     register_refused name valid start error r =
+        let at = registered_error r.answer error r.is in
         let server : valid.server ≡ r.server = same_Some valid.server r.server (sym valid.is_server ∙ r.is_server) in
         let agent : valid.agent ≡ r.agent = same_Some valid.agent r.agent (sym valid.is_agent ∙ r.is_agent) in
-        register node.meta r.server r.agent name start asked heard error
+        memory_alone error at.0 at.2 (register node.meta r.server r.agent name start asked heard at.0
         (subst (λ (a : ℕ). AcceptsRegistration node.meta r.server a name asked heard) agent
         (subst (λ (s : Server). AcceptsRegistration node.meta s valid.agent name asked heard) server valid.accepts))
-        (subst (λ (a : Result (Unit {0}) PullFault). Registers node.meta r.server r.agent name start asked heard a) (registered_error r.answer error r.is) r.registers)
+        (subst (λ (a : Result (Unit {0}) PullFault). Registers node.meta r.server r.agent name start asked heard a) at.1 r.registers))
 
     register_ready : (name : List ℕ) → MayRegister node name asked heard → IsReady o node (record (prints need.Server (bring.Registration name) print.Done) { reads_clock = true }) asked heard before after
     register_ready name valid = record {
@@ -363,19 +388,20 @@ module _ {D S C : Type 0} (o : Known D S C) (node : Node) (asked heard : LinkVie
       registered_event : {event : Event} → Some event ≡ Some events.Registered → refusal node event ≡ None
       registered_event {event} is = one_event events.Registered event (rw (ap (λ (a : Option ℕ). is_some a) valid.is_agent, ap (λ (s : Option Server). is_some s) valid.is_server) refl) (sym is)
 
-    staged_error : (answer : Result (Option Staged) PullFault) (error : PullFault) → Err error ≡ staged_by answer → answer ≡ Err error
+    staged_error : (answer : Result (Option Staged) PullFault) (error : Unbrought) → Err error ≡ staged_by answer → (cause : PullFault) × (answer ≡ Err cause) × (error ≡ Pull cause)
     staged_error (Ok None) error is = absurd (cc is)
     staged_error (Ok (Some staged)) error is = absurd (cc is)
-    staged_error (Err e) error is = cc is
+    staged_error (Err e) error is = (e, refl, cc is)
 
-    pull_refused : (Rose (o.resources.faults before) (o.resources.faults after) → ⊥) → MayPull node asked heard → (error : PullFault) → IsPull o.machine o.resources.faults node asked heard before after (Err error) → error ≡ pulls.Memory
+    pull_refused : (Rose (o.resources.faults before) (o.resources.faults after) → ⊥) → MayPull node asked heard → (error : Unbrought) → IsPull o.machine o.resources.faults node asked heard before after (Err error) → status_of_unbrought error ≡ statuses.Memory
     pull_refused still valid error p =
+        let at = staged_error p.answer error p.is in
         let server : valid.server ≡ p.server = same_Some valid.server p.server (sym valid.is_server ∙ p.is_server) in
         let agent : valid.agent ≡ p.agent = same_Some valid.agent p.agent (sym valid.is_agent ∙ p.is_agent) in
-        pull node.meta p.server p.agent (held_of node) asked heard before after error
+        memory_alone error at.0 at.2 (pull node.meta p.server p.agent (held_of node) asked heard before after at.0
         (subst (λ (a : ℕ). Serves node.meta p.server a (held_of node) asked heard) agent
         (subst (λ (s : Server). Serves node.meta s valid.agent (held_of node) asked heard) server valid.serves)) still
-        (subst (λ (a : Result (Option Staged) PullFault). Pulled o.machine.packages o.resources.faults node.meta p.server p.agent (held_of node) asked heard before after a) (staged_error p.answer error p.is) p.pulled)
+        (subst (λ (a : Result (Option Staged) PullFault). Pulled o.machine.packages o.resources.faults node.meta p.server p.agent (held_of node) asked heard before after a) at.1 p.pulled))
 
     pull_ready : (Rose (o.resources.faults before) (o.resources.faults after) → ⊥) → MayPull node asked heard → IsReady o node (runs need.Pull bring.Pull) asked heard before after
     pull_ready still valid = record {
@@ -398,6 +424,37 @@ module _ {D S C : Type 0} (o : Known D S C) (node : Node) (asked heard : LinkVie
         alone (runs need.NoPartials (bring.Push staged document)) (Some (events.Stage staged)) (push_allowed node bytes valid) valid.runs.ready (λ runs. valid.runs.runs.job)
         (λ start view machine result b. b.is) (λ event is. one_event (events.Stage staged) event (rw valid.runs.runs.agent refl) is)
 
+    pushed_error : (answer : Result Staged StageError) (error : Unbrought) → Err error ≡ pushed_by answer → (cause : StageError) × (answer ≡ Err cause) × (error ≡ Staging cause)
+    pushed_error (Ok staged) error is = absurd (cc is)
+    pushed_error (Err e) error is = (e, refl, cc is)
+
+    -- a list that may be staged is refused for memory alone
+    laid_refused : (part : Part) → ((parts : List Part) → AreLaid node.meta (part ∷ []) (held_of node) parts → MayBeStaged node.meta parts) → (error : StageError)
+        → AreLaidRefused node.meta (part ∷ []) (held_of node) error → error ≡ staging.Memory
+    laid_refused part may (staging.Merge error) (parts, laid, refused) = fitting_are_taken node.meta parts (staging.Merge error) (may parts laid).0 (may parts laid).1 refused
+    laid_refused part may (staging.Fit error) (parts, laid, refused) = fitting_are_taken node.meta parts (staging.Fit error) (may parts laid).0 (may parts laid).1 refused
+    laid_refused part may (staging.TooLong bytes) (parts, laid, refused) = fitting_are_taken node.meta parts (staging.TooLong bytes) (may parts laid).0 (may parts laid).1 refused
+    laid_refused part may staging.Memory refused = refl
+
+    part_refused : (name bytes : List ℕ) → MayPushPart node name bytes → (error : Unbrought) → IsPushedPart node name bytes (Err error) → status_of_unbrought error ≡ statuses.Memory
+    part_refused name bytes valid error p =
+        let at = pushed_error p.answer error p.is in
+        let same : p.partial ≡ valid.partial = same_Some p.partial valid.partial (sym p.is_partial ∙ valid.is_partial) in
+        let lays : Lays node (text_part p.partial.name bytes) (Err at.0) = subst (Lays node (text_part p.partial.name bytes)) at.1 p.lays in
+        let refused = subst (λ (q : Partial). AreLaidRefused node.meta (text_part q.name bytes ∷ []) (held_of node) at.0) same lays in
+        ap status_of_unbrought at.2 ∙ ap status_of_staging (laid_refused (text_part valid.partial.name bytes) valid.staged at.0 refused)
+
+    part_ready : (name bytes : List ℕ) → MayPushPart node name bytes → IsReady o node (runs (need.PushedPartial name) (bring.PushPart name bytes)) asked heard before after
+    part_ready name bytes valid = record {
+      allowed = part_allowed node name bytes valid;
+      ready = valid.runs.ready;
+      brings = λ start error brought. part_refused name bytes valid error brought.2;
+      first = λ start view machine event brought.
+          let at = pushed_first (Some event) brought.2.answer brought.2.is in
+          one_event (events.Stage at.0) event (rw valid.runs.runs.agent refl) (sym at.2);
+      job = λ runs. valid.runs.runs.job;
+    }
+
     -- a plan that prints a text
     text_ready : (needs : Needs) (event : Event) (text : Printed) → why_not node needs ≡ None → refusal node event ≡ None
         → IsReady o node (prints needs (bring.Event event) text) asked heard before after
@@ -418,7 +475,9 @@ module _ {D S C : Type 0} (o : Known D S C) (node : Node) (asked heard : LinkVie
     ready (commands.Register name) plan is valid still =
         as_plan plan (record (prints need.Server (bring.Registration name) print.Done) { reads_clock = true }) is (register_ready name valid)
     ready commands.Pull plan is valid still = as_plan plan (runs need.Pull bring.Pull) is (pull_ready (still refl) valid)
-    ready (commands.Push bytes) plan is valid still =
+    ready (commands.Push (Some name) bytes) plan is valid still =
+        as_plan plan (runs (need.PushedPartial name) (bring.PushPart name bytes)) is.is (part_ready name bytes valid)
+    ready (commands.Push None bytes) plan is valid still =
         as_plan plan (runs need.NoPartials (bring.Push is.staged is.document)) is.is (push_ready bytes is.staged is.document valid)
     ready commands.Consistency plan is valid still =
         as_plan plan (runs need.Run bring.Nothing) is
@@ -452,7 +511,7 @@ ran_whole (commands.Meta meta) plan is runs status ran = no_run_of plan (prints 
 ran_whole (commands.Register name) plan is runs status ran =
     no_run_of plan (record (prints need.Server (bring.Registration name) print.Done) { reads_clock = true }) print.Done is refl runs
 ran_whole commands.Pull plan is runs status ran = ran
-ran_whole (commands.Push bytes) plan is runs status ran = ran
+ran_whole (commands.Push name bytes) plan is runs status ran = ran
 ran_whole commands.Consistency plan is runs status ran = ran
 ran_whole commands.Boot plan is runs status ran = ran
 ran_whole commands.Get plan is runs status ran = no_run_of plan (prints need.Agent bring.Nothing print.Node) print.Node is refl runs
@@ -465,7 +524,7 @@ done_whole (commands.Init agent) = refl
 done_whole (commands.Meta meta) = refl
 done_whole (commands.Register name) = refl
 done_whole commands.Pull = tt
-done_whole (commands.Push bytes) = tt
+done_whole (commands.Push name bytes) = tt
 done_whole commands.Consistency = tt
 done_whole commands.Boot = tt
 done_whole commands.Get = refl
@@ -478,9 +537,22 @@ whole command plan is status (inl done) = inl (subst (IsEndOf command) (sym done
 whole command plan is status (inr (inl (runs, ran))) = ran_whole command plan is runs status ran
 whole command plan is status (inr (inr memory)) = inr memory
 
+-- a text that is a document by the rules of parts has no fault of a part
+fault_memory : (bytes : List ℕ) (error : MergeError) → DeclaresDocument bytes → IsFaultAt 0 bytes error → error ≡ merging.Memory
+fault_memory bytes merging.Memory declares fault = refl
+fault_memory bytes (merging.Part place fault) declares at =
+    let joined = are_joined (unnamed_part bytes) declares.0 ([] ∷ []) refl declares.1 in
+    absurd (no_fault (unnamed_part bytes ∷ []) (named declares.0 ([] ∷ [])) place fault joined (refused_first (unnamed_part bytes) (merging.Part place fault) at))
+fault_memory bytes (merging.TwoNames first second) declares fault = absurd fault
+fault_memory bytes (merging.TooMany count) declares fault = absurd fault
+fault_memory bytes (merging.DuplicateId first second) declares fault = absurd fault
+fault_memory bytes (merging.DependsUnknown spot name) declares fault = absurd fault
+fault_memory bytes (merging.Cycle walk) declares fault = absurd fault
+
 -- valid input is not refused
 input_refused : (command : Command) (error : MergeError) (node : Node) (before after : LinkView) → IsValidFor command node before after → IsUnmerged command error → error ≡ merging.Memory
-input_refused (commands.Push bytes) error node before after valid refused =
+input_refused (commands.Push (Some name) bytes) error node before after valid refused = fault_memory bytes error valid.declares refused
+input_refused (commands.Push None bytes) error node before after valid refused =
     memory_of error (λ other. never_both (unnamed_part bytes ∷ []) valid.document error other valid.merged refused)
 input_refused (commands.Init agent) error node before after valid refused = absurd refused
 input_refused (commands.Meta meta) error node before after valid refused = absurd refused

@@ -1,16 +1,18 @@
 -- The event that a command brings: what it leaves of a node, which parts it stages, and that it keeps no report.
-use Rattle.std.proofs.Common.{◌≡◌, ◌≢◌, ◌⊎◌, inl, inr, ℕ, Bool, true, false, List, [], ◌∷◌, Option, Some, None, Result, Ok, Err, refl, sym, ap, subst, ◌∙◌, arith}
+use Rattle.std.proofs.Common.{◌≡◌, ◌≢◌, ◌⊎◌, inl, inr, ⊎_elim, ℕ, Bool, true, false, List, [], ◌∷◌, Option, Some, None, Result, Ok, Err, refl, sym, ap, subst, ◌∙◌, arith}
 use Rattle.std.specs.Prelude.{All, Contains, IfSome}
-use Rattle.std.proofs.lemmas.List.Elements.{All-contains}
+use Rattle.std.proofs.lemmas.List.Elements.{All-contains, All-from_recursion}
 use Rattle.dsc_outside.specs.declared.disk.Disk as disks
 use Rattle.dsc_document.specs.declared.document.Document.{Document}
+use Rattle.meta_config.specs.declared.meta.Meta.{Meta as MetaTerm}
 use Rattle.meta_config.specs.declared.server.Server.{Server}
 use Rattle.partial_merge.specs.declared.part.Part.{Part}
 use Rattle.partial_merge.specs.Merged.{Merged}
-use Rattle.partial_merge.specs.Parts.{unnamed_part}
+use Rattle.partial_merge.specs.Parts.{text_part, unnamed_part}
 use Rattle.resource_kinds.specs.declared.machine.Machine as machines
 use Rattle.resource_kinds.specs.declared.resources.Resources as resources
 use Rattle.report_log.specs.declared.report.Report.{Report}
+use Rattle.node_state.specs.declared.error.StageError.{StageError}
 use Rattle.node_state.specs.declared.list.Staged.{Staged}
 use Rattle.node_state.specs.declared.node.Node.{Node}
 use Rattle.node_state.specs.declared.event.Event.{Event}
@@ -24,6 +26,7 @@ use Rattle.node_pull.specs.declared.error.PullFault.{PullFault}
 use Rattle.node_pull.specs.declared.error.PullFault.TheVariants as pulls
 use Rattle.node_pull.specs.Errors.{error_of, staging_error}
 use Rattle.node_pull.specs.Contents.{IsHeldOrAccepted}
+use Rattle.node_pull.specs.Laying.{AreLaid, laid_over}
 use Rattle.node_pull.specs.Listing.{Listed}
 use Rattle.node_pull.specs.Packages.{HasAll, Packages, modules_of}
 use Rattle.node_pull.specs.Pulling as pulling
@@ -33,6 +36,7 @@ use Rattle.node_pull.specs.Views.{Accepts}
 use Rattle.node_pull.proofs.AddedPackages.{adds_on, packages_are_accepted, packages_are_there}
 use Rattle.node_pull.proofs.AcceptedParts.{pulled_accepted}
 use Rattle.node_pull.proofs.GoingOn.{on_and_on, packages_go_on}
+use Rattle.node_pull.proofs.LaidParts.{laid_all}
 use Rattle.node_pull.proofs.Since.{since_then}
 use Rattle.pull_client.specs.Content.{GivesPart}
 use Rattle.pull_client.specs.Requests.{content_request}
@@ -44,9 +48,11 @@ use Rattle.dsc_node.specs.declared.plan.Bring.TheVariants as bring
 use Rattle.dsc_node.specs.declared.plan.Follows.{Follows}
 use Rattle.dsc_node.specs.declared.plan.Follows.TheVariants as follows
 use Rattle.dsc_node.specs.declared.plan.Plan.{Plan}
-use Rattle.dsc_node.specs.Bringing.{Brought, IsPull, boot_of, events_of, held_among, held_of, registered_by, staged_by, status_of_pull}
+use Rattle.dsc_node.specs.declared.bringing.Unbrought.{Unbrought}
+use Rattle.dsc_node.specs.declared.bringing.Unbrought.TheVariants.{Pull as PullError, Staging}
+use Rattle.dsc_node.specs.Bringing.{Brought, IsPull, IsPushedPart, Lays, boot_of, events_of, held_among, held_of, pushed_by, registered_by, staged_by, status_of_pull}
 use Rattle.dsc_node.specs.Commands.{IsAllowed, IsPlanOf}
-use Rattle.dsc_node.specs.Headline.{AddsPackages, AllowsPull, IsBrought, IsPullFault, Keeps, PulledPackages}
+use Rattle.dsc_node.specs.Headline.{AddsPackages, AllowsPull, IsBrought, IsPullFault, Keeps, PulledPackages, WasPushed}
 use Rattle.dsc_node.proofs.Found.{WasSlot}
 use Rattle.dsc_node.proofs.Plans.{IsBringOf, IsQuiet, plan_facts, quiet_boot, quiet_registered, quiet_stage}
 
@@ -56,6 +62,7 @@ abbrev pub IsFirst : Node → Bring → Option Event → Type 0
 IsFirst node bring.Nothing first = first ≡ None
 IsFirst node (bring.Event event) first = first ≡ Some event
 IsFirst node (bring.Push staged document) first = first ≡ Some (events.Stage staged)
+IsFirst node (bring.PushPart name bytes) first = (staged : Staged) × (first ≡ Some (events.Stage staged))
 IsFirst node bring.Boot first = first ≡ boot_of node.reboot
 IsFirst node bring.Pull first = (first ≡ None) ⊎ ((staged : Staged) × (first ≡ Some (events.Stage staged)))
 IsFirst node (bring.Registration name) first = first ≡ Some events.Registered
@@ -66,20 +73,25 @@ some_ok a b is = cc is
 no_ok : {A B E : Type 0} (a : A) (e : E) → (let x : Result A E = Ok a in x) ≡ Err e → B
 no_ok a e is = absurd (cc is)
 
+pub pushed_first : (first : Option Event) (answer : Result Staged StageError) → Ok first ≡ pushed_by answer → (staged : Staged) × (answer ≡ Ok staged) × (first ≡ Some (events.Stage staged))
+pushed_first first (Ok staged) is = (staged, refl, some_ok first (Some (events.Stage staged)) is)
+pushed_first first (Err error) is = no_ok first (Staging error) is
+
 registered_first : (first : Option Event) (answer : Result (Unit {0}) PullFault) → Ok first ≡ registered_by answer → first ≡ Some events.Registered
 registered_first first (Ok done) is = some_ok first (Some events.Registered) is
-registered_first first (Err error) is = no_ok first error is
+registered_first first (Err error) is = no_ok first (PullError error) is
 
 pulled_first : (first : Option Event) (answer : Result (Option Staged) PullFault) → Ok first ≡ staged_by answer → (first ≡ None) ⊎ ((staged : Staged) × (first ≡ Some (events.Stage staged)))
 pulled_first first (Ok None) is = inl (some_ok first None is)
 pulled_first first (Ok (Some staged)) is = inr (staged, some_ok first (Some (events.Stage staged)) is)
-pulled_first first (Err error) is = no_ok first error is
+pulled_first first (Err error) is = no_ok first (PullError error) is
 
 module _ {S : Type 0} (runs_on : resources.Ghosts S) (machine : machines.Ghosts S) (node : Node) (start : ℕ) (asked heard : LinkView) (before after : S) (first : Option Event) where
   pub is_first : (brings : Bring) → Brought runs_on machine node brings start asked heard before after (Ok first) → IsFirst node brings first
   is_first bring.Nothing b = some_ok first None b.is
   is_first (bring.Event event) b = some_ok first (Some event) b.is
   is_first (bring.Push staged document) b = some_ok first (Some (events.Stage staged)) b.is
+  is_first (bring.PushPart name bytes) b = let at = pushed_first first b.2.answer b.2.is in (at.0, at.2)
   is_first bring.Boot b = some_ok first (boot_of node.reboot) b.is
   is_first bring.Pull b = pulled_first first b.answer b.is
   is_first (bring.Registration name) b = registered_first first b.1.answer b.1.is
@@ -101,6 +113,7 @@ module _ (next : Follows) (first : Option Event) where
   quiet_by command node bring.Nothing facts is = none_quiet is
   quiet_by command node (bring.Event event) facts is = some_quiet event facts.1 is
   quiet_by command node (bring.Push staged document) facts is = some_quiet (events.Stage staged) (quiet_stage next staged) is
+  quiet_by command node (bring.PushPart name bytes) facts is = some_quiet (events.Stage is.0) (quiet_stage next is.0) is.1
   quiet_by command node bring.Boot facts is = marked_quiet node.reboot is
   quiet_by command node bring.Pull facts (inl is) = none_quiet is
   quiet_by command node bring.Pull facts (inr (staged, is)) = some_quiet (events.Stage staged) (quiet_stage next staged) is
@@ -155,6 +168,15 @@ held_slot (Some parts) current previous part there = inl there
 held_slot None (Some parts) previous part there = inr (inl there)
 held_slot None None previous part there = absurd (omega (arith, there.1))
 
+-- a part of a list that one part is laid to is that part, or is held
+laid_part : (meta : MetaTerm) (one : Part) (held parts : List Part) (part : Part) → AreLaid meta (one ∷ []) held parts → Contains parts part → (part ≡ one) ⊎ Contains held part
+laid_part meta one held parts part laid there =
+    let P : Part → Type 0 = λ p. (p ≡ one) ⊎ Contains held p in
+    All-contains P parts part
+    (subst (λ (ps : List Part). All P ps) (sym laid.laid)
+    (All-from_recursion P (laid_over laid.names (one ∷ []) held)
+    (laid_all P (one ∷ []) held (λ p new. inl (All-contains (λ (q : Part). q ≡ one) (one ∷ []) p (only_one (λ (q : Part). q ≡ one) one refl) new)) (λ p old. inr old) laid.names))) there
+
 module _ {D S : Type 0} (d : disks.Ghosts D) (begin : D) (runs_on : resources.Ghosts S) (machine : machines.Ghosts S) (node : Node) (start : ℕ) (asked heard end : LinkView) (later : GoesOn heard end) (before after : S)
     (part : Part) (first : Option Event) (stages : Stages (events_of first) part) where
   held_or_accepted : (server : Server) → node.meta.server ≡ Some server → (agent : ℕ) → node.agent ≡ Some agent → IsHeldOrAccepted server agent (held_of node) asked heard part
@@ -169,6 +191,18 @@ module _ {D S : Type 0} (d : disks.Ghosts D) (begin : D) (runs_on : resources.Gh
         accepted = since_then (Accepts server (content_request server agent part.name) (GivesPart part.name) part) asked heard end accepted later;
       })
 
+  -- the part of a list that a push under a name came to
+  push_brings : (name bytes : List ℕ) (command : Command) → command ≡ commands.Push (Some name) bytes → IsPushedPart node name bytes (Ok first)
+      → WasSlot d begin node part ⊎ IsBrought command node asked end part
+  push_brings name bytes command is p =
+      let at = pushed_first first p.answer p.is in
+      let lays : Lays node (text_part p.partial.name bytes) (Ok at.0) = subst (Lays node (text_part p.partial.name bytes)) at.1 p.lays in
+      let pushed : part ≡ text_part p.partial.name bytes → WasPushed node name bytes part = λ new. record { partial = p.partial; is_partial = p.is_partial; is = new } in
+      ⊎_elim
+      (λ new. inr (subst (λ (c : Command). IsBrought c node asked end part) (sym is) (pushed new)))
+      (λ held. inl (inl (held_slot node.pending node.current node.previous part held)))
+      (laid_part node.meta (text_part p.partial.name bytes) (held_of node) (parts_of at.0) part lays.0 (some_stages part first stages (events.Stage at.0) at.2))
+
   pull_brings : (answer : Result (Option Staged) PullFault) (server : Server) → node.meta.server ≡ Some server → (agent : ℕ) → node.agent ≡ Some agent
       → Pulled machine.packages runs_on.faults node.meta server agent (held_of node) asked heard before after answer
       → Ok first ≡ staged_by answer → WasSlot d begin node part ⊎ IsBrought commands.Pull node asked end part
@@ -176,7 +210,7 @@ module _ {D S : Type 0} (d : disks.Ghosts D) (begin : D) (runs_on : resources.Gh
   pull_brings (Ok (Some staged)) server is_server agent is_agent pulled is =
       held_or_accepted server is_server agent is_agent (All-contains (IsHeldOrAccepted server agent (held_of node) asked heard) (parts_of staged) part (pulled_accepted pulled)
       (some_stages part first stages (events.Stage staged) (some_ok first (Some (events.Stage staged)) is)))
-  pull_brings (Err error) server is_server agent is_agent pulled is = no_ok first error is
+  pull_brings (Err error) server is_server agent is_agent pulled is = no_ok first (PullError error) is
 
   brings_by : (command : Command) (next : Follows) (brings : Bring) → IsBringOf command next brings → Brought runs_on machine node brings start asked heard before after (Ok first)
       → WasSlot d begin node part ⊎ IsBrought command node asked end part
@@ -185,6 +219,7 @@ module _ {D S : Type 0} (d : disks.Ghosts D) (begin : D) (runs_on : resources.Gh
   brings_by command next (bring.Push staged document) facts b =
       let is = only part facts.0 (parts_of staged) facts.2 (some_stages part first stages (events.Stage staged) (some_ok first (Some (events.Stage staged)) b.is)) in
       inr (subst (λ (c : Command). IsBrought c node asked end part) (sym facts.1) is)
+  brings_by command next (bring.PushPart name bytes) facts b = push_brings name bytes command facts b.2
   brings_by command next bring.Boot facts b = boot_stages part first stages node.reboot (some_ok first (boot_of node.reboot) b.is)
   brings_by command next bring.Pull facts b =
       subst (λ (c : Command). WasSlot d begin node part ⊎ IsBrought c node asked end part) (sym facts) (pull_brings b.answer b.server b.is_server b.agent b.is_agent b.pulled b.is)
@@ -242,7 +277,7 @@ module _ {S : Type 0} (runs_on : resources.Ghosts S) (machine : machines.Ghosts 
       (λ fine. packages_are_there machine.packages runs_on.faults server (modules_of document) listing heard before after came))
 
 module _ {S : Type 0} (runs_on : resources.Ghosts S) (machine : machines.Ghosts S) (node : Node) (start : ℕ) (asked heard end : LinkView) (later : GoesOn heard end) (before after : S)
-    (result : Result (Option Event) PullFault) (status : Status) (fault : (error : PullFault) → result ≡ Err error → IsPullFault status) where
+    (result : Result (Option Event) Unbrought) (status : Status) (fault : (error : PullFault) → result ≡ Err (PullError error) → IsPullFault status) where
   abbrev pub Adds : Command → Type 0
   Adds command = AddsPackages command node asked end status (machine.packages before) (machine.packages after)
 
@@ -257,6 +292,7 @@ module _ {S : Type 0} (runs_on : resources.Ghosts S) (machine : machines.Ghosts 
   leaves_machine command next bring.Nothing other facts b = ap machine.packages b.machine
   leaves_machine command next (bring.Event event) other facts b = ap machine.packages b.machine
   leaves_machine command next (bring.Push staged document) other facts b = ap machine.packages b.machine
+  leaves_machine command next (bring.PushPart name bytes) other facts b = ap machine.packages b.0
   leaves_machine command next bring.Boot other facts b = ap machine.packages b.machine
   leaves_machine command next bring.Pull other facts b = absurd (other facts)
   leaves_machine command next (bring.Registration name) other facts b = ap machine.packages b.0

@@ -4,9 +4,9 @@ use Rattle.resource_kinds.specs.declared.machine.Machine as machines
 use Rattle.resource_kinds.specs.declared.resources.Resources as resources
 use Rattle.node_state.specs.declared.node.Node.{Node}
 use Rattle.node_state.specs.declared.event.Event.{Event}
-use Rattle.node_pull.specs.declared.error.PullFault.{PullFault}
 use Rattle.node_pull.proofs.GoingOn.{on_and_on, pulled_goes_on, registers_goes_on, stays_at}
 use Rattle.dsc_outside.specs.Link.{GoesOn, LinkView}
+use Rattle.dsc_node.specs.declared.bringing.Unbrought.{Unbrought}
 use Rattle.dsc_node.specs.declared.command.Command.{Command}
 use Rattle.dsc_node.specs.declared.plan.Bring.{Bring}
 use Rattle.dsc_node.specs.declared.plan.Bring.TheVariants as bring
@@ -19,10 +19,11 @@ use Rattle.dsc_node.specs.Work.{Beside, Known, StartTable, clock_failed, finishe
 use Rattle.dsc_node.proofs.WorkEvents.{finish_goes_on}
 
 brought_goes_on : {S : Type 0} (runs_on : resources.Ghosts S) (machine : machines.Ghosts S) (node : Node) (brings : Bring) (start : ℕ) (asked heard : LinkView) (before after : S)
-    (result : Result (Option Event) PullFault) → Brought runs_on machine node brings start asked heard before after result → GoesOn asked heard
+    (result : Result (Option Event) Unbrought) → Brought runs_on machine node brings start asked heard before after result → GoesOn asked heard
 brought_goes_on runs_on machine node bring.Nothing start asked heard before after result is = stays_at asked heard is.unasked
 brought_goes_on runs_on machine node (bring.Event event) start asked heard before after result is = stays_at asked heard is.unasked
 brought_goes_on runs_on machine node (bring.Push staged document) start asked heard before after result is = stays_at asked heard is.unasked
+brought_goes_on runs_on machine node (bring.PushPart name bytes) start asked heard before after result is = stays_at asked heard is.1
 brought_goes_on runs_on machine node bring.Boot start asked heard before after result is = stays_at asked heard is.unasked
 brought_goes_on runs_on machine node bring.Pull start asked heard before after result is = pulled_goes_on is.pulled
 brought_goes_on runs_on machine node (bring.Registration name) start asked heard before after result is =

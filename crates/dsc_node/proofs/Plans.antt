@@ -1,5 +1,5 @@
 -- What is said of a plan and of the node of a store, and what holds of the plan of each command.
-use Rattle.std.proofs.Common.{◌≡◌, ◌≢◌, ℕ, Bool, true, false, not, ◌||◌, is_some, List, [], ◌∷◌, Option, None, Result, Ok, Err, refl, sym, ap, subst, ◌∙◌}
+use Rattle.std.proofs.Common.{◌≡◌, ◌≢◌, ℕ, Bool, true, false, not, ◌||◌, is_some, List, [], ◌∷◌, Option, Some, None, Result, Ok, Err, refl, sym, ap, subst, ◌∙◌}
 use Rattle.std.specs.Prelude.{IfSome}
 use Rattle.dsc_terms.specs.Counts.{Rose}
 use Rattle.dsc_outside.specs.declared.clock.Clock as clocks
@@ -34,7 +34,7 @@ use Rattle.dsc_node.specs.declared.plan.Plan.{Plan}
 use Rattle.dsc_node.specs.declared.plan.Printed.{Printed}
 use Rattle.dsc_node.specs.declared.plan.Printed.TheVariants as print
 use Rattle.dsc_node.specs.Bringing.{boot_of}
-use Rattle.dsc_node.specs.Commands.{IsPlanOf, IsTaken, has_names, has_source, is_any, is_disabled, is_one, is_pull, stops, waits, why_no_pull, why_not}
+use Rattle.dsc_node.specs.Commands.{IsPlanOf, IsTaken, has_names, has_source, is_any, is_disabled, is_one, pulls_of, pulls_some, stops, waits, why_no_pull, why_not}
 use Rattle.dsc_node.specs.Headline.{KeepsReport}
 use Rattle.dsc_node.specs.Plans.{CanBring, IsPlan}
 use Rattle.dsc_node.specs.Readings.{Gave, StartsAt, Took}
@@ -80,19 +80,19 @@ one_name [] is = absurd (cc is)
 one_name (name ∷ []) is = tt
 one_name (name ∷ second ∷ names) is = absurd (cc is)
 
-names_of : (meta : MetaTerm) (partials : List Partial) → (is_any partials || is_one meta.names) ≡ true → CanAskOf meta partials
-names_of meta [] is = one_name meta.names is
-names_of meta (partial ∷ partials) is = tt
+names_of : (meta : MetaTerm) (partials : List Partial) → pulls_of meta partials ≡ true → (is_any partials || is_one meta.names) ≡ true → CanAskOf meta partials
+names_of meta [] pulls is = one_name meta.names is
+names_of meta (partial ∷ partials) pulls is = pulls
 
 -- there are names to ask for
 pub can_ask : (node : Node) → why_not node need.Pull ≡ None → CanAsk node.meta
 can_ask node allowed =
     let enabled = checked (is_some node.agent) NoAgent (check (not (is_disabled node.meta.refresh)) Disabled (why_no_pull node)) allowed in
     let pulls = checked (not (is_disabled node.meta.refresh)) Disabled (why_no_pull node) enabled.1 in
-    let served = checked (is_pull node.meta.refresh) NotPull (check (has_source node) NoServer (check node.registered NotRegistered (check (has_names node) NoName None))) pulls.1 in
+    let served = checked (pulls_some node.meta) NotPull (check (has_source node) NoServer (check node.registered NotRegistered (check (has_names node) NoName None))) pulls.1 in
     let registered = checked (has_source node) NoServer (check node.registered NotRegistered (check (has_names node) NoName None)) served.1 in
     let named = checked node.registered NotRegistered (check (has_names node) NoName None) registered.1 in
-    names_of node.meta node.meta.partials (checked (has_names node) NoName None named.1).0
+    names_of node.meta node.meta.partials served.0 (checked (has_names node) NoName None named.1).0
 
 -- ---- the plan of each command
 
@@ -119,18 +119,20 @@ quiet_boot next = record { job = λ node. refl; meta = λ runs node. refl; repor
 pub quiet_registered : (next : Follows) → IsQuiet next events.Registered
 quiet_registered next = record { job = λ node. refl; meta = λ runs node. refl; report = λ report none. none }
 
--- what a command brings: an event is quiet, within and stages no part; the parts of a push are its bytes; and a pull alone is a pull
+-- what a command brings: an event is quiet, within and stages no part; the part of a push is its bytes; and a pull alone is a pull
 abbrev pub IsBringOf : Command → Follows → Bring → Type 0
 IsBringOf command next bring.Nothing = command ≢ commands.Pull
 IsBringOf command next (bring.Event event) = (command ≢ commands.Pull) × IsQuiet next event × ((part : Part) → StagesPart event part → ⊥) × (IsTaken command → IsWithin event)
 IsBringOf command next (bring.Push staged document) =
-    (bytes : List ℕ) × (command ≡ commands.Push bytes) × (parts_of staged ≡ unnamed_part bytes ∷ []) × IsDocumentOf (parts_of staged) document
+    (bytes : List ℕ) × (command ≡ commands.Push None bytes) × (parts_of staged ≡ unnamed_part bytes ∷ []) × IsDocumentOf (parts_of staged) document
+IsBringOf command next (bring.PushPart name bytes) = command ≡ commands.Push (Some name) bytes
 IsBringOf command next bring.Boot = command ≢ commands.Pull
 IsBringOf command next bring.Pull = command ≡ commands.Pull
 IsBringOf command next (bring.Registration name) = command ≢ commands.Pull
 
--- where the server is asked, what that needs is needed
+-- where the server is asked, or a part is pushed, what that needs is needed
 abbrev IsNeeded : Needs → Bring → Type 0
+IsNeeded needs (bring.PushPart name bytes) = needs ≡ need.PushedPartial name
 IsNeeded needs bring.Pull = needs ≡ need.Pull
 IsNeeded needs (bring.Registration name) = needs ≡ need.Server
 IsNeeded needs _ = Unit {0}
@@ -155,7 +157,10 @@ plan_facts (commands.Meta meta) plan is = subst (PlanFacts (commands.Meta meta))
 })
 plan_facts (commands.Register name) plan is = subst (PlanFacts (commands.Register name)) (sym is) (record { reads = text_runs print.Done; brings = λ pull. cc pull; needed = refl })
 plan_facts commands.Pull plan is = subst (PlanFacts commands.Pull) (sym is) (record { reads = λ runs. refl; brings = refl; needed = refl })
-plan_facts (commands.Push bytes) plan is = subst (PlanFacts (commands.Push bytes)) (sym is.is) (record { reads = λ runs. refl; brings = (bytes, refl, is.parts, is.merged); needed = tt })
+plan_facts (commands.Push None bytes) plan is =
+    subst (PlanFacts (commands.Push None bytes)) (sym is.is) (record { reads = λ runs. refl; brings = (bytes, refl, is.parts, is.merged); needed = tt })
+plan_facts (commands.Push (Some name) bytes) plan is =
+    subst (PlanFacts (commands.Push (Some name) bytes)) (sym is.is) (record { reads = λ runs. refl; brings = refl; needed = refl })
 plan_facts commands.Consistency plan is = subst (PlanFacts commands.Consistency) (sym is) (record { reads = λ runs. refl; brings = λ pull. cc pull; needed = tt })
 plan_facts commands.Boot plan is = subst (PlanFacts commands.Boot) (sym is) (record { reads = λ runs. refl; brings = λ pull. cc pull; needed = tt })
 plan_facts commands.Get plan is = subst (PlanFacts commands.Get) (sym is) (record { reads = text_runs print.Node; brings = λ pull. cc pull; needed = tt })
@@ -181,6 +186,7 @@ can_be : (node : Node) (command : Command) (needs : Needs) (brings : Bring) (nex
 can_be node command needs bring.Nothing next taken is needed allowed = tt
 can_be node command needs (bring.Event event) next taken is needed allowed = is.3 taken
 can_be node command needs (bring.Push staged document) next taken is needed allowed = is.3
+can_be node command needs (bring.PushPart name bytes) next taken is needed allowed = subst (λ (n : Needs). why_not node n ≡ None) needed allowed
 can_be node command needs bring.Boot next taken is needed allowed = tt
 can_be node command needs bring.Pull next taken is needed allowed = subst (λ (n : Needs). why_not node n ≡ None) needed allowed
 can_be node command needs (bring.Registration name) next taken is needed allowed = subst (λ (n : Needs). why_not node n ≡ None) needed allowed

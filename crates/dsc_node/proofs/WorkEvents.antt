@@ -13,6 +13,8 @@ use Rattle.node_state.specs.declared.event.Why.{Why}
 use Rattle.node_state.specs.Slots.{Stages, StagesPart}
 use Rattle.node_store.specs.declared.error.StoreError.{StoreError}
 use Rattle.node_store.specs.declared.error.StoreError.TheVariants as errors
+use Rattle.dsc_node.specs.declared.bringing.Unbrought.{Unbrought}
+use Rattle.dsc_node.specs.declared.bringing.Unbrought.TheVariants.{Pull}
 use Rattle.dsc_node.specs.declared.command.Command.{Command}
 use Rattle.dsc_node.specs.declared.command.Command.TheVariants as commands
 use Rattle.dsc_node.specs.declared.plan.Plan.{Plan}
@@ -20,7 +22,7 @@ use Rattle.dsc_node.specs.declared.status.Status.{Status}
 use Rattle.dsc_node.specs.declared.status.Status.TheVariants as statuses
 use Rattle.dsc_outside.specs.Link.{GoesOn, LinkView}
 use Rattle.node_pull.proofs.GoingOn.{on_and_on, sends_goes_on, stays}
-use Rattle.dsc_node.specs.Bringing.{Brought, events_of, status_of_pull}
+use Rattle.dsc_node.specs.Bringing.{Brought, events_of, status_of_pull, status_of_unbrought}
 use Rattle.dsc_node.specs.Commands.{IsAllowed, IsPlanOf, waits, why_not}
 use Rattle.dsc_node.specs.Commits.{RefusedAfter, all_of, broken_by}
 use Rattle.dsc_node.specs.Runs.{Run, event_of}
@@ -166,6 +168,9 @@ not_ready node plan is allowed = absurd (cc (is, allowed.ready))
 as_pull : (node : Node) (command : Command) (plan : Plan) → IsPlanOf command plan → command ≡ commands.Pull → (IsAllowed node plan → ⊥) → AllowsPull node → ⊥
 as_pull node command plan is pull none = subst (λ (p : Plan). IsAllowed node p → ⊥) (subst (λ (c : Command). IsPlanOf c plan) pull is) none
 
+same_error : (one other : Unbrought) → (let x : Result (Option Event) Unbrought = Err one in x) ≡ Err other → one ≡ other
+same_error one other is = cc is
+
 -- what a start adds to a machine's packages before its run
 pub work_adds : {D S C : Type 0} (o : Known D S C) (command : Command) (plan : Plan) → IsPlanOf command plan → (from : Node) (counts : ℕ × ℕ) (work : List Event) (node : Node)
     (before after : Beside S C) (status : Status) (lines : List ℕ) (ready : S) (run : Option Run) (committed : List Event) (broken : Option Event)
@@ -179,7 +184,8 @@ work_adds o command plan is from counts work node before after status lines _ _ 
     nothing_adds o.machine.packages command node before.link after.link status before.machine before.machine (λ pull. inr (ends_fault statuses.ClockFault status [] lines tt ends)) refl
 work_adds o command plan is from counts work node before after status lines _ _ _ _ (not_brought start error allowed reads brought ends) =
     command_adds o.resources o.machine node start before.link after.link after.link (stays after.link) before.machine after.machine (Err error) status
-    (λ other same. ends_fault (status_of_pull error) status [] lines (fault_error error) ends) command plan is allowed brought
+    (λ other same. ends_fault (status_of_pull other) status [] lines (fault_error other) (subst (λ (e : Unbrought). Ends (status_of_unbrought e) [] status lines) (same_error error (Pull other) same) ends))
+    command plan is allowed brought
 work_adds o command plan is from counts work node before after status lines _ _ _ _ (first_refused start event error committed broken allowed reads brought refused ends) =
     command_adds o.resources o.machine node start before.link after.link after.link (stays after.link) before.machine after.machine (Ok (Some event)) status (λ other same. absurd (cc same)) command plan is allowed brought
 work_adds o command plan is from counts work node before after status lines _ _ _ _ (settled start first mid text allowed ends reads brought steps answers) =

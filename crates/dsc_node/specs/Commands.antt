@@ -1,23 +1,26 @@
 -- What a command asks of a start: a plan for each, and where the node allows it.
-use Rattle.std.specs.Prelude.{◌≡◌, Bool, true, false, not, ◌&&◌, ◌||◌, ℕ, List, [], ◌∷◌, Option, None, is_some, is_none, ⊤}
+use Rattle.std.specs.Prelude.{◌≡◌, Bool, true, false, not, ◌&&◌, ◌||◌, ℕ, List, [], ◌∷◌, Option, Some, None, is_some, is_none, ⊤}
+use Rattle.std.specs.List.{list_any}
 use Rattle.depend_order.specs.declared.ordered.OrderedDocument.{OrderedDocument}
 use Rattle.meta_config.specs.declared.modes.AfterReboot.{AfterReboot}
 use Rattle.meta_config.specs.declared.modes.AfterReboot.TheVariants.{ContinueConfiguration, StopConfiguration}
 use Rattle.meta_config.specs.declared.modes.RefreshMode.{RefreshMode}
 use Rattle.meta_config.specs.declared.modes.RefreshMode.TheVariants as refreshes
+use Rattle.meta_config.specs.declared.meta.Meta.{Meta}
 use Rattle.meta_config.specs.declared.meta.Partial.{Partial}
+use Rattle.meta_config.specs.Parts.{is_pull, is_pulled, mode_in, partial_named}
 use Rattle.node_state.specs.declared.list.Staged.{Staged}
 use Rattle.node_state.specs.declared.node.Node.{Node}
 use Rattle.node_state.specs.declared.event.Event.TheVariants as events
 use Rattle.node_state.specs.declared.event.Why.{Why}
-use Rattle.node_state.specs.declared.event.Why.TheVariants.{NoAgent, HasAgent, Disabled, NotPull, NoServer, NotRegistered, NoName, NoPrevious, PartsDeclared}
+use Rattle.node_state.specs.declared.event.Why.TheVariants.{NoAgent, HasAgent, Disabled, NotPull, NoServer, NotRegistered, NoName, NoPartial, NoPrevious, PartNotPush, PartsDeclared}
 use Rattle.node_state.specs.Metas.{IsNodeMeta}
 use Rattle.node_state.specs.StagedParts.{parts_of}
 use Rattle.node_state.specs.Table.{check}
 use Rattle.partial_merge.specs.declared.error.MergeError.{MergeError}
 use Rattle.partial_merge.specs.Merged.{IsDocumentOf}
-use Rattle.partial_merge.specs.Parts.{unnamed_part}
-use Rattle.partial_merge.specs.Refused.{Refused}
+use Rattle.partial_merge.specs.Parts.{DeclaresDocument, unnamed_part}
+use Rattle.partial_merge.specs.Refused.{IsFaultAt, Refused}
 use Rattle.dsc_node.specs.declared.command.Command.{Command}
 use Rattle.dsc_node.specs.declared.command.Command.TheVariants as commands
 use Rattle.dsc_node.specs.declared.plan.Bring.{Bring}
@@ -39,13 +42,18 @@ prints needs brings text = record { needs = needs; waits = false; reads_clock = 
 abbrev pub runs : Needs → Bring → Plan
 runs needs brings = record { needs = needs; waits = true; reads_clock = true; brings = brings; stops = false; follows = follows.Run }
 
--- a push: its bytes are one part without a name, merged to this document
+-- a push without a name: its bytes are one part, merged to this document
 pub record IsPush (bytes : List ℕ) (plan : Plan) : Type 0 where
   pub staged : Staged
   pub document : OrderedDocument
   pub parts : parts_of staged ≡ unnamed_part bytes ∷ []
   pub merged : IsDocumentOf (parts_of staged) document
   pub is : plan ≡ runs need.NoPartials (bring.Push staged document)
+
+-- a push under a name: its bytes are a document by the rules of parts, whatever they depend on elsewhere
+pub record IsPushOfPart (name bytes : List ℕ) (plan : Plan) : Type 0 where
+  pub declares : DeclaresDocument bytes
+  pub is : plan ≡ runs (need.PushedPartial name) (bring.PushPart name bytes)
 
 -- What a command asks of a start. A run waits where a reboot was asked for; that of a boot does not, but the node may be told to stop there. A
 -- registration reads the clock, though nothing runs.
@@ -54,7 +62,8 @@ IsPlanOf (commands.Init agent) plan = plan ≡ prints need.NoAgent (bring.Event 
 IsPlanOf (commands.Meta meta) plan = plan ≡ prints need.Agent (bring.Event (events.SetMeta meta)) print.Done
 IsPlanOf (commands.Register name) plan = plan ≡ record (prints need.Server (bring.Registration name) print.Done) { reads_clock = true }
 IsPlanOf commands.Pull plan = plan ≡ runs need.Pull bring.Pull
-IsPlanOf (commands.Push bytes) plan = IsPush bytes plan
+IsPlanOf (commands.Push None bytes) plan = IsPush bytes plan
+IsPlanOf (commands.Push (Some name) bytes) plan = IsPushOfPart name bytes plan
 IsPlanOf commands.Consistency plan = plan ≡ runs need.Run bring.Nothing
 IsPlanOf commands.Boot plan = plan ≡ record (runs need.Run bring.Boot) { waits = false; stops = true }
 IsPlanOf commands.Get plan = plan ≡ prints need.Agent bring.Nothing print.Node
@@ -69,7 +78,8 @@ IsTaken _ = ⊤
 
 -- the pushed document is refused so
 abbrev pub IsUnmerged : Command → MergeError → Type 0
-IsUnmerged (commands.Push bytes) error = Refused (unnamed_part bytes ∷ []) error
+IsUnmerged (commands.Push None bytes) error = Refused (unnamed_part bytes ∷ []) error
+IsUnmerged (commands.Push (Some name) bytes) error = IsFaultAt 0 bytes error
 IsUnmerged _ error = ⊥
 
 -- ---- where it is allowed
@@ -79,10 +89,10 @@ is_disabled refreshes.Push = false
 is_disabled refreshes.Pull = false
 is_disabled refreshes.Disabled = true
 
-abbrev pub is_pull : RefreshMode → Bool
-is_pull refreshes.Push = false
-is_pull refreshes.Pull = true
-is_pull refreshes.Disabled = false
+abbrev pub is_push : RefreshMode → Bool
+is_push refreshes.Push = true
+is_push refreshes.Pull = false
+is_push refreshes.Disabled = false
 
 abbrev pub is_any : List Partial → Bool
 is_any [] = false
@@ -96,7 +106,15 @@ is_one [] = false
 is_one (name ∷ []) = true
 is_one (name ∷ second ∷ names) = false
 
--- there are names to ask the server for: those of partial configurations, or else exactly one
+-- there is something to pull: the mode of a partial configuration is Pull, or, where none is declared, the refresh mode
+abbrev pub pulls_of : Meta → List Partial → Bool
+pulls_of meta [] = is_pull meta.refresh
+pulls_of meta (partial ∷ partials) = list_any (is_pulled meta) (partial ∷ partials)
+
+abbrev pub pulls_some : Meta → Bool
+pulls_some meta = pulls_of meta meta.partials
+
+-- partial configurations are declared, or there is exactly one name to ask the server for
 abbrev pub has_names : Node → Bool
 has_names node = declares_partials node || is_one node.meta.names
 
@@ -115,10 +133,15 @@ why_no_run node rest = why_no_agent node (check (not (is_disabled node.meta.refr
 -- what a pull asks after these
 abbrev pub why_no_pull : Node → Option Why
 why_no_pull node =
-    check (is_pull node.meta.refresh) NotPull
+    check (pulls_some node.meta) NotPull
     (check (has_source node) NoServer
     (check node.registered NotRegistered
     (check (has_names node) NoName None)))
+
+-- and what a push under a name, of the partial configuration that has the name, where one is declared
+abbrev pub why_no_push : Meta → Option Partial → Option Why
+why_no_push meta None = Some NoPartial
+why_no_push meta (Some partial) = check (is_push (mode_in meta partial)) PartNotPush None
 
 -- why the node does not have what is needed: the first condition that fails
 abbrev pub why_not : Node → Needs → Option Why
@@ -127,6 +150,7 @@ why_not node need.Agent = why_no_agent node None
 why_not node need.Server = why_no_agent node (check (is_some node.meta.server) NoServer None)
 why_not node need.Run = why_no_run node None
 why_not node need.NoPartials = why_no_run node (check (not (declares_partials node)) PartsDeclared None)
+why_not node (need.PushedPartial name) = why_no_run node (why_no_push node.meta (partial_named node.meta.partials name))
 why_not node need.Pull = why_no_run node (why_no_pull node)
 why_not node need.Previous = why_no_run node (check (is_some node.previous) NoPrevious None)
 

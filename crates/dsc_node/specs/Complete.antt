@@ -3,14 +3,18 @@ use Rattle.std.specs.Prelude.{◌≡◌, ◌≢◌, ◌⊎◌, ℕ, ◌<◌, ◌
 use Rattle.dsc_terms.specs.Counts.{Rose}
 use Rattle.dsc_outside.specs.Link.{LinkView}
 use Rattle.dsc_document.specs.declared.document.Document.{Document}
+use Rattle.meta_config.specs.declared.meta.Partial.{Partial}
 use Rattle.meta_config.specs.declared.modes.RefreshMode.TheVariants as refreshes
 use Rattle.meta_config.specs.declared.server.Server.{Server}
+use Rattle.meta_config.specs.Parts.{mode_in, partial_named}
+use Rattle.partial_merge.specs.declared.part.Part.{Part}
 use Rattle.partial_merge.specs.Merged.{Merged}
-use Rattle.partial_merge.specs.Parts.{unnamed_part}
+use Rattle.partial_merge.specs.Parts.{DeclaresDocument, text_part, unnamed_part}
 use Rattle.node_state.specs.declared.node.Node.{Node}
 use Rattle.node_store.specs.Stands.{Stands}
+use Rattle.node_pull.specs.Laying.{AreLaid}
 use Rattle.node_pull.specs.Names.{CanAsk}
-use Rattle.node_pull.specs.Serving.{AcceptsRegistration, Serves}
+use Rattle.node_pull.specs.Serving.{AcceptsRegistration, MayBeStaged, Serves}
 use Rattle.dsc_node.specs.declared.command.Command.{Command}
 use Rattle.dsc_node.specs.declared.command.Command.TheVariants as commands
 use Rattle.dsc_node.specs.declared.status.Status.{Status}
@@ -32,12 +36,22 @@ pub record MayRunNow (node : Node) : Type 0 where
   pub runs : MayRun node
   pub ready : node.reboot ≡ false
 
--- the bytes spell a document, and the node declares no partial configurations
+-- the bytes are merged to a document, and the node declares no partial configurations
 pub record MayPush (node : Node) (bytes : List ℕ) : Type 0 where
   pub runs : MayRunNow node
   pub whole : node.meta.partials ≡ []
   pub document : Document
   pub merged : Merged (unnamed_part bytes ∷ []) document
+
+-- the name is that of a partial configuration whose mode is Push, the bytes are a document by the rules of parts, and each list that this part
+-- is laid to over the parts that the node holds may be staged
+pub record MayPushPart (node : Node) (name bytes : List ℕ) : Type 0 where
+  pub runs : MayRunNow node
+  pub partial : Partial
+  pub is_partial : partial_named node.meta.partials name ≡ Some partial
+  pub mode : mode_in node.meta partial ≡ refreshes.Push
+  pub declares : DeclaresDocument bytes
+  pub staged : (parts : List Part) → AreLaid node.meta (text_part partial.name bytes ∷ []) (held_of node) parts → MayBeStaged node.meta parts
 
 -- there is a Previous
 pub record MayRestore (node : Node) : Type 0 where
@@ -54,10 +68,10 @@ pub record MayRegister (node : Node) (name : List ℕ) (before after : LinkView)
   pub is_server : node.meta.server ≡ Some server
   pub accepts : AcceptsRegistration node.meta server agent name before after
 
--- the node pulls, is registered and has names to ask for, and its server gives it what it asks for
+-- the node has something to pull and names to ask for, and is registered, and its server gives it what it asks for
 pub record MayPull (node : Node) (before after : LinkView) : Type 0 where
   pub runs : MayRunNow node
-  pub mode : node.meta.refresh ≡ refreshes.Pull
+  pub mode : node.meta.partials ≡ [] → node.meta.refresh ≡ refreshes.Pull
   pub pulls : node.meta.pulls ≡ true
   pub registered : node.registered ≡ true
   pub names : CanAsk node.meta
@@ -76,7 +90,8 @@ IsValidFor (commands.Init agent) node before after = node.agent ≡ None
 IsValidFor (commands.Meta meta) node before after = IsSome node.agent
 IsValidFor (commands.Register name) node before after = MayRegister node name before after
 IsValidFor commands.Pull node before after = MayPull node before after
-IsValidFor (commands.Push bytes) node before after = MayPush node bytes
+IsValidFor (commands.Push None bytes) node before after = MayPush node bytes
+IsValidFor (commands.Push (Some name) bytes) node before after = MayPushPart node name bytes
 IsValidFor commands.Consistency node before after = MayRunNow node
 IsValidFor commands.Boot node before after = MayRun node
 IsValidFor commands.Get node before after = IsSome node.agent
@@ -111,7 +126,7 @@ IsEndOfRun _ = ⊥
 -- how a start of the command ends that was not refused
 abbrev pub IsEndOf : Command → Status → Type 0
 IsEndOf commands.Pull status = IsEndOfRun status
-IsEndOf (commands.Push bytes) status = IsEndOfRun status
+IsEndOf (commands.Push name bytes) status = IsEndOfRun status
 IsEndOf commands.Consistency status = IsEndOfRun status
 IsEndOf commands.Boot status = IsEndOfRun status
 IsEndOf commands.Restore status = IsEndOfRun status

@@ -2,6 +2,8 @@
 use Rattle.std.specs.Prelude.{◌≡◌, ◌⊎◌, ℕ, List, []}
 use Rattle.partial_merge.specs.declared.error.MergeError.{MergeError}
 use Rattle.partial_merge.specs.declared.error.MergeError.TheVariants as merging
+use Rattle.node_state.specs.declared.error.StageError.{StageError}
+use Rattle.node_state.specs.declared.error.StageError.TheVariants as staging
 use Rattle.node_store.specs.declared.error.StoreError.{StoreError}
 use Rattle.node_store.specs.declared.error.StoreError.TheVariants as errors
 use Rattle.dsc_node.specs.declared.status.InputError.TheVariants as inputs
@@ -20,6 +22,13 @@ Answers wanted text status lines = Ends wanted text status lines ⊎ Ends status
 abbrev pub status_of_input : MergeError → Status
 status_of_input merging.Memory = statuses.Memory
 status_of_input error = statuses.InputRefused (inputs.Merge error)
+
+-- the list of parts that it comes to was refused
+abbrev pub status_of_staging : StageError → Status
+status_of_staging (staging.Merge error) = status_of_input error
+status_of_staging (staging.Fit error) = statuses.InputRefused (inputs.Fit error)
+status_of_staging (staging.TooLong bytes) = statuses.InputRefused (inputs.ListTooLong bytes)
+status_of_staging staging.Memory = statuses.Memory
 
 -- the store was not opened, or an event not committed
 abbrev pub status_of : StoreError → Status

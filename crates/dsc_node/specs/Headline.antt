@@ -5,10 +5,12 @@ use Rattle.dsc_outside.specs.declared.disk.Disk as disks
 use Rattle.dsc_outside.specs.declared.entries.Package.{Package}
 use Rattle.dsc_document.specs.declared.document.Document.{Document}
 use Rattle.gate_log.specs.Standing.{AllStand, StoodFor}
+use Rattle.meta_config.specs.declared.meta.Partial.{Partial}
 use Rattle.meta_config.specs.declared.server.Server.{Server}
+use Rattle.meta_config.specs.Parts.{partial_named}
 use Rattle.partial_merge.specs.declared.part.Part.{Part}
 use Rattle.partial_merge.specs.Merged.{Merged}
-use Rattle.partial_merge.specs.Parts.{unnamed_part}
+use Rattle.partial_merge.specs.Parts.{text_part, unnamed_part}
 use Rattle.resource_kinds.specs.declared.entry.Entry.{Entry}
 use Rattle.resource_kinds.specs.declared.resources.Resources as resources
 use Rattle.resource_kinds.specs.Trace.{Compliant, EndsInReboot, Succeeded, missed_count}
@@ -83,9 +85,16 @@ pub record WasPulled (node : Node) (asked heard : LinkView) (part : Part) : Type
   pub is_agent : node.agent ≡ Some agent
   pub accepted : WasAccepted server agent asked heard part
 
+-- the part is the input as that of the partial configuration that has the name, under the name as that is declared
+pub record WasPushed (node : Node) (name bytes : List ℕ) (part : Part) : Type 0 where
+  pub partial : Partial
+  pub is_partial : partial_named node.meta.partials name ≡ Some partial
+  pub is : part ≡ text_part partial.name bytes
+
 -- the part is the pushed one, or was pulled
 abbrev pub IsBrought : Command → Node → LinkView → LinkView → Part → Type 0
-IsBrought (Push bytes) node asked heard part = part ≡ unnamed_part bytes
+IsBrought (Push None bytes) node asked heard part = part ≡ unnamed_part bytes
+IsBrought (Push (Some name) bytes) node asked heard part = WasPushed node name bytes part
 IsBrought Pull node asked heard part = WasPulled node asked heard part
 IsBrought _ node asked heard part = ⊥
 

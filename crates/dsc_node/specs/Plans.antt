@@ -17,10 +17,12 @@ pub record IsPlan (plan : Plan) : Type 0 where
   pub taken : IsTaken command
   pub is : IsPlanOf command plan
 
--- the node can be brought this: an event is as it may have it, a pushed document is that of its parts, and the server may be asked
+-- the node can be brought this: an event is as it may have it, a pushed document is that of its parts, a pushed part is one of its partial
+-- configurations, and the server may be asked
 abbrev pub CanBring : Node → Bring → Type 0
 CanBring node (bring.Event event) = IsWithin event
 CanBring node (bring.Push staged document) = IsDocumentOf (parts_of staged) document
+CanBring node (bring.PushPart name bytes) = why_not node (need.PushedPartial name) ≡ None
 CanBring node bring.Pull = why_not node need.Pull ≡ None
 CanBring node (bring.Registration name) = why_not node need.Server ≡ None
 CanBring node _ = ⊤

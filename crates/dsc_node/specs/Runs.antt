@@ -5,6 +5,7 @@ use Rattle.dsc_document.specs.declared.document.Document.{Document}
 use Rattle.depend_order.specs.Documents.{IsOrderOfDocument}
 use Rattle.meta_config.specs.declared.modes.ConfigMode.{ConfigMode}
 use Rattle.meta_config.specs.declared.modes.ConfigMode.TheVariants.{ApplyOnly, ApplyAndMonitor, ApplyAndAutoCorrect}
+use Rattle.meta_config.specs.Parts.{is_pull}
 use Rattle.partial_merge.specs.declared.part.Part.{Part}
 use Rattle.partial_merge.specs.Merged.{Merged}
 use Rattle.resource_kinds.specs.declared.resources.Resources.{Ghosts}
@@ -24,7 +25,6 @@ use Rattle.node_state.specs.declared.event.Event.TheVariants as events
 use Rattle.dsc_node.specs.declared.status.Status.{Status}
 use Rattle.dsc_node.specs.declared.status.Status.TheVariants as statuses
 use Rattle.node_pull.specs.Marks.{mark_of}
-use Rattle.dsc_node.specs.Commands.{is_pull}
 use Rattle.dsc_node.specs.Ran.{EndsAs, IsWholeOrNone}
 use Rattle.dsc_node.specs.Readings.{Gave, end_of}
 

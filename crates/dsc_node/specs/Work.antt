@@ -12,14 +12,14 @@ use Rattle.node_state.specs.declared.event.Why.{Why}
 use Rattle.node_state.specs.Table.{Step, Steps}
 use Rattle.node_store.specs.declared.error.StoreError.{StoreError}
 use Rattle.node_store.specs.declared.error.StoreError.TheVariants as errors
-use Rattle.node_pull.specs.declared.error.PullFault.{PullFault}
 use Rattle.dsc_outside.specs.Link.{LinkView}
+use Rattle.dsc_node.specs.declared.bringing.Unbrought.{Unbrought}
 use Rattle.dsc_node.specs.declared.plan.Follows.TheVariants as follows
 use Rattle.dsc_node.specs.declared.plan.Plan.{Plan}
 use Rattle.dsc_node.specs.declared.plan.Printed.{Printed}
 use Rattle.dsc_node.specs.declared.status.Status.{Status}
 use Rattle.dsc_node.specs.declared.status.Status.TheVariants as statuses
-use Rattle.dsc_node.specs.Bringing.{Brought, events_of, status_of_pull}
+use Rattle.dsc_node.specs.Bringing.{Brought, events_of, status_of_unbrought}
 use Rattle.dsc_node.specs.Commands.{IsAllowed, stops, waits, why_not}
 use Rattle.dsc_node.specs.Commits.{RefusedAfter}
 use Rattle.dsc_node.specs.Endings.{Answers, Ends, status_of}
@@ -105,9 +105,9 @@ pub data StartTable {D S C : Type 0} (o : Known D S C) (plan : Plan) (from : Nod
       → Gave (o.clock.coming before.clock) None → Took 1 (o.clock.coming before.clock) (o.clock.coming after.clock) → Rose (o.clock.faults before.clock) (o.clock.faults after.clock)
       → after.machine ≡ before.machine → after.link ≡ before.link → Ends statuses.ClockFault [] status lines
       → StartTable o plan from counts work node before after status lines before.machine None work None
-  -- the server did not give what it was asked for
-  not_brought : (start : ℕ) (error : PullFault) → IsAllowed node plan → ReadsBefore o.clock plan.reads_clock start before.clock after.clock
-      → Brought o.resources o.machine node plan.brings start before.link after.link before.machine after.machine (Err error) → Ends (status_of_pull error) [] status lines
+  -- the server did not give what it was asked for, or a pushed part is not staged with the others
+  not_brought : (start : ℕ) (error : Unbrought) → IsAllowed node plan → ReadsBefore o.clock plan.reads_clock start before.clock after.clock
+      → Brought o.resources o.machine node plan.brings start before.link after.link before.machine after.machine (Err error) → Ends (status_of_unbrought error) [] status lines
       → StartTable o plan from counts work node before after status lines after.machine None work None
   -- the event that was brought was refused
   first_refused : (start : ℕ) (event : Event) (error : StoreError) (committed : List Event) (broken : Option Event)

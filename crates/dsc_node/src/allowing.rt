@@ -1,16 +1,16 @@
 //! Where a plan is allowed, and where it waits or stops.
-ghost use Rattle.std.specs.Prelude.{◌≡◌};
+ghost use Rattle.std.specs.Prelude.{◌≡◌, option_copied};
 ghost use Rattle.node_state.specs.Table.{check};
-ghost use Rattle.dsc_node.specs.Commands.{declares_partials, has_names, has_source, is_disabled, is_one, is_pull, is_stop, stops, waits, why_no_agent, why_no_pull, why_no_run, why_not};
+ghost use Rattle.dsc_node.specs.Commands.{declares_partials, has_names, has_source, is_disabled, is_one, is_push, is_stop, pulls_some, stops, waits, why_no_agent, why_no_pull, why_no_push, why_no_run, why_not};
 
 use crate::plan::{Needs, Plan};
-use meta_config::{AfterReboot, RefreshMode};
+use meta_config::{AfterReboot, Meta, Partial, RefreshMode};
 use mof_values::Text;
 use node_state::{Node, Why};
 
 /// Why the node does not have what is needed, where it does not: the first condition that fails.
-pub(crate) fn why_not(node: &Node, needs: Needs) -> Option<Why>
-    ensures { result ≡ why_not node.now needs }
+pub(crate) fn why_not(node: &Node, needs: &Needs) -> Option<Why>
+    ensures { result ≡ why_not node.now needs.now }
 {
     match needs {
         Needs::NoAgent => check(node.agent.is_none(), Why::HasAgent, None),
@@ -23,6 +23,10 @@ pub(crate) fn why_not(node: &Node, needs: Needs) -> Option<Why>
         Needs::NoPartials => {
             let whole = !declares_partials(node);
             why_no_run(node, check(whole, Why::PartsDeclared, None))
+        }
+        Needs::PushedPartial(name) => {
+            let partial = node.meta.partial_named(name);
+            why_no_run(node, why_no_push(&node.meta, partial))
         }
         Needs::Pull => why_no_run(node, why_no_pull(node)),
         Needs::Previous => {
@@ -45,6 +49,16 @@ fn why_no_run(node: &Node, rest: Option<Why>) -> Option<Why>
     why_no_agent(node, check(enabled, Why::Disabled, rest))
 }
 
+// What a push under a name asks after these, of the partial configuration that has the name, where one is declared.
+fn why_no_push(meta: &Meta, partial: Option<&Partial>) -> Option<Why>
+    ensures { result ≡ why_no_push meta.now (option_copied partial.entry) }
+{
+    match partial {
+        Some(partial) => check(is_push(partial.mode(meta)), Why::PartNotPush, None),
+        None => Some(Why::NoPartial),
+    }
+}
+
 // What a pull asks after these.
 fn why_no_pull(node: &Node) -> Option<Why>
     ensures { result ≡ why_no_pull node.now }
@@ -52,7 +66,7 @@ fn why_no_pull(node: &Node) -> Option<Why>
     let named = check(has_names(node), Why::NoName, None);
     let registered = check(node.registered, Why::NotRegistered, named);
     let served = check(has_source(node), Why::NoServer, registered);
-    check(is_pull(node.meta.refresh), Why::NotPull, served)
+    check(pulls_some(&node.meta), Why::NotPull, served)
 }
 
 fn check(holds: bool, why: Why, rest: Option<Why>) -> Option<Why>
@@ -70,13 +84,24 @@ fn is_disabled(refresh: RefreshMode) -> bool
     }
 }
 
-/// Returns whether the refresh mode is Pull.
-pub(crate) fn is_pull(refresh: RefreshMode) -> bool
-    ensures { result ≡ is_pull refresh }
+fn is_push(refresh: RefreshMode) -> bool
+    ensures { result ≡ is_push refresh }
 {
     match refresh {
-        RefreshMode::Pull => true,
-        RefreshMode::Push | RefreshMode::Disabled => false,
+        RefreshMode::Push => true,
+        RefreshMode::Pull | RefreshMode::Disabled => false,
+    }
+}
+
+// There is something to pull.
+fn pulls_some(meta: &Meta) -> bool
+    ensures { result ≡ pulls_some meta.now }
+{
+    let partials = meta.partials.as_slice();
+    if partials.is_empty() {
+        meta.refresh.is_pull()
+    } else {
+        partials.iter().any(|partial| partial.is_pulled(meta))
     }
 }
 

@@ -4,7 +4,7 @@ ghost use Rattle.resource_kinds.specs.Trace.{place_of};
 ghost use Rattle.lcm_core.specs.RunLaws.{EndsAtYes};
 ghost use Rattle.dsc_node.specs.Lines.{overlap_line, run_lines};
 ghost use Rattle.dsc_node.specs.Runs.{end_line, status_after};
-ghost use Rattle.dsc_node.specs.Endings.{Answers, Ends, status_of, status_of_input};
+ghost use Rattle.dsc_node.specs.Endings.{Answers, Ends, status_of, status_of_input, status_of_staging};
 ghost use Rattle.dsc_node.specs.Sending.{EndsAfterSending};
 ghost use Rattle.dsc_node.specs.Shown.{printed_text};
 
@@ -14,7 +14,7 @@ use crate::showing::{node_text, reports_text};
 use crate::status::{InputError, Status};
 use dsc_document::Document;
 use lcm_core::{RunEnd, count_succeeded};
-use node_state::Node;
+use node_state::{Node, StageError};
 use node_store::StoreError;
 use partial_merge::MergeError;
 use resource_kinds::Entry;
@@ -213,5 +213,17 @@ pub(crate) fn status_of_input(error: MergeError) -> Status
     match error {
         MergeError::Memory => Status::Memory,
         refusal => Status::InputRefused(InputError::Merge(refusal)),
+    }
+}
+
+/// The status of a start whose list of parts was refused.
+pub(crate) fn status_of_staging(error: StageError) -> Status
+    ensures { result ≡ status_of_staging error }
+{
+    match error {
+        StageError::Merge(error) => status_of_input(error),
+        StageError::Fit(error) => Status::InputRefused(InputError::Fit(error)),
+        StageError::TooLong { bytes } => Status::InputRefused(InputError::ListTooLong { bytes }),
+        StageError::Memory => Status::Memory,
     }
 }

@@ -18,8 +18,9 @@ pub enum Command {
     /// Bring what the pull server has for the node: make a new list of parts Pending, and apply it.
     Pull,
 
-    /// Make the document with these bytes Pending, and apply it.
-    Push(Bytes),
+    /// Make the document with these bytes Pending, and apply it; under a name, as the part of the partial configuration that has
+    /// the name, over the parts of the others.
+    Push(Option<Text>, Bytes),
 
     /// Apply Pending; without it, look after Current as the meta-configuration says.
     Consistency,

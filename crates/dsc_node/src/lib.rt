@@ -13,7 +13,8 @@
 //! - what a command asks of a start, its plan: the table of commands `specs/Commands.antt`, `src/preparing.rt`; what a
 //!   plan says `src/plan.rt`; what holds of each `proofs/Plans.antt`
 //! - where a plan is allowed, waits and stops: `specs/Commands.antt`, `src/allowing.rt`
-//! - what a command brings first, as an event, a pull or a registration: `specs/Bringing.antt`, `src/bringing.rt`
+//! - what a command brings first, as an event, a pushed part, a pull or a registration: `specs/Bringing.antt`,
+//!   `src/bringing.rt`
 //! - the document of a push, or of what a pull finds or brings, which its run need not merge again:
 //!   `specs/Documents.antt`, `proofs/KnownDocuments.antt`
 //! - which run is made, and what its report says: `specs/Runs.antt`, `src/choosing.rt`, `src/running.rt`; the event

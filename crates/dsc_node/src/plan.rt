@@ -2,7 +2,7 @@
 ghost use Rattle.std.specs.Prelude.{◌≡◌};
 ghost use Rattle.dsc_node.specs.Commands.{prints, runs};
 
-use mof_values::Text;
+use mof_values::{Bytes, Text};
 use node_state::{Event, Staged};
 use partial_merge::OrderedDocument;
 
@@ -59,7 +59,7 @@ impl Plan {
 }
 
 /// What a command needs of the node.
-#[derive(Clone, Copy)]
+#[derive(Drop)]
 pub(crate) enum Needs {
     /// It has no agent yet.
     NoAgent,
@@ -76,7 +76,11 @@ pub(crate) enum Needs {
     /// What a run needs, and that no partial configurations are declared.
     NoPartials,
 
-    /// What a run needs, the refresh mode Pull, a server to pull from that accepted the agent, and names to ask for.
+    /// What a run needs, and a partial configuration that has this name, whose mode is Push.
+    PushedPartial(Text),
+
+    /// What a run needs, something to pull (the mode of a partial configuration is Pull, or, where none is declared, the refresh
+    /// mode), a server to pull from that accepted the agent, and names to ask for.
     Pull,
 
     /// What a run needs, and that Previous is kept.
@@ -95,6 +99,13 @@ pub(crate) enum Bring {
     Push {
         staged: Staged,
         document: OrderedDocument,
+    },
+
+    /// The part with these bytes, of the partial configuration that has the name, is laid over the parts that the node holds, and
+    /// the list is staged.
+    PushPart {
+        name: Text,
+        bytes: Bytes,
     },
 
     /// The boot is kept, where a reboot was asked for.

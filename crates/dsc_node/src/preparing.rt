@@ -1,9 +1,9 @@
 //! The plan of a command, with its document merged, before the store is touched.
-ghost use Rattle.std.specs.Prelude.{◌≡◌, [], ◌∷◌, IfErr, IfOk};
+ghost use Rattle.std.specs.Prelude.{◌≡◌, [], ◌∷◌, IfErr, IfOk, None, Some};
 ghost use Rattle.node_state.specs.StagedParts.{parts_of};
 ghost use Rattle.partial_merge.specs.Merged.{IsDocumentOf};
 ghost use Rattle.partial_merge.specs.Parts.{unnamed_part};
-ghost use Rattle.partial_merge.specs.Refused.{Refused};
+ghost use Rattle.partial_merge.specs.Refused.{IsFaultAt, Refused};
 ghost use Rattle.dsc_node.specs.Commands.{IsPlanOf, IsUnmerged};
 
 use crate::command::Command;
@@ -11,10 +11,11 @@ use crate::plan::{Bring, Follows, Needs, Plan, Printed};
 use meta_config::Meta;
 use mof_values::{Bytes, Text};
 use node_state::{Event, StageError, Staged, staged_in_order};
-use partial_merge::{MergeError, OrderedDocument, part_of};
+use partial_merge::{MergeError, OrderedDocument, check_text, part_of};
 use std::alloc::Global;
 
-/// What the command asks of a start: the table of commands. The bytes of a push are merged as one part with an empty name.
+/// What the command asks of a start: the table of commands. The bytes of a push are merged as one part with an empty name; under a
+/// name they are checked alone.
 pub(crate) fn plan_of(alloc: Global, command: Command) -> Result<Plan, MergeError>
     ensures ok { IfOk result (IsPlanOf command) }
     ensures refused { IfErr result (IsUnmerged command) }
@@ -37,10 +38,10 @@ pub(crate) fn plan_of(alloc: Global, command: Command) -> Result<Plan, MergeErro
             follows: Follows::Text(Printed::Done),
         }),
         Command::Pull => Ok(Plan::runs(Needs::Pull, Bring::Pull)),
-        Command::Push(bytes) => {
-            let (staged, document) = staged_document(alloc, bytes)?;
-            Ok(Plan::runs(Needs::NoPartials, Bring::Push { staged, document }))
-        }
+        Command::Push(name, bytes) => match name {
+            None => whole_plan(alloc, bytes),
+            Some(name) => part_plan(alloc, name, bytes),
+        },
         Command::Consistency => Ok(Plan::runs(Needs::Run, Bring::Nothing)),
         Command::Boot => Ok(Plan {
             needs: Needs::Run,
@@ -58,6 +59,25 @@ pub(crate) fn plan_of(alloc: Global, command: Command) -> Result<Plan, MergeErro
         }
         Command::Reports => Ok(Plan::prints(Needs::Agent, Bring::Nothing, Printed::Reports)),
     }
+}
+
+// A push without a name.
+fn whole_plan(alloc: Global, bytes: Bytes) -> Result<Plan, MergeError>
+    ensures ok { IfOk result (IsPlanOf (Command.Push None bytes)) }
+    ensures refused { IfErr result (Refused (unnamed_part bytes ∷ [])) }
+{
+    let (staged, document) = staged_document(alloc, bytes)?;
+    Ok(Plan::runs(Needs::NoPartials, Bring::Push { staged, document }))
+}
+
+// A push of the part of a partial configuration, whose document is checked by the rules of parts.
+fn part_plan(alloc: Global, name: Text, bytes: Bytes) -> Result<Plan, MergeError>
+    ensures ok { IfOk result (IsPlanOf (Command.Push (Some name) bytes)) }
+    ensures refused { IfErr result (IsFaultAt 0 bytes) }
+{
+    check_text(alloc, bytes.as_slice())?;
+    let needs = Needs::PushedPartial(name.copy()?);
+    Ok(Plan::runs(needs, Bring::PushPart { name, bytes }))
 }
 
 fn staged_document(alloc: Global, bytes: Bytes) -> Result<(Staged, OrderedDocument), MergeError>

@@ -9,7 +9,6 @@ ghost use Rattle.dsc_node.specs.Readings.{Gave, Took, end_of};
 ghost use Rattle.dsc_node.specs.Runs.{chosen_of};
 ghost use Rattle.dsc_node.specs.Running.{IsReadyFor, IsRunStep};
 
-use crate::allowing::is_pull;
 use crate::choosing::{Chosen, chosen_of};
 use crate::run::run_merged;
 use dsc_document::Document;
@@ -174,7 +173,7 @@ fn run_ready<M: Machine, C: Clock>(
     let frame = Frame {
         job: node.next_job,
         initial: chosen.pending,
-        pull: is_pull(node.meta.refresh),
+        pull: node.meta.refresh.is_pull(),
         start,
         end: end_of(start, clock),
         parts: marks,

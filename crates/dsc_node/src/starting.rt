@@ -18,7 +18,7 @@ ghost use Rattle.dsc_node.specs.Work.{beside, known};
 
 use crate::allowing::{stops, waits, why_not};
 use crate::answer::{StartEnd, status_of, status_of_input, without_run};
-use crate::bringing::{First, bring, status_of_pull};
+use crate::bringing::{First, bring, status_of_unbrought};
 use crate::command::Command;
 use crate::committing::commit_first;
 use crate::finishing::finish;
@@ -123,7 +123,7 @@ fn opened<D: Disk, M: Machine, L: Link, C: Clock>(
     ensures becomes { L.may_become link.old link.new }
     ensures later { C.faults clock.old ≤ C.faults clock.new }
 {
-    if let Some(why) = why_not(store.state(), plan.needs) {
+    if let Some(why) = why_not(store.state(), &plan.needs) {
         return StartEnd::silent(alloc, Status::NotAllowed(why));
     }
     if waits(store.state(), &plan) {
@@ -182,7 +182,7 @@ fn carried_out<D: Disk, M: Machine, L: Link, C: Clock>(
         machine,
     ) {
         Ok(first) => first,
-        Err(error) => return StartEnd::silent(alloc, status_of_pull(error)),
+        Err(error) => return StartEnd::silent(alloc, status_of_unbrought(error)),
     };
     if let Err(error) = commit_first(event, store, disk) {
         return StartEnd::silent(alloc, status_of(error));

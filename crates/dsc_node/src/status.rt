@@ -6,7 +6,7 @@ use meta_config::MetaError;
 use mof_codec::MofError;
 use mof_values::Items;
 use node_pull::PeerFault;
-use node_state::Why;
+use node_state::{FitError, Why};
 use partial_merge::MergeError;
 
 /// Why the input was refused.
@@ -19,7 +19,8 @@ pub enum InputError {
     /// It spells no instances. `MofError::TooLong` and `MofError::Memory` are never reported so.
     Mof(MofError),
 
-    /// It declares no document. `MergeError::Memory` is never reported so.
+    /// It declares no document, or, pushed under a name, the list of parts that it comes to is merged to none: then parts and
+    /// resources are counted in that list. `MergeError::Memory` is never reported so.
     Merge(MergeError),
 
     /// It declares no meta-configuration. `MetaError::Memory` is never reported so.
@@ -27,6 +28,12 @@ pub enum InputError {
 
     /// Its partial configurations have no order: each at these places depends on the next, and the last on the first.
     Parts(Items<u32>),
+
+    /// The list of parts that it comes to, pushed under a name, does not fit the meta-configuration.
+    Fit(FitError),
+
+    /// That list has more than 16,777,216 bytes together: this many.
+    ListTooLong { bytes: u64 },
 }
 
 /// How the program ended.

@@ -7,4 +7,4 @@ mod starting;
 mod tests;
 
 #[cfg(test)]
-pub use starting::{Left, Outcome, Trouble, started};
+pub use starting::{Left, Outcome, Trouble, started, started_by};

@@ -56,7 +56,7 @@ pub fn command_of(alloc: Global, word: &str, document: &str) -> Result<Command, 
 {
     Ok(match word {
         "init" => Command::Init(16),
-        "push" => Command::Push(Bytes::of(document.as_bytes().to_vec(alloc)?)),
+        "push" => Command::Push(None, Bytes::of(document.as_bytes().to_vec(alloc)?)),
         "boot" => Command::Boot,
         "restore" => Command::Restore,
         _ => Command::Consistency,
@@ -79,7 +79,7 @@ struct Ran {
     host: HostContents,
 }
 
-/// One start.
+/// One start by the command that the word is, with this document.
 pub fn started(
     alloc: Global,
     left: Left,
@@ -87,8 +87,20 @@ pub fn started(
     document: &str,
     trouble: &Trouble<'_>,
 ) -> Result<(Outcome, Left), Memory> {
-    let clock = clock_of(alloc, trouble)?;
     let command = command_of(alloc, word, document)?;
+    started_by(alloc, left, command, trouble)
+}
+
+/// One start by the command.
+pub fn started_by(
+    alloc: Global,
+    left: Left,
+    command: Command,
+    trouble: &Trouble<'_>,
+) -> Result<(Outcome, Left), Memory>
+    requires { IsTaken command }
+{
+    let clock = clock_of(alloc, trouble)?;
     let machine = Machine {
         disk: disk_of(alloc, left.store, trouble)?,
         host: MemoryHost::of(left.host, Vec::new(alloc), None),

@@ -1,2 +1,3 @@
 mod clock;
+mod partials;
 mod stops;

@@ -1,5 +1,5 @@
 -- Arguments ask for at most one command; where arguments in no form go wrong.
-use Rattle.std.proofs.Common.{◌≡◌, ℕ, ◌-◌, ◌<◌, ◌≤◌, List, [], ◌∷◌, ◌⊎◌, inl, inr, length, take, drop, get_or, codes, map, unwrap_or, bytes_eq, if◌then◌else◌, refl, sym, ap, ap₂, ◌∙◌, subst, take_all, arith, Some}
+use Rattle.std.proofs.Common.{◌≡◌, ℕ, ◌-◌, ◌<◌, ◌≤◌, List, [], ◌∷◌, ◌⊎◌, inl, inr, length, take, drop, get_or, codes, map, unwrap_or, bytes_eq, if◌then◌else◌, refl, sym, ap, ap₂, ◌∙◌, subst, take_all, arith, Some, None}
 use Rattle.std.specs.Fmt.{decimal}
 use Rattle.std.specs.Str.Parse.{digits_value}
 use Rattle.std.proofs.lemmas.Str.Parse.{numerals_by_value, tells_digits}
@@ -38,7 +38,13 @@ named_stage word Previous is = ap stage_of is
 -- the command, where it has a name with that name at no place of its own
 abbrev pub plain : Command → Command
 plain (Register name) = Register (record { ref_ptr = (0, 0); now = name.now })
+plain (Push (Some name)) = Push (Some (record { ref_ptr = (0, 0); now = name.now }))
 plain command = command
+
+-- what the arguments after `push` ask for
+push_of : List (List ℕ) → Command
+push_of [] = Push None
+push_of (name ∷ more) = Push (Some (record { ref_ptr = (0, 0); now = name }))
 
 -- the command that arguments in a form ask for, so
 asked : List (List ℕ) → Command
@@ -51,7 +57,7 @@ asked arguments =
     if bytes_eq first (codes "checksum") then Checksum else
     if bytes_eq first (codes "meta") then Meta else
     if bytes_eq first (codes "pull") then Pull else
-    if bytes_eq first (codes "push") then Push else
+    if bytes_eq first (codes "push") then push_of (drop 1 arguments) else
     if bytes_eq first (codes "consistency") then Consistency else
     if bytes_eq first (codes "boot") then Boot else
     if bytes_eq first (codes "get") then Get else
@@ -63,7 +69,7 @@ asked arguments =
     Generate (digits_value 10 (get_or arguments 1 []))
 
 form_asks : (command : Command) (arguments : List (List ℕ)) → IsForm command arguments → asked arguments ≡ plain command
-unfolding asked
+unfolding asked push_of
 form_asks Test arguments form = ap asked form
 form_asks Check arguments form = ap asked form
 form_asks Order arguments form = ap asked form
@@ -75,7 +81,8 @@ form_asks (Init agent) arguments (word, is, named) = ap asked is ∙ ap (λ foun
 form_asks Meta arguments form = ap asked form
 form_asks (Register name) arguments (is, named) = ap asked is
 form_asks Pull arguments form = ap asked form
-form_asks Push arguments form = ap asked form
+form_asks (Push None) arguments form = ap asked form
+form_asks (Push (Some name)) arguments (is, named) = ap asked is
 form_asks Consistency arguments form = ap asked form
 form_asks Boot arguments form = ap asked form
 form_asks Get arguments form = ap asked form
@@ -98,7 +105,7 @@ in_range (Init agent) arguments form = tt
 in_range Meta arguments form = tt
 in_range (Register name) arguments form = tt
 in_range Pull arguments form = tt
-in_range Push arguments form = tt
+in_range (Push name) arguments form = tt
 in_range Consistency arguments form = tt
 in_range Boot arguments form = tt
 in_range Get arguments form = tt
@@ -108,9 +115,9 @@ in_range Reports arguments form = tt
 
 -- ---- arguments alone
 
--- the argument of a command that takes another
+-- the argument of a command that takes another, or may take one
 abbrev pub TakesWord : List ℕ → Type 0
-TakesWord first = (first ≡ codes "generate") ⊎ ((first ≡ codes "init") ⊎ ((first ≡ codes "remove") ⊎ (first ≡ codes "register")))
+TakesWord first = (first ≡ codes "generate") ⊎ ((first ≡ codes "init") ⊎ ((first ≡ codes "remove") ⊎ ((first ≡ codes "register") ⊎ (first ≡ codes "push"))))
 
 -- any other form is an argument alone
 form_parts : (command : Command) (first : List ℕ) (rest : List (List ℕ)) → IsForm command (first ∷ rest)
@@ -123,74 +130,16 @@ form_parts Checksum first rest form = inl (ap (take 1) form, ap (drop 1) form)
 form_parts (Generate count) first rest (word, is, counted) = inr (inl (ap (λ arguments. get_or arguments 0 []) is))
 form_parts (Init agent) first rest (word, is, named) = inr (inr (inl (ap (λ arguments. get_or arguments 0 []) is)))
 form_parts Meta first rest form = inl (ap (take 1) form, ap (drop 1) form)
-form_parts (Register name) first rest (is, named) = inr (inr (inr (inr (ap (λ arguments. get_or arguments 0 []) is))))
+form_parts (Register name) first rest (is, named) = inr (inr (inr (inr (inl (ap (λ arguments. get_or arguments 0 []) is)))))
 form_parts Pull first rest form = inl (ap (take 1) form, ap (drop 1) form)
-form_parts Push first rest form = inl (ap (take 1) form, ap (drop 1) form)
+form_parts (Push None) first rest form = inr (inr (inr (inr (inr (ap (λ arguments. get_or arguments 0 []) form)))))
+form_parts (Push (Some name)) first rest (is, named) = inr (inr (inr (inr (inr (ap (λ arguments. get_or arguments 0 []) is)))))
 form_parts Consistency first rest form = inl (ap (take 1) form, ap (drop 1) form)
 form_parts Boot first rest form = inl (ap (take 1) form, ap (drop 1) form)
 form_parts Get first rest form = inl (ap (take 1) form, ap (drop 1) form)
 form_parts Restore first rest form = inl (ap (take 1) form, ap (drop 1) form)
 form_parts (Remove stage) first rest (word, is, named) = inr (inr (inr (inl (ap (λ arguments. get_or arguments 0 []) is))))
 form_parts Reports first rest form = inl (ap (take 1) form, ap (drop 1) form)
-
--- a command whose argument stands alone takes no other
-alone_takes_none : (command : Command) (first : List ℕ) → IsForm command (first ∷ []) → TakesWord first → ⊥
-alone_takes_none Test first form (inl is) = omega (arith, ap first_letter form, ap letter is)
-alone_takes_none Test first form (inr (inl is)) = omega (arith, ap first_letter form, ap letter is)
-alone_takes_none Test first form (inr (inr (inl is))) = omega (arith, ap first_letter form, ap letter is)
-alone_takes_none Test first form (inr (inr (inr is))) = omega (arith, ap first_letter form, ap letter is)
-alone_takes_none Check first form (inl is) = omega (arith, ap first_letter form, ap letter is)
-alone_takes_none Check first form (inr (inl is)) = omega (arith, ap first_letter form, ap letter is)
-alone_takes_none Check first form (inr (inr (inl is))) = omega (arith, ap first_letter form, ap letter is)
-alone_takes_none Check first form (inr (inr (inr is))) = omega (arith, ap first_letter form, ap letter is)
-alone_takes_none Order first form (inl is) = omega (arith, ap first_letter form, ap letter is)
-alone_takes_none Order first form (inr (inl is)) = omega (arith, ap first_letter form, ap letter is)
-alone_takes_none Order first form (inr (inr (inl is))) = omega (arith, ap first_letter form, ap letter is)
-alone_takes_none Order first form (inr (inr (inr is))) = omega (arith, ap first_letter form, ap letter is)
-alone_takes_none Canon first form (inl is) = omega (arith, ap first_letter form, ap letter is)
-alone_takes_none Canon first form (inr (inl is)) = omega (arith, ap first_letter form, ap letter is)
-alone_takes_none Canon first form (inr (inr (inl is))) = omega (arith, ap first_letter form, ap letter is)
-alone_takes_none Canon first form (inr (inr (inr is))) = omega (arith, ap first_letter form, ap letter is)
-alone_takes_none Checksum first form (inl is) = omega (arith, ap first_letter form, ap letter is)
-alone_takes_none Checksum first form (inr (inl is)) = omega (arith, ap first_letter form, ap letter is)
-alone_takes_none Checksum first form (inr (inr (inl is))) = omega (arith, ap first_letter form, ap letter is)
-alone_takes_none Checksum first form (inr (inr (inr is))) = omega (arith, ap first_letter form, ap letter is)
-alone_takes_none (Generate count) first (word, is, counted) takes = omega (arith, ap length is)
-alone_takes_none (Init agent) first (word, is, named) takes = omega (arith, ap length is)
-alone_takes_none Meta first form (inl is) = omega (arith, ap first_letter form, ap letter is)
-alone_takes_none Meta first form (inr (inl is)) = omega (arith, ap first_letter form, ap letter is)
-alone_takes_none Meta first form (inr (inr (inl is))) = omega (arith, ap first_letter form, ap letter is)
-alone_takes_none Meta first form (inr (inr (inr is))) = omega (arith, ap first_letter form, ap letter is)
-alone_takes_none (Register name) first (is, named) takes = omega (arith, ap length is)
-alone_takes_none Pull first form (inl is) = omega (arith, ap first_letter form, ap letter is)
-alone_takes_none Pull first form (inr (inl is)) = omega (arith, ap first_letter form, ap letter is)
-alone_takes_none Pull first form (inr (inr (inl is))) = omega (arith, ap first_letter form, ap letter is)
-alone_takes_none Pull first form (inr (inr (inr is))) = omega (arith, ap first_letter form, ap letter is)
-alone_takes_none Push first form (inl is) = omega (arith, ap first_letter form, ap letter is)
-alone_takes_none Push first form (inr (inl is)) = omega (arith, ap first_letter form, ap letter is)
-alone_takes_none Push first form (inr (inr (inl is))) = omega (arith, ap first_letter form, ap letter is)
-alone_takes_none Push first form (inr (inr (inr is))) = omega (arith, ap first_letter form, ap letter is)
-alone_takes_none Consistency first form (inl is) = omega (arith, ap first_letter form, ap letter is)
-alone_takes_none Consistency first form (inr (inl is)) = omega (arith, ap first_letter form, ap letter is)
-alone_takes_none Consistency first form (inr (inr (inl is))) = omega (arith, ap first_letter form, ap letter is)
-alone_takes_none Consistency first form (inr (inr (inr is))) = omega (arith, ap first_letter form, ap letter is)
-alone_takes_none Boot first form (inl is) = omega (arith, ap first_letter form, ap letter is)
-alone_takes_none Boot first form (inr (inl is)) = omega (arith, ap first_letter form, ap letter is)
-alone_takes_none Boot first form (inr (inr (inl is))) = omega (arith, ap first_letter form, ap letter is)
-alone_takes_none Boot first form (inr (inr (inr is))) = omega (arith, ap first_letter form, ap letter is)
-alone_takes_none Get first form (inl is) = omega (arith, ap first_length form, ap length is)
-alone_takes_none Get first form (inr (inl is)) = omega (arith, ap first_letter form, ap letter is)
-alone_takes_none Get first form (inr (inr (inl is))) = omega (arith, ap first_letter form, ap letter is)
-alone_takes_none Get first form (inr (inr (inr is))) = omega (arith, ap first_letter form, ap letter is)
-alone_takes_none Restore first form (inl is) = omega (arith, ap first_letter form, ap letter is)
-alone_takes_none Restore first form (inr (inl is)) = omega (arith, ap first_letter form, ap letter is)
-alone_takes_none Restore first form (inr (inr (inl is))) = omega (arith, ap first_length form, ap length is)
-alone_takes_none Restore first form (inr (inr (inr is))) = omega (arith, ap first_length form, ap length is)
-alone_takes_none (Remove stage) first (word, is, named) takes = omega (arith, ap length is)
-alone_takes_none Reports first form (inl is) = omega (arith, ap first_letter form, ap letter is)
-alone_takes_none Reports first form (inr (inl is)) = omega (arith, ap first_letter form, ap letter is)
-alone_takes_none Reports first form (inr (inr (inl is))) = omega (arith, ap first_length form, ap length is)
-alone_takes_none Reports first form (inr (inr (inr is))) = omega (arith, ap first_length form, ap length is)
 
 some_word : (command : Command) (arguments : List (List ℕ)) → IsForm command arguments → 0 < length arguments
 some_word Test arguments form = omega (arith, ap length form)
@@ -203,7 +152,8 @@ some_word (Init agent) arguments (word, is, named) = omega (arith, ap length is)
 some_word Meta arguments form = omega (arith, ap length form)
 some_word (Register name) arguments (is, named) = omega (arith, ap length is)
 some_word Pull arguments form = omega (arith, ap length form)
-some_word Push arguments form = omega (arith, ap length form)
+some_word (Push None) arguments form = omega (arith, ap length form)
+some_word (Push (Some name)) arguments (is, named) = omega (arith, ap length is)
 some_word Consistency arguments form = omega (arith, ap length form)
 some_word Boot arguments form = omega (arith, ap length form)
 some_word Get arguments form = omega (arith, ap length form)
@@ -221,7 +171,7 @@ no_word = record {
 }
 
 -- the first argument is that of no command
-pub wrong_first : (first : List ℕ) (rest : List (List ℕ)) → ((command : Command) → IsForm command (first ∷ []) → ⊥) → (TakesWord first → ⊥)
+pub wrong_first : (first : List ℕ) (rest : List (List ℕ)) → ((command : Command) → IsForm command (first ∷ []) → TakesWord first) → (TakesWord first → ⊥)
     → IsUsage (first ∷ rest) 0
 wrong_first first rest alone other =
     record {
@@ -233,14 +183,15 @@ wrong_first first rest alone other =
   where
     never : (command : Command) (more : List (List ℕ)) → IsForm command (first ∷ more) → ⊥
     never command more form = elim (form_parts command first more form) [
-      | inl is ↦ alone command is.0
+      | inl is ↦ other (alone command is.0)
       | inr is ↦ other is
     ]
 
 -- an argument follows one that stands alone
-pub second_word : (first : List ℕ) (rest : List (List ℕ)) (command : Command) → 0 < length rest → IsForm command (first ∷ []) → IsUsage (first ∷ rest) 1
-second_word first [] command above form = absurd (omega (arith, above))
-second_word first (second ∷ rest) command above form =
+pub second_word : (first : List ℕ) (rest : List (List ℕ)) (command : Command) → 0 < length rest → (TakesWord first → ⊥) → IsForm command (first ∷ [])
+    → IsUsage (first ∷ rest) 1
+second_word first [] command above other form = absurd (omega (arith, above))
+second_word first (second ∷ rest) command above other form =
     record {
       no_form = λ given given_form. never given rest given_form;
       within = omega arith;
@@ -251,10 +202,34 @@ second_word first (second ∷ rest) command above form =
     never : (given : Command) (others : List (List ℕ)) → IsForm given (first ∷ second ∷ others) → ⊥
     never given others given_form = elim (form_parts given first (second ∷ others) given_form) [
       | inl is ↦ omega (arith, ap length is.1)
-      | inr takes ↦ alone_takes_none command first form takes
+      | inr takes ↦ other takes
     ]
 
 -- ---- an argument that takes another
+
+-- a form that begins with this argument, and goes on, has one more, of which P holds; there is such a form
+module _ (name : List ℕ) (P : List ℕ → Type 0)
+    (after : (command : Command) (word : List ℕ) (more : List (List ℕ)) → IsForm command (name ∷ word ∷ more) → (more ≡ []) × P word)
+    (some : (word : List ℕ) × (command : Command) × IsForm command (name ∷ word ∷ [])) where
+  -- the argument after it is none of those
+  pub wrong_after : (word : List ℕ) (rest : List (List ℕ)) → (P word → ⊥) → IsUsage (name ∷ word ∷ rest) 1
+  wrong_after word rest not = record {
+    no_form = λ command form. not (after command word rest form).1;
+    within = omega arith;
+    begins = (some.1, some.0 ∷ [], some.2);
+    stops = λ below begins. not (after begins.0 word begins.1 begins.2).1;
+  }
+
+  -- a third argument follows
+  pub third_after : (word : List ℕ) (more : List (List ℕ)) (command : Command) → 0 < length more → IsForm command (name ∷ word ∷ [])
+      → IsUsage (name ∷ word ∷ more) 2
+  third_after word [] command above form = absurd (omega (arith, above))
+  third_after word (third ∷ rest) command above form = record {
+    no_form = λ given given_form. omega (arith, ap length (after given word (third ∷ rest) given_form).0);
+    within = omega arith;
+    begins = (command, [], form);
+    stops = λ below begins. omega (arith, ap length (after begins.0 word (third ∷ begins.1) begins.2).0);
+  }
 
 -- forms that begin with this argument go on with one argument of which P holds; there is such a form
 module _ (name : List ℕ) (P : List ℕ → Type 0)
@@ -269,36 +244,18 @@ module _ (name : List ℕ) (P : List ℕ → Type 0)
     stops = λ below begins. omega (arith, below);
   }
 
-  -- the argument after it is none of those
-  pub wrong_other : (word : List ℕ) (rest : List (List ℕ)) → (P word → ⊥) → IsUsage (name ∷ word ∷ rest) 1
-  wrong_other word rest not =
-      record {
-        no_form = λ command form. never command rest form;
-        within = omega arith;
-        begins = (some.1, some.0 ∷ [], some.2);
-        stops = λ below begins. never begins.0 begins.1 begins.2;
-      }
-    where
-      never : (command : Command) (more : List (List ℕ)) → IsForm command (name ∷ word ∷ more) → ⊥
-      never command more form =
-          let parts = other command (word ∷ more) form in
-          let same : parts.0 ≡ word = ap (λ arguments. get_or arguments 0 []) (sym parts.1) in
-          not (subst P same parts.2)
+  after_it : (command : Command) (word : List ℕ) (more : List (List ℕ)) → IsForm command (name ∷ word ∷ more) → (more ≡ []) × P word
+  after_it command word more form =
+      let parts = other command (word ∷ more) form in
+      let same : parts.0 ≡ word = ap (λ arguments. get_or arguments 0 []) (sym parts.1) in
+      (ap (drop 1) parts.1, subst P same parts.2)
 
-  -- a third argument follows
+  pub wrong_other : (word : List ℕ) (rest : List (List ℕ)) → (P word → ⊥) → IsUsage (name ∷ word ∷ rest) 1
+  wrong_other = wrong_after name P after_it some
+
   pub third_word : (word : List ℕ) (more : List (List ℕ)) (command : Command) → 0 < length more → IsForm command (name ∷ word ∷ [])
       → IsUsage (name ∷ word ∷ more) 2
-  third_word word [] command above form = absurd (omega (arith, above))
-  third_word word (third ∷ rest) command above form =
-      record {
-        no_form = λ given given_form. never given rest given_form;
-        within = omega arith;
-        begins = (command, [], form);
-        stops = λ below begins. never begins.0 begins.1 begins.2;
-      }
-    where
-      never : (given : Command) (others : List (List ℕ)) → IsForm given (name ∷ word ∷ third ∷ others) → ⊥
-      never given others given_form = omega (arith, ap length (other given (word ∷ third ∷ others) given_form).1)
+  third_word = third_after name P after_it some
 
 abbrev pub IsAnyCount : List ℕ → Type 0
 IsAnyCount word = (count : ℕ) × IsCount word count
@@ -315,7 +272,8 @@ generate_form (Init agent) rest (word, is, named) = absurd (omega (arith, ap fir
 generate_form Meta rest form = absurd (omega (arith, ap first_letter form))
 generate_form (Register name) rest (is, named) = absurd (omega (arith, ap first_letter is))
 generate_form Pull rest form = absurd (omega (arith, ap first_letter form))
-generate_form Push rest form = absurd (omega (arith, ap first_letter form))
+generate_form (Push None) rest form = absurd (omega (arith, ap first_letter form))
+generate_form (Push (Some name)) rest (is, named) = absurd (omega (arith, ap first_letter is))
 generate_form Consistency rest form = absurd (omega (arith, ap first_letter form))
 generate_form Boot rest form = absurd (omega (arith, ap first_letter form))
 generate_form Get rest form = absurd (omega (arith, ap first_length form))
@@ -341,7 +299,8 @@ init_form (Init agent) rest (word, is, named) = (word, ap (drop 1) is, (agent, n
 init_form Meta rest form = absurd (omega (arith, ap first_letter form))
 init_form (Register name) rest (is, named) = absurd (omega (arith, ap first_letter is))
 init_form Pull rest form = absurd (omega (arith, ap first_letter form))
-init_form Push rest form = absurd (omega (arith, ap first_letter form))
+init_form (Push None) rest form = absurd (omega (arith, ap first_letter form))
+init_form (Push (Some name)) rest (is, named) = absurd (omega (arith, ap first_letter is))
 init_form Consistency rest form = absurd (omega (arith, ap first_letter form))
 init_form Boot rest form = absurd (omega (arith, ap first_letter form))
 init_form Get rest form = absurd (omega (arith, ap first_letter form))
@@ -374,7 +333,8 @@ remove_form (Init agent) rest (word, is, named) = absurd (omega (arith, ap first
 remove_form Meta rest form = absurd (omega (arith, ap first_letter form))
 remove_form (Register name) rest (is, named) = absurd (omega (arith, ap first_length is))
 remove_form Pull rest form = absurd (omega (arith, ap first_letter form))
-remove_form Push rest form = absurd (omega (arith, ap first_letter form))
+remove_form (Push None) rest form = absurd (omega (arith, ap first_letter form))
+remove_form (Push (Some name)) rest (is, named) = absurd (omega (arith, ap first_letter is))
 remove_form Consistency rest form = absurd (omega (arith, ap first_letter form))
 remove_form Boot rest form = absurd (omega (arith, ap first_letter form))
 remove_form Get rest form = absurd (omega (arith, ap first_letter form))
@@ -397,7 +357,8 @@ register_form (Init agent) rest (word, is, named) = absurd (omega (arith, ap fir
 register_form Meta rest form = absurd (omega (arith, ap first_letter form))
 register_form (Register name) rest (is, named) = (name.now, ap (drop 1) is, named)
 register_form Pull rest form = absurd (omega (arith, ap first_letter form))
-register_form Push rest form = absurd (omega (arith, ap first_letter form))
+register_form (Push None) rest form = absurd (omega (arith, ap first_letter form))
+register_form (Push (Some name)) rest (is, named) = absurd (omega (arith, ap first_letter is))
 register_form Consistency rest form = absurd (omega (arith, ap first_letter form))
 register_form Boot rest form = absurd (omega (arith, ap first_letter form))
 register_form Get rest form = absurd (omega (arith, ap first_letter form))
@@ -407,6 +368,31 @@ register_form Reports rest form = absurd (omega (arith, ap first_length form))
 
 pub some_register : (word : List ℕ) × (command : Command) × IsForm command (codes "register" ∷ word ∷ [])
 some_register = (codes "n", Register (record { ref_ptr = (0, 0); now = codes "n" }), (refl, (omega arith, omega arith)))
+
+pub push_form : (command : Command) (word : List ℕ) (more : List (List ℕ)) → IsForm command (codes "push" ∷ word ∷ more) → (more ≡ []) × IsName word
+push_form Test word more form = absurd (omega (arith, ap length form))
+push_form Check word more form = absurd (omega (arith, ap length form))
+push_form Order word more form = absurd (omega (arith, ap length form))
+push_form Canon word more form = absurd (omega (arith, ap length form))
+push_form Checksum word more form = absurd (omega (arith, ap length form))
+push_form (Generate count) word more (given, is, counted) = absurd (omega (arith, ap first_letter is))
+push_form (Init agent) word more (given, is, named) = absurd (omega (arith, ap first_letter is))
+push_form Meta word more form = absurd (omega (arith, ap length form))
+push_form (Register name) word more (is, named) = absurd (omega (arith, ap first_letter is))
+push_form Pull word more form = absurd (omega (arith, ap length form))
+push_form (Push None) word more form = absurd (omega (arith, ap length form))
+push_form (Push (Some name)) word more (is, named) =
+    let same : name.now ≡ word = ap (λ arguments. get_or arguments 1 []) (sym is) in
+    (ap (drop 2) is, subst IsName same named)
+push_form Consistency word more form = absurd (omega (arith, ap length form))
+push_form Boot word more form = absurd (omega (arith, ap length form))
+push_form Get word more form = absurd (omega (arith, ap length form))
+push_form Restore word more form = absurd (omega (arith, ap length form))
+push_form (Remove stage) word more (given, is, named) = absurd (omega (arith, ap first_letter is))
+push_form Reports word more form = absurd (omega (arith, ap length form))
+
+pub some_push : (word : List ℕ) × (command : Command) × IsForm command (codes "push" ∷ word ∷ [])
+some_push = (codes "n", Push (Some (record { ref_ptr = (0, 0); now = codes "n" })), (refl, (omega arith, omega arith)))
 
 -- arguments as the bytes of the texts that were handed over
 module _ {X : Type 0} (f : X → List ℕ) where

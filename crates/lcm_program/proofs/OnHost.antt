@@ -1,5 +1,5 @@
 -- Over the kinds of resources of a host each start has the headline, and each run of `test` is true of the host.
-use Rattle.std.proofs.Common.{inl, inr, ℕ, List, Option}
+use Rattle.std.proofs.Common.{inl, inr, ℕ, List, Option, Some, None}
 use Rattle.dsc_outside.specs.declared.ends.Ends as ends
 use Rattle.dsc_outside.specs.declared.disk.Disk as disks
 use Rattle.dsc_outside.specs.declared.host.Host as hosts
@@ -25,7 +25,7 @@ use Rattle.lcm_program.specs.Did.{Did}
 use Rattle.lcm_program.specs.Input.{Reading}
 use Rattle.lcm_program.specs.Objects.{Known, Objects, known}
 use Rattle.lcm_program.specs.Further.{IsTrueRun, nothing_further, nothing_further_of_runs, further_of_host}
-use Rattle.lcm_program.specs.Started.{InputEnds, IsStart, RegisterEnds, Started, started, unread}
+use Rattle.lcm_program.specs.Started.{InputEnds, IsStart, PartEnds, RegisterEnds, Started, started, unread}
 use Rattle.lcm_program.specs.Test.{IsRunOf, Monitored, StopsEarly, TestedAll, TestEnds}
 
 -- ---- `test`
@@ -103,6 +103,12 @@ module _ {S K D H L C : Type 0} (source : ends.Ghosts S) (sink : ends.Ghosts K) 
   register_ends name status old new before after (inl s) = inl (start _ status old new before after s)
   register_ends name status old new before after (inr silent) = inr silent
 
+  part_ends : (name : List ℕ) (status : Status) (input input_after : S) (old new : K) (before after : Outside D (Kinds H) C)
+      → PartEnds source sink (known_on_host disk host clock) nothing_further name status input input_after old new before after
+      → PartEnds source sink (known_on_host disk host clock) (further_of_host disk host clock) name status input input_after old new before after
+  part_ends name status input input_after old new before after (inl ends) = inl (input_ends _ _ status input input_after old new before after ends)
+  part_ends name status input input_after old new before after (inr silent) = inr silent
+
   module _ (before after : Objects S K D (Kinds H) L C) where
     tested_all : (status : Status) → TestedAll o nothing_further_of_runs status before after → TestedAll o (TrueRun host before.machine after.machine) status before after
     tested_all status (text, missed, run, prints) = (text, missed, run_of host before.machine after.machine (source.left before.input) text missed run, prints)
@@ -130,7 +136,8 @@ module _ {S K D H L C : Type 0} (source : ends.Ghosts S) (sink : ends.Ghosts K) 
     did_on_host Meta status row = input_ends _ _ status _ _ _ _ _ _ row
     did_on_host (Register name) status row = record { input = row.input; ends = register_ends name.now status _ _ _ _ row.ends }
     did_on_host Pull status row = start_row _ status row
-    did_on_host Push status row = input_ends _ _ status _ _ _ _ _ _ row
+    did_on_host (Push None) status row = input_ends _ _ status _ _ _ _ _ _ row
+    did_on_host (Push (Some name)) status row = part_ends name.now status _ _ _ _ _ _ row
     did_on_host Consistency status row = start_row _ status row
     did_on_host Boot status row = start_row _ status row
     did_on_host Get status row = start_row _ status row

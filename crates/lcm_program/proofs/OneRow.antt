@@ -1,5 +1,5 @@
 -- Arguments ask for one row of the table of commands.
-use Rattle.std.proofs.Common.{◌≡◌, ℕ, List, refl, sym, subst}
+use Rattle.std.proofs.Common.{◌≡◌, ℕ, List, Some, None, refl, sym, subst}
 use Rattle.dsc_node.specs.declared.status.Status.{Status}
 use Rattle.lcm_program.specs.declared.words.Command.{Command}
 use Rattle.lcm_program.specs.declared.words.Command.TheVariants.{Test, Check, Order, Canon, Checksum, Generate, Init, Meta, Register, Pull, Push, Consistency, Boot, Get, Restore, Remove, Reports}
@@ -22,7 +22,8 @@ module _ {S K D M L C : Type 0} (o : Known S K D M L C) (further : Further D M C
   same_row Meta = refl
   same_row (Register name) = refl
   same_row Pull = refl
-  same_row Push = refl
+  same_row (Push None) = refl
+  same_row (Push (Some name)) = refl
   same_row Consistency = refl
   same_row Boot = refl
   same_row Get = refl

@@ -11,7 +11,7 @@ use Rattle.partial_merge.specs.Merged.{Merged}
 use Rattle.partial_merge.specs.Parts.{IsWhole}
 use Rattle.partial_merge.proofs.OneMerge.{never_both, one_refusal}
 use Rattle.dsc_node.specs.declared.status.InputError.{InputError}
-use Rattle.dsc_node.specs.declared.status.InputError.TheVariants.{TooLong, Mof, Merge, Meta, Parts}
+use Rattle.dsc_node.specs.declared.status.InputError.TheVariants.{TooLong, Mof, Merge, Meta, Parts, Fit, ListTooLong}
 use Rattle.dsc_node.specs.declared.status.Status.{Status}
 use Rattle.dsc_node.specs.declared.status.Status.TheVariants.{InputRefused, ReadFault, Memory}
 use Rattle.lcm_program.specs.Answers.{Allows, EachAllows, UsesInput}
@@ -41,25 +41,35 @@ instances_decide all (Ok x) (Err (Mof f)) p q = q.1.unspelled x p
 instances_decide all (Ok x) (Err (Merge f)) p q = q
 instances_decide all (Ok x) (Err (Meta f)) p q = q
 instances_decide all (Ok x) (Err (Parts w)) p q = q
+instances_decide all (Ok x) (Err (Fit w)) p q = q
+instances_decide all (Ok x) (Err (ListTooLong w)) p q = q
 instances_decide all (Err TooLong) (Ok y) p q = omega (arith, q.within, p)
 instances_decide all (Err (Mof e)) (Ok y) p q = p.1.unspelled y q
 instances_decide all (Err (Merge e)) (Ok y) p q = p
 instances_decide all (Err (Meta e)) (Ok y) p q = p
 instances_decide all (Err (Parts w)) (Ok y) p q = p
+instances_decide all (Err (Fit w)) (Ok y) p q = p
+instances_decide all (Err (ListTooLong w)) (Ok y) p q = p
 instances_decide all (Err TooLong) (Err TooLong) p q = refl
 instances_decide all (Err TooLong) (Err (Mof f)) p q = absurd (omega (arith, p, q.0))
 instances_decide all (Err TooLong) (Err (Merge f)) p q = absurd q
 instances_decide all (Err TooLong) (Err (Meta f)) p q = absurd q
 instances_decide all (Err TooLong) (Err (Parts w)) p q = absurd q
+instances_decide all (Err TooLong) (Err (Fit w)) p q = absurd q
+instances_decide all (Err TooLong) (Err (ListTooLong w)) p q = absurd q
 instances_decide all (Err (Mof e)) (Err TooLong) p q = absurd (omega (arith, q, p.0))
 instances_decide all (Err (Mof e)) (Err (Mof f)) p q =
     ap (λ (x : MofError). Mof x) (refuses_once all e f p.1.caused q.1.caused p.1.refused q.1.refused)
 instances_decide all (Err (Mof e)) (Err (Merge f)) p q = absurd q
 instances_decide all (Err (Mof e)) (Err (Meta f)) p q = absurd q
 instances_decide all (Err (Mof e)) (Err (Parts w)) p q = absurd q
+instances_decide all (Err (Mof e)) (Err (Fit w)) p q = absurd q
+instances_decide all (Err (Mof e)) (Err (ListTooLong w)) p q = absurd q
 instances_decide all (Err (Merge e)) (Err f) p q = absurd p
 instances_decide all (Err (Meta e)) (Err f) p q = absurd p
 instances_decide all (Err (Parts w)) (Err f) p q = absurd p
+instances_decide all (Err (Fit w)) (Err f) p q = absurd p
+instances_decide all (Err (ListTooLong w)) (Err f) p q = absurd p
 
 -- a document is within the limit
 document_fits : (all : List ℕ) (d : Document) → Merged (parts_of all) d → length all ≤ input_limit
@@ -76,23 +86,33 @@ document_decides all (Ok x) (Err (Mof f)) p q = q
 document_decides all (Ok x) (Err (Merge f)) p q = never_both (parts_of all) x f q.cause p q.wins
 document_decides all (Ok x) (Err (Meta f)) p q = q
 document_decides all (Ok x) (Err (Parts w)) p q = q
+document_decides all (Ok x) (Err (Fit w)) p q = q
+document_decides all (Ok x) (Err (ListTooLong w)) p q = q
 document_decides all (Err TooLong) (Ok y) p q = omega (arith, document_fits all y q, p)
 document_decides all (Err (Mof e)) (Ok y) p q = p
 document_decides all (Err (Merge e)) (Ok y) p q = never_both (parts_of all) y e p.cause q p.wins
 document_decides all (Err (Meta e)) (Ok y) p q = p
 document_decides all (Err (Parts w)) (Ok y) p q = p
+document_decides all (Err (Fit w)) (Ok y) p q = p
+document_decides all (Err (ListTooLong w)) (Ok y) p q = p
 document_decides all (Err TooLong) (Err TooLong) p q = refl
 document_decides all (Err TooLong) (Err (Mof f)) p q = absurd q
 document_decides all (Err TooLong) (Err (Merge f)) p q = absurd (omega (arith, p, q.fits))
 document_decides all (Err TooLong) (Err (Meta f)) p q = absurd q
 document_decides all (Err TooLong) (Err (Parts w)) p q = absurd q
+document_decides all (Err TooLong) (Err (Fit w)) p q = absurd q
+document_decides all (Err TooLong) (Err (ListTooLong w)) p q = absurd q
 document_decides all (Err (Mof e)) (Err f) p q = absurd p
 document_decides all (Err (Merge e)) (Err TooLong) p q = absurd (omega (arith, q, p.fits))
 document_decides all (Err (Merge e)) (Err (Mof f)) p q = absurd q
 document_decides all (Err (Merge e)) (Err (Meta f)) p q = absurd q
 document_decides all (Err (Merge e)) (Err (Parts w)) p q = absurd q
+document_decides all (Err (Merge e)) (Err (Fit w)) p q = absurd q
+document_decides all (Err (Merge e)) (Err (ListTooLong w)) p q = absurd q
 document_decides all (Err (Meta e)) (Err f) p q = absurd p
 document_decides all (Err (Parts w)) (Err f) p q = absurd p
+document_decides all (Err (Fit w)) (Err f) p q = absurd p
+document_decides all (Err (ListTooLong w)) (Err f) p q = absurd p
 document_decides all (Err (Merge e)) (Err (Merge f)) p q =
     ap (λ (x : MergeError). Merge x) (one_refusal (parts_of all) e f p.cause q.cause p.wins q.wins)
 

@@ -1,5 +1,5 @@
 -- What the program did.
-use Rattle.std.specs.Prelude.{◌≡◌, ℕ, List}
+use Rattle.std.specs.Prelude.{◌≡◌, ℕ, List, Some, None}
 use Rattle.dsc_node.specs.declared.command.Command.TheVariants as commands
 use Rattle.dsc_node.specs.declared.status.Status.{Status}
 use Rattle.dsc_node.specs.declared.status.Status.TheVariants.{Usage, Memory}
@@ -13,7 +13,7 @@ use Rattle.lcm_program.specs.Objects.{IsUntouched, Known, Objects}
 use Rattle.lcm_program.specs.Order.{AnswersOrder}
 use Rattle.lcm_program.specs.Printed.{PrintsRefusal}
 use Rattle.lcm_program.specs.Further.{Further}
-use Rattle.lcm_program.specs.Started.{Configured, Pushed, Registered, Started}
+use Rattle.lcm_program.specs.Started.{Configured, Pushed, PushedPart, Registered, Started}
 use Rattle.lcm_program.specs.Test.{Tested}
 use Rattle.lcm_program.specs.Tool.{RanTool}
 use Rattle.lcm_program.specs.Words.{IsUsage}
@@ -30,7 +30,8 @@ Did o further (Init agent) status before after = Started (commands.Init agent) o
 Did o further Meta status before after = Configured o further status before after
 Did o further (Register name) status before after = Registered name.now o further status before after
 Did o further Pull status before after = Started commands.Pull o further status before after
-Did o further Push status before after = Pushed o further status before after
+Did o further (Push None) status before after = Pushed o further status before after
+Did o further (Push (Some name)) status before after = PushedPart name.now o further status before after
 Did o further Consistency status before after = Started commands.Consistency o further status before after
 Did o further Boot status before after = Started commands.Boot o further status before after
 Did o further Get status before after = Started commands.Get o further status before after

@@ -18,7 +18,7 @@ use Rattle.meta_config.specs.declared.meta.Meta as declared
 use Rattle.meta_config.specs.Parts.{HasPartsOrder, IsCycleOfParts, IsOrderOfParts}
 use Rattle.meta_config.specs.Refusals as metas
 use Rattle.dsc_node.specs.declared.status.InputError.{InputError}
-use Rattle.dsc_node.specs.declared.status.InputError.TheVariants.{TooLong, Mof, Merge, Meta, Parts}
+use Rattle.dsc_node.specs.declared.status.InputError.TheVariants.{TooLong, Mof, Merge, Meta, Parts, Fit, ListTooLong}
 use Rattle.lcm_program.specs.declared.input.Unread.{Unread}
 use Rattle.lcm_program.specs.declared.input.Unread.TheVariants as unread
 
@@ -48,6 +48,8 @@ ReadsInstances all (Err (Mof error)) = (length all ≤ input_limit) × IsUnspell
 ReadsInstances all (Err (Merge error)) = ⊥
 ReadsInstances all (Err (Meta error)) = ⊥
 ReadsInstances all (Err (Parts walk)) = ⊥
+ReadsInstances all (Err (Fit error)) = ⊥
+ReadsInstances all (Err (ListTooLong bytes)) = ⊥
 
 -- the part that an input is, which has no name
 abbrev pub parts_of : List ℕ → List Part
@@ -67,6 +69,8 @@ ReadsDocument all (Err (Mof error)) = ⊥
 ReadsDocument all (Err (Merge error)) = IsNoDocument all error
 ReadsDocument all (Err (Meta error)) = ⊥
 ReadsDocument all (Err (Parts walk)) = ⊥
+ReadsDocument all (Err (Fit error)) = ⊥
+ReadsDocument all (Err (ListTooLong bytes)) = ⊥
 
 -- the bytes are within the limit and declare no meta-configuration, and of the refusals that apply to them this one wins
 pub record IsNoMeta (all : List ℕ) (error : MetaError) : Type 0 where
@@ -96,6 +100,8 @@ ReadsMeta all (Err (Mof error)) = ⊥
 ReadsMeta all (Err (Merge error)) = ⊥
 ReadsMeta all (Err (Meta error)) = IsNoMeta all error
 ReadsMeta all (Err (Parts walk)) = IsUnordered all walk
+ReadsMeta all (Err (Fit error)) = ⊥
+ReadsMeta all (Err (ListTooLong bytes)) = ⊥
 
 -- ---- inputs
 

@@ -16,9 +16,11 @@ use Rattle.meta_config.specs.declared.error.Limit.{Limit}
 use Rattle.meta_config.specs.declared.error.Limit.TheVariants as limits
 use Rattle.meta_config.specs.declared.error.MetaError.{MetaError}
 use Rattle.meta_config.specs.declared.error.MetaError.TheVariants as metas
+use Rattle.node_state.specs.declared.error.FitError.{FitError}
+use Rattle.node_state.specs.declared.error.FitError.TheVariants as fits
 use Rattle.dsc_node.specs.Quoted.{quoted}
 use Rattle.dsc_node.specs.declared.status.InputError.{InputError}
-use Rattle.dsc_node.specs.declared.status.InputError.TheVariants.{TooLong, Mof, Merge, Meta, Parts}
+use Rattle.dsc_node.specs.declared.status.InputError.TheVariants.{TooLong, Mof, Merge, Meta, Parts, Fit, ListTooLong}
 
 -- the name of a text's refusal, and its values; out of memory has a status of its own, and is never reported so
 abbrev pub mof_words : MofError → List ℕ
@@ -76,6 +78,13 @@ merge_words (merge.DependsUnknown spot name) = codes "DependsUnknown " ++ spot_w
 merge_words (merge.Cycle walk) = codes "Cycle" ++ flat_map place_words walk
 merge_words merge.Memory = codes "Memory"
 
+-- why a document does not fit a meta-configuration, and its values
+abbrev pub fit_words : FitError → List ℕ
+fit_words (fits.PartCount found) = codes "PartCount " ++ decimal found
+fit_words (fits.StrangePart part) = codes "StrangePart " ++ decimal part
+fit_words (fits.MissingPart partial) = codes "MissingPart " ++ decimal partial
+fit_words (fits.ExclusiveTaken part resource) = codes "ExclusiveTaken " ++ decimal part ++ codes " " ++ decimal resource
+
 abbrev pub limit_name : Limit → List ℕ
 limit_name limits.Partials = codes "partials"
 limit_name limits.Names = codes "names"
@@ -110,3 +119,5 @@ error_words (Mof error) = mof_words error
 error_words (Merge error) = merge_words error
 error_words (Meta error) = codes "Meta " ++ meta_words error
 error_words (Parts walk) = codes "Parts" ++ flat_map place_words walk
+error_words (Fit error) = codes "Fit " ++ fit_words error
+error_words (ListTooLong bytes) = codes "ListTooLong " ++ decimal bytes

@@ -9,12 +9,10 @@ use Rattle.pull_messages.specs.declared.error.MessageError.TheVariants as messag
 use Rattle.pull_messages.specs.Names.{name_of}
 use Rattle.pull_client.specs.declared.error.PeerError.{PeerError}
 use Rattle.pull_client.specs.declared.error.PeerError.TheVariants as peers
-use Rattle.node_state.specs.declared.error.FitError.{FitError}
-use Rattle.node_state.specs.declared.error.FitError.TheVariants as fits
 use Rattle.node_pull.specs.declared.error.PeerFault.{PeerFault}
 use Rattle.node_pull.specs.declared.error.PeerFault.TheVariants.{Answer, Document, Fit, ListTooLong}
 use Rattle.dsc_node.specs.Quoted.{quoted}
-use Rattle.lcm_program.specs.InputWords.{merge_words}
+use Rattle.lcm_program.specs.InputWords.{fit_words, merge_words}
 
 abbrev pub frame_words : FrameError → List ℕ
 frame_words frames.Head = codes "Head"
@@ -50,12 +48,6 @@ answer_words (peers.Uncovered name) = codes "Uncovered " ++ quoted name
 answer_words peers.NoChecksum = codes "NoChecksum"
 answer_words (peers.Mismatch announced found) = mismatch_words announced found
 answer_words peers.Memory = codes "Memory"
-
-abbrev pub fit_words : FitError → List ℕ
-fit_words (fits.PartCount found) = codes "PartCount " ++ decimal found
-fit_words (fits.MissingPart partial) = codes "MissingPart " ++ decimal partial
-fit_words (fits.StrangePart part) = codes "StrangePart " ++ decimal part
-fit_words (fits.ExclusiveTaken part resource) = codes "ExclusiveTaken " ++ decimal part ++ codes " " ++ decimal resource
 
 abbrev pub peer_words : PeerFault → List ℕ
 peer_words (Answer error) = answer_words error

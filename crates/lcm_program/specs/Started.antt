@@ -1,5 +1,5 @@
 -- The commands that start the node.
-use Rattle.std.specs.Prelude.{◌≡◌, ◌⊎◌, ◌≤◌, ℕ, List, Ok}
+use Rattle.std.specs.Prelude.{◌≡◌, ◌⊎◌, ◌≤◌, ℕ, List, Option, Some, None, Ok}
 use Rattle.std.specs.Str.{chars}
 use Rattle.dsc_outside.specs.declared.ends.Ends as ends
 use Rattle.gate_log.specs.Standing.{AllStand, Any}
@@ -41,10 +41,16 @@ pub data InputEnds {A S K D M C : Type 0} (reads : Reading A) (command_of : A �
       → UnreadEnds sink cause status old new → after ≡ before
       → InputEnds reads command_of source sink o further status input input_after old new before after
 
--- the input is the document that is pushed
-abbrev pub PushEnds : {S K D M C : Type 0} → ends.Ghosts S → ends.Ghosts K → starts.Known D M C → Further D M C → Status → S → S → K → K → Outside D M C → Outside D M C → Type 0
-PushEnds source sink o further status input input_after old new before after =
-    InputEnds (ReadsBytes input_limit) commands.Push source sink o further status input input_after old new before after
+-- the input is the document that is pushed, under this name, or under none
+abbrev pub PushEnds : {S K D M C : Type 0} → ends.Ghosts S → ends.Ghosts K → starts.Known D M C → Further D M C → Option (List ℕ) → Status → S → S → K → K → Outside D M C → Outside D M C → Type 0
+PushEnds source sink o further name status input input_after old new before after =
+    InputEnds (ReadsBytes input_limit) (commands.Push name) source sink o further status input input_after old new before after
+
+-- The input is pushed under this name; or memory ran out for the name, and nothing was touched, nor the input.
+abbrev pub PartEnds : {S K D M C : Type 0} → ends.Ghosts S → ends.Ghosts K → starts.Known D M C → Further D M C → List ℕ → Status → S → S → K → K → Outside D M C → Outside D M C → Type 0
+PartEnds source sink o further name status input input_after old new before after =
+    PushEnds source sink o further (Some (chars name)) status input input_after old new before after
+    ⊎ (EndsSilent status old new × (after ≡ before) × (input_after ≡ input))
 
 -- it declares the meta-configuration
 abbrev pub MetaEnds : {S K D M C : Type 0} → ends.Ghosts S → ends.Ghosts K → starts.Known D M C → Further D M C → Status → S → S → K → K → Outside D M C → Outside D M C → Type 0
@@ -77,7 +83,12 @@ abbrev pub Configured : {S K D M L C : Type 0} → Known S K D M L C → Further
 Configured o further status before after =
     MetaEnds o.source o.sink o.outside further status before.input after.input before.output after.output (outside_of o before) (outside_of o after)
 
--- `push`
+-- `push` without a name
 abbrev pub Pushed : {S K D M L C : Type 0} → Known S K D M L C → Further D M C → Status → Objects S K D M L C → Objects S K D M L C → Type 0
 Pushed o further status before after =
-    PushEnds o.source o.sink o.outside further status before.input after.input before.output after.output (outside_of o before) (outside_of o after)
+    PushEnds o.source o.sink o.outside further None status before.input after.input before.output after.output (outside_of o before) (outside_of o after)
+
+-- and under a name
+abbrev pub PushedPart : {S K D M L C : Type 0} → List ℕ → Known S K D M L C → Further D M C → Status → Objects S K D M L C → Objects S K D M L C → Type 0
+PushedPart name o further status before after =
+    PartEnds o.source o.sink o.outside further name status before.input after.input before.output after.output (outside_of o before) (outside_of o after)

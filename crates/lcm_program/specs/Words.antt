@@ -1,5 +1,5 @@
 -- The forms of the command line.
-use Rattle.std.specs.Prelude.{◌≡◌, ℕ, ◌+◌, ◌<◌, ◌≤◌, List, [], ◌∷◌, ◌++◌, length, take, Option, Some, option_map, codes, ⊤}
+use Rattle.std.specs.Prelude.{◌≡◌, ℕ, ◌+◌, ◌<◌, ◌≤◌, List, [], ◌∷◌, ◌++◌, length, take, Option, Some, None, option_map, codes, ⊤}
 use Rattle.std.specs.Fmt.{decimal}
 use Rattle.std.specs.Int.{w128, from_be_bytes}
 use Rattle.uuid.specs.Text.{parsed}
@@ -21,7 +21,7 @@ agent_of word = option_map (from_be_bytes w128) (parsed word)
 abbrev pub IsAgent : List ℕ → ℕ → Type 0
 IsAgent word agent = agent_of word ≡ Some agent
 
--- the argument can name a node
+-- the argument can name a node, or a partial configuration
 abbrev pub IsName : List ℕ → Type 0
 IsName word = (0 < length word) × (length word ≤ MAX_NAME_BYTES)
 
@@ -46,7 +46,8 @@ IsForm (Init agent) arguments = (word : List ℕ) × (arguments ≡ codes "init"
 IsForm Meta arguments = arguments ≡ codes "meta" ∷ []
 IsForm (Register name) arguments = (arguments ≡ codes "register" ∷ name.now ∷ []) × IsName name.now
 IsForm Pull arguments = arguments ≡ codes "pull" ∷ []
-IsForm Push arguments = arguments ≡ codes "push" ∷ []
+IsForm (Push None) arguments = arguments ≡ codes "push" ∷ []
+IsForm (Push (Some name)) arguments = (arguments ≡ codes "push" ∷ name.now ∷ []) × IsName name.now
 IsForm Consistency arguments = arguments ≡ codes "consistency" ∷ []
 IsForm Boot arguments = arguments ≡ codes "boot" ∷ []
 IsForm Get arguments = arguments ≡ codes "get" ∷ []

@@ -1,14 +1,15 @@
-//! The printed names of why an input declares no document.
+//! The printed names of why an input declares no document, or one that does not fit.
 ghost use Rattle.std.specs.Prelude.{◌≡◌, ◌++◌, codes, encode_utf8_all, OnOk, string_bytes};
 ghost use Rattle.std.specs.List.{flat_map};
 ghost use Rattle.std.specs.Fmt.{decimal};
 ghost use Rattle.dsc_node.specs.Quoted.{quoted};
-ghost use Rattle.lcm_program.specs.InputWords.{merge_words, part_words, pair_words, place_words, repeated_words, rule_words, same_id_words, spot_words};
+ghost use Rattle.lcm_program.specs.InputWords.{fit_words, merge_words, part_words, pair_words, place_words, repeated_words, rule_words, same_id_words, spot_words};
 
 use crate::mof_words::push_mof_error;
 use dsc_document::{DocError, Spot};
 use mof_codec::push_literal;
 use mof_values::{Ident, Text};
+use node_state::FitError;
 use partial_merge::{MergeError, PartFault};
 use std::alloc::AllocError;
 
@@ -34,6 +35,20 @@ pub fn push_merge_error(out: &mut String, error: &MergeError) -> Result<(), Allo
             push_places(out, walk.as_slice())
         }
         MergeError::Memory => out.push_str("Memory"),
+    }
+}
+
+/// Appends why a document does not fit a meta-configuration.
+pub fn push_fit_error(out: &mut String, error: FitError) -> Result<(), AllocError>
+    ensures { OnOk result (string_bytes out.new ≡ string_bytes out.old ++ fit_words error) }
+{
+    match error {
+        FitError::PartCount { found } => write!(out, "PartCount {found}"),
+        FitError::MissingPart { partial } => write!(out, "MissingPart {partial}"),
+        FitError::StrangePart { part } => write!(out, "StrangePart {part}"),
+        FitError::ExclusiveTaken { part, resource } => {
+            write!(out, "ExclusiveTaken {part} {resource}")
+        }
     }
 }
 

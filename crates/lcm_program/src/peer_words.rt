@@ -2,12 +2,11 @@
 ghost use Rattle.std.specs.Prelude.{◌≡◌, ◌++◌, codes, OnOk, string_bytes};
 ghost use Rattle.shared_key.specs.Checksum.{checksum_of};
 ghost use Rattle.pull_messages.specs.Names.{name_of};
-ghost use Rattle.lcm_program.specs.PeerWords.{answer_words, fit_words, frame_words, message_words, mismatch_words, peer_words};
+ghost use Rattle.lcm_program.specs.PeerWords.{answer_words, frame_words, message_words, mismatch_words, peer_words};
 
-use crate::merge_words::{push_merge_error, push_text};
+use crate::merge_words::{push_fit_error, push_merge_error, push_text};
 use http_frames::FrameError;
 use node_pull::PeerFault;
-use node_state::FitError;
 use pull_client::PeerError;
 use pull_messages::{Field, MessageError};
 use std::alloc::AllocError;
@@ -113,17 +112,4 @@ fn push_checksum(out: &mut String, digest: &[u8; 32]) -> Result<(), AllocError>
 {
     let text = hex::encode_upper(*out.allocator(), digest)?;
     out.push_str(&text)
-}
-
-fn push_fit_error(out: &mut String, error: FitError) -> Result<(), AllocError>
-    ensures { OnOk result (string_bytes out.new ≡ string_bytes out.old ++ fit_words error) }
-{
-    match error {
-        FitError::PartCount { found } => write!(out, "PartCount {found}"),
-        FitError::MissingPart { partial } => write!(out, "MissingPart {partial}"),
-        FitError::StrangePart { part } => write!(out, "StrangePart {part}"),
-        FitError::ExclusiveTaken { part, resource } => {
-            write!(out, "ExclusiveTaken {part} {resource}")
-        }
-    }
 }

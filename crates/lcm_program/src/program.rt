@@ -16,7 +16,7 @@ use crate::checksum::read_checksum;
 use crate::generate::repair_generated;
 use crate::order::read_order;
 use crate::printing::{print_answer, print_run, print_status, print_text, print_unread};
-use crate::starts::{push, register, set_meta, start_node};
+use crate::starts::{push, push_part, register, set_meta, start_node};
 use crate::test::read_and_monitor;
 use crate::words::{Command, UsageError, read_words};
 use dsc_node::{Command as StartCommand, Status};
@@ -152,7 +152,10 @@ fn do_command<S: Source, K: Sink, D: Disk, M: Machine, L: Link, C: Clock>(
             let pull = StartCommand::Pull;
             start_node(alloc, pull, output, disk, machine, link, clock)
         }
-        Command::Push => push(alloc, input, output, disk, machine, link, clock),
+        Command::Push { name } => match name {
+            None => push(alloc, None, input, output, disk, machine, link, clock),
+            Some(name) => push_part(alloc, name, input, output, disk, machine, link, clock),
+        },
         Command::Consistency => {
             let consistency = StartCommand::Consistency;
             start_node(alloc, consistency, output, disk, machine, link, clock)

@@ -3,7 +3,7 @@ ghost use Rattle.std.specs.Prelude.{◌≡◌, ◌++◌, ℕ, List, [], Some, is
 ghost use Rattle.lcm_program.specs.InputWords.{error_words};
 ghost use Rattle.lcm_program.specs.Refusal.{line_of, reason_of, why_word};
 
-use crate::merge_words::{push_merge_error, push_places};
+use crate::merge_words::{push_fit_error, push_merge_error, push_places};
 use crate::meta_words::push_meta_error;
 use crate::mof_words::push_mof_error;
 use crate::peer_words::push_peer_fault;
@@ -90,6 +90,11 @@ fn push_input_error(out: &mut String, error: &InputError) -> Result<(), AllocErr
             out.push_str("Parts")?;
             push_places(out, walk.as_slice())
         }
+        InputError::Fit(error) => {
+            out.push_str("Fit ")?;
+            push_fit_error(out, *error)
+        }
+        InputError::ListTooLong { bytes } => write!(out, "ListTooLong {bytes}"),
     }
 }
 
@@ -114,6 +119,8 @@ fn name_of(why: Why) -> &'static str
         Why::NotRegistered => "NotRegistered",
         Why::NoName => "NoName",
         Why::PartsDeclared => "PartsDeclared",
+        Why::NoPartial => "NoPartial",
+        Why::PartNotPush => "PartNotPush",
         Why::NoPrevious => "NoPrevious",
         Why::NoPending => "NoPending",
         Why::NoDocument => "NoDocument",

@@ -6,7 +6,7 @@ ghost use Rattle.dsc_node.specs.Commands.{IsTaken};
 ghost use Rattle.dsc_node.specs.Start.{outside};
 ghost use Rattle.dsc_node.specs.Work.{known};
 ghost use Rattle.lcm_program.specs.Further.{nothing_further};
-ghost use Rattle.lcm_program.specs.Started.{IsStart, MetaEnds, PushEnds, RegisterEnds};
+ghost use Rattle.lcm_program.specs.Started.{IsStart, MetaEnds, PartEnds, PushEnds, RegisterEnds};
 
 use crate::input::{read_bytes, read_meta};
 use crate::printing::{print_start, print_unread};
@@ -74,10 +74,11 @@ pub fn register<K: Sink, D: Disk, M: Machine, L: Link, C: Clock>(
     }
 }
 
-/// Reads the input to its end, and starts the node with it as the document that is pushed; where it is not read nothing else is
-/// touched.
+/// Reads the input to its end, and starts the node with it as the document that is pushed, under a name as the part of the partial
+/// configuration that has the name; where it is not read nothing else is touched.
 pub fn push<S: Source, K: Sink, D: Disk, M: Machine, L: Link, C: Clock>(
     alloc: Global,
+    name: Option<Text>,
     input: &mut S,
     output: &mut K,
     disk: &mut D,
@@ -87,7 +88,7 @@ pub fn push<S: Source, K: Sink, D: Disk, M: Machine, L: Link, C: Clock>(
 ) -> Status
     requires fresh { M.trace machine.old ≡ [] }
     ensures ends { PushEnds S.Ends K.Ends (known D.Disk M.Resources M.Machine.own C.Clock)
-        nothing_further result input.old input.new output.old output.new
+        nothing_further name result input.old input.new output.old output.new
         (outside disk.old machine.old (view_of L.Link link.old) clock.old)
         (outside disk.new machine.new (view_of L.Link link.new) clock.new) }
     ensures becomes { L.may_become link.old link.new }
@@ -96,7 +97,7 @@ pub fn push<S: Source, K: Sink, D: Disk, M: Machine, L: Link, C: Clock>(
     match read_bytes(alloc, input) {
         Ok(bytes) => start_node(
             alloc,
-            Command::Push(Bytes::of(bytes)),
+            Command::Push(name, Bytes::of(bytes)),
             output,
             disk,
             machine,
@@ -104,6 +105,32 @@ pub fn push<S: Source, K: Sink, D: Disk, M: Machine, L: Link, C: Clock>(
             clock,
         ),
         Err(unread) => print_unread(alloc, output, unread),
+    }
+}
+
+/// Reads the input to its end, and starts the node with it as the part of the partial configuration that has the name; where it is
+/// not read nothing else is touched.
+pub fn push_part<S: Source, K: Sink, D: Disk, M: Machine, L: Link, C: Clock>(
+    alloc: Global,
+    name: &str,
+    input: &mut S,
+    output: &mut K,
+    disk: &mut D,
+    machine: &mut M,
+    link: &mut L,
+    clock: &mut C,
+) -> Status
+    requires fresh { M.trace machine.old ≡ [] }
+    ensures ends { PartEnds S.Ends K.Ends (known D.Disk M.Resources M.Machine.own C.Clock)
+        nothing_further name.now result input.old input.new output.old output.new
+        (outside disk.old machine.old (view_of L.Link link.old) clock.old)
+        (outside disk.new machine.new (view_of L.Link link.new) clock.new) }
+    ensures becomes { L.may_become link.old link.new }
+    ensures goes_on { GoesOn (view_of L.Link link.old) (view_of L.Link link.new) }
+{
+    match Text::from_utf8(alloc, name) {
+        Ok(text) => push(alloc, Some(text), input, output, disk, machine, link, clock),
+        Err(AllocError) => Status::Memory,
     }
 }
 

@@ -1,5 +1,5 @@
 //! The arguments of the command line.
-ghost use Rattle.std.specs.Prelude.{◌↔◌, ℕ, [], ◌∷◌, IfOk, IfErr, IfSome, IfNone, IsTrue, codes, map, string_bytes};
+ghost use Rattle.std.specs.Prelude.{◌≡◌, ◌↔◌, ℕ, [], ◌∷◌, IfOk, IfErr, IfSome, IfNone, IsTrue, codes, map, string_bytes};
 ghost use Rattle.lcm_program.specs.Words.{IsAgent, IsCount, IsForm, IsName, IsStage, IsUsage};
 
 use dsc_document::MAX_RESOURCES;
@@ -40,8 +40,9 @@ pub enum Command<'a> {
     /// Fetches what the pull server has for the node, and brings the machine to it.
     Pull,
 
-    /// Stores the document in the input, and brings the machine to it.
-    Push,
+    /// Stores the document in the input, and brings the machine to it; under a name, 1 to 255 bytes, as the part of the partial
+    /// configuration that has the name.
+    Push { name: Option<&'a str> },
 
     /// Goes on with the pending document; without one, monitors or repairs by the current one, as the meta-configuration says.
     Consistency,
@@ -88,6 +89,9 @@ pub fn read_words<'a>(arguments: &'a [String]) -> Result<Command<'a>, UsageError
     if first.as_str() == "remove" {
         return read_remove(rest);
     }
+    if first.as_str() == "push" {
+        return read_push(rest);
+    }
     let Some(command) = command_of(first) else {
         return Err(UsageError { word: 0 });
     };
@@ -97,10 +101,11 @@ pub fn read_words<'a>(arguments: &'a [String]) -> Result<Command<'a>, UsageError
     }
 }
 
-// The command that the argument asks for alone.
+// The command that the argument asks for alone, where no other may follow it: any but `push`.
 fn command_of(word: &str) -> Option<Command<'static>>
     ensures some { IfSome result (λ command. IsForm command (word.now ∷ [])) }
-    ensures none { IfNone result ((command : Command) → IsForm command (word.now ∷ []) → ⊥) }
+    ensures none { IfNone result ((command : Command) → IsForm command (word.now ∷ [])
+        → word.now ≡ codes "push") }
 {
     match word {
         "test" => Some(Command::Test),
@@ -110,7 +115,6 @@ fn command_of(word: &str) -> Option<Command<'static>>
         "checksum" => Some(Command::Checksum),
         "meta" => Some(Command::Meta),
         "pull" => Some(Command::Pull),
-        "push" => Some(Command::Push),
         "consistency" => Some(Command::Consistency),
         "boot" => Some(Command::Boot),
         "get" => Some(Command::Get),
@@ -178,6 +182,26 @@ fn read_register<'a>(rest: &'a [String]) -> Result<Command<'a>, UsageError>
     }
 }
 
+// What the arguments after `push` ask for.
+fn read_push<'a>(rest: &'a [String]) -> Result<Command<'a>, UsageError>
+    ensures ok { IfOk result (λ command. IsForm command
+        (codes "push" ∷ map string_bytes rest.now)) }
+    ensures usage { IfErr result (λ error. IsUsage (codes "push" ∷ map string_bytes rest.now)
+        error.word) }
+{
+    let [word, more @ ..] = rest else {
+        return Ok(Command::Push { name: None });
+    };
+    let name = word.as_str();
+    if !is_name(name) {
+        return Err(UsageError { word: 1 });
+    }
+    match more {
+        [] => Ok(Command::Push { name: Some(name) }),
+        _ => Err(UsageError { word: 2 }),
+    }
+}
+
 // What the arguments after `remove` ask for.
 fn read_remove(rest: &[String]) -> Result<Command<'static>, UsageError>
     ensures ok { IfOk result (λ command. IsForm command
@@ -197,7 +221,7 @@ fn read_remove(rest: &[String]) -> Result<Command<'static>, UsageError>
     }
 }
 
-// Returns whether the argument can name a node.
+// Returns whether the argument can name a node, or a partial configuration.
 fn is_name(word: &str) -> bool
     ensures { IsTrue result ↔ IsName word.now }
 {

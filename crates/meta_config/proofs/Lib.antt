@@ -15,3 +15,4 @@ pub mod Slashes
 pub mod Ports
 pub mod SitesOfUrls
 pub mod OneMeaning
+pub mod NamedPartials

@@ -3,7 +3,8 @@
 //!
 //! A layer above may rely on this: `read_meta` gives exactly the `Meta` that a text declares, or the first of its
 //! faults, at its least index. `write_meta` writes the one canonical text of a `Meta`, which is read back.
-//! `parts_order` gives the order of the partial configurations.
+//! A partial configuration is found by its name, has its own mode or that of the meta-configuration, and stands in the
+//! order that `parts_order` gives.
 //!
 //! Where a thing is:
 //! - which classes and properties a meta-configuration has, and what their values may be: `specs/Tables.antt`,
@@ -16,7 +17,8 @@
 //!   `specs/Parts.antt`; `proofs/WellFormed.antt`, `proofs/ReadMetas.antt` (each that is read is well-formed),
 //!   `proofs/WrittenMetas.antt`, `proofs/WrittenAccepted.antt`, `proofs/WrittenTexts.antt` (what is written of a
 //!   well-formed one)
-//! - the order of partial configurations: `specs/Parts.antt`, `src/parts.rt`
+//! - the names, the modes and the order of partial configurations: `specs/Parts.antt`, `src/parts.rt`; that each is
+//!   found by its own name `proofs/NamedPartials.antt`
 //! - its limits: `src/limits.rt`
 #![tactic(auto)]
 

@@ -49,6 +49,7 @@ pub struct Partial {
     /// What no other partial configuration may have resources of.
     pub exclusive: Items<Text>,
 
+    /// Its own refresh mode, where it has one.
     pub refresh: Option<RefreshMode>,
 }
 

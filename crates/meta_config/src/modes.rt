@@ -1,5 +1,6 @@
 //! The modes of a node, and their words.
 ghost use Rattle.std.specs.Prelude.{◌≡◌};
+ghost use Rattle.meta_config.specs.Parts.{is_pull};
 ghost use Rattle.meta_config.specs.Words.{mode_name, refresh_name, after_name};
 
 /// What a node does with its configuration from time to time.
@@ -55,6 +56,15 @@ impl RefreshMode {
             RefreshMode::Push => "Push",
             RefreshMode::Pull => "Pull",
             RefreshMode::Disabled => "Disabled",
+        }
+    }
+
+    pub fn is_pull(self) -> bool
+        ensures { result ≡ is_pull self }
+    {
+        match self {
+            RefreshMode::Pull => true,
+            RefreshMode::Push | RefreshMode::Disabled => false,
         }
     }
 }

@@ -1,14 +1,46 @@
-//! The order of partial configurations.
-ghost use Rattle.std.specs.Prelude.{◌≡◌, ◌<◌, ◌^◌, All, Any, ℕ, List, IfOk, IfNone, IfSome, length};
+//! Partial configurations: how a node comes to the part of each, and their order.
+ghost use Rattle.std.specs.Prelude.{◌≡◌, ◌<◌, ◌^◌, All, Any, ℕ, List, IfOk, IfNone, IfSome, length, option_copied};
 ghost use Rattle.std.specs.List.{AllZip};
 ghost use Rattle.mof_values.specs.Fold.{SameName};
 ghost use Rattle.depend_order.specs.Answers.{IfCycle, OnCycle};
-ghost use Rattle.meta_config.specs.Parts.{AreResolvedParts, IsCycleOfParts, IsMeta, IsOrderOfParts, IsPartName, MeansPart};
+ghost use Rattle.meta_config.specs.Parts.{AreResolvedParts, IsCycleOfParts, IsMeta, IsOrderOfParts, IsPartName, MeansPart, is_pulled, mode_in, partial_named};
 
-use crate::{Meta, Partial};
+use crate::{Meta, Partial, RefreshMode};
 use depend_order::{OrderError, order_of};
 use mof_values::{Text, same_text};
 use std::alloc::{AllocError, Global};
+
+impl Meta {
+    /// The partial configuration that has the name, where one is declared.
+    pub fn partial_named<'a>(&'a self, name: &Text) -> Option<&'a Partial>
+        ensures { option_copied result ≡ partial_named self.now.partials name.now }
+    {
+        self.partials
+            .as_slice()
+            .iter()
+            .find(|partial| same_text(name, &partial.name))
+    }
+}
+
+impl Partial {
+    /// How a node of this meta-configuration comes to the part: by the mode of the partial configuration, or else by that of
+    /// the meta-configuration.
+    pub fn mode(&self, meta: &Meta) -> RefreshMode
+        ensures { result ≡ mode_in meta.now self.now }
+    {
+        match self.refresh {
+            Some(refresh) => refresh,
+            None => meta.refresh,
+        }
+    }
+
+    /// Returns whether that mode is Pull.
+    pub fn is_pulled(&self, meta: &Meta) -> bool
+        ensures { result ≡ is_pulled meta.now self.now }
+    {
+        self.mode(meta).is_pull()
+    }
+}
 
 /// The order of the partial configurations, by the names in their own DependsOn; a partial configuration is its place.
 ///

@@ -5,10 +5,10 @@ ghost use Rattle.meta_config.specs.Parts.{IsMeta};
 
 use depend_order::OrderError;
 use meta_config::*;
-use mof_values::Text;
+use mof_values::{Text, is_named};
 use rows::{
-    ACCEPTED, CANONICAL, DOWNLOAD, LIMITS, ORDERS, PARTIAL, REFUSED, SETTING_ROWS, SETTINGS, SITES,
-    SIZES, USUAL, WRITTEN,
+    ACCEPTED, CANONICAL, DOWNLOAD, LIMITS, MODES, NAMED, ORDERS, PARTIAL, REFUSED, SETTING_ROWS,
+    SETTINGS, SITES, SIZES, USUAL, WRITTEN,
 };
 use std::alloc::{AllocError, Global};
 use std::test::Fail;
@@ -293,6 +293,19 @@ fn orders_as(alloc: Global, meta: &Meta, cycle: bool, places: &[u32]) -> bool
     }
 }
 
+// Returns whether the name finds this partial configuration, of this mode, or none.
+fn finds(meta: &Meta, name: &Text, wanted: Option<(&str, RefreshMode)>) -> bool {
+    match (meta.partial_named(name), wanted) {
+        (Some(partial), Some((own, mode))) => {
+            is_named(partial.name.as_slice(), own)
+                && partial.mode(meta) == mode
+                && partial.is_pulled(meta) == (mode == RefreshMode::Pull)
+        }
+        (None, None) => true,
+        _ => false,
+    }
+}
+
 fn writes_as(alloc: Global, text: &str, want: &[u8]) -> bool {
     match read_meta(alloc, text.as_bytes()) {
         Ok(meta) => is_text(alloc, &meta, want),
@@ -373,6 +386,18 @@ fn partial_configurations_are_ordered(rt: HostRuntime) -> Result<(), Fail> {
     for (rows, cycle, places) in ORDERS {
         let text = parts_text(rt.alloc(), rows)?;
         sure(is_ordered(rt.alloc(), &text, *cycle, places))?;
+    }
+    Ok(())
+}
+
+#[test]
+fn partial_configurations_are_found_by_name(rt: HostRuntime) -> Result<(), Fail> {
+    let Ok(meta) = read_meta(rt.alloc(), MODES.as_bytes()) else {
+        return sure(false);
+    };
+    for (name, wanted) in NAMED {
+        let name = Text::from_utf8(rt.alloc(), name)?;
+        sure(finds(&meta, &name, *wanted))?;
     }
     Ok(())
 }

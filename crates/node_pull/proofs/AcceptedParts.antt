@@ -1,10 +1,9 @@
 -- Each part that is brought is held or was accepted.
-use Rattle.std.proofs.Common.{◌≡◌, inl, inr, ℕ, suc, Bool, true, false, List, [], ◌∷◌, Option, Some, None, Result, Ok, Err, sym, subst, arith, All}
-use Rattle.std.proofs.lemmas.Option.{none-some, same_Some}
+use Rattle.std.proofs.Common.{◌≡◌, inl, inr, ℕ, Bool, true, false, List, [], ◌∷◌, Option, Some, None, Result, Ok, Err, sym, subst, All}
+use Rattle.std.proofs.lemmas.List.Elements.{All-contains, All-from_recursion}
 use Rattle.std.specs.Bool.{⊤}
-use Rattle.std.specs.List.{AllByRecursion, Contains}
+use Rattle.std.specs.List.{AllByRecursion}
 use Rattle.std.specs.Prelude.{IfOk, IfSome, if◌then◌else◌}
-use Rattle.mof_values.specs.Fold.{same_name}
 use Rattle.dsc_outside.specs.declared.entries.Package.{Package}
 use Rattle.meta_config.specs.declared.meta.Meta.{Meta}
 use Rattle.meta_config.specs.declared.server.Server.{Server}
@@ -17,24 +16,27 @@ use Rattle.pull_client.specs.Content.{GivesPart}
 use Rattle.pull_client.specs.Requests.{content_request}
 use Rattle.node_pull.specs.declared.error.PullFault.{PullFault}
 use Rattle.node_pull.specs.Contents as contents
-use Rattle.node_pull.specs.Contents.{Contents, IsHeldOrAccepted, PartFor, WasAccepted, before_others, kept_part, part_under}
+use Rattle.node_pull.specs.Contents.{Contents, IsHeldOrAccepted, WasAccepted}
 use Rattle.node_pull.specs.Listing as listing
-use Rattle.node_pull.specs.Listing.{Listed}
+use Rattle.node_pull.specs.Listing.{Fetched, Listed}
 use Rattle.node_pull.specs.Marks.{same_marks}
 use Rattle.node_pull.specs.Pulling as pulling
 use Rattle.node_pull.specs.Pulling.{Pulled, brought_of}
 use Rattle.dsc_outside.specs.Link.{GoesOn, LinkView}
 use Rattle.node_pull.specs.Views.{Accepts, MadeSince}
-use Rattle.node_pull.proofs.GoingOn.{asks_goes_on, contents_go_on, packages_go_on, part_goes_on}
-use Rattle.node_pull.proofs.ListedParts.{all_of}
+use Rattle.node_pull.proofs.GoingOn.{asks_goes_on, contents_go_on, packages_go_on}
+use Rattle.node_pull.proofs.LaidParts.{laid_all}
 use Rattle.node_pull.proofs.Since.{asked_since, since_before, since_then}
 
 -- ---- what was accepted
 
+was_on : (server : Server) (agent : ℕ) (before mid after : LinkView) (part : Part) → GoesOn mid after → WasAccepted server agent before mid part → WasAccepted server agent before after part
+was_on server agent before mid after part on was = since_then (Accepts server (content_request server agent part.name) (GivesPart part.name) part) before mid after was on
+
 module _ (server : Server) (agent : ℕ) where
   accepted_on : (held : List Part) (before mid after : LinkView) (part : Part) → GoesOn mid after → IsHeldOrAccepted server agent held before mid part → IsHeldOrAccepted server agent held before after part
   accepted_on held before mid after part on (inl has) = inl has
-  accepted_on held before mid after part on (inr was) = inr (since_then (Accepts server (content_request server agent part.name) (GivesPart part.name) part) before mid after was on)
+  accepted_on held before mid after part on (inr was) = inr (was_on server agent before mid after part on was)
 
   accepted_from : (held : List Part) (before mid after : LinkView) (part : Part) → GoesOn before mid → IsHeldOrAccepted server agent held mid after part → IsHeldOrAccepted server agent held before after part
   accepted_from held before mid after part on (inl has) = inl has
@@ -50,20 +52,6 @@ module _ (server : Server) (agent : ℕ) where
   all_from held before mid after [] on all = tt
   all_from held before mid after (part ∷ parts) on all = (accepted_from held before mid after part on all.0, all_from held before mid after parts on all.1)
 
-chosen_held : (first : Part) (held : List Part) (rest : Option Part) (part : Part) (same : Bool) → (rest ≡ Some part → Contains held part)
-    → (if same then Some first else rest) ≡ Some part → Contains (first ∷ held) part
-chosen_held first held rest part true later is = (0, omega arith, same_Some first part is)
-chosen_held first held rest part false later is = let there = later is in (suc there.0, omega (arith, there.1), there.2)
-
-under_held : (held : List Part) (name : List ℕ) (part : Part) → part_under held name ≡ Some part → Contains held part
-under_held [] name part is = absurd (none-some part is)
-under_held (first ∷ held) name part is = chosen_held first held (part_under held name) part (same_name first.name name) (under_held held name part) is
-
-kept_held : (held : List Part) (name : List ℕ) (fetches : List Bool) (part : Part) → kept_part held name fetches ≡ Some part → Contains held part
-kept_held held name [] part is = absurd (none-some part is)
-kept_held held name (true ∷ fetches) part is = absurd (none-some part is)
-kept_held held name (false ∷ fetches) part is = under_held held name part is
-
 -- a content that was given
 asked_part : (server : Server) (agent : ℕ) (name : List ℕ) (before after : LinkView) (part : Part) → part.name ≡ name
     → Asks server (content_request server agent name) (GivesPart name) before after (Ok part) → WasAccepted server agent before after part
@@ -71,39 +59,52 @@ asked_part server agent name before after part named asks =
     subst (λ (n : List ℕ). MadeSince (Accepts server (content_request server agent n) (GivesPart n) part) before after) (sym named)
     (asked_since server (content_request server agent name) (GivesPart name) before after part asks)
 
-part_accepted : {server : Server} {agent : ℕ} {held : List Part} {name : List ℕ} {fetches : List Bool} {before after : LinkView} {part : Part}
-    → PartFor server agent held name fetches before after (Ok part) → IsHeldOrAccepted server agent held before after part
-part_accepted {held = held} {name = name} {fetches = fetches} (contents.is_kept part view is) = inl (kept_held held name fetches part is)
-part_accepted {server = server} {agent = agent} {name = name} {part = part} (contents.is_fetched before after result none asks named) = inr (asked_part server agent name before after part named asks)
-
 abbrev pub AllAccepted : Server → ℕ → List Part → LinkView → LinkView → Result (List Part) PeerError → Type 0
 AllAccepted server agent held before after (Ok parts) = AllByRecursion (IsHeldOrAccepted server agent held before after) parts
 AllAccepted server agent held before after (Err error) = ⊤
 
-accepted_with_others : (server : Server) (agent : ℕ) (held : List Part) (before after : LinkView) (part : Part) (others : Result (List Part) PeerError) → IsHeldOrAccepted server agent held before after part
-    → AllAccepted server agent held before after others → AllAccepted server agent held before after (before_others part others)
-accepted_with_others server agent held before after part (Ok others) is all = (is, all)
-accepted_with_others server agent held before after part (Err error) is all = tt
+-- each part whose content came was accepted
+abbrev pub AllGiven : Server → ℕ → LinkView → LinkView → Result (List Part) PeerError → Type 0
+AllGiven server agent before after (Ok parts) = AllByRecursion (WasAccepted server agent before after) parts
+AllGiven server agent before after (Err error) = ⊤
+
+was_from : (server : Server) (agent : ℕ) (before mid after : LinkView) (parts : List Part) → GoesOn before mid → AllByRecursion (WasAccepted server agent mid after) parts
+    → AllByRecursion (WasAccepted server agent before after) parts
+was_from server agent before mid after [] on all = tt
+was_from server agent before mid after (part ∷ parts) on all =
+    (since_before (Accepts server (content_request server agent part.name) (GivesPart part.name) part) before mid after on all.0, was_from server agent before mid after parts on all.1)
+
+contents_given : {server : Server} {agent : ℕ} {names : List (List ℕ)} {before after : LinkView} {result : Result (List Part) PeerError}
+    → Contents server agent names before after result → AllGiven server agent before after result
+contents_given (contents.no_more view) = tt
+contents_given {server = server} {agent = agent} (contents.one_more name names part parts before mid after asks named rest) = (
+  was_on server agent before mid after part (contents_go_on rest) (asked_part server agent name before mid part named asks),
+  was_from server agent before mid after parts (asks_goes_on server _ _ before mid (Ok part) asks) (contents_given rest),
+)
+contents_given (contents.ended name names error before after asks) = tt
+contents_given (contents.ended_later name names part error before mid after asks rest) = tt
+contents_given (contents.no_memory names view) = tt
+
+fetched_accepted : {server : Server} {agent : ℕ} {held : List Part} {names wanted : List (List ℕ)} {before after : LinkView} {result : Result (List Part) PeerError}
+    → Fetched server agent held names wanted before after result → AllAccepted server agent held before after result
+fetched_accepted (listing.not_given error before after given) = tt
+fetched_accepted {server = server} {agent = agent} {held = held} {names = names} (listing.laid fetched before after given) =
+    laid_all (IsHeldOrAccepted server agent held before after) fetched held
+    (λ part there. inr (All-contains (WasAccepted server agent before after) fetched part
+    (All-from_recursion (WasAccepted server agent before after) fetched (contents_given given)) there))
+    (λ part there. inl there) names
+fetched_accepted (listing.no_memory_to_lay fetched before after given) = tt
 
 others_from : (server : Server) (agent : ℕ) (held : List Part) (before mid after : LinkView) (others : Result (List Part) PeerError) → GoesOn before mid → AllAccepted server agent held mid after others
     → AllAccepted server agent held before after others
 others_from server agent held before mid after (Ok others) on all = all_from server agent held before mid after others on all
 others_from server agent held before mid after (Err error) on all = tt
 
-contents_accepted : {server : Server} {agent : ℕ} {held : List Part} {names : List (List ℕ)} {fetches : List Bool} {before after : LinkView} {result : Result (List Part) PeerError}
-    → Contents server agent held names fetches before after result → AllAccepted server agent held before after result
-contents_accepted (contents.no_more fetches view) = tt
-contents_accepted {server = server} {agent = agent} {held = held} (contents.one_more name names fetches part before mid after others for rest) =
-    accepted_with_others server agent held before after part others (accepted_on server agent held before mid after part (contents_go_on rest) (part_accepted for))
-    (others_from server agent held before mid after others (part_goes_on for) (contents_accepted rest))
-contents_accepted (contents.ended name names fetches error before after for) = tt
-contents_accepted (contents.no_memory names fetches view) = tt
-
 listed_accepted : {meta : Meta} {server : Server} {agent : ℕ} {held : List Part} {before after : LinkView} {result : Result (List Part) PeerError}
     → Listed meta server agent held before after result → AllAccepted server agent held before after result
 listed_accepted (listing.not_told names error before after asked queries) = tt
 listed_accepted {server = server} {agent = agent} {held = held} (listing.answered names fetches before mid after result asked queries given) =
-    others_from server agent held before mid after result (asks_goes_on server _ _ before mid (Ok fetches) queries) (contents_accepted given)
+    others_from server agent held before mid after result (asks_goes_on server _ _ before mid (Ok fetches) queries) (fetched_accepted given)
 listed_accepted (listing.no_memory view) = tt
 
 abbrev pub Brought : Server → ℕ → List Part → LinkView → LinkView → Result (Option Staged) PullFault → Type 0
@@ -116,7 +117,7 @@ brought_accepted server agent held before after staged brings is all =
   where
     go : (same : Bool) → IfSome (if same then None else Some staged) (λ (s : Staged). All (IsHeldOrAccepted server agent held before after) (parts_of s))
     go true = tt
-    go false = all_of (IsHeldOrAccepted server agent held before after) (parts_of staged) all
+    go false = All-from_recursion (IsHeldOrAccepted server agent held before after) (parts_of staged) all
 
 pub pulled_accepted : {S : Type 0} {packages : S → Option (List Package)} {faults : S → ℕ} {meta : Meta} {server : Server} {agent : ℕ} {held : List Part} {before after : LinkView} {old new : S}
     {result : Result (Option Staged) PullFault}

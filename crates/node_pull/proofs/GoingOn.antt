@@ -14,9 +14,9 @@ use Rattle.pull_client.specs.Asks.{Asks, Exchanged}
 use Rattle.node_pull.specs.declared.error.PullFault.{PullFault}
 use Rattle.node_pull.specs.declared.modules.Module.{Module}
 use Rattle.node_pull.specs.Contents as contents
-use Rattle.node_pull.specs.Contents.{Contents, PartFor}
+use Rattle.node_pull.specs.Contents.{Contents}
 use Rattle.node_pull.specs.Listing as listing
-use Rattle.node_pull.specs.Listing.{Listed}
+use Rattle.node_pull.specs.Listing.{Fetched, Listed}
 use Rattle.node_pull.specs.Packages as rows
 use Rattle.node_pull.specs.Packages.{OnePackage, Packages}
 use Rattle.node_pull.specs.Pulling as pulling
@@ -77,24 +77,27 @@ sends_goes_on server agent report before after result (inr unsent) = stays_at be
 
 -- ---- of a pull
 
-pub part_goes_on : {server : Server} {agent : ℕ} {held : List Part} {name : List ℕ} {fetches : List Bool} {before after : LinkView} {result : Result Part PeerError}
-    → PartFor server agent held name fetches before after result → GoesOn before after
-part_goes_on (contents.is_kept part view is) = stays view
-part_goes_on {server = server} (contents.is_fetched before after result none asks named) = asks_goes_on server _ _ before after result asks
-part_goes_on (contents.out_of_memory view) = stays view
+pub contents_go_on : {server : Server} {agent : ℕ} {names : List (List ℕ)} {before after : LinkView} {result : Result (List Part) PeerError}
+    → Contents server agent names before after result → GoesOn before after
+contents_go_on (contents.no_more view) = stays view
+contents_go_on {server = server} (contents.one_more name names part parts before mid after asks named rest) =
+    on_and_on before mid after (asks_goes_on server _ _ before mid (Ok part) asks) (contents_go_on rest)
+contents_go_on {server = server} (contents.ended name names error before after asks) = asks_goes_on server _ _ before after (Err error) asks
+contents_go_on {server = server} (contents.ended_later name names part error before mid after asks rest) =
+    on_and_on before mid after (asks_goes_on server _ _ before mid (Ok part) asks) (contents_go_on rest)
+contents_go_on (contents.no_memory names view) = stays view
 
-pub contents_go_on : {server : Server} {agent : ℕ} {held : List Part} {names : List (List ℕ)} {fetches : List Bool} {before after : LinkView} {result : Result (List Part) PeerError}
-    → Contents server agent held names fetches before after result → GoesOn before after
-contents_go_on (contents.no_more fetches view) = stays view
-contents_go_on (contents.one_more name names fetches part before mid after others for rest) = on_and_on before mid after (part_goes_on for) (contents_go_on rest)
-contents_go_on (contents.ended name names fetches error before after for) = part_goes_on for
-contents_go_on (contents.no_memory names fetches view) = stays view
+fetched_goes_on : {server : Server} {agent : ℕ} {held : List Part} {names wanted : List (List ℕ)} {before after : LinkView} {result : Result (List Part) PeerError}
+    → Fetched server agent held names wanted before after result → GoesOn before after
+fetched_goes_on (listing.not_given error before after given) = contents_go_on given
+fetched_goes_on (listing.laid fetched before after given) = contents_go_on given
+fetched_goes_on (listing.no_memory_to_lay fetched before after given) = contents_go_on given
 
 pub listed_goes_on : {meta : Meta} {server : Server} {agent : ℕ} {held : List Part} {before after : LinkView} {result : Result (List Part) PeerError}
     → Listed meta server agent held before after result → GoesOn before after
 listed_goes_on {server = server} (listing.not_told names error before after asked queries) = asks_goes_on server _ _ before after (Err error) queries
 listed_goes_on {server = server} (listing.answered names fetches before mid after result asked queries given) =
-    on_and_on before mid after (asks_goes_on server _ _ before mid (Ok fetches) queries) (contents_go_on given)
+    on_and_on before mid after (asks_goes_on server _ _ before mid (Ok fetches) queries) (fetched_goes_on given)
 listed_goes_on (listing.no_memory view) = stays view
 
 module _ {S : Type 0} {packages : S → Option (List Package)} {faults : S → ℕ} {server : Server} where

@@ -1,13 +1,15 @@
 pub mod AcceptedParts
 pub mod AddedPackages
-pub mod AskedNames
 pub mod Exits
 pub mod FoldSizes
 pub mod GoingOn
+pub mod LaidParts
 pub mod ListRows
 pub mod ListedParts
 pub mod PackageRows
+pub mod PartNames
 pub mod PartRows
 pub mod PullRows
 pub mod ServedPulls
+pub mod PushedLists
 pub mod Since

@@ -24,19 +24,19 @@ use Rattle.node_pull.specs.declared.error.PullFault.{PullFault}
 use Rattle.node_pull.specs.declared.error.PullFault.TheVariants.{Memory}
 use Rattle.node_pull.specs.declared.modules.Module.{Module}
 use Rattle.node_pull.specs.Contents as contents
-use Rattle.node_pull.specs.Contents.{Contents, PartFor, before_others}
+use Rattle.node_pull.specs.Contents.{AsksContent, Contents, to_fetch}
 use Rattle.node_pull.specs.Errors.{error_of, staging_error, told_as}
 use Rattle.node_pull.specs.Listing as listing
-use Rattle.node_pull.specs.Listing.{Listed}
+use Rattle.node_pull.specs.Listing.{Fetched, Listed}
 use Rattle.node_pull.specs.Marks.{mark_of}
-use Rattle.node_pull.specs.Names.{registered_names}
+use Rattle.node_pull.specs.Names.{asked_of, registered_names}
 use Rattle.node_pull.specs.Packages as rows
 use Rattle.node_pull.specs.Packages.{OnePackage, Packages, modules_of}
 use Rattle.node_pull.specs.Pulling as pulling
 use Rattle.node_pull.specs.Pulling.{Pulled}
 use Rattle.node_pull.specs.Serving.{RegistrationsSucceed, AlwaysAccepts, IsHeard, PullsSucceed, Serves}
 use Rattle.node_pull.specs.Views.{MadeSince}
-use Rattle.node_pull.proofs.GoingOn.{asks_goes_on, listed_goes_on, on_and_on, package_goes_on, part_goes_on, stays}
+use Rattle.node_pull.proofs.GoingOn.{asks_goes_on, listed_goes_on, on_and_on, package_goes_on, stays}
 use Rattle.node_pull.proofs.Since.{any_one, since_before, since_then}
 
 memory_of : (error : PeerError) → (error ≢ peers.Memory → ⊥) → error ≡ peers.Memory
@@ -139,34 +139,35 @@ module _ (meaning : OneMeaning) where
   -- ---- the list of a pull
 
   module _ (meta : Meta) (server : Server) (agent : ℕ) (held : List Part) (begin end : LinkView) (serves : Serves meta server agent held begin end) where
-    part_refused : (name : List ℕ) (fetches : List Bool) (before after : LinkView) (result : Result Part PeerError) (error : PeerError) → GoesOn begin before → GoesOn after end
-        → PartFor server agent held name fetches before after result → result ≡ Err error → error ≡ peers.Memory
-    part_refused name fetches _ _ _ error first last (contents.is_kept part view kept) is = absurd (ok_not_err part error is)
-    part_refused name fetches _ _ _ error first last (contents.is_fetched before after result none asks named) is =
-        asked_refused server begin end serves.heard (content_request server agent name) (GivesPart name) before after error (part_excludes name) (serves.contents name) first last
-        (subst (λ (r : Result Part PeerError). Asks server (content_request server agent name) (GivesPart name) before after r) is asks)
-    part_refused name fetches _ _ _ error first last (contents.out_of_memory view) is = sym (err_same peers.Memory error is)
+    content_refused : (name : List ℕ) (before after : LinkView) (error : PeerError) → GoesOn begin before → GoesOn after end
+        → AsksContent server agent name before after (Err error) → error ≡ peers.Memory
+    content_refused name before after error first last asks =
+        asked_refused server begin end serves.heard (content_request server agent name) (GivesPart name) before after error (part_excludes name) (serves.contents name) first last asks
 
-    others_refused : (part : Part) (others : Result (List Part) PeerError) (error : PeerError) → before_others part others ≡ Err error → others ≡ Err error
-    others_refused part (Ok parts) error is = absurd (cc is)
-    others_refused part (Err e) error is = is
+    contents_refused : (names : List (List ℕ)) (before after : LinkView) (result : Result (List Part) PeerError) (error : PeerError) → GoesOn begin before → GoesOn after end
+        → Contents server agent names before after result → result ≡ Err error → error ≡ peers.Memory
+    contents_refused _ _ _ _ error first last (contents.no_more view) is = absurd (cc is)
+    contents_refused _ _ _ _ error first last (contents.one_more name names part parts before mid after asks named rest) is = absurd (cc is)
+    contents_refused _ _ _ _ error first last (contents.ended name names e before after asks) is =
+        sym (err_same e error is) ∙ content_refused name before after e first last asks
+    contents_refused _ _ _ _ error first last (contents.ended_later name names part e before mid after asks rest) is =
+        contents_refused names mid after (Err e) error (on_and_on begin before mid first (asks_goes_on server _ _ before mid (Ok part) asks)) last rest is
+    contents_refused _ _ _ _ error first last (contents.no_memory names view) is = sym (err_same peers.Memory error is)
 
-    contents_refused : (names : List (List ℕ)) (fetches : List Bool) (before after : LinkView) (result : Result (List Part) PeerError) (error : PeerError) → GoesOn begin before → GoesOn after end
-        → Contents server agent held names fetches before after result → result ≡ Err error → error ≡ peers.Memory
-    contents_refused _ _ _ _ _ error first last (contents.no_more fetches view) is = absurd (cc is)
-    contents_refused _ _ _ _ _ error first last (contents.one_more name names fetches part before mid after others for rest) is =
-        contents_refused names _ mid after others error (on_and_on begin before mid first (part_goes_on for)) last rest (others_refused part others error is)
-    contents_refused _ _ _ _ _ error first last (contents.ended name names fetches e before after for) is =
-        part_refused name fetches before after (Err e) error first last for (ap (λ (x : PeerError). Err x) (err_same e error is))
-    contents_refused _ _ _ _ _ error first last (contents.no_memory names fetches view) is = sym (err_same peers.Memory error is)
+    fetched_refused : (names wanted : List (List ℕ)) (before after : LinkView) (result : Result (List Part) PeerError) (error : PeerError) → GoesOn begin before → GoesOn after end
+        → Fetched server agent held names wanted before after result → result ≡ Err error → error ≡ peers.Memory
+    fetched_refused names wanted _ _ _ error first last (listing.not_given e before after given) is = contents_refused wanted before after (Err e) error first last given is
+    fetched_refused names wanted _ _ _ error first last (listing.laid fetched before after given) is = absurd (cc is)
+    fetched_refused names wanted _ _ _ error first last (listing.no_memory_to_lay fetched before after given) is = sym (err_same peers.Memory error is)
 
     listed_refused : (after : LinkView) (result : Result (List Part) PeerError) (error : PeerError) → GoesOn after end → Listed meta server agent held begin after result → result ≡ Err error
         → error ≡ peers.Memory
-    listed_refused _ _ error last (listing.not_told names e before after asked queries) is =
-        sym (err_same e error is) ∙ asked_refused server begin end serves.heard (query_request server agent (query_of (map mark_of held) names)) (Tells (map mark_of held) names) before after e
-        (told_excludes held names) (serves.tells names asked) (stays begin) last queries
-    listed_refused _ _ error last (listing.answered names fetches before mid after result asked queries given) is =
-        contents_refused names fetches mid after result error (asks_goes_on server _ _ before mid (Ok fetches) queries) last given is
+    listed_refused _ _ error last (listing.not_told names e before after are queries) is =
+        let asked = asked_of meta names in
+        sym (err_same e error is) ∙ asked_refused server begin end serves.heard (query_request server agent (query_of (map mark_of held) asked)) (Tells (map mark_of held) asked) before after e
+        (told_excludes held asked) (serves.tells names are) (stays begin) last queries
+    listed_refused _ _ error last (listing.answered names fetches before mid after result are queries given) is =
+        fetched_refused names (to_fetch (asked_of meta names) fetches) mid after result error (asks_goes_on server _ _ before mid (Ok fetches) queries) last given is
     listed_refused _ _ error last (listing.no_memory view) is = sym (err_same peers.Memory error is)
 
     -- ---- the packages

@@ -1,6 +1,7 @@
 pub mod Contents
 pub mod Errors
 pub mod Laws
+pub mod Laying
 pub mod Listing
 pub mod Marks
 pub mod Names

@@ -21,7 +21,7 @@ use Rattle.node_pull.specs.declared.error.PullFault.TheVariants.{Memory}
 use Rattle.node_pull.specs.declared.modules.Module.{Module}
 use Rattle.node_pull.specs.Listing.{Listed}
 use Rattle.node_pull.specs.Marks.{mark_of}
-use Rattle.node_pull.specs.Names.{AreAsked, registered_names}
+use Rattle.node_pull.specs.Names.{ArePartNames, asked_of, registered_names}
 use Rattle.node_pull.specs.Pulling.{Pulled}
 use Rattle.node_pull.specs.Registering.{Registers}
 
@@ -52,12 +52,12 @@ pub record AcceptsRegistration (meta : Meta) (server : Server) (agent : ℕ) (na
 abbrev pub MayBeStaged : Meta → List Part → Type 0
 MayBeStaged meta parts = AreFitting meta parts × (bytes_of parts ≤ MAX_BYTES)
 
--- It says of each name that is asked for whether its content is to be fetched, and gives each content and each package that it is asked for
+-- It says of each name that is asked about whether its content is to be fetched, and gives each content and each package that it is asked for
 -- under the digest that it announces; and the parts that its answers come to may be staged.
 pub record Serves (meta : Meta) (server : Server) (agent : ℕ) (held : List Part) (before after : LinkView) : Type 0 where
   pub heard : IsHeard server before
-  pub tells : (names : List (List ℕ)) → AreAsked meta names
-      → AlwaysAccepts server (query_request server agent (query_of (map mark_of held) names)) (Tells (map mark_of held) names) before after
+  pub tells : (names : List (List ℕ)) → ArePartNames meta names
+      → AlwaysAccepts server (query_request server agent (query_of (map mark_of held) (asked_of meta names))) (Tells (map mark_of held) (asked_of meta names)) before after
   pub contents : (name : List ℕ) → AlwaysAccepts server (content_request server agent name) (GivesPart name) before after
   pub staged : (mid : LinkView) (parts : List Part) → Listed meta server agent held before mid (Ok parts) → GoesOn mid after → MayBeStaged meta parts
   pub packages : (wanted : Module) → AlwaysAccepts server (module_request server wanted.name wanted.version) GivesBody before after

@@ -1,25 +1,26 @@
 //! The list of parts that a server's answers come to.
-ghost use Rattle.std.specs.Prelude.{◌≡◌, IfOk, option_copied};
+ghost use Rattle.std.specs.Prelude.{◌≡◌, ◌++◌, IfOk};
 ghost use Rattle.pull_client.specs.Content.{items_in};
 ghost use Rattle.node_state.specs.Lists.{AreNamed};
 ghost use Rattle.node_state.specs.Metas.{IsNodeMeta};
-ghost use Rattle.mof_values.specs.Fold.{same_name};
-ghost use Rattle.node_pull.specs.Contents.{ContentsAfter, PartFor, kept_part, later_answers, part_under};
-ghost use Rattle.node_pull.specs.Listing.{Listed};
+ghost use Rattle.node_pull.specs.Contents.{ContentsAfter, to_fetch};
+ghost use Rattle.node_pull.specs.Listing.{Fetched, Listed};
 ghost use Rattle.node_pull.specs.Names.{CanAsk};
 ghost use Rattle.dsc_outside.specs.LinkView.{view_of};
 
+use crate::laying::laid_over;
 use crate::marks::marks_of;
-use crate::names::names_asked;
+use crate::names::{asked_of, part_names};
 use dsc_outside::Link;
 use meta_config::{Meta, Server};
-use mof_values::{Text, folds_equal};
+use mof_values::Text;
 use partial_merge::Part;
 use pull_client::{PeerError, ask, fetch};
-use std::alloc::Global;
+use std::alloc::{AllocError, Global};
 
-/// Asks the server once about all names of the meta-configuration, and gives the part under each: fetched, where the server says
-/// so, or as it is held.
+/// Asks the server once about the names of the meta-configuration whose parts are pulled, and fetches each content that
+/// the server says is to be fetched. The list has the fetched parts, and for each other name the part that is held, where
+/// there is one.
 pub(crate) fn listed<L: Link>(
     alloc: Global,
     link: &mut L,
@@ -35,114 +36,72 @@ pub(crate) fn listed<L: Link>(
     ensures becomes { L.may_become link.old link.new }
     ensures named { IfOk result (λ parts. AreNamed parts.items) }
 {
-    let names = names_asked(alloc, meta)?;
+    let names = part_names(alloc, meta)?;
+    let asked = asked_of(alloc, meta, &names)?;
     let marks = marks_of(alloc, held)?;
-    match ask(alloc, link, server, agent, &marks, &names) {
-        Ok(fetches) => contents(
-            alloc,
-            link,
-            server,
-            agent,
-            held,
-            &names,
-            &fetches,
-            Vec::new(alloc),
-        ),
+    match ask(alloc, link, server, agent, &marks, &asked) {
+        Ok(fetches) => fetched(alloc, link, server, agent, held, &names, &asked, &fetches),
         Err(error) => Err(error),
     }
 }
 
-// The parts of these names, after those of earlier ones.
-fn contents<L: Link>(
+// The contents that are to be fetched, laid over the parts that are held.
+fn fetched<L: Link>(
     alloc: Global,
     link: &mut L,
     server: &Server,
     agent: u128,
     held: &[Part],
     names: &[Text],
+    asked: &[Text],
     fetches: &[bool],
+) -> Result<Vec<Part>, PeerError>
+    ensures fetched { Fetched server.now agent held.now names.now (to_fetch asked.now fetches.now)
+        (view_of L.Link link.old) (view_of L.Link link.new) (items_in result (λ v. v.items)) }
+    ensures becomes { L.may_become link.old link.new }
+{
+    let wanted = to_fetch(alloc, asked, fetches)?;
+    match contents(alloc, link, server, agent, &wanted, Vec::new(alloc)) {
+        Ok(parts) => Ok(laid_over(alloc, names, &parts, held)?),
+        Err(error) => Err(error),
+    }
+}
+
+// Those of the names whose content is to be fetched.
+fn to_fetch(alloc: Global, names: &[Text], fetches: &[bool]) -> Result<Vec<Text>, AllocError>
+    ensures { IfOk result (λ wanted. wanted.items ≡ to_fetch names.now fetches.now) }
+{
+    let mut wanted = Vec::new(alloc);
+    let (mut left, mut answers) = (names, fetches);
+    while let ([name, rest @ ..], [fetch, others @ ..]) = (left, answers) {
+        if *fetch {
+            wanted.push(name.copy()?)?;
+        }
+        (left, answers) = (rest, others);
+    }
+    Ok(wanted)
+}
+
+// The contents of these names, after those of earlier ones.
+fn contents<L: Link>(
+    alloc: Global,
+    link: &mut L,
+    server: &Server,
+    agent: u128,
+    names: &[Text],
     mut earlier: Vec<Part>,
 ) -> Result<Vec<Part>, PeerError>
-    ensures contents { ContentsAfter server.now agent held.now names.now fetches.now earlier.items
+    ensures contents { ContentsAfter server.now agent names.now earlier.items
         (view_of L.Link link.old) (view_of L.Link link.new) (items_in result (λ v. v.items)) }
     ensures becomes { L.may_become link.old link.new }
 {
     let [name, rest @ ..] = names else {
         return Ok(earlier);
     };
-    let part = match part_for(alloc, link, server, agent, held, name, fetches) {
+    let part = match fetch(alloc, link, server, agent, name) {
         Ok(part) => part,
         Err(error) => return Err(error),
     };
     earlier.push(part)?;
-    contents(
-        alloc,
-        link,
-        server,
-        agent,
-        held,
-        rest,
-        later_answers(fetches),
-        earlier,
-    )
-}
-
-// The part under the next name: the one that is kept, or else the one that is fetched.
-fn part_for<L: Link>(
-    alloc: Global,
-    link: &mut L,
-    server: &Server,
-    agent: u128,
-    held: &[Part],
-    name: &Text,
-    fetches: &[bool],
-) -> Result<Part, PeerError>
-    ensures part { PartFor server.now agent held.now name.now fetches.now (view_of L.Link link.old)
-        (view_of L.Link link.new) result }
-    ensures becomes { L.may_become link.old link.new }
-{
-    match kept_part(held, name, fetches) {
-        Some(part) => Ok(part.copy()?),
-        None => fetch(alloc, link, server, agent, name),
-    }
-}
-
-// The part that is kept under the next name.
-fn kept_part<'a>(held: &'a [Part], name: &Text, fetches: &[bool]) -> Option<&'a Part>
-    ensures { option_copied result ≡ kept_part held.now name.now fetches.now }
-{
-    match fetches {
-        [false, ..] => part_under(held, name),
-        _ => None,
-    }
-}
-
-// The first part that is held under the name, by fold.
-fn part_under<'a>(held: &'a [Part], name: &Text) -> Option<&'a Part>
-    ensures { option_copied result ≡ part_under held.now name.now }
-{
-    let mut left = held;
-    while let [part, rest @ ..] = left {
-        if is_under(part, name) {
-            return Some(part);
-        }
-        left = rest;
-    }
-    None
-}
-
-// Names of parts compare by fold.
-fn is_under(part: &Part, name: &Text) -> bool
-    ensures { result ≡ same_name part.now.name name.now }
-{
-    folds_equal(part.name.as_slice(), name.as_slice())
-}
-
-fn later_answers(fetches: &[bool]) -> &[bool]
-    ensures { result.now ≡ later_answers fetches.now }
-{
-    match fetches {
-        [_, rest @ ..] => rest,
-        [] => fetches,
-    }
+    contents(alloc, link, server, agent, rest, earlier)
 }

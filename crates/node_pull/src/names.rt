@@ -1,8 +1,8 @@
-//! The names of configurations that a node registers, and that it asks for.
+//! The names of configurations that a node registers, that its parts have, and that it asks about.
 ghost use Rattle.std.specs.Prelude.{◌≡◌, ◌<◌, ◌++◌, All, IfOk, filter, length, map, not};
 ghost use Rattle.meta_config.specs.Parts.{IsOrderOfParts};
 ghost use Rattle.node_state.specs.Metas.{IsNodeMeta};
-ghost use Rattle.node_pull.specs.Names.{AreAsked, AreNamesAt, is_among, registered_names};
+ghost use Rattle.node_pull.specs.Names.{AreNamesAt, ArePartNames, asked_of, is_among, is_asked, registered_names};
 
 use depend_order::OrderError;
 use meta_config::{Meta, Partial, parts_order};
@@ -31,11 +31,11 @@ fn is_among(names: &[Text], name: &Text) -> bool
     names.iter().any(|other| *name == *other)
 }
 
-/// The names that a node asks for: those of its partial configurations, in their order, or, where none is declared, its
-/// ConfigurationNames.
-pub(crate) fn names_asked(alloc: Global, meta: &Meta) -> Result<Vec<Text>, Memory>
+/// The names that the parts of a node have: those of its partial configurations, in their order, or, where none is declared,
+/// its ConfigurationNames.
+pub(crate) fn part_names(alloc: Global, meta: &Meta) -> Result<Vec<Text>, Memory>
     requires { IsNodeMeta meta.now }
-    ensures { IfOk result (λ names. AreAsked meta.now names.items) }
+    ensures { IfOk result (λ names. ArePartNames meta.now names.items) }
 {
     let partials = meta.partials.as_slice();
     if partials.is_empty() {
@@ -73,4 +73,28 @@ fn copies(alloc: Global, texts: &[Text]) -> Result<Vec<Text>, AllocError>
     ensures { IfOk result (λ copies. copies.items ≡ texts.now) }
 {
     texts.to_vec(alloc)
+}
+
+/// Those of the names that the server is asked about: all whose parts are pulled.
+pub(crate) fn asked_of(alloc: Global, meta: &Meta, names: &[Text]) -> Result<Vec<Text>, AllocError>
+    ensures { IfOk result (λ asked. asked.items ≡ asked_of meta.now names.now) }
+{
+    let mut asked = Vec::new(alloc);
+    let mut left = names;
+    while let [name, rest @ ..] = left {
+        if is_asked(meta, name) {
+            asked.push(name.copy()?)?;
+        }
+        left = rest;
+    }
+    Ok(asked)
+}
+
+fn is_asked(meta: &Meta, name: &Text) -> bool
+    ensures { result ≡ is_asked meta.now name.now }
+{
+    match meta.partial_named(name) {
+        Some(partial) => partial.is_pulled(meta),
+        None => true,
+    }
 }

@@ -37,9 +37,9 @@ pub struct PullOutcome {
     pub document: Option<OrderedDocument>,
 }
 
-/// Asks the server once about all names of the meta-configuration, fetches each content that it is to fetch, and each package that
-/// the machine does not have of those that the new list's document names; and gives the new list of parts, where its names and digests are
-/// not those of the parts that are held, with the document that was merged for it.
+/// Asks the server once about the names of the meta-configuration whose parts are pulled, fetches each content that it is to
+/// fetch, and each package that the machine does not have of those that the new list's document names; and gives the new list
+/// of parts, where its names and digests are not those of the parts that are held, with the document that was merged for it.
 ///
 /// # Errors
 ///

@@ -2,4 +2,5 @@ mod made;
 mod packages;
 mod pulling;
 mod pulls;
+mod pushes;
 mod registering;

@@ -42,6 +42,10 @@ is_partial partials name = list_any (λ partial. same_name name partial.name) pa
 abbrev pub part_name : List (List ℕ) → Resource → List ℕ
 part_name parts resource = unwrap_or (slice_get parts resource.part) []
 
+-- a partial configuration that has a part depends on the name
+abbrev pub is_needed : List Partial → List (List ℕ) → List ℕ → Bool
+is_needed partials parts name = list_any (λ partial. has_part parts partial && list_any (same_name name) partial.depends) partials
+
 -- a partial configuration other than that of the name claims the type
 abbrev pub is_taken : List Partial → List ℕ → List ℕ → Bool
 is_taken partials name type = list_any (λ partial. not (same_name name partial.name) && claims type partial) partials
@@ -52,11 +56,17 @@ is_taken partials name type = list_any (λ partial. not (same_name name partial.
 abbrev pub wrong_count : List (List ℕ) → Option FitError
 wrong_count parts = if length parts == 1 then None else Some (PartCount (length parts))
 
-abbrev pub missing_part : List Partial → List (List ℕ) → Option FitError
-missing_part partials parts = option_map (λ place. MissingPart place) (position (λ partial. not (has_part parts partial)) partials)
-
+-- the first part that is no partial configuration
 abbrev pub strange_part : List Partial → List (List ℕ) → Option FitError
 strange_part partials parts = option_map (λ place. StrangePart place) (position (λ name. not (is_partial partials name)) parts)
+
+-- the partial configuration has no part, and one that has a part depends on it
+abbrev pub lacks_part : List Partial → List (List ℕ) → Partial → Bool
+lacks_part partials parts partial = not (has_part parts partial) && is_needed partials parts partial.name
+
+-- the first one that lacks its part
+abbrev pub missing_part : List Partial → List (List ℕ) → Option FitError
+missing_part partials parts = option_map (λ place. MissingPart place) (position (lacks_part partials parts) partials)
 
 -- the first resource, from a place on, whose type another partial configuration claims
 abbrev pub taken_from : List Partial → List (List ℕ) → ℕ → List Resource → Option FitError
@@ -67,8 +77,8 @@ taken_from partials parts place (resource ∷ resources) =
 
 abbrev pub misfit_of_parts : List Partial → Document → Option FitError
 misfit_of_parts partials document =
-    option_or (missing_part partials document.parts)
-    (option_or (strange_part partials document.parts)
+    option_or (strange_part partials document.parts)
+    (option_or (missing_part partials document.parts)
     (taken_from partials document.parts 0 document.resources))
 
 -- why the document does not fit

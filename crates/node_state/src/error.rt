@@ -1,7 +1,8 @@
 //! Why parts are not staged.
 ghost use Rattle.std.specs.Prelude.{◌≡◌};
-ghost use Rattle.node_state.specs.declared.error.StageError.TheVariants.{Memory};
+ghost use Rattle.node_state.specs.declared.error.StageError.TheVariants.{Memory as OutOfMemory};
 
+use mof_values::Memory;
 use partial_merge::MergeError;
 use std::alloc::{AllocError, AllocFailed};
 
@@ -11,11 +12,11 @@ pub enum FitError {
     /// No partial configuration is declared, and the parts are not one but this many.
     PartCount { found: u32 },
 
-    /// The first partial configuration that has no part.
-    MissingPart { partial: u32 },
-
     /// The first part that is no partial configuration.
     StrangePart { part: u32 },
+
+    /// The first partial configuration that has no part and that one which has a part depends on.
+    MissingPart { partial: u32 },
 
     /// The first resource of a type that another partial configuration claims: its part's place in the list of parts, and its own
     /// place in the document.
@@ -38,7 +39,7 @@ pub enum StageError {
 }
 
 impl From<AllocError> for StageError {
-    ghost from_gives = { λ _ e. e ≡ Memory };
+    ghost from_gives = { λ _ e. e ≡ OutOfMemory };
 
     fn from(_: AllocError) -> Self {
         StageError::Memory
@@ -46,9 +47,17 @@ impl From<AllocError> for StageError {
 }
 
 impl<T: Drop> From<AllocFailed<T>> for StageError {
-    ghost from_gives = { λ _ e. e ≡ Memory };
+    ghost from_gives = { λ _ e. e ≡ OutOfMemory };
 
     fn from(_: AllocFailed<T>) -> Self {
+        StageError::Memory
+    }
+}
+
+impl From<Memory> for StageError {
+    ghost from_gives = { λ _ e. e ≡ OutOfMemory };
+
+    fn from(_: Memory) -> Self {
         StageError::Memory
     }
 }

@@ -60,7 +60,7 @@ pub enum Why {
     /// The refresh mode is Disabled.
     Disabled,
 
-    /// The refresh mode is not Pull.
+    /// The refresh mode is not Pull or, where partial configurations are declared, that of none of them is.
     NotPull,
 
     /// The meta-configuration has no server.
@@ -72,8 +72,14 @@ pub enum Why {
     /// No partial configuration is declared, and not exactly one name.
     NoName,
 
-    /// Partial configurations are declared.
+    /// Partial configurations are declared, and none is named.
     PartsDeclared,
+
+    /// No partial configuration has the name of the part.
+    NoPartial,
+
+    /// The mode of the partial configuration is not Push.
+    PartNotPush,
 
     /// There is no Previous.
     NoPrevious,

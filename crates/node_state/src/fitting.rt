@@ -1,16 +1,17 @@
 //! Whether a document fits a meta-configuration.
 ghost use Rattle.std.specs.Prelude.{◌≡◌, ◌<◌, ◌^◌, ℕ, not, ◌&&◌, ◌==◌, None, Some, ◌≤◌, IfOk, IfErr, IfSome, List, drop, length, unwrap_or, slice_get, if◌then◌else◌};
 ghost use Rattle.std.specs.List.{list_any, position, prefix_len};
-ghost use Rattle.node_state.specs.Fits.{claimed, claims, has_part, is_backslash, is_inside, is_partial, is_taken, misfit, misfit_of_parts, missing_part, part_name, strange_part, taken_from, type_of, wrong_count};
+ghost use Rattle.mof_values.specs.Fold.{same_name};
+ghost use Rattle.node_state.specs.Fits.{claimed, claims, has_part, is_backslash, is_inside, is_needed, is_partial, is_taken, lacks_part, misfit, misfit_of_parts, missing_part, part_name, strange_part, taken_from, type_of, wrong_count};
 
 use crate::FitError;
 use dsc_document::{Document, Resource};
 use meta_config::{Meta, Partial};
-use mof_values::{Text, folds_equal};
+use mof_values::{Text, folds_equal, same_text};
 
-/// Returns whether the document of parts fits the meta-configuration: one part where no partial configuration is declared, else a
-/// part for each partial configuration, no other part, and no resource whose type another partial configuration claims. Takes no
-/// memory.
+/// Returns whether the document of parts fits the meta-configuration: one part where no partial configuration is declared; else each
+/// part that of a partial configuration, a part for each one that such a partial configuration depends on, and no resource whose
+/// type another partial configuration claims. Takes no memory.
 ///
 /// # Errors
 ///
@@ -48,11 +49,11 @@ fn misfit_of_parts(partials: &[Partial], document: &Document) -> Option<FitError
     ensures { result ≡ misfit_of_parts partials.now document.now }
 {
     let parts = document.parts.as_slice();
-    if let Some(missing) = missing_part(partials, parts) {
-        return Some(missing);
-    }
     if let Some(strange) = strange_part(partials, parts) {
         return Some(strange);
+    }
+    if let Some(missing) = missing_part(partials, parts) {
+        return Some(missing);
     }
     first_taken(partials, parts, document.resources.as_slice())
 }
@@ -70,26 +71,6 @@ fn wrong_count(parts: &[Text]) -> Option<FitError>
     }
 }
 
-fn missing_part(partials: &[Partial], parts: &[Text]) -> Option<FitError>
-    requires { length partials.now < 2 ^ 32 }
-    ensures { result ≡ missing_part partials.now parts.now }
-{
-    let place = first_missing(partials, parts)?;
-    Some(FitError::MissingPart {
-        partial: place as u32,
-    })
-}
-
-fn first_missing(partials: &[Partial], parts: &[Text]) -> Option<usize>
-    ensures place { result ≡
-        position (λ partial. not (has_part parts.now partial)) partials.now }
-    ensures within { IfSome result (λ place. place < length partials.now) }
-{
-    partials
-        .iter()
-        .position(|partial| !has_part(parts, partial))
-}
-
 fn strange_part(partials: &[Partial], parts: &[Text]) -> Option<FitError>
     requires { length parts.now < 2 ^ 32 }
     ensures { result ≡ strange_part partials.now parts.now }
@@ -103,6 +84,26 @@ fn first_strange(partials: &[Partial], parts: &[Text]) -> Option<usize>
     ensures within { IfSome result (λ place. place < length parts.now) }
 {
     parts.iter().position(|name| !is_partial(partials, name))
+}
+
+fn missing_part(partials: &[Partial], parts: &[Text]) -> Option<FitError>
+    requires { length partials.now < 2 ^ 32 }
+    ensures { result ≡ missing_part partials.now parts.now }
+{
+    let place = first_missing(partials, parts)?;
+    Some(FitError::MissingPart {
+        partial: place as u32,
+    })
+}
+
+fn first_missing(partials: &[Partial], parts: &[Text]) -> Option<usize>
+    ensures place { result ≡
+        position (lacks_part partials.now parts.now) partials.now }
+    ensures within { IfSome result (λ place. place < length partials.now) }
+{
+    partials
+        .iter()
+        .position(|partial| lacks_part(partials, parts, partial))
 }
 
 fn first_taken(partials: &[Partial], parts: &[Text], resources: &[Resource]) -> Option<FitError>
@@ -126,6 +127,29 @@ fn first_taken(partials: &[Partial], parts: &[Text], resources: &[Resource]) -> 
         left = rest;
     }
     None
+}
+
+// The partial configuration has no part, and one that has a part depends on it.
+fn lacks_part(partials: &[Partial], parts: &[Text], partial: &Partial) -> bool
+    ensures { result ≡ lacks_part partials.now parts.now partial.now }
+{
+    !has_part(parts, partial) && is_needed(partials, parts, &partial.name)
+}
+
+fn is_needed(partials: &[Partial], parts: &[Text], name: &Text) -> bool
+    ensures { result ≡ is_needed partials.now parts.now name.now }
+{
+    partials.iter().any(|partial| has_part(parts, partial) && depends_on(partial, name))
+}
+
+fn depends_on(partial: &Partial, name: &Text) -> bool
+    ensures { result ≡ list_any (same_name name.now) partial.now.depends }
+{
+    partial
+        .depends
+        .as_slice()
+        .iter()
+        .any(|other| same_text(name, other))
 }
 
 fn has_part(parts: &[Text], partial: &Partial) -> bool

@@ -28,6 +28,10 @@ pub record Declares (bytes : List ℕ) (document : Document) : Type 0 where
   pub spelled : Reads bytes instances
   pub rules : PartRules instances document
 
+-- the bytes declare some document
+abbrev pub DeclaresDocument : List ℕ → Type 0
+DeclaresDocument bytes = (document : Document) × Declares bytes document
+
 -- the part's bytes declare the document. That its digest is the digest of its bytes is a fact of every part
 abbrev pub IsWhole : Part → Document → Type 0
 IsWhole part document = Declares part.bytes document

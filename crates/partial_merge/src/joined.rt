@@ -85,8 +85,8 @@ fn push_resources(
     Ok(())
 }
 
-// The document that the text of the part at this place declares.
-fn declared(alloc: Global, place: u32, bytes: &[u8]) -> Result<Document, MergeError>
+/// The document that the text of the part at this place declares.
+pub fn declared(alloc: Global, place: u32, bytes: &[u8]) -> Result<Document, MergeError>
     ensures whole { IfOk result (Declares bytes.now) }
     ensures refused { IfErr result (IsFaultAt place bytes.now) }
 {

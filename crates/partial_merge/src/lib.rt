@@ -23,5 +23,5 @@ pub use depend_order::OrderedDocument;
 pub use dsc_document::Spot;
 pub use error::{MergeError, PartFault};
 pub use laws::{merge_laws, one_part_laws};
-pub use merging::{merge, merge_ordered, merge_text};
+pub use merging::{check_text, merge, merge_ordered, merge_text};
 pub use part::{Part, part_of};

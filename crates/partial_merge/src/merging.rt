@@ -3,11 +3,11 @@ ghost use Rattle.std.specs.Prelude.{◌<◌, ◌^◌, [], ◌∷◌, IfErr, IfOk
 ghost use Rattle.dsc_document.specs.Sizes.{DocumentInSize};
 ghost use Rattle.depend_order.specs.Ordered.{IsOrdered};
 ghost use Rattle.partial_merge.specs.Merged.{Merged};
-ghost use Rattle.partial_merge.specs.Parts.{text_part};
-ghost use Rattle.partial_merge.specs.Refused.{Refused};
+ghost use Rattle.partial_merge.specs.Parts.{DeclaresDocument, text_part};
+ghost use Rattle.partial_merge.specs.Refused.{IsFaultAt, Refused};
 
 use crate::checked::checked;
-use crate::joined::{document_of, joined};
+use crate::joined::{declared, document_of, joined};
 use crate::part_names::check_names;
 use crate::{MergeError, Part};
 use depend_order::OrderedDocument;
@@ -58,4 +58,17 @@ pub fn merge_text(alloc: Global, name: &Text, bytes: &[u8]) -> Result<OrderedDoc
 {
     let document = document_of(alloc, name, bytes)?;
     checked(alloc, document)
+}
+
+/// Checks that the text declares a document by the rules of parts, whatever its resources are and depend on elsewhere.
+///
+/// # Errors
+///
+/// `Part` with index 0 and the fault that [`merge`] reports of a part with this text; `Memory`.
+pub fn check_text(alloc: Global, bytes: &[u8]) -> Result<(), MergeError>
+    ensures declared { IfOk result (λ _. DeclaresDocument bytes.now) }
+    ensures refused { IfErr result (IsFaultAt 0 bytes.now) }
+{
+    declared(alloc, 0, bytes)?;
+    Ok(())
 }

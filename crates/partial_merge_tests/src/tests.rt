@@ -427,3 +427,24 @@ fn a_part_with_a_fault_is_refused(rt: HostRuntime) -> Result<(), Fail> {
     }
     Ok(())
 }
+
+#[test]
+fn a_text_with_a_fault_is_refused(rt: HostRuntime) {
+    for (bytes, wanted) in faults() {
+        let found = check_text(rt.alloc(), bytes);
+        assert!(rt;
+            matches!(&found, Err(MergeError::Part { index: 0, fault }) if *fault == wanted),
+            "{wanted:?}"
+        );
+    }
+}
+
+// A text of a part may depend on what only another part declares.
+const DEPENDENT: &str =
+    "instance of OMI_ConfigurationDocument{};instance of B{ResourceID=\"[B]b\";DependsOn=\"[B]z\";};";
+
+#[test]
+fn a_text_without_a_fault_is_taken(rt: HostRuntime) {
+    let found = check_text(rt.alloc(), DEPENDENT.as_bytes());
+    assert!(rt; found == Ok(()), "{found:?}");
+}

@@ -1,3 +1,4 @@
+pub mod Answered
 pub mod Compact
 pub mod Counts
 pub mod CountsSizes

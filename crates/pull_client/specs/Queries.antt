@@ -1,5 +1,6 @@
 -- Queries of a node, and what the answers say.
-use Rattle.std.specs.Prelude.{◌≡◌, ℕ, Bool, true, false, ◌&&◌, ◌||◌, ◌==◌, List, [], ◌∷◌, ◌++◌, map, length, nat_le, bytes_eq, codes, if◌then◌else◌, Option, Some, None, is_some, Result, Ok, Err}
+use Rattle.std.specs.Prelude.{◌≡◌, ℕ, Bool, true, false, ◌&&◌, ◌||◌, ◌==◌, List, [], ◌∷◌, ◌++◌, map, length, nat_le, bytes_eq, codes, if◌then◌else◌, Option, Some, None, is_some, IsTrue, Result, Ok, Err}
+use Rattle.std.specs.List.{AllZip}
 use Rattle.mof_values.specs.Fold.{same_name}
 use Rattle.shared_key.specs.Checksum.{checksum_of}
 use Rattle.report_log.specs.declared.report.PartMark.{PartMark}
@@ -94,6 +95,10 @@ BodyTells false held names body result = result ≡ Err TooLong
 -- what a reply says
 abbrev pub Tells : List PartMark → List (List ℕ) → Reply → Result (List Bool) PeerError → Type 0
 Tells held names reply result = BodyTells (nat_le (length reply.body) MAX_ACTION_ANSWER) held names reply.body result
+
+-- an answer for each of the names; where the content is not to be fetched, something is held under the name
+abbrev pub AreAnswers : List PartMark → List (List ℕ) → List Bool → Type 0
+AreAnswers held names fetches = AllZip (λ name fetch. fetch ≡ false → IsTrue (is_some (held_under held name))) names fetches
 
 -- ---- for private clauses
 

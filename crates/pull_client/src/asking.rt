@@ -1,9 +1,9 @@
 //! What a node asks its server about its configurations.
-ghost use Rattle.std.specs.Prelude.{◌≡◌, true};
+ghost use Rattle.std.specs.Prelude.{◌≡◌, IfOk, true};
 ghost use Rattle.dsc_outside.specs.LinkView.{view_of};
 ghost use Rattle.pull_client.specs.Asks.{Asks};
 ghost use Rattle.pull_client.specs.Content.{items_in};
-ghost use Rattle.pull_client.specs.Queries.{Tells, query_of};
+ghost use Rattle.pull_client.specs.Queries.{AreAnswers, Tells, query_of};
 ghost use Rattle.pull_client.specs.Requests.{query_request};
 
 use crate::PeerError;
@@ -17,7 +17,8 @@ use report_log::PartMark;
 use std::alloc::Global;
 
 /// Asks the server what is to be done about the configurations of these names, and gives for each name, in their order,
-/// whether its content is to be fetched. The query has the checksum of the part that is held under each name.
+/// whether its content is to be fetched; where it is not, a part is held under the name. The query has the checksum of the
+/// part that is held under each name.
 ///
 /// # Errors
 ///
@@ -37,6 +38,7 @@ pub fn ask<L: Link>(
     ensures asks { Asks server.now (query_request server.now agent (query_of held.now names.now))
         (Tells held.now names.now) (view_of L.Link link.old) (view_of L.Link link.new)
         (items_in result (λ v. v.items)) }
+    ensures answers { IfOk result (λ fetches. AreAnswers held.now names.now fetches.items) }
     ensures becomes { L.may_become link.old link.new }
     ensures unsent { server.now.https ≡ true → link.new ≡ link.old }
 {

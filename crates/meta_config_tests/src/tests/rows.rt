@@ -1,4 +1,5 @@
 //! The rows of the tests.
+use meta_config::RefreshMode;
 
 /// Settings without properties, and what is answered of them.
 pub const SETTINGS: &str = "instance of MSFT_DSCMetaConfiguration{};";
@@ -430,6 +431,20 @@ pub const ORDERS: &[(Parts, bool, &'static [u32])] = &[
     (&[("A", B), ("B", A)], true, &[0, 1]),
     (&[("A", ""), ("B", C), ("C", B)], true, &[1, 2]),
 ];
+
+/// Names, by which a partial configuration is found, with its name and its mode, or nothing, where the refresh mode is Push.
+pub const NAMED: &[(&str, Option<(&str, RefreshMode)>)] = &[
+    ("Pulled", Some(("Pulled", RefreshMode::Pull))),
+    ("pushed", Some(("Pushed", RefreshMode::Push))),
+    ("OFF", Some(("Off", RefreshMode::Disabled))),
+    ("Plain", Some(("Plain", RefreshMode::Push))),
+    ("Other", None),
+    ("", None),
+];
+
+/// A partial configuration of each mode, and one without a mode.
+pub const MODES: &str =
+    "instance of MSFT_DSCMetaConfiguration{RefreshMode=\"Push\";};instance of MSFT_PartialConfiguration{ResourceID=\"[PartialConfiguration]Pulled\";RefreshMode=\"Pull\";};instance of MSFT_PartialConfiguration{ResourceID=\"[PartialConfiguration]Pushed\";RefreshMode=\"Push\";};instance of MSFT_PartialConfiguration{ResourceID=\"[PartialConfiguration]Off\";RefreshMode=\"Disabled\";};instance of MSFT_PartialConfiguration{ResourceID=\"[PartialConfiguration]Plain\";};";
 
 pub const WRITTEN: &str =
     "instance of MSFT_PartialConfiguration{ResourceID=\"[partialconfiguration]Base\";DependsOn=\"[PartialConfiguration]App\";RefreshMode=\"pull\";};instance of MSFT_WebReportManager{ServerURL=\"HTTP://Pull/a/\";RegistrationKey=\"k\";};instance of MSFT_WebDownloadManager{ConfigurationNames={\"Web\",\"web\",\"\\x41\"};ServerURL=\"http://pull:80/a\";};instance of MSFT_DSCMetaConfiguration{RefreshMode=\"pull\";RebootNodeIfNeeded=true;};instance of MSFT_PartialConfiguration{ResourceID=\"[PartialConfiguration]App\";ExclusiveResources={\"File\",\"Log\"};};";

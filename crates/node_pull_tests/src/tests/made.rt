@@ -49,7 +49,7 @@ pub fn parts(alloc: Global, held: &[Held]) -> Result<Vec<Part>, AllocError> {
     Ok(parts)
 }
 
-fn part(alloc: Global, name: &str, content: &str) -> Result<Part, AllocError> {
+pub fn part(alloc: Global, name: &str, content: &str) -> Result<Part, AllocError> {
     let bytes = content.as_bytes().to_vec(alloc)?;
     Ok(part_of(text(alloc, name)?, bytes))
 }

@@ -1,12 +1,13 @@
 //! Pulls, and what comes of them as texts.
-ghost use Rattle.std.specs.Prelude.{IsTrue};
-ghost use Rattle.meta_config.specs.Parts.{IsMeta};
+ghost use Rattle.std.specs.Prelude.{◌≡◌, IsTrue};
+ghost use Rattle.std.specs.List.{list_any};
+ghost use Rattle.meta_config.specs.Parts.{IsMeta, is_pulled};
 ghost use Rattle.node_state.specs.Metas.{IsNodeMeta};
 ghost use Rattle.node_pull.specs.Names.{CanAsk};
 
 use super::made::{AGENT, Answer, Held, link, meta, parts};
 use memory_outside::{MemoryHost, MemoryLink};
-use meta_config::{Meta, parts_order};
+use meta_config::{Meta, Partial, parts_order};
 use mof_values::Memory;
 use node_pull::{PullFault, PullOutcome, pull};
 use partial_merge::Part;
@@ -89,11 +90,16 @@ fn of_node<M: Machine>(
 fn can_ask(meta: &Meta) -> bool
     ensures { IsTrue result → CanAsk meta.now }
 {
-    if meta.partials.as_slice().is_empty() {
-        meta.names.as_slice().len() == 1
-    } else {
-        true
+    match meta.partials.as_slice() {
+        [] => meta.names.as_slice().len() == 1,
+        partials => is_any_pulled(meta, partials),
     }
+}
+
+fn is_any_pulled(meta: &Meta, partials: &[Partial]) -> bool
+    ensures { result ≡ list_any (is_pulled meta.now) partials.now }
+{
+    partials.iter().any(|partial| partial.is_pulled(meta))
 }
 
 fn shown(alloc: Global, pulled: &Result<PullOutcome, PullFault>) -> Result<String, AllocError> {
@@ -109,7 +115,8 @@ fn shown(alloc: Global, pulled: &Result<PullOutcome, PullFault>) -> Result<Strin
     }
 }
 
-fn names_of(alloc: Global, parts: &[Part]) -> Result<String, AllocError> {
+/// The names of the parts, each with a `;`.
+pub fn names_of(alloc: Global, parts: &[Part]) -> Result<String, AllocError> {
     let mut names = String::new(alloc);
     for part in parts {
         names.push_str(part.name.to_utf8()?.as_str())?;

@@ -12,6 +12,14 @@ const SECURE: &str =
 const PARTIALS: &str =
     "instance of MSFT_WebDownloadManager{ServerURL=\"http://pull/\";ConfigurationNames={\"Web\"};};instance of MSFT_DSCMetaConfiguration{RefreshMode=\"Pull\";};instance of MSFT_PartialConfiguration{ResourceID=\"[PartialConfiguration]App\";DependsOn={\"[PartialConfiguration]Base\"};};instance of MSFT_PartialConfiguration{ResourceID=\"[PartialConfiguration]Base\";};";
 
+// Base is pulled, and App is pushed.
+const MODES: &str =
+    "instance of MSFT_WebDownloadManager{ServerURL=\"http://pull/\";};instance of MSFT_DSCMetaConfiguration{RefreshMode=\"Push\";};instance of MSFT_PartialConfiguration{ResourceID=\"[PartialConfiguration]Base\";RefreshMode=\"Pull\";};instance of MSFT_PartialConfiguration{ResourceID=\"[PartialConfiguration]App\";};";
+
+// App is pulled and depends on Base, which is pushed.
+const ON_PUSHED: &str =
+    "instance of MSFT_WebDownloadManager{ServerURL=\"http://pull/\";};instance of MSFT_DSCMetaConfiguration{RefreshMode=\"Pull\";};instance of MSFT_PartialConfiguration{ResourceID=\"[PartialConfiguration]Base\";RefreshMode=\"Push\";};instance of MSFT_PartialConfiguration{ResourceID=\"[PartialConfiguration]App\";DependsOn={\"[PartialConfiguration]Base\"};};";
+
 const A: &str =
     "instance of MSFT_LogResource{ResourceID=\"[Log]A\";Message=\"a\";};instance of OMI_ConfigurationDocument{Version=\"2.0.0\";};";
 
@@ -101,6 +109,42 @@ const PULLS: &[Row] = &[
         &[],
         1,
         "Base;App;",
+    ),
+    // A part that is pushed is not asked for, and stays.
+    (
+        MODES,
+        &[("App", A)],
+        &[Told(FETCH_ONE), Given(B)],
+        &[],
+        2,
+        "Base;App;",
+    ),
+    (
+        MODES,
+        &[("Base", B), ("app", A)],
+        &[Told(FETCH_ONE), Given(C)],
+        &[],
+        2,
+        "Base;app;",
+    ),
+    (
+        MODES,
+        &[("Base", B), ("App", A)],
+        &[Told(ONE_IS_RIGHT)],
+        &[],
+        1,
+        "nothing",
+    ),
+    // A partial configuration needs no part.
+    (MODES, &[], &[Told(FETCH_ONE), Given(B)], &[], 2, "Base;"),
+    // But where one depends on it.
+    (
+        ON_PUSHED,
+        &[],
+        &[Told(FETCH_ONE), Given(A)],
+        &[],
+        2,
+        "Refused(Fit(MissingPart { partial: 0 }))",
     ),
     (
         WEB,

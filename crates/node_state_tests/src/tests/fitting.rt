@@ -8,8 +8,8 @@ use mof_values::{Ident, Instance, Items, Text};
 use node_state::{FitError, fits};
 use std::test::Fail;
 
-// Partial configurations by their names, each with what it claims, or nothing.
-type Partials = &'static [(&'static str, &'static str)];
+// Partial configurations by their names, each with what it claims and what it depends on, or nothing.
+type Partials = &'static [(&'static str, &'static str, &'static str)];
 
 // Parts by their names.
 type Parts = &'static [&'static str];
@@ -25,28 +25,28 @@ fn texts(rt: &impl AllocGlobal, words: &[&str]) -> Result<Items<Text>, Fail> {
     Ok(Items::of(texts))
 }
 
-// The claim as a list, or none.
-fn claims(rt: &impl AllocGlobal, claim: &str) -> Result<Items<Text>, Fail> {
-    let mut claims = Vec::new(rt.alloc());
-    if !claim.is_empty() {
-        claims.push(text(rt, claim)?)?;
+// The word as a list, or none.
+fn some_text(rt: &impl AllocGlobal, word: &str) -> Result<Items<Text>, Fail> {
+    let mut words = Vec::new(rt.alloc());
+    if !word.is_empty() {
+        words.push(text(rt, word)?)?;
     }
-    Ok(Items::of(claims))
+    Ok(Items::of(words))
 }
 
-fn partial(rt: &impl AllocGlobal, name: &str, claim: &str) -> Result<Partial, Fail> {
+fn partial(rt: &impl AllocGlobal, name: &str, claim: &str, depends: &str) -> Result<Partial, Fail> {
     Ok(Partial {
         name: text(rt, name)?,
-        depends: Items::of(Vec::new(rt.alloc())),
-        exclusive: claims(rt, claim)?,
+        depends: some_text(rt, depends)?,
+        exclusive: some_text(rt, claim)?,
         refresh: None,
     })
 }
 
 fn meta(rt: &impl AllocGlobal, declared: Partials) -> Result<Meta, Fail> {
     let mut partials = Vec::new(rt.alloc());
-    for (name, claim) in declared {
-        partials.push(partial(rt, name, claim)?)?;
+    for (name, claim, depends) in declared {
+        partials.push(partial(rt, name, claim, depends)?)?;
     }
     Ok(Meta {
         partials: Items::of(partials),
@@ -106,12 +106,21 @@ fn misfit(
     Ok(fits(&meta, &document).err())
 }
 
-const BOTH: Partials = &[("Base", ""), ("App", "")];
+const BOTH: Partials = &[("Base", "", ""), ("App", "", "")];
 
-const FILES: Partials = &[("Base", "PSDesiredStateConfiguration\\File"), ("App", "")];
+const FILES: Partials = &[
+    ("Base", "PSDesiredStateConfiguration\\File", ""),
+    ("App", "", ""),
+];
 
-fn rows() -> [(Partials, Parts, Resources, Option<FitError>); 13] {
-    let missing = FitError::MissingPart { partial: 1 };
+// App depends on Base.
+const DEPENDENT: Partials = &[("Base", "File", ""), ("App", "", "base")];
+
+// Each depends on the one before it.
+const CHAIN: Partials = &[("A", "", ""), ("B", "", "A"), ("C", "", "B")];
+
+fn rows() -> [(Partials, Parts, Resources, Option<FitError>); 17] {
+    let missing = FitError::MissingPart { partial: 0 };
     let taken = FitError::ExclusiveTaken {
         part: 1,
         resource: 0,
@@ -124,8 +133,22 @@ fn rows() -> [(Partials, Parts, Resources, Option<FitError>); 13] {
             &[],
             Some(FitError::PartCount { found: 2 }),
         ),
-        (BOTH, &["Base"], &[], Some(missing)),
-        (BOTH, &["Other", "Base"], &[], Some(missing)),
+        (BOTH, &["Base"], &[], None),
+        (DEPENDENT, &["App"], &[], Some(missing)),
+        (DEPENDENT, &["Base"], &[], None),
+        (DEPENDENT, &["APP"], &[(0, "[File]X")], Some(missing)),
+        (
+            CHAIN,
+            &["C"],
+            &[],
+            Some(FitError::MissingPart { partial: 1 }),
+        ),
+        (
+            DEPENDENT,
+            &["Other", "App"],
+            &[],
+            Some(FitError::StrangePart { part: 0 }),
+        ),
         (
             BOTH,
             &["Base", "App", "Other"],
@@ -151,19 +174,19 @@ fn rows() -> [(Partials, Parts, Resources, Option<FitError>); 13] {
             }),
         ),
         (
-            &[("Base", "file"), ("App", "")],
+            &[("Base", "file", ""), ("App", "", "")],
             &["Base", "App"],
             &[(1, "[FILE]X]")],
             Some(taken),
         ),
         (
-            &[("Base", "A\\B\\File"), ("App", "")],
+            &[("Base", "A\\B\\File", ""), ("App", "", "")],
             &["Base", "App"],
             &[(1, "[File]X")],
             Some(taken),
         ),
         (
-            &[("Base", "File\\"), ("App", "")],
+            &[("Base", "File\\", ""), ("App", "", "")],
             &["Base", "App"],
             &[(1, "[File]X")],
             None,

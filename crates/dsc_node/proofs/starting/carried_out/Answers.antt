@@ -33,7 +33,7 @@ returns-in-Err-clause-goes g c =
       leaves = record { trace = c.in-Err.ensures.trace; packages = c.in-Err.ensures.packages; later = c.in-Err.ensures.later };
       ends = ends_here g.D.Disk c.requires.kept (λ from counts work unread allowed reads.
           not_brought c.args.start c.in-Err.error allowed reads brought
-          (c.silent.ensures.status ∙ c.status_of_pull.ensures, c.silent.ensures.lines));
+          (c.silent.ensures.status ∙ c.status_of_unbrought.ensures, c.silent.ensures.lines));
     }
 
 pub returns-in-Err-commit_first-clause-goes : goal.returns-in-Err-commit_first-clause-goes

@@ -69,8 +69,11 @@ returns-in-Register-clause-did g c = rw c.in-Register.is (record { input = refl;
 pub returns-in-Pull-clause-did : goal.returns-in-Pull-clause-did
 returns-in-Pull-clause-did g c = rw c.in-Pull.is (record { input = refl; start = c.start_node-in-Pull.ensures.starts })
 
-pub returns-in-Push-clause-did : goal.returns-in-Push-clause-did
-returns-in-Push-clause-did g c = rw c.in-Push.is c.push.ensures.ends
+pub returns-in-None-clause-did : goal.returns-in-None-clause-did
+returns-in-None-clause-did g c = rw (c.in-Push.is, c.in-None.is) c.push.ensures.ends
+
+pub returns-in-Some-clause-did : goal.returns-in-Some-clause-did
+returns-in-Some-clause-did g c = rw (c.in-Push.is, c.in-Some.is) c.push_part.ensures.ends
 
 pub returns-in-Consistency-clause-did : goal.returns-in-Consistency-clause-did
 returns-in-Consistency-clause-did g c = rw c.in-Consistency.is (record { input = refl; start = c.start_node-in-Consistency.ensures.starts })

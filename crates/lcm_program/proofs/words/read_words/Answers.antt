@@ -72,6 +72,22 @@ returns-then-eq-4-clause-usage c =
     (first_and_rest string_bytes c.args.arguments.now c.first-item.result (codes "remove") c.in-len1-up.len_at_least c.first-item.is (sym remove ∙ c.as_str-4.ensures.value))
     c.read_remove.ensures.usage
 
+-- they begin with `push`
+
+pub returns-then-eq-5-clause-ok : goal.returns-then-eq-5-clause-ok
+returns-then-eq-5-clause-ok c =
+    let push = (bytes_eq-Decides c.as_str-5.result.now (codes "push")).0 (sym c.if-eq-5.ensures) in
+    subst (λ (arguments : List (List ℕ)). IfOk c.read_push.result (λ command. IsForm command arguments))
+    (first_and_rest string_bytes c.args.arguments.now c.first-item.result (codes "push") c.in-len1-up.len_at_least c.first-item.is (sym push ∙ c.as_str-5.ensures.value))
+    c.read_push.ensures.ok
+
+pub returns-then-eq-5-clause-usage : goal.returns-then-eq-5-clause-usage
+returns-then-eq-5-clause-usage c =
+    let push = (bytes_eq-Decides c.as_str-5.result.now (codes "push")).0 (sym c.if-eq-5.ensures) in
+    subst (λ (arguments : List (List ℕ)). IfErr c.read_push.result (λ error. IsUsage arguments error.word))
+    (first_and_rest string_bytes c.args.arguments.now c.first-item.result (codes "push") c.in-len1-up.len_at_least c.first-item.is (sym push ∙ c.as_str-5.ensures.value))
+    c.read_push.ensures.usage
+
 -- they begin with the argument of no command
 
 pub returns-in_default-command_of-clause-usage : goal.returns-in_default-command_of-clause-usage
@@ -81,22 +97,36 @@ returns-in_default-command_of-clause-usage c =
     let init = bytes_eq-Decides c.as_str-2.result.now (codes "init") in
     let register = bytes_eq-Decides c.as_str-3.result.now (codes "register") in
     let remove = bytes_eq-Decides c.as_str-4.result.now (codes "remove") in
+    let push = bytes_eq-Decides c.as_str-5.result.now (codes "push") in
     let other : TakesWord word → ⊥ = λ takes. elim takes [
       | inl is ↦ true≢false (sym (generate.1 (c.as_str.ensures.value ∙ sym c.deref.ensures ∙ is)) ∙ sym c.if-eq.ensures)
       | inr (inl is) ↦ true≢false (sym (init.1 (c.as_str-2.ensures.value ∙ sym c.deref.ensures ∙ is)) ∙ sym c.if-eq-2.ensures)
       | inr (inr (inl is)) ↦ true≢false (sym (remove.1 (c.as_str-4.ensures.value ∙ sym c.deref.ensures ∙ is)) ∙ sym c.if-eq-4.ensures)
-      | inr (inr (inr is)) ↦ true≢false (sym (register.1 (c.as_str-3.ensures.value ∙ sym c.deref.ensures ∙ is)) ∙ sym c.if-eq-3.ensures)
+      | inr (inr (inr (inl is))) ↦ true≢false (sym (register.1 (c.as_str-3.ensures.value ∙ sym c.deref.ensures ∙ is)) ∙ sym c.if-eq-3.ensures)
+      | inr (inr (inr (inr is))) ↦ true≢false (sym (push.1 (c.as_str-5.ensures.value ∙ sym c.deref.ensures ∙ is)) ∙ sym c.if-eq-5.ensures)
     ] in
     subst (λ (arguments : List (List ℕ)). IsUsage arguments 0)
     (first_and_rest string_bytes c.args.arguments.now c.first-item.result word c.in-len1-up.len_at_least c.first-item.is c.deref.ensures)
-    (wrong_first word _ c.in_default-command_of.ensures.none other)
+    (wrong_first word _ (λ command form. inr (inr (inr (inr (c.in_default-command_of.ensures.none command form))))) other)
 
 -- an argument follows one that stands alone
 
 pub returns-in_default-rest-clause-usage : goal.returns-in_default-rest-clause-usage
 returns-in_default-rest-clause-usage c =
     let word = c.deref.result.now in
+    let generate = bytes_eq-Decides c.as_str.result.now (codes "generate") in
+    let init = bytes_eq-Decides c.as_str-2.result.now (codes "init") in
+    let register = bytes_eq-Decides c.as_str-3.result.now (codes "register") in
+    let remove = bytes_eq-Decides c.as_str-4.result.now (codes "remove") in
+    let push = bytes_eq-Decides c.as_str-5.result.now (codes "push") in
+    let other : TakesWord word → ⊥ = λ takes. elim takes [
+      | inl is ↦ true≢false (sym (generate.1 (c.as_str.ensures.value ∙ sym c.deref.ensures ∙ is)) ∙ sym c.if-eq.ensures)
+      | inr (inl is) ↦ true≢false (sym (init.1 (c.as_str-2.ensures.value ∙ sym c.deref.ensures ∙ is)) ∙ sym c.if-eq-2.ensures)
+      | inr (inr (inl is)) ↦ true≢false (sym (remove.1 (c.as_str-4.ensures.value ∙ sym c.deref.ensures ∙ is)) ∙ sym c.if-eq-4.ensures)
+      | inr (inr (inr (inl is))) ↦ true≢false (sym (register.1 (c.as_str-3.ensures.value ∙ sym c.deref.ensures ∙ is)) ∙ sym c.if-eq-3.ensures)
+      | inr (inr (inr (inr is))) ↦ true≢false (sym (push.1 (c.as_str-5.ensures.value ∙ sym c.deref.ensures ∙ is)) ∙ sym c.if-eq-5.ensures)
+    ] in
     let rest = take (length c.args.arguments.now - 1) (drop 1 c.args.arguments.now) in
     subst (λ (arguments : List (List ℕ)). IsUsage arguments 1)
     (first_and_rest string_bytes c.args.arguments.now c.first-item.result word c.in-len1-up.len_at_least c.first-item.is c.deref.ensures)
-    (second_word word (map string_bytes rest) c.in-Some.command (omega (arith, length-map rest string_bytes, c.in_default-rest.len_at_least)) c.in-Some.ensures.some)
+    (second_word word (map string_bytes rest) c.in-Some.command (omega (arith, length-map rest string_bytes, c.in_default-rest.len_at_least)) other c.in-Some.ensures.some)

@@ -5,20 +5,20 @@ use Rattle.node_pull.proofs.PartRows.{at_end, at_error, at_part, at_short, first
 use Rattle.node_pull.proofs.listing.+contents.Goals as goal
 
 pub returns-in_default-clause-contents : goal.returns-in_default-clause-contents
-returns-in_default-clause-contents g t c = at_end c.args.server.now c.args.agent c.args.held.now c.args.names.now c.args.fetches.now c.args.earlier.items _ c.in_default.len_below
+returns-in_default-clause-contents g t c = at_end c.args.server.now c.args.agent c.args.names.now c.args.earlier.items _ c.in_default.len_below
 
 pub returns-in-Err-clause-contents : goal.returns-in-Err-clause-contents
 returns-in-Err-clause-contents g t c =
-    at_error c.args.server.now c.args.agent c.args.held.now c.args.names.now c.args.fetches.now c.args.earlier.items _ _ c.name-item.result c.in-Err.error
-    (first_name c.args.names.now c.name-item.result c.in-len1-up.len_at_least c.name-item.is) c.in-Err.ensures.part
+    at_error c.args.server.now c.args.agent c.args.names.now c.args.earlier.items _ _ c.name-item.result c.in-Err.error
+    (first_name c.args.names.now c.name-item.result c.in-len1-up.len_at_least c.name-item.is) c.in-Err.ensures.asks
 
 pub returns-in_err-push-clause-contents : goal.returns-in_err-push-clause-contents
 returns-in_err-push-clause-contents g t c = rw (out_of Memory c.from_residual.result c.from_residual.ensures.1)
-    (at_short c.args.server.now c.args.agent c.args.held.now c.args.names.now c.args.fetches.now c.args.earlier.items _ _ c.name-item.result c.in-Ok.part
-    (first_name c.args.names.now c.name-item.result c.in-len1-up.len_at_least c.name-item.is) c.in-Ok.ensures.part)
+    (at_short c.args.server.now c.args.agent c.args.names.now c.args.earlier.items _ _ c.name-item.result c.in-Ok.part
+    (first_name c.args.names.now c.name-item.result c.in-len1-up.len_at_least c.name-item.is) c.in-Ok.ensures.asks)
 
 pub returns-clause-contents : goal.returns-clause-contents
 returns-clause-contents g t c =
-    at_part c.args.server.now c.args.agent c.args.held.now c.args.names.now _ c.args.fetches.now c.later_answers.result.now c.args.earlier.items c.push.new.self.items _ _ _
-    c.name-item.result c.in-Ok.part _ (first_name c.args.names.now c.name-item.result c.in-len1-up.len_at_least c.name-item.is) (take_rest c.args.names.now 1) c.later_answers.ensures c.in_ok-push.ensures.items
-    c.in-Ok.ensures.part c.contents.ensures.contents
+    at_part c.args.server.now c.args.agent c.args.names.now _ c.args.earlier.items c.push.new.self.items _ _ _
+    c.name-item.result c.in-Ok.part _ (first_name c.args.names.now c.name-item.result c.in-len1-up.len_at_least c.name-item.is) (take_rest c.args.names.now 1) c.in_ok-push.ensures.items
+    c.in-Ok.ensures.asks c.in-Ok.ensures.named c.contents.ensures.contents

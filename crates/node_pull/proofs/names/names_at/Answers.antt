@@ -1,6 +1,6 @@
 use Rattle.std.proofs.Common.{◌∙◌, ap, sym}
 use Rattle.meta_config.specs.declared.meta.Partial.{Partial}
-use Rattle.node_pull.proofs.AskedNames.{names_at_more}
+use Rattle.node_pull.proofs.PartNames.{names_at_more}
 use Rattle.node_pull.proofs.names.names_at.Goals as goal
 
 pub loop-place-preserved : goal.loop-place-preserved
