@@ -3,6 +3,7 @@ pub mod Bringing
 pub mod Commands
 pub mod Commits
 pub mod Complete
+pub mod Converging
 pub mod Endings
 pub mod Headline
 pub mod HostHeadline

@@ -1,13 +1,15 @@
 //! Laws of starts, of the lines of a run, and of the reports that are sent. The calls do nothing; their clauses are the laws.
 ghost use Rattle.dsc_node.specs.Complete.{ValidStartsComplete};
+ghost use Rattle.dsc_node.specs.Converging.{RunsAreBounded, StartsComeNearer, StartsConverge, StartsConvergeInTime};
 ghost use Rattle.dsc_node.specs.LineLaws.{LinesSpellOneTrace};
 ghost use Rattle.dsc_node.specs.SendingLaws.{ReportsAreMarkedInOrder, ReportsAreSentInOrder};
 ghost use Rattle.dsc_node.specs.Starts.{FindsWhatIsRead, PartsAreBrought, StartsGoOn, StartsJoin};
 ghost use Rattle.dsc_node.specs.Work.{known};
 
-use dsc_outside::{Clock, Disk};
+use dsc_outside::{Clock, Disk, Host};
+use lcm_core::{reboot_laws, trace_laws};
 use node_pull::serving_laws;
-use resource_kinds::Machine;
+use resource_kinds::{Kinds, Machine, holding_laws};
 
 /// A start finds a node that the start before it may have left, wherever that was stopped, and what that left at its end, where it came to it.
 ///
@@ -44,4 +46,26 @@ pub fn valid_starts_complete<D: Disk, M: Machine, C: Clock>()
     ensures { ValidStartsComplete (known D.Disk M.Resources M.Machine.own C.Clock) }
 {
     serving_laws::<M>();
+}
+
+/// A run makes at most two Tests of a resource, and one Set.
+pub fn runs_are_bounded<D: Disk, M: Machine, C: Clock>()
+    ensures { RunsAreBounded (known D.Disk M.Resources M.Machine.own C.Clock) }
+{
+    trace_laws();
+}
+
+/// An undisturbed boot, or a consistency that waits for no reboot, makes what is Pending Current, or it asks for a reboot and leaves fewer
+/// resources that do not hold. So one more of such starts than there are resources that do not hold make it Current. What is asked of the
+/// starts stands in `Premises` of `specs/Converging.antt`.
+pub fn starts_converge<D: Disk, H: Host, C: Clock>()
+    ensures nearer { StartsComeNearer D.Disk H.Host C.Clock }
+    ensures converge { StartsConverge D.Disk H.Host C.Clock }
+    ensures in_time { StartsConvergeInTime D.Disk H.Host C.Clock }
+{
+    reboot_laws();
+    trace_laws();
+    holding_laws();
+    starts_join::<D, Kinds<H>, C>();
+    valid_starts_complete::<D, Kinds<H>, C>();
 }

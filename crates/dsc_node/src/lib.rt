@@ -27,6 +27,8 @@
 //!   `proofs/Headline.antt`, of its nodes `proofs/Nodes.antt`, of its run `proofs/HeadlineRuns.antt`
 //! - starts in a row: `specs/Starts.antt`, `src/laws.rt`, `proofs/Joining.antt`; which input is valid, and that a start
 //!   of it is not refused: `specs/Complete.antt`, `proofs/Completing.antt`
+//! - within how many starts what is Pending becomes Current, and how often a run calls a resource:
+//!   `specs/Converging.antt`, `proofs/Converging.antt`
 //! - what is printed of a run, and that it spells one trace: `src/lines.rt`, `specs/Lines.antt`,
 //!   `specs/LineLaws.antt`; what `get` and `reports` print: `specs/Shown.antt`, `src/showing.rt`
 //! - exit statuses: `src/status.rt`, `specs/Status.antt`
@@ -54,8 +56,8 @@ mod status;
 pub use answer::StartEnd;
 pub use command::Command;
 pub use laws::{
-    lines_spell_one_trace, parts_are_brought, reports_are_sent_in_order, starts_join,
-    valid_starts_complete,
+    lines_spell_one_trace, parts_are_brought, reports_are_sent_in_order, runs_are_bounded,
+    starts_converge, starts_join, valid_starts_complete,
 };
 pub use lines::{id, lines_of, push_resources};
 pub use order::ordered_of_merged;

@@ -1,3 +1,4 @@
 mod clock;
 mod partials;
+mod reboots;
 mod stops;

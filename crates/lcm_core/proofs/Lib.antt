@@ -3,6 +3,7 @@ pub mod Compliance
 pub mod OneTurn
 pub mod Past
 pub mod Ready
+pub mod Rebooted
 pub mod Repaired
 pub mod RepairedEntries
 pub mod RepairedReports

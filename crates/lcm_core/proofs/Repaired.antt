@@ -52,11 +52,11 @@ told_set a b None wanted answer is shown = absurd (none-some wanted is)
 told_set a b (Some resource) wanted answer is shown =
     (resource.id, subst (λ (asks : Result Wanted Failure). SetsTrue a resource.id asks answer b) (result_is (wanted_of resource) wanted is) shown)
 
-answer_known : (document : Document) (a b : HostState) (p : ℕ) (wanted : Wanted) (answer : TestAnswer) → wanted_at document p ≡ Some wanted
+pub answer_known : (document : Document) (a b : HostState) (p : ℕ) (wanted : Wanted) (answer : TestAnswer) → wanted_at document p ≡ Some wanted
     → IsTrueEntry a document (Tested p answer) b → AnswersKnown a wanted answer
 answer_known document a b p wanted answer asks shown = told_answer a (slice_get document.resources p) wanted answer asks shown.1
 
-set_known : (document : Document) (a b : HostState) (p : ℕ) (wanted : Wanted) (answer : SetAnswer) → wanted_at document p ≡ Some wanted
+pub set_known : (document : Document) (a b : HostState) (p : ℕ) (wanted : Wanted) (answer : SetAnswer) → wanted_at document p ≡ Some wanted
     → IsTrueEntry a document (Set p answer) b → (id : List ℕ) × SetsKnown a id wanted answer b
 set_known document a b p wanted answer asks shown = told_set a b (slice_get document.resources p) wanted answer asks shown
 

@@ -67,7 +67,7 @@ last_is trace r l =
 
 -- ---- what follows an entry
 
-may_goes_on : (document : Document) (mode : RunMode) (order : List ℕ) (before : List Entry) (e : Entry) → MayFollow document mode order before e → GoesOn before
+pub may_goes_on : (document : Document) (mode : RunMode) (order : List ℕ) (before : List Entry) (e : Entry) → MayFollow document mode order before e → GoesOn before
 may_goes_on document mode order before (Tested r answer) may = may.goes_on
 may_goes_on document mode order before (Set r answer) may = may.goes_on
 

@@ -2,6 +2,7 @@
 pub mod Bounds
 pub mod Ends
 pub mod Legal
+pub mod RebootLaws
 pub mod RepairLaws
 pub mod RunLaws
 pub mod Whole

@@ -1,8 +1,10 @@
 //! Laws of runs. The calls do nothing; their clauses are the laws.
+ghost use Rattle.lcm_core.specs.Bounds.{LegalIsBounded};
+ghost use Rattle.lcm_core.specs.RebootLaws.{ClearRepairsComply, NothingIsInTheWay, RebootsComeNearer};
 ghost use Rattle.lcm_core.specs.RepairLaws.{FaultsAreContained, RepairSucceeds, RunsAreReportable, TracesAreReportable};
 ghost use Rattle.lcm_core.specs.RunLaws.{CompliantHold, LegalEndsAtYes, LegalKnowsPlaces};
 
-use resource_kinds::set_laws;
+use resource_kinds::{holding_laws, set_laws};
 
 /// In a repair that came to its last resource, on a host that shows what it holds, where no entry blames the host and none says
 /// that something is in the way, each resource ends with a Test that answered yes, unless it or one of its dependencies, followed
@@ -15,6 +17,18 @@ pub fn repair_laws()
     set_laws();
 }
 
+/// In a repair of resources that are apart and without a fault of their own, on a host that shows what it holds, is clear for them and of
+/// which no call failed, nothing is in the way of any Set. Where it ends with a reboot, fewer resources are left that do not hold, and the
+/// host is clear still; where it comes to its last resource, each of them succeeded.
+pub fn reboot_laws()
+    ensures clear { NothingIsInTheWay }
+    ensures nearer { RebootsComeNearer }
+    ensures comply { ClearRepairsComply }
+{
+    set_laws();
+    holding_laws();
+}
+
 /// A run that does not end out of memory can be reported: its entries are of resources of the document, none of them was
 /// refused memory, and no resource's last entry is a Set that was done, since a Test of it follows.
 pub fn report_laws()
@@ -23,11 +37,13 @@ pub fn report_laws()
 {}
 
 /// In a legal trace every entry is of a resource of the document, and no entry of a resource stands after a Test of it that
-/// answered yes. Where such a trace is true of a host, the resources of the document are apart and each of them succeeded, none
-/// has a fault of its own, and all that they ask for holds together at the end.
+/// answered yes; there are at most two Tests of a resource, and one Set. Where such a trace is true of a host, the resources of
+/// the document are apart and each of them succeeded, none has a fault of its own, and all that they ask for holds together at
+/// the end.
 pub fn trace_laws()
     ensures known { LegalKnowsPlaces }
     ensures ends_at_yes { LegalEndsAtYes }
+    ensures bounded { LegalIsBounded }
     ensures together { CompliantHold }
 {
     set_laws();

@@ -12,6 +12,8 @@
 //!   `specs/Ends.antt`; what a repair has done at each turn `proofs/Past.antt`
 //! - where a repair succeeds, which traces can be reported, how often a resource is called: `specs/RepairLaws.antt`,
 //!   `specs/Bounds.antt`, `src/laws.rt`; `proofs/Repaired.antt`
+//! - how near a run that ends with a reboot comes to its end: `specs/RebootLaws.antt`, `src/laws.rt`;
+//!   `proofs/Rebooted.antt`
 //! - how many resources succeeded, and that all hold together where each did: `src/last_entries.rt`,
 //!   `specs/RunLaws.antt`; `proofs/Successes.antt`, `proofs/Compliance.antt`
 #![tactic(auto)]
@@ -23,6 +25,6 @@ mod runs;
 mod turns;
 
 pub use last_entries::{count_succeeded, succeeded};
-pub use laws::{repair_laws, report_laws, trace_laws};
+pub use laws::{reboot_laws, repair_laws, report_laws, trace_laws};
 pub use modes::{RunEnd, RunMode};
 pub use runs::{run, run_ordered};

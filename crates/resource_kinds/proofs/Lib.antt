@@ -4,6 +4,7 @@ pub mod Changed
 pub mod ClearHosts
 pub mod EarlierResources
 pub mod EntryLists
+pub mod Holding
 pub mod HostPaths
 pub mod JoinedPaths
 pub mod KeyFronts

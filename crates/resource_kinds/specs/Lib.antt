@@ -2,6 +2,7 @@
 pub mod Apart
 pub mod Documents
 pub mod Entries
+pub mod Holding
 pub mod Holds
 pub mod Kinds
 pub mod Laws

@@ -1,4 +1,5 @@
 //! Laws of what Sets make of a host. The call does nothing; its clauses are the laws.
+ghost use Rattle.resource_kinds.specs.Holding.{HoldsIsTested, NoneIsUnheld, UnheldFalls, UnheldIsBounded};
 ghost use Rattle.resource_kinds.specs.Laws.{ClearStays, FailureKeepsApart, SetKeepsApart, SetKeepsClear, SetMakesHold, SetsKeepApart, SettledHold, SucceededHold, UnsetHold};
 
 use crate::entries::entry_laws;
@@ -20,3 +21,13 @@ pub fn set_laws()
 {
     entry_laws();
 }
+
+/// Whether what a resource asks for holds can be tested, so that the resources of a document that do not hold have a number. It
+/// is no greater than that of all resources, it is 0 exactly where all hold, and it falls where what held is kept and another
+/// resource holds too.
+pub fn holding_laws()
+    ensures tested { HoldsIsTested }
+    ensures bounded { UnheldIsBounded }
+    ensures none { NoneIsUnheld }
+    ensures falls { UnheldFalls }
+{}

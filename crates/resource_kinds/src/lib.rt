@@ -12,6 +12,7 @@
 //!   list of paths `specs/Entries.antt`
 //! - when that holds, what a Set makes of a machine, what is in its way: `specs/Holds.antt`; `src/testing.rt`,
 //!   `src/setting.rt`, `src/obstacles.rt`
+//! - the same as a test, and how many resources of a document do not hold: `specs/Holding.antt`, `proofs/Holding.antt`
 //! - which answers are true of a machine: `specs/True.antt`
 //! - which resources overlap: `specs/Apart.antt`; with memory and fast `src/overlap.rt`, whose keys are in
 //!   `specs/OverlapSteps.antt`, without memory `src/subjects.rt` and `src/path_order.rt`
@@ -46,7 +47,7 @@ mod wanted;
 pub use entries::entry_laws;
 pub use entry::{Entry, Failure, SetAnswer, TestAnswer};
 pub use kinds::Kinds;
-pub use laws::set_laws;
+pub use laws::{holding_laws, set_laws};
 pub use machine::Machine;
 pub use overlap::{apart, overlaps};
 pub use paths::path_of;

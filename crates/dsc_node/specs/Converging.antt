@@ -1,0 +1,165 @@
+-- Convergence: within how many starts what is Pending becomes Current, on a host that shows what it holds and that nobody else changes.
+use Rattle.std.specs.Prelude.{◌≡◌, ◌≢◌, ◌⊎◌, ℕ, ◌+◌, ◌-◌, ◌^◌, ◌<◌, ◌≤◌, true, false, List, [], ◌∷◌, length, Option, Some, None, ⊤}
+use Rattle.std.specs.List.{AllByRecursion}
+use Rattle.dsc_terms.specs.Counts.{Rose}
+use Rattle.dsc_outside.specs.declared.disk.Disk as disks
+use Rattle.dsc_outside.specs.declared.host.Host as hosts
+use Rattle.dsc_outside.specs.declared.clock.Clock as clocks
+use Rattle.dsc_outside.specs.Host.{HostState}
+use Rattle.dsc_document.specs.declared.document.Document.{Document}
+use Rattle.gate_log.specs.Standing.{ReadsAs}
+use Rattle.meta_config.specs.declared.modes.AfterReboot.TheVariants.{ContinueConfiguration}
+use Rattle.meta_config.specs.declared.modes.RefreshMode.TheVariants as refreshes
+use Rattle.partial_merge.specs.declared.part.Part.{Part}
+use Rattle.partial_merge.specs.Merged.{Merged}
+use Rattle.resource_kinds.specs.declared.entry.Entry.{Entry}
+use Rattle.resource_kinds.specs.declared.kinds.Kinds.{Kinds}
+use Rattle.resource_kinds.specs.Apart.{Apart}
+use Rattle.resource_kinds.specs.Documents.{AllHold, Clear}
+use Rattle.resource_kinds.specs.Holding.{unheld}
+use Rattle.resource_kinds.specs.Kinds.{host_of}
+use Rattle.lcm_core.specs.Bounds.{IsBounded}
+use Rattle.lcm_core.specs.RebootLaws.{AllKnown, ComesNearer}
+use Rattle.node_state.specs.declared.node.Node.{Node}
+use Rattle.node_store.specs.Stands.{Stands}
+use Rattle.dsc_node.specs.declared.command.Command.{Command}
+use Rattle.dsc_node.specs.declared.command.Command.TheVariants as commands
+use Rattle.dsc_node.specs.declared.status.Status.{Status}
+use Rattle.dsc_node.specs.declared.status.Status.TheVariants as statuses
+use Rattle.dsc_node.specs.HostHeadline.{known_on_host}
+use Rattle.dsc_node.specs.Runs.{Run}
+use Rattle.dsc_node.specs.Start.{Opened, Outside}
+use Rattle.dsc_node.specs.Starts.{BeginsWhole, EndsBefore, IsExposed, IsLeftAtTheEnd, OneStart}
+use Rattle.dsc_node.specs.Work.{Known}
+
+-- ---- how often a resource is called
+
+-- a run's trace has at most two Tests of each resource, and one Set
+abbrev pub IsBoundedRun : Option Run → List Entry → Type 0
+IsBoundedRun None trace = ⊤
+IsBoundedRun (Some run) trace = IsBounded trace
+
+-- so has that of each start, over any machine
+abbrev pub RunsAreBounded : {D S C : Type 0} → Known D S C → Type 0
+RunsAreBounded o =
+    (one : OneStart o) (opened : Opened o one.command one.before one.after one.status one.lines) → IsBoundedRun opened.run (o.resources.trace one.after.beside.machine)
+
+-- ---- nodes
+
+-- the two commands that repair what is Pending: a boot, and, where no reboot is waited for, a consistency
+abbrev pub Repairs : Node → Command → Type 0
+Repairs node commands.Boot = ⊤
+Repairs node commands.Consistency = node.reboot ≡ false
+Repairs node _ = ⊥
+
+-- Pending is Current, and nothing is Pending
+pub record IsPromotedTo (parts : List Part) (node : Node) : Type 0 where
+  pub current : node.current ≡ Some parts
+  pub pending : node.pending ≡ None
+
+-- the node waits for a boot with the same parts as Pending, and the next number for a report
+pub record WaitsForBoot (before node : Node) : Type 0 where
+  pub marked : node.reboot ≡ true
+  pub pending : node.pending ≡ before.pending
+  pub meta : node.meta ≡ before.meta
+  pub job : node.next_job ≡ before.next_job + 1
+
+module _ {D H C : Type 0} (d : disks.Ghosts D) (h : hosts.Ghosts H) (c : clocks.Ghosts C) where
+  -- a start over the kinds of resources of a host
+  abbrev pub HostStart : Type 0
+  HostStart = OneStart (known_on_host d h c)
+
+  -- ---- the premises
+
+  -- the state that the host shows
+  abbrev pub Shows : Outside D (Kinds H) C → HostState → Type 0
+  Shows outside state = h.shown (host_of outside.beside.machine) ≡ Some state
+
+  -- the start is one of these of the node that its disk reads as
+  abbrev pub IsRepair : HostStart → Type 0
+  IsRepair one = (node : Node) → ReadsAs d one.before.disk Stands node → Repairs node one.command
+
+  -- no count of faults rose, and memory did not run out
+  pub record IsUndisturbed (one : HostStart) : Type 0 where
+    pub disk : Rose (d.faults one.before.disk) (d.faults one.after.disk) → ⊥
+    pub host : Rose (h.faults (host_of one.before.beside.machine)) (h.faults (host_of one.after.beside.machine)) → ⊥
+    pub clock : Rose (c.faults one.before.beside.clock) (c.faults one.after.beside.clock) → ⊥
+    pub memory : one.status ≢ statuses.Memory
+
+  -- nobody else changed the store or the host between two starts
+  pub record IsUnchanged (one next : HostStart) : Type 0 where
+    pub store : EndsBefore (known_on_host d h c) one next
+    pub host : h.shown (host_of next.before.beside.machine) ≡ h.shown (host_of one.after.beside.machine)
+
+  abbrev pub AreUnchanged : HostStart → List HostStart → Type 0
+  AreUnchanged one [] = ⊤
+  AreUnchanged one (next ∷ starts) = IsUnchanged one next × AreUnchanged next starts
+
+  -- All that is asked of a list of starts that begins with this node, with these parts as Pending, and this state of the host.
+  pub record Premises (parts : List Part) (document : Document) (node : Node) (state : HostState) (first : HostStart) (starts : List HostStart) : Type 0 where
+    -- the document of the parts
+    pub merged : Merged parts document
+    -- its resources are apart, and none has a fault of its own
+    pub apart : Apart document
+    pub known : AllKnown document
+    -- the store is whole, and the disk shows it at each of the starts; before the first it reads as the node
+    pub whole : BeginsWhole (known_on_host d h c) first
+    pub disk_tells : AllByRecursion (IsExposed (known_on_host d h c)) (first ∷ starts)
+    pub reads : ReadsAs d first.before.disk Stands node
+    pub pending : node.pending ≡ Some parts
+    -- the host shows what it holds, and nothing is in the way of the document's resources at the first of the starts
+    pub host_tells : Shows first.before state
+    pub clear : Clear state document
+    -- the node goes on after a reboot, and is not switched off
+    pub continues : node.meta.after ≡ ContinueConfiguration
+    pub enabled : node.meta.refresh ≢ refreshes.Disabled
+    -- there is a number for the report of each of the starts
+    pub jobs : node.next_job + length starts < 2 ^ 64 - 1
+    -- each is a boot, or a consistency that waits for no reboot, and is undisturbed
+    pub repairs : AllByRecursion IsRepair (first ∷ starts)
+    pub undisturbed : AllByRecursion IsUndisturbed (first ∷ starts)
+    -- and nobody else changes the store or the host between two of them
+    pub unchanged : AreUnchanged first starts
+
+  -- ---- one start
+
+  -- the start made Pending Current, and all that the document asks for holds
+  pub record MakesCurrent (parts : List Part) (document : Document) (one : HostStart) : Type 0 where
+    pub done : one.status ≡ statuses.Done
+    pub promoted : (node : Node) → IsLeftAtTheEnd (known_on_host d h c) one node → IsPromotedTo parts node
+    pub state : HostState
+    pub shows : Shows one.after state
+    pub hold : AllHold state document
+
+  -- the start asked for a reboot; fewer resources are left that do not hold, and nothing is in the way
+  pub record AsksForReboot (document : Document) (before : Node) (state : HostState) (one : HostStart) : Type 0 where
+    pub place : ℕ
+    pub asked : one.status ≡ statuses.RebootAsked place before.meta.reboot_if_needed
+    pub waits : (node : Node) → IsLeftAtTheEnd (known_on_host d h c) one node → WaitsForBoot before node
+    pub left : HostState
+    pub shows : Shows one.after left
+    pub nearer : ComesNearer document state left
+
+  abbrev pub StartsComeNearer : Type 0
+  StartsComeNearer =
+      (parts : List Part) (document : Document) (node : Node) (state : HostState) (one : HostStart) → Premises parts document node state one []
+      → MakesCurrent parts document one ⊎ AsksForReboot document node state one
+
+  -- ---- a list of starts
+
+  -- one of the starts made Pending Current
+  abbrev pub SomeMakesCurrent : List Part → Document → HostStart → List HostStart → Type 0
+  SomeMakesCurrent parts document one [] = MakesCurrent parts document one
+  SomeMakesCurrent parts document one (next ∷ starts) = MakesCurrent parts document one ⊎ SomeMakesCurrent parts document next starts
+
+  -- one of the starts does, where there is one more of them than resources that do not hold
+  abbrev pub StartsConverge : Type 0
+  StartsConverge =
+      (parts : List Part) (document : Document) (node : Node) (state : HostState) (first : HostStart) (starts : List HostStart)
+      → Premises parts document node state first starts → unheld state document ≤ length starts → SomeMakesCurrent parts document first starts
+
+  -- and so where there is one more than resources
+  abbrev pub StartsConvergeInTime : Type 0
+  StartsConvergeInTime =
+      (parts : List Part) (document : Document) (node : Node) (state : HostState) (first : HostStart) (starts : List HostStart)
+      → Premises parts document node state first starts → length document.resources ≤ length starts → SomeMakesCurrent parts document first starts
