@@ -10,7 +10,7 @@
 #![tactic(auto)]
 
 use dsc_outside::{Host, HostError, PathState};
-use real_outside::{FolderHost, hold_standard_descriptors};
+use real_outside::{FolderHost, hold_standard_descriptors, moment};
 use std::alloc::Global;
 use std::process::ExitCode;
 use std::{env, io};
@@ -31,7 +31,7 @@ fn make_calls(rt: &HostRuntime) -> io::Result<()> {
     let Some(folder) = arguments.next() else {
         return Err(io::Error::from(io::ErrorKind::InvalidInput));
     };
-    let mut host = FolderHost::new(rt, folder, arguments.next());
+    let mut host = FolderHost::new(rt, folder, arguments.next(), moment(rt));
     for line in rt.lines(rt.alloc()) {
         let line = line?;
         let answer = answer_to(rt.alloc(), &mut host, line.as_str());

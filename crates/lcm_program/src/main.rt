@@ -55,6 +55,7 @@ pub use order::read_order;
 pub use program::{node, node_over};
 use real_outside::{
     FileDisk, FolderHost, InSource, OutSink, SystemClock, arguments, hold_standard_descriptors,
+    moment,
 };
 pub use refusal::{is_refusal, refusal_line};
 pub use resource_kinds::{Entry, Failure, Kinds, Resources, SetAnswer, TestAnswer};
@@ -91,7 +92,7 @@ fn run_node(rt: &HostRuntime, line: &CommandLine) -> Status {
     };
     let mut input = InSource::new(rt.reader());
     let mut output = OutSink::new(rt);
-    let mut kinds = Kinds::new(rt.alloc(), FolderHost::new(rt, host, Some(own)));
+    let mut kinds = Kinds::new(rt.alloc(), FolderHost::new(rt, host, Some(own), moment(rt)));
     let mut disk = FileDisk::new(rt, store);
     let mut link = TcpLink::new(rt);
     let mut clock = SystemClock::new(rt);

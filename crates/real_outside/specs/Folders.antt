@@ -73,3 +73,7 @@ is_entry_name name = not (((bytes_eq name [] || bytes_eq name (codes ".")) || by
 -- one of the names, each with a NUL after it, is that of something in the folder
 abbrev pub has_entry_name : List ℕ → Bool
 has_entry_name names = list_any is_entry_name (slice_split (λ b. b == 0) names)
+
+-- the seconds after which a change of a file is one of before the host was begun, also where the clock of a file system is late
+abbrev pub settled_after : ℕ
+settled_after = 10

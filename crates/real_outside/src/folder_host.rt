@@ -31,7 +31,8 @@ use std::rt::Files;
 /// failure, since their file would be that of another pair.
 ///
 /// A file that is read is the plain file that was seen: what comes in its place between the look and the opening, by a link
-/// too, there or above, is opened and not read. A pipe that comes there is waited for until somebody writes to it: what calls
+/// too, there or above, is opened and not read. A file that was changed in the ten seconds before the host was begun, or later, is looked at
+/// again while it is open. A pipe that comes there is waited for until somebody writes to it: what calls
 /// the host has a limit of its own.
 ///
 /// A removal takes away what the last look at that path found and nothing else, and a folder that was found empty only
@@ -76,12 +77,13 @@ impl<R: Files> FolderHost<R>
 where
     R::File: AsFd,
 {
-    /// The host in the folder of that path. Where a store is named, the folder that it is in is the node's own.
-    pub fn new(rt: R, folder: String, store: Option<String>) -> FolderHost<R>
+    /// The host in the folder of that path. Where a store is named, the folder that it is in is the node's own. The host is
+    /// begun at that moment, in seconds since 1970, or at 0 where the moment is not known.
+    pub fn new(rt: R, folder: String, store: Option<String>, begun: u64) -> FolderHost<R>
         ensures { result ≡ 0 }
     {
         FolderHost {
-            machine: MachineFolder::new(rt, folder, store),
+            machine: MachineFolder::new(rt, folder, store, begun),
             faults: 0,
         }
     }

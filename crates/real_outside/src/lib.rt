@@ -53,4 +53,4 @@ pub use in_source::InSource;
 pub use out_sink::OutSink;
 pub use program_arguments::arguments;
 pub use standard_descriptors::{StandardDescriptors, hold_standard_descriptors};
-pub use system_clock::SystemClock;
+pub use system_clock::{SystemClock, moment};

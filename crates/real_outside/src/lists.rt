@@ -24,7 +24,14 @@ where
         match self.look_for(place.as_str())? {
             Some(spot) => {
                 let path = self.place_in_host(place.as_str())?;
-                append_file(&self.rt, self.last_folder()?, &spot, path.as_str(), into)
+                append_file(
+                    &self.rt,
+                    self.last_folder()?,
+                    &spot,
+                    path.as_str(),
+                    self.begun,
+                    into,
+                )
             }
             None => Ok(false),
         }
@@ -51,7 +58,14 @@ where
         match self.look_for(place.as_str())? {
             Some(spot) => {
                 let path = self.place_in_host(place.as_str())?;
-                file_holds(&self.rt, self.last_folder()?, &spot, path.as_str(), &entry)
+                file_holds(
+                    &self.rt,
+                    self.last_folder()?,
+                    &spot,
+                    path.as_str(),
+                    self.begun,
+                    &entry,
+                )
             }
             None => Ok(false),
         }
@@ -87,7 +101,7 @@ where
         if let Some(host) = self.hold_host()? {
             let spot = host.look(&self.rt, self.alloc(), REBOOT)?;
             let path = self.place_in_host(REBOOT)?;
-            append_file(&self.rt, &host, &spot, path.as_str(), &mut text)?;
+            append_file(&self.rt, &host, &spot, path.as_str(), self.begun, &mut text)?;
         }
         Ok(has_line(&text, id.as_bytes()))
     }

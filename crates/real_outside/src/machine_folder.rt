@@ -23,6 +23,9 @@ where
     pub(super) rt: R,
     pub(super) host: String,
 
+    /// The moment at which the host was begun, in seconds since 1970, or 0 where that is not known.
+    pub(super) begun: u64,
+
     // The file of the node's store. Nothing in its folder is changed.
     pub(super) store: Option<String>,
 
@@ -39,11 +42,12 @@ impl<R: Files> MachineFolder<R>
 where
     R::File: AsFd,
 {
-    pub fn new(rt: R, host: String, store: Option<String>) -> MachineFolder<R> {
+    pub fn new(rt: R, host: String, store: Option<String>, begun: u64) -> MachineFolder<R> {
         let alloc = *host.allocator();
         MachineFolder {
             rt,
             host,
+            begun,
             store,
             ancestors: Ancestors::new(alloc),
             last_look: None,

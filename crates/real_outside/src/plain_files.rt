@@ -1,10 +1,11 @@
 //! Plain files: reading them, and taking them away.
-ghost use Rattle.std.specs.Prelude.{◌≡◌, Some, IfErr, IfOk};
+ghost use Rattle.std.specs.Prelude.{◌≡◌, ◌<◌, ◌-◌, Some, IfErr, IfOk, true};
 ghost use Rattle.dsc_outside.specs.Host.{LeavesBuffer};
+ghost use Rattle.real_outside.specs.Folders.{settled_after};
 
 use crate::comparing::gives_exactly;
 use crate::held_folder::HeldFolder;
-use crate::identity::Identity;
+use crate::identity::{Identity, Sight};
 use crate::reading::read_rest;
 use crate::spot::{Kind, Spot};
 use dsc_outside::HostError;
@@ -13,6 +14,9 @@ use std::fs::OpenFile;
 use std::io::ErrorKind;
 use std::rt::Files;
 
+// The seconds after which a change is one of before the host was begun, also where the clock of a file system is late.
+const SETTLED_AFTER: u64 = 10;
+
 /// Appends the bytes of the plain file that was seen in the folder, and answers whether it is there. A link, a folder, or
 /// anything else in its place is a failure.
 pub fn append_file<R: Files>(
@@ -20,11 +24,12 @@ pub fn append_file<R: Files>(
     folder: &HeldFolder,
     spot: &Spot,
     path: &str,
+    begun: u64,
     into: &mut Vec<u8>,
 ) -> Result<bool, HostError>
     ensures { LeavesBuffer result into.old.items into.new.items }
 {
-    let Some(mut file) = open_plain(rt, folder, spot, path)? else {
+    let Some(mut file) = open_plain(rt, folder, spot, path, begun)? else {
         return Ok(false);
     };
     let kept = into.len();
@@ -43,9 +48,10 @@ pub fn file_holds<R: Files>(
     folder: &HeldFolder,
     spot: &Spot,
     path: &str,
+    begun: u64,
     bytes: &[u8],
 ) -> Result<bool, HostError> {
-    match open_plain(rt, folder, spot, path)? {
+    match open_plain(rt, folder, spot, path, begun)? {
         None => Ok(false),
         Some(mut file) => Ok(gives_exactly(&mut file, bytes)?),
     }
@@ -67,6 +73,7 @@ fn open_plain<R: Files>(
     folder: &HeldFolder,
     spot: &Spot,
     path: &str,
+    begun: u64,
 ) -> Result<Option<R::File>, HostError> {
     if !is_plain_file(spot)? {
         return Ok(None);
@@ -78,13 +85,24 @@ fn open_plain<R: Files>(
     if !found.is_file() {
         return Err(HostError::Failed);
     }
-    let again = Spot::look(rt, spot.place.clone()?)?;
-    check_opened(spot.identity(), Identity::of(&found), again.identity())?;
+    let opened = Sight::of(&found);
+    if !is_settled(spot.sight(), opened, begun) {
+        let again = Spot::look(rt, spot.place.clone()?)?;
+        check_opened(spot.identity(), opened.identity, again.identity())?;
+    }
     Ok(Some(file))
 }
 
+/// Whether a file that was opened is surely the one that was seen there: it has the number of that one, was changed at the same
+/// moment, and that lies so long before the host was begun that what took its number since then has another.
+fn is_settled(seen: Option<Sight>, opened: Sight, begun: u64) -> bool
+    ensures { result ≡ true → (seen ≡ Some opened) × (settled_after < begun - opened.seconds) }
+{
+    seen == Some(opened) && begun.saturating_sub(opened.seconds) > SETTLED_AFTER
+}
+
 /// Whether a file that was opened is the one that stands at its place: it was seen there before, and is seen there while it is open. The
-/// first look alone does not tell: a file that was taken away gives its number to the next one that is made, wherever that is.
+/// number that the first look gave does not tell: a file that was taken away gives it to the next one that is made, wherever that is.
 fn check_opened(
     seen: Option<Identity>,
     opened: Identity,

@@ -1,5 +1,5 @@
 //! Looking at what stands at a place, without following a link.
-use crate::identity::Identity;
+use crate::identity::{Identity, Sight};
 use dsc_outside::HostError;
 use std::fs;
 use std::fs::Metadata;
@@ -36,6 +36,14 @@ impl Spot {
     pub fn identity(&self) -> Option<Identity> {
         match &self.seen {
             Some(seen) => Some(Identity::of(seen)),
+            None => None,
+        }
+    }
+
+    /// Which file or folder was seen, as it was then, where something was.
+    pub fn sight(&self) -> Option<Sight> {
+        match &self.seen {
+            Some(seen) => Some(Sight::of(seen)),
             None => None,
         }
     }

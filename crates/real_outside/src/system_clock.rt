@@ -40,6 +40,13 @@ fn seconds<R: std::time::Clock>(rt: &R) -> Result<u64, Failed>
     }
 }
 
+/// The time of the system, in whole seconds since 1970, or 0 where it gives none.
+pub fn moment<R: std::time::Clock>(rt: &R) -> u64
+    ensures { result ≤ last_moment }
+{
+    seconds(rt).unwrap_or(0)
+}
+
 impl<R: std::time::Clock> Clock for SystemClock<R> {
     ghost use Rattle.std.specs.Prelude.{None};
 

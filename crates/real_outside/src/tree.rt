@@ -53,7 +53,14 @@ where
         match self.look_for(place.as_str())? {
             Some(spot) if spot.kind() == Kind::File => {
                 let path = self.place_in_host(place.as_str())?;
-                file_holds(&self.rt, self.last_folder()?, &spot, path.as_str(), bytes)
+                file_holds(
+                    &self.rt,
+                    self.last_folder()?,
+                    &spot,
+                    path.as_str(),
+                    self.begun,
+                    bytes,
+                )
             }
             _ => Ok(false),
         }

@@ -202,7 +202,7 @@ fn expect_in<F: Files + Drop>(
 where
     F::File: AsFd + AsRawFd,
 {
-    expect_of(alloc, FolderHost::new(files, folder, None), rows)
+    expect_of(alloc, FolderHost::new(files, folder, None, 0), rows)
 }
 
 // Expects of a host in that folder the first answers, or the second.
@@ -216,7 +216,7 @@ fn expect_one_in<F: Files + Drop>(
 where
     F::File: AsFd + AsRawFd,
 {
-    expect_one_of(alloc, FolderHost::new(files, folder, None), first, second)
+    expect_one_of(alloc, FolderHost::new(files, folder, None, 0), first, second)
 }
 
 fn make_before(rt: &HostRuntime, scratch: &str) -> Result<(), Fail> {
