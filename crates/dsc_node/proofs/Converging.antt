@@ -11,7 +11,7 @@ use Rattle.dsc_outside.specs.declared.clock.Clock as clocks
 use Rattle.dsc_outside.specs.Host.{HostState}
 use Rattle.dsc_outside.specs.Link.{LinkView}
 use Rattle.dsc_document.specs.declared.document.Document.{Document}
-use Rattle.gate_log.specs.Standing.{AllStand, Any, ReadsAs, StandsFor, StoodFor}
+use Rattle.gate_log.specs.Standing.{AllStand, StandsFor}
 use Rattle.meta_config.specs.declared.meta.Meta.{Meta}
 use Rattle.meta_config.specs.declared.modes.AfterReboot.{AfterReboot}
 use Rattle.meta_config.specs.declared.modes.AfterReboot.TheVariants.{ContinueConfiguration}
@@ -33,7 +33,7 @@ use Rattle.lcm_core.specs.declared.modes.RunEnd.{RunEnd}
 use Rattle.lcm_core.specs.declared.modes.RunEnd.TheVariants as ends
 use Rattle.lcm_core.specs.declared.modes.RunMode.{RunMode}
 use Rattle.lcm_core.specs.declared.modes.RunMode.TheVariants.{Repair}
-use Rattle.lcm_core.specs.Bounds.{LegalIsBounded}
+use Rattle.lcm_core.specs.Bounds.{IsBounded, LegalIsBounded}
 use Rattle.lcm_core.specs.Legal.{GoesOn, Legal}
 use Rattle.lcm_core.specs.RebootLaws.{AllKnown, ClearRepairsComply, ComesNearer, IsClearRepair, RebootsComeNearer}
 use Rattle.lcm_core.specs.RunLaws.{CompliantHold}
@@ -47,8 +47,7 @@ use Rattle.node_store.specs.declared.error.StoreError.{StoreError}
 use Rattle.node_store.specs.declared.error.StoreError.TheVariants as errors
 use Rattle.node_store.specs.Stands.{Stands}
 use Rattle.node_store.proofs.Meaning.{one_node, sound_node}
-use Rattle.node_pull.specs.declared.error.PullFault.{PullFault}
-use Rattle.node_pull.specs.declared.error.PullFault.TheVariants as pulls
+use Rattle.dsc_node.specs.declared.bringing.Unbrought.{Unbrought}
 use Rattle.dsc_node.specs.declared.command.Command.{Command}
 use Rattle.dsc_node.specs.declared.command.Command.TheVariants as commands
 use Rattle.dsc_node.specs.declared.plan.Bring.TheVariants as bring
@@ -57,11 +56,11 @@ use Rattle.dsc_node.specs.declared.plan.Needs.TheVariants as need
 use Rattle.dsc_node.specs.declared.plan.Plan.{Plan}
 use Rattle.dsc_node.specs.declared.status.Status.{Status}
 use Rattle.dsc_node.specs.declared.status.Status.TheVariants as statuses
-use Rattle.dsc_node.specs.Bringing.{Brought, boot_of, events_of, status_of_pull}
+use Rattle.dsc_node.specs.Bringing.{Brought, boot_of, events_of}
 use Rattle.dsc_node.specs.Commands.{IsPlanOf, IsUnmerged, is_stop, runs, stops}
 use Rattle.dsc_node.specs.Commits.{all_of}
 use Rattle.dsc_node.specs.Complete.{IsEndOf, IsEndOfRun, IsValidFor, MayRun, ValidStartsComplete}
-use Rattle.dsc_node.specs.Converging.{AsksForReboot, HostStart, IsBoundedRun, IsPromotedTo, MakesCurrent, Premises, Repairs, RunsAreBounded, SomeMakesCurrent, StartsComeNearer, StartsConverge, StartsConvergeInTime, WaitsForBoot}
+use Rattle.dsc_node.specs.Converging.{AsksForReboot, HostStart, IsPromotedTo, MakesCurrent, Premises, Repairs, RunsAreBounded, Shows, SomeMakesCurrent, StartsComeNearer, StartsConverge, StartsConvergeInTime, WaitsForBoot}
 use Rattle.dsc_node.specs.Endings.{Answers, status_of}
 use Rattle.dsc_node.specs.Headline.{HasHeadline, IsRun}
 use Rattle.dsc_node.specs.HostHeadline.{kinds_of, known_on_host, machine_of}
@@ -70,22 +69,36 @@ use Rattle.dsc_node.specs.Ran.{EndsAs, IsWholeOrNone}
 use Rattle.dsc_node.specs.Runs.{Choice, Ran, Reported, Run, chosen_among, chosen_of, end_line, event_of, status_after}
 use Rattle.dsc_node.specs.Sending.{EndsAfterSending, Sends, Tried}
 use Rattle.dsc_node.specs.Start.{Opened, Outside, Start, opened, refused, unopened}
-use Rattle.dsc_node.specs.Starts.{Leaves, OneStart, StartsGoOn, StartsJoin}
+use Rattle.dsc_node.specs.Starts.{OneStart}
 use Rattle.dsc_node.specs.Work.{Beside, Finish, Known, StartTable, clock_failed, finished, first_refused, no_run, not_allowed, not_brought, report_kept, report_refused, settled, unended, unready, waiting}
 use Rattle.dsc_node.proofs.Headline.{agent_some}
 use Rattle.dsc_node.proofs.HeadlineRuns.{is_true, whole_of}
+use Rattle.dsc_node.proofs.SameHost.{still_clear, same_unheld}
 use Rattle.dsc_node.proofs.Sends.{sends_leave}
-use Rattle.dsc_node.proofs.Way.{steps-push}
+use Rattle.dsc_node.proofs.Way.{stands_map, steps-push}
 
 -- ---- how often a resource is called
 
-bounded_run : {D S C : Type 0} (o : Known D S C) (before after : S) → LegalIsBounded → (run : Option Run) → IsRun o.resources run before after → IsBoundedRun run (o.resources.trace after)
-bounded_run o before after bounded None same = tt
-bounded_run o before after bounded (Some run) ran = bounded run.document run.choice.mode run.order (o.resources.trace after) ran.legal
+never_called : IsBounded []
+never_called r = (omega arith, omega arith)
 
-pub runs_are_bounded : {D S C : Type 0} (o : Known D S C) → LegalIsBounded → RunsAreBounded o
-runs_are_bounded o bounded one s =
-    bounded_run o s.ready one.after.beside.machine bounded s.run (one.headline s).sets_follow_tests.runs
+module _ {D S C : Type 0} (o : Known D S C) (bounded : LegalIsBounded) where
+  bounded_run : (run : Option Run) (ready after : S) → IsRun o.resources run ready after → o.resources.trace ready ≡ [] → IsBounded (o.resources.trace after)
+  bounded_run None ready after same none = subst IsBounded (sym (ap o.resources.trace same ∙ none)) never_called
+  bounded_run (Some run) ready after ran none = bounded run.document run.choice.mode run.order (o.resources.trace after) ran.legal
+
+  bounded_start : (command : Command) (before after : Outside D S C) (status : Status) (lines : List ℕ) → HasHeadline o command before after status lines
+      → o.resources.trace before.beside.machine ≡ [] → Start o command before after status lines → IsBounded (o.resources.trace after.beside.machine)
+  bounded_start command before after status lines headline none (refused error unmerged same ends) =
+      subst IsBounded (sym (ap (λ (s : Outside D S C). o.resources.trace s.beside.machine) same ∙ none)) never_called
+  bounded_start command before after status lines headline none (unopened plan error is count cause quiet moments ends) =
+      subst IsBounded (sym (ap (λ (s : Beside S C). o.resources.trace s.machine) quiet ∙ none)) never_called
+  bounded_start command before after status lines headline none (opened s) =
+      let runs = (headline s).sets_follow_tests in
+      bounded_run s.run s.ready after.beside.machine runs.runs (runs.untested ∙ none)
+
+  pub runs_are_bounded : RunsAreBounded o
+  runs_are_bounded one none = bounded_start one.command one.before one.after one.status one.lines one.headline none one.start
 
 -- ---- statuses
 
@@ -95,12 +108,6 @@ not_of_store errors.Disk is = is
 not_of_store (errors.NotAStore at) is = is
 not_of_store (errors.NotAllowed why) is = is
 not_of_store errors.Memory is = is
-
-not_of_pull : (error : PullFault) → IsEndOfRun (status_of_pull error) → ⊥
-not_of_pull pulls.Link is = is
-not_of_pull pulls.Host is = is
-not_of_pull (pulls.Refused fault) is = is
-not_of_pull pulls.Memory is = is
 
 -- a start that ends as a run does ends with the status of its run
 answers_as : (wanted : Status) (text : List ℕ) (status : Status) (lines : List ℕ) → IsEndOfRun status → Answers wanted text status lines → status ≡ wanted
@@ -165,18 +172,27 @@ record Begins {S : Type 0} (before ready : S) (first : Option Event) : Type 0 wh
   machine : ready ≡ before
   event : (first ≡ None) ⊎ (first ≡ Some events.Boot)
 
-boot_or_none : (marked : Bool) (first : Option Event) → (let x : Result (Option Event) PullFault = Ok first in x) ≡ Ok (boot_of marked) → (first ≡ None) ⊎ (first ≡ Some events.Boot)
+boot_or_none : (marked : Bool) (first : Option Event) → (let x : Result (Option Event) Unbrought = Ok first in x) ≡ Ok (boot_of marked) → (first ≡ None) ⊎ (first ≡ Some events.Boot)
 boot_or_none true first is = inr (cc (is))
 boot_or_none false first is = inl (cc (is))
 
-module _ {S : Type 0} (runs_on : resources.Ghosts S) (machine : machines.Ghosts S) (node : Node) (start : ℕ) (asked heard : LinkView) (before ready : S) (first : Option Event) where
-  begins : (plan : Plan) → IsRepairPlan plan → Brought runs_on machine node plan.brings start asked heard before ready (Ok first) → Begins before ready first
-  begins plan (of_boot is) brought =
+module _ {S : Type 0} (runs_on : resources.Ghosts S) (machine : machines.Ghosts S) (node : Node) (start : ℕ) (asked heard : LinkView) (before ready : S) where
+  begins : (first : Option Event) (plan : Plan) → IsRepairPlan plan → Brought runs_on machine node plan.brings start asked heard before ready (Ok first) → Begins before ready first
+  begins first plan (of_boot is) brought =
       let b = subst (λ (p : Plan). Brought runs_on machine node p.brings start asked heard before ready (Ok first)) is brought in
       record { machine = b.machine; event = boot_or_none node.reboot first b.is }
-  begins plan (of_consistency is) brought =
+  begins first plan (of_consistency is) brought =
       let b = subst (λ (p : Plan). Brought runs_on machine node p.brings start asked heard before ready (Ok first)) is brought in
       record { machine = b.machine; event = boot_or_none false first b.is }
+
+  -- and that never fails
+  always_brought : (plan : Plan) (error : Unbrought) → IsRepairPlan plan → Brought runs_on machine node plan.brings start asked heard before ready (Err error) → ⊥
+  always_brought plan error (of_boot is) brought =
+      let b = subst (λ (p : Plan). Brought runs_on machine node p.brings start asked heard before ready (Err error)) is brought in
+      absurd (cc (b.is))
+  always_brought plan error (of_consistency is) brought =
+      let b = subst (λ (p : Plan). Brought runs_on machine node p.brings start asked heard before ready (Err error)) is brought in
+      absurd (cc (b.is))
 
 -- ---- nodes
 
@@ -281,7 +297,7 @@ module _ {H : Type 0} (host : hosts.Ghosts H) where
         table_ran _ _ _ _ (not_allowed why is idle answers) = absurd (subst IsEndOfRun answers.0 ended)
         table_ran _ _ _ _ (waiting none is idle answers) = absurd (subst IsEndOfRun answers.0 ended)
         table_ran _ _ _ _ (clock_failed allowed reads gave took rose machine link answers) = absurd (subst IsEndOfRun answers.0 ended)
-        table_ran _ _ _ _ (not_brought start error allowed reads brought answers) = absurd (not_of_pull error (subst IsEndOfRun answers.0 ended))
+        table_ran _ _ _ _ (not_brought start error allowed reads brought answers) = absurd (always_brought (kinds_of host) (machine_of host) from start before.link after.link before.machine after.machine plan error repairs brought)
         table_ran _ _ _ _ (first_refused start event error committed broken allowed reads brought refused answers) = absurd (not_of_store error (subst IsEndOfRun answers.0 ended))
         table_ran _ _ _ _ (settled start first mid text allowed printed reads brought steps answers) = absurd (cc (printed, runs_next plan repairs))
         table_ran _ _ _ _ (finished start readings heard ready first mid run committed broken allowed follows_run gave took brought steps f) =
@@ -417,7 +433,6 @@ module _ {D H C : Type 0} (d : disks.Ghosts D) (host : hosts.Ghosts H) (clock : 
       merged = p.merged;
       apart = p.apart;
       known = p.known;
-      whole = p.whole;
       disk_tells = (p.disk_tells.0, tt);
       reads = p.reads;
       pending = p.pending;
@@ -425,8 +440,8 @@ module _ {D H C : Type 0} (d : disks.Ghosts D) (host : hosts.Ghosts H) (clock : 
       clear = p.clear;
       continues = p.continues;
       enabled = p.enabled;
-      jobs = omega (arith, p.jobs);
       repairs = (p.repairs.0, tt);
+      numbers = (p.numbers.0, tt);
       undisturbed = (p.undisturbed.0, tt);
       unchanged = tt;
     }
@@ -445,7 +460,7 @@ module _ {D H C : Type 0} (d : disks.Ghosts D) (host : hosts.Ghosts H) (clock : 
       may_run = record {
         agent = agent_some node.agent (λ none. none-some parts (sym ((sound_node held node stands).bare none).pending ∙ p.pending));
         enabled = p.enabled;
-        job = omega (arith, p.jobs);
+        job = p.numbers.0 node p.reads;
       }
 
       ended_run : IsEndOfRun one.status
@@ -494,18 +509,20 @@ module _ {D H C : Type 0} (d : disks.Ghosts D) (host : hosts.Ghosts H) (clock : 
         committed_alone end (inl steps) = steps
         committed_alone end (inr steps) = subst (λ (b : Option Event). Steps s.from (all_of s.ended.committed b) end) unbroken steps
 
-        on_node : (end : Node) → Steps s.from s.ended.committed end ⊎ Steps s.from (all_of s.ended.committed s.ended.broken) end → Steps node s.ended.committed end
-        on_node end left = subst (λ (n : Node). Steps n s.ended.committed end) (sym from_is) (committed_alone end left)
+        -- so each image at the end stands for the node after what was committed
+        all_stand : (P : Node → Type 0) → ((end : Node) → Steps s.from s.ended.committed end → P end) → AllStand d after.disk Stands P
+        all_stand P has image there =
+            stands_map (λ end. Steps s.from s.ended.committed end ⊎ Steps s.from (all_of s.ended.committed s.ended.broken) end) P (λ end left. has end (committed_alone end left)) image (s.ended.left image there)
 
-        as_told : Outcome host parts document state node after.beside.machine status s.ended.committed
-            → MakesCurrent d host clock parts document (the_start (opened s)) ⊎ AsksForReboot d host clock document node state (the_start (opened s))
+        as_told : Outcome host parts document state s.from after.beside.machine status s.ended.committed
+            → MakesCurrent d host clock parts document (the_start (opened s)) ⊎ AsksForReboot d host clock document s.from state (the_start (opened s))
         as_told (made_current done promoted left shows hold) =
-            inl (record { done = done; promoted = λ end steps. promoted end (on_node end steps); state = left; shows = shows; hold = hold })
+            inl (record { done = done; promoted = all_stand (IsPromotedTo parts) promoted; state = left; shows = shows; hold = hold })
         as_told (asked_reboot place asked waits left shows near) =
-            inr (record { place = place; asked = asked; waits = λ end steps. waits end (on_node end steps); left = left; shows = shows; nearer = near })
+            inr (record { place = place; asked = asked; waits = all_stand (WaitsForBoot s.from) waits; left = left; shows = shows; nearer = near })
 
         opened_comes : MakesCurrent d host clock parts document (the_start (opened s)) ⊎ AsksForReboot d host clock document node state (the_start (opened s))
-        opened_comes = as_told (subst (λ (n : Node). Outcome host parts document state n after.beside.machine status s.ended.committed) (sym from_is) found)
+        opened_comes = subst (λ (n : Node). MakesCurrent d host clock parts document (the_start (opened s)) ⊎ AsksForReboot d host clock document n state (the_start (opened s))) (sym from_is) (as_told found)
 
       comes : (start : Start (known_on_host d host clock) command before after status lines) → Premises d host clock parts document node state (the_start start) []
           → MakesCurrent d host clock parts document (the_start start) ⊎ AsksForReboot d host clock document node state (the_start start)
@@ -523,7 +540,7 @@ module _ {D H C : Type 0} (d : disks.Ghosts D) (host : hosts.Ghosts H) (clock : 
 
   -- ---- a list of starts
 
-  module _ (goes_on : StartsGoOn (known_on_host d host clock)) (joins : StartsJoin (known_on_host d host clock)) (honest : (disk : D) (held : List ℕ) → d.shown disk ≡ Some held → d.images disk held) where
+  module _ (honest : (disk : D) (held : List ℕ) → d.shown disk ≡ Some held → d.images disk held) where
     -- what is asked of the starts after one that asked for a reboot
     module _ (parts : List Part) (document : Document) (node : Node) (state : HostState) (one next : HostStart d host clock) (starts : List (HostStart d host clock))
         (p : Premises d host clock parts document node state one (next ∷ starts)) (asks : AsksForReboot d host clock document node state one) where
@@ -531,33 +548,32 @@ module _ {D H C : Type 0} (d : disks.Ghosts D) (host : hosts.Ghosts H) (clock : 
       next_held = p.disk_tells.1.0.0
 
       -- what the next start reads, this one left
-      next_whole : AllStand d next.before.disk Stands Any
-      next_whole = (goes_on one next p.whole (λ image there. inr (p.unchanged.0.store image there))).0
+      found : StandsFor Stands (WaitsForBoot node) next_held
+      found = asks.waits next_held (p.unchanged.0.store next_held (honest next.before.disk next_held p.disk_tells.1.0.1))
 
-      there : d.images next.before.disk next_held
-      there = honest next.before.disk next_held p.disk_tells.1.0.1
+      shown_next : (wanting : List (List ℕ)) × Shows d host clock next.before (record asks.left { wanting = wanting })
+      shown_next = p.unchanged.0.host asks.left asks.shows
 
-      next_node : StandsFor Stands Any next_held
-      next_node = next_whole next_held there
+      abbrev next_state : HostState
+      next_state = record asks.left { wanting = shown_next.0 }
 
-      waits : WaitsForBoot node next_node.value
-      waits = asks.waits next_node.value (joins one next p.whole p.unchanged.0.store next_node.value (record { image = next_held; there = there; stands = next_node.stands }))
+      next_unheld : unheld next_state document ≡ unheld asks.left document
+      next_unheld = same_unheld asks.left shown_next.0 document
 
-      next_premises : Premises d host clock parts document next_node.value asks.left next starts
+      next_premises : Premises d host clock parts document found.value next_state next starts
       next_premises = record {
         merged = p.merged;
         apart = p.apart;
         known = p.known;
-        whole = next_whole;
         disk_tells = p.disk_tells.1;
-        reads = subst (λ (shown : Option (List ℕ)). IfSome shown (λ h. Stands h next_node.value)) (sym p.disk_tells.1.0.1) next_node.stands;
-        pending = waits.pending ∙ p.pending;
-        host_tells = p.unchanged.0.host ∙ asks.shows;
-        clear = asks.nearer.clear;
-        continues = ap (λ (m : Meta). m.after) waits.meta ∙ p.continues;
-        enabled = λ disabled. p.enabled (ap (λ (m : Meta). m.refresh) (sym waits.meta) ∙ disabled);
-        jobs = omega (arith, p.jobs, waits.job);
+        reads = subst (λ (shown : Option (List ℕ)). IfSome shown (λ h. Stands h found.value)) (sym p.disk_tells.1.0.1) found.stands;
+        pending = found.has.pending ∙ p.pending;
+        host_tells = shown_next.1;
+        clear = still_clear asks.left shown_next.0 document asks.nearer.clear;
+        continues = ap (λ (m : Meta). m.after) found.has.meta ∙ p.continues;
+        enabled = λ disabled. p.enabled (ap (λ (m : Meta). m.refresh) (sym found.has.meta) ∙ disabled);
         repairs = p.repairs.1;
+        numbers = p.numbers.1;
         undisturbed = p.undisturbed.1;
         unchanged = p.unchanged.1;
       }
@@ -570,8 +586,9 @@ module _ {D H C : Type 0} (d : disks.Ghosts D) (host : hosts.Ghosts H) (clock : 
     starts_converge parts document node state one (next ∷ starts) p few = elim (starts_come_nearer_to parts document node state one (first_alone parts document node state one (next ∷ starts) p)) [
       | inl made ↦ inl made
       | inr asks ↦
-          let later = next_premises parts document node state one next starts p asks in
-          inr (starts_converge parts document (next_node parts document node state one next starts p asks).value asks.left next starts later (omega (arith, asks.nearer.fewer, few)))
+          let fewer : unheld (next_state parts document node state one next starts p asks) document ≤ length starts = omega (arith, next_unheld parts document node state one next starts p asks, asks.nearer.fewer, few) in
+          inr (starts_converge parts document (found parts document node state one next starts p asks).value (next_state parts document node state one next starts p asks) next starts
+          (next_premises parts document node state one next starts p asks) fewer)
     ]
 
     pub starts_converge_in_time : UnheldIsBounded → StartsConvergeInTime d host clock

@@ -7,12 +7,11 @@ use Rattle.dsc_outside.specs.declared.host.Host as hosts
 use Rattle.dsc_outside.specs.declared.clock.Clock as clocks
 use Rattle.dsc_outside.specs.Host.{HostState}
 use Rattle.dsc_document.specs.declared.document.Document.{Document}
-use Rattle.gate_log.specs.Standing.{ReadsAs}
+use Rattle.gate_log.specs.Standing.{AllStand, ReadsAs}
 use Rattle.meta_config.specs.declared.modes.AfterReboot.TheVariants.{ContinueConfiguration}
 use Rattle.meta_config.specs.declared.modes.RefreshMode.TheVariants as refreshes
 use Rattle.partial_merge.specs.declared.part.Part.{Part}
 use Rattle.partial_merge.specs.Merged.{Merged}
-use Rattle.resource_kinds.specs.declared.entry.Entry.{Entry}
 use Rattle.resource_kinds.specs.declared.kinds.Kinds.{Kinds}
 use Rattle.resource_kinds.specs.Apart.{Apart}
 use Rattle.resource_kinds.specs.Documents.{AllHold, Clear}
@@ -27,22 +26,15 @@ use Rattle.dsc_node.specs.declared.command.Command.TheVariants as commands
 use Rattle.dsc_node.specs.declared.status.Status.{Status}
 use Rattle.dsc_node.specs.declared.status.Status.TheVariants as statuses
 use Rattle.dsc_node.specs.HostHeadline.{known_on_host}
-use Rattle.dsc_node.specs.Runs.{Run}
-use Rattle.dsc_node.specs.Start.{Opened, Outside}
-use Rattle.dsc_node.specs.Starts.{BeginsWhole, EndsBefore, IsExposed, IsLeftAtTheEnd, OneStart}
+use Rattle.dsc_node.specs.Start.{Outside}
+use Rattle.dsc_node.specs.Starts.{EndsBefore, IsExposed, OneStart}
 use Rattle.dsc_node.specs.Work.{Known}
 
 -- ---- how often a resource is called
 
--- a run's trace has at most two Tests of each resource, and one Set
-abbrev pub IsBoundedRun : Option Run → List Entry → Type 0
-IsBoundedRun None trace = ⊤
-IsBoundedRun (Some run) trace = IsBounded trace
-
--- so has that of each start, over any machine
+-- a start makes at most two Tests of each resource, and one Set, over any machine
 abbrev pub RunsAreBounded : {D S C : Type 0} → Known D S C → Type 0
-RunsAreBounded o =
-    (one : OneStart o) (opened : Opened o one.command one.before one.after one.status one.lines) → IsBoundedRun opened.run (o.resources.trace one.after.beside.machine)
+RunsAreBounded o = (one : OneStart o) → o.resources.trace one.before.beside.machine ≡ [] → IsBounded (o.resources.trace one.after.beside.machine)
 
 -- ---- nodes
 
@@ -57,7 +49,7 @@ pub record IsPromotedTo (parts : List Part) (node : Node) : Type 0 where
   pub current : node.current ≡ Some parts
   pub pending : node.pending ≡ None
 
--- the node waits for a boot with the same parts as Pending, and the next number for a report
+-- the node waits for a boot, with the same Pending and meta-configuration, and the next number for a report
 pub record WaitsForBoot (before node : Node) : Type 0 where
   pub marked : node.reboot ≡ true
   pub pending : node.pending ≡ before.pending
@@ -79,6 +71,10 @@ module _ {D H C : Type 0} (d : disks.Ghosts D) (h : hosts.Ghosts H) (c : clocks.
   abbrev pub IsRepair : HostStart → Type 0
   IsRepair one = (node : Node) → ReadsAs d one.before.disk Stands node → Repairs node one.command
 
+  -- that node has a number for its next report
+  abbrev pub HasNumber : HostStart → Type 0
+  HasNumber one = (node : Node) → ReadsAs d one.before.disk Stands node → node.next_job < 2 ^ 64 - 1
+
   -- no count of faults rose, and memory did not run out
   pub record IsUndisturbed (one : HostStart) : Type 0 where
     pub disk : Rose (d.faults one.before.disk) (d.faults one.after.disk) → ⊥
@@ -86,10 +82,10 @@ module _ {D H C : Type 0} (d : disks.Ghosts D) (h : hosts.Ghosts H) (c : clocks.
     pub clock : Rose (c.faults one.before.beside.clock) (c.faults one.after.beside.clock) → ⊥
     pub memory : one.status ≢ statuses.Memory
 
-  -- nobody else changed the store or the host between two starts
+  -- Nobody else changed the store or the host between two starts. Which resources want a reboot may be otherwise, as a boot may make it.
   pub record IsUnchanged (one next : HostStart) : Type 0 where
     pub store : EndsBefore (known_on_host d h c) one next
-    pub host : h.shown (host_of next.before.beside.machine) ≡ h.shown (host_of one.after.beside.machine)
+    pub host : (state : HostState) → Shows one.after state → (wanting : List (List ℕ)) × Shows next.before (record state { wanting = wanting })
 
   abbrev pub AreUnchanged : HostStart → List HostStart → Type 0
   AreUnchanged one [] = ⊤
@@ -97,13 +93,11 @@ module _ {D H C : Type 0} (d : disks.Ghosts D) (h : hosts.Ghosts H) (c : clocks.
 
   -- All that is asked of a list of starts that begins with this node, with these parts as Pending, and this state of the host.
   pub record Premises (parts : List Part) (document : Document) (node : Node) (state : HostState) (first : HostStart) (starts : List HostStart) : Type 0 where
-    -- the document of the parts
+    -- the document of the parts; its resources are apart, and none has a fault of its own
     pub merged : Merged parts document
-    -- its resources are apart, and none has a fault of its own
     pub apart : Apart document
     pub known : AllKnown document
-    -- the store is whole, and the disk shows it at each of the starts; before the first it reads as the node
-    pub whole : BeginsWhole (known_on_host d h c) first
+    -- the disk shows what it holds at the beginning of each of the starts; before the first it reads as the node
     pub disk_tells : AllByRecursion (IsExposed (known_on_host d h c)) (first ∷ starts)
     pub reads : ReadsAs d first.before.disk Stands node
     pub pending : node.pending ≡ Some parts
@@ -113,20 +107,19 @@ module _ {D H C : Type 0} (d : disks.Ghosts D) (h : hosts.Ghosts H) (c : clocks.
     -- the node goes on after a reboot, and is not switched off
     pub continues : node.meta.after ≡ ContinueConfiguration
     pub enabled : node.meta.refresh ≢ refreshes.Disabled
-    -- there is a number for the report of each of the starts
-    pub jobs : node.next_job + length starts < 2 ^ 64 - 1
-    -- each is a boot, or a consistency that waits for no reboot, and is undisturbed
+    -- each is a boot, or a consistency that waits for no reboot; it has a number for its report, and is undisturbed
     pub repairs : AllByRecursion IsRepair (first ∷ starts)
+    pub numbers : AllByRecursion HasNumber (first ∷ starts)
     pub undisturbed : AllByRecursion IsUndisturbed (first ∷ starts)
     -- and nobody else changes the store or the host between two of them
     pub unchanged : AreUnchanged first starts
 
   -- ---- one start
 
-  -- the start made Pending Current, and all that the document asks for holds
+  -- the start made Pending Current, on each image of the disk, and all that the document asks for holds
   pub record MakesCurrent (parts : List Part) (document : Document) (one : HostStart) : Type 0 where
     pub done : one.status ≡ statuses.Done
-    pub promoted : (node : Node) → IsLeftAtTheEnd (known_on_host d h c) one node → IsPromotedTo parts node
+    pub promoted : AllStand d one.after.disk Stands (IsPromotedTo parts)
     pub state : HostState
     pub shows : Shows one.after state
     pub hold : AllHold state document
@@ -135,7 +128,7 @@ module _ {D H C : Type 0} (d : disks.Ghosts D) (h : hosts.Ghosts H) (c : clocks.
   pub record AsksForReboot (document : Document) (before : Node) (state : HostState) (one : HostStart) : Type 0 where
     pub place : ℕ
     pub asked : one.status ≡ statuses.RebootAsked place before.meta.reboot_if_needed
-    pub waits : (node : Node) → IsLeftAtTheEnd (known_on_host d h c) one node → WaitsForBoot before node
+    pub waits : AllStand d one.after.disk Stands (WaitsForBoot before)
     pub left : HostState
     pub shows : Shows one.after left
     pub nearer : ComesNearer document state left

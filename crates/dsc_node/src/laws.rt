@@ -48,7 +48,7 @@ pub fn valid_starts_complete<D: Disk, M: Machine, C: Clock>()
     serving_laws::<M>();
 }
 
-/// A run makes at most two Tests of a resource, and one Set.
+/// A start makes at most two Tests of a resource, and one Set.
 pub fn runs_are_bounded<D: Disk, M: Machine, C: Clock>()
     ensures { RunsAreBounded (known D.Disk M.Resources M.Machine.own C.Clock) }
 {
@@ -66,6 +66,5 @@ pub fn starts_converge<D: Disk, H: Host, C: Clock>()
     reboot_laws();
     trace_laws();
     holding_laws();
-    starts_join::<D, Kinds<H>, C>();
     valid_starts_complete::<D, Kinds<H>, C>();
 }

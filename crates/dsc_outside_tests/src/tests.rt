@@ -6,5 +6,7 @@ mod memory_forms;
 mod memory_host;
 mod real_disk;
 mod real_things;
+mod reliable_forms;
 mod scratch;
+mod shared_stops;
 mod watched_files;

@@ -23,7 +23,7 @@ use Rattle.resource_kinds.specs.Apart.{wanted_at}
 use Rattle.resource_kinds.specs.Holds.{Holds}
 use Rattle.resource_kinds.specs.Laws.{IsWhole, KeepsWhole, MayBreakOff, SucceededHold}
 use Rattle.resource_kinds.specs.Trace.{Compliant, HasEntry, Succeeded, has_succeeded, is_yes, place_of}
-use Rattle.resource_kinds.specs.True.{AnswersTrue, IsTrueEntry, True}
+use Rattle.resource_kinds.specs.True.{AnswersTrue, True}
 use Rattle.resource_kinds.specs.Wanted.{wanted_of}
 use Rattle.resource_kinds.proofs.Marks.{get_or-places}
 use Rattle.lcm_core.specs.declared.modes.RunMode.{RunMode}

@@ -9,7 +9,6 @@ use Rattle.dsc_terms.proofs.Splits.{split_at}
 use Rattle.dsc_outside.specs.Host.{HostState}
 use Rattle.dsc_document.specs.declared.document.Document.{Document}
 use Rattle.dsc_document.specs.declared.document.Resource.{Resource}
-use Rattle.mof_values.specs.Fold.{SameName}
 use Rattle.dsc_document.specs.Dependencies.{Means}
 use Rattle.depend_order.specs.Documents.{IsOrderOfDocument}
 use Rattle.resource_kinds.specs.declared.entry.Failure.{Failure}
@@ -82,14 +81,13 @@ whole_entry document (Set p answer) unbroken = λ broke. absurd (unbroken broke)
 -- ---- dependencies
 
 -- what is depended on is a resource of the document
-meant : (resources : List Resource) (name : List ℕ) (q : ℕ) (found : Option Resource) → slice_get resources q ≡ found
-    → IsSomeAnd found (λ resource. SameName name resource.id) → q < length resources
-meant resources name q None is means = absurd means
-meant resources name q (Some resource) is means = slice_get_within resources q resource is
+meant : (P : Resource → Type 0) (resources : List Resource) (q : ℕ) (found : Option Resource) → slice_get resources q ≡ found → IsSomeAnd found P → q < length resources
+meant P resources q None is means = absurd means
+meant P resources q (Some resource) is means = slice_get_within resources q resource is
 
 named : (resources : List Resource) (q : ℕ) (name : Option (List ℕ)) → IsSomeAnd name (λ n. Means resources n q) → q < length resources
 named resources q None names = absurd names
-named resources q (Some name) names = meant resources name q (slice_get resources q) refl names
+named resources q (Some name) names = meant _ resources q (slice_get resources q) refl names
 
 listed : (resources : List Resource) (k q : ℕ) (resource : Option Resource)
     → IsSomeAnd resource (λ x. IsSomeAnd (slice_get x.depends k) (λ n. Means resources n q)) → q < length resources

@@ -16,7 +16,7 @@ use Rattle.resource_kinds.specs.declared.entry.Entry.TheVariants.{Tested, Set}
 use Rattle.resource_kinds.specs.Trace.{HasEntry, entry_is_yes, has_succeeded, is_yes, place_of}
 use Rattle.resource_kinds.proofs.Marks.{count_mapped, get_or-marks, length-marks, marks_by, marks_push}
 use Rattle.lcm_core.specs.declared.modes.RunMode.{RunMode}
-use Rattle.lcm_core.specs.Legal.{IsFirstTest, Legal}
+use Rattle.lcm_core.specs.Legal.{Legal}
 use Rattle.lcm_core.specs.RunLaws.{EndsAtYes, LegalEndsAtYes}
 use Rattle.lcm_core.proofs.Bounded.{count_push}
 use Rattle.lcm_core.proofs.OneTurn.{has_split}

@@ -1,8 +1,9 @@
 -- What a stop leaves of a disk in memory.
-use Rattle.std.proofs.Common.{◌≡◌, ◌⊎◌, inl, inr, ℕ, ◌+◌, ◌-◌, ◌<◌, ◌≤◌, min, List, [], ◌∷◌, ◌++◌, true, false, length, take, drop, replicate, get_or, refl, sym, ◌∙◌, ap, arith, length-append, length-take, length-drop}
+use Rattle.std.proofs.Common.{◌≡◌, ◌⊎◌, inl, inr, ℕ, ◌+◌, ◌-◌, ◌<◌, ◌≤◌, min, List, [], ◌∷◌, ◌++◌, true, false, length, Some, Result, Ok, Err, IfOk, take, drop, replicate, get_or, refl, sym, ◌∙◌, ap, subst, arith, length-append, length-take, length-drop}
 use Rattle.std.proofs.lemmas.List.{get_or-take, get_or-drop, get_or-append_right, get_or_append_left, length-replicate, take_more}
 use Rattle.dsc_outside.specs.Images.{DiskState, IsHonest, IsImage, IsOutside, after_sync}
-use Rattle.memory_outside.specs.MemoryDisk.{DiskInMemory, after_outcome, filled, is_done_sync, left_by, part_left, range_filled, range_of, state_after, state_of}
+use Rattle.dsc_outside.specs.Disk.{Only}
+use Rattle.memory_outside.specs.MemoryDisk.{DiskInMemory, after_outcome, exposed_bytes, filled, held_by, images_of, is_done_sync, part_left, range_filled, range_of, state_after, state_of}
 use Rattle.memory_outside.specs.declared.disk_calls.CallOutcome.{CallOutcome}
 use Rattle.memory_outside.specs.declared.disk_calls.CallOutcome.TheVariants as outcomes
 use Rattle.memory_outside.specs.declared.disk_calls.DiskCall.{DiskCall}
@@ -11,7 +12,9 @@ use Rattle.memory_outside.specs.declared.disk_calls.DiskPart.{DiskPart}
 use Rattle.memory_outside.specs.declared.disk_calls.DiskPart.TheVariants as parts
 use Rattle.memory_outside.specs.declared.disk_calls.RecordedCall.{RecordedCall}
 use Rattle.memory_outside.specs.HonestDisk.{state_is_honest}
+use Rattle.memory_outside.specs.ReliableDisk.{fresh_disk}
 use Rattle.memory_outside.proofs.DiskCalls.{state_push}
+use Rattle.memory_outside.proofs.Images.{one_image}
 
 pub length-range_filled : (byte : ℕ) (range : ℕ × ℕ) (held : List ℕ) → length (range_filled byte range held) ≡ length held
 length-range_filled byte range held =
@@ -45,7 +48,7 @@ get_or-filled byte (range ∷ ranges) held k low outside =
     ∙ get_or-range_filled byte range held k low outside.0
 
 -- each part is an image
-part_is_image : (part : DiskPart) (s : DiskState) → IsHonest s → IsImage s (part_left part s)
+pub part_is_image : (part : DiskPart) (s : DiskState) → IsHonest s → IsImage s (part_left part s)
 part_is_image parts.Nothing s honest = honest.synced
 part_is_image parts.Whole s honest = honest.held
 part_is_image (parts.Filled byte) s honest =
@@ -58,9 +61,14 @@ part_is_image (parts.Filled byte) s honest =
       same = λ k l outside. get_or-filled byte s.ranges s.held k (omega arith) outside ∙ honest.held.same k l outside;
     }
 
--- so what the next start finds is one
-pub left_is_image : (disk : DiskInMemory) → IsImage (state_of disk) (left_by disk)
-left_is_image disk = part_is_image disk.left (state_of disk) (state_is_honest disk)
+-- a disk that is made of a part for the next start holds one of the images, and has no other
+pub next_is_image : {E : Type 0} (part : DiskPart) (old : DiskInMemory) (result : Result DiskInMemory E) → IfOk result (λ next. next ≡ fresh_disk (part_left part (state_of old))) → IfOk result (λ next. images_of old (held_by next))
+next_is_image part old (Ok next) is = subst (λ (d : DiskInMemory). IsImage (state_of old) (held_by d)) (sym is) (part_is_image part (state_of old) (state_is_honest old))
+next_is_image part old (Err error) is = tt
+
+pub next_is_only : {E : Type 0} (bytes : List ℕ) (result : Result DiskInMemory E) → IfOk result (λ next. next ≡ fresh_disk bytes) → IfOk result (λ next. Only (exposed_bytes next) (images_of next))
+next_is_only bytes (Ok next) is = subst (λ (d : DiskInMemory). Only (exposed_bytes d) (images_of d)) (sym is) (λ c image. ap Some (sym (one_image bytes c image)))
+next_is_only bytes (Err error) is = tt
 
 -- a sync that was done settles what is held
 pub sync_settles : (outcome : CallOutcome) (call : DiskCall) (s : DiskState) → is_done_sync outcome call ≡ true → after_outcome outcome call s ≡ after_sync s

@@ -1,5 +1,5 @@
 -- The images of a disk follow the calls as every disk promises it.
-use Rattle.std.proofs.Common.{◌≡◌, inl, inr, ⊎_elim, ℕ, ◌+◌, ◌-◌, ◌<◌, ◌≤◌, min, max, List, length, take, drop, get_or, map, refl, sym, ◌∙◌, arith, length-take, length-drop, ◌⊎◌, cond, ltb}
+use Rattle.std.proofs.Common.{◌≡◌, inl, inr, ⊎_elim, ℕ, ◌+◌, ◌-◌, ◌<◌, ◌≤◌, min, max, List, length, take, drop, get_or, map, refl, sym, ◌∙◌, arith, length-take, length-drop, cond, ltb}
 use Rattle.std.proofs.lemmas.Bool.{cases_lt, cond_below, cond_above}
 use Rattle.std.specs.List.{range_with_len}
 use Rattle.std.proofs.lemmas.Grind.{same_number_lists}

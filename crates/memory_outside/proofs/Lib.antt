@@ -5,6 +5,7 @@ mod DiskCalls
 mod DiskParts
 mod Fronts
 mod Images
+mod Meeting
 mod Named
 mod PathEntries
 mod Tried

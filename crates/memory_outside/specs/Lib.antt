@@ -5,4 +5,8 @@ pub mod MemoryDisk
 pub mod MemoryHost
 pub mod MemoryLink
 pub mod MemoryLinks
+pub mod ReliableDisk
 pub mod ReliableHost
+pub mod SharedStop
+pub mod StoppedDisk
+pub mod StoppedHost

@@ -1,5 +1,5 @@
 -- Forms of the outside in memory.
-use Rattle.std.specs.Prelude.{◌≡◌, ℕ, List, ◌++◌, Bool, true, false, ◌==◌, nat_le, ◌||◌, if◌then◌else◌, Option, Some, None, Result, Ok, Err, MatchBool, length}
+use Rattle.std.specs.Prelude.{◌≡◌, ℕ, List, [], ◌++◌, Bool, true, false, ◌==◌, nat_le, ◌||◌, if◌then◌else◌, Option, Some, None, Result, Ok, Err, MatchBool, length}
 use Rattle.std.specs.List.{list_any}
 use Rattle.dsc_outside.specs.Causes.{one_more}
 use Rattle.memory_outside.specs.declared.stop.Course.{Course}
@@ -34,6 +34,11 @@ is_stopped (Some stop) number = nat_le stop.call number
 -- the next call is one of those that are to fail, or the stop has come
 abbrev pub is_to_fail : CallCount → Bool
 is_to_fail calls = list_any (λ number. number == calls.begun) calls.failing || is_stopped calls.stop calls.begun
+
+-- no call is to fail
+pub record NoneIsToFail (calls : CallCount) : Type 0 where
+  pub unlisted : calls.failing ≡ []
+  pub unstopped : calls.stop ≡ None
 
 abbrev pub with_fault : CallCount → CallCount
 with_fault calls = record calls { faults = one_more calls.faults }

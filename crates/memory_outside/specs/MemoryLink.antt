@@ -1,5 +1,5 @@
 -- A link in memory.
-use Rattle.std.specs.Prelude.{◌≡◌, ◌⊎◌, ℕ, Bool, true, false, List, [], ◌∷◌, ◌++◌, nat_lt, length, drop, if◌then◌else◌, Option, Some, Result, Ok, Err}
+use Rattle.std.specs.Prelude.{◌≡◌, ◌⊎◌, ℕ, Bool, true, false, List, [], ◌∷◌, ◌++◌, nat_lt, length, drop, if◌then◌else◌, Some, Result, Ok, Err}
 use Rattle.dsc_outside.specs.Link.{GoesOn, answer_limit}
 use Rattle.memory_outside.specs.Memory.{CallCount, counted, is_to_fail, uncalled, with_fault}
 use Rattle.dsc_outside.specs.declared.link.Peer.{Peer}

@@ -1,6 +1,6 @@
 -- What a link in memory may become is a relation that stays and chains.
 use Rattle.std.specs.Prelude.{◌≡◌, List, ◌++◌, [], Some}
-use Rattle.std.proofs.Common.{refl, ap, sym, ◌∙◌, append_assoc, append-nil}
+use Rattle.std.proofs.Common.{ap, sym, ◌∙◌, append_assoc, append-nil}
 use Rattle.std.proofs.lemmas.Option.{same_Some}
 use Rattle.std.proofs.Math.Nat.{le_refl, le_trans}
 use Rattle.dsc_outside.specs.declared.exchange.Exchange.{Exchange}

@@ -2,9 +2,11 @@
 ghost use Rattle.std.specs.Prelude.{◌≡◌, ◌≤◌, ◌↔◌, IsTrue, IsErr, None, false};
 ghost use Rattle.dsc_outside.specs.Causes.{HasCause, one_more};
 ghost use Rattle.memory_outside.specs.Memory.{counted, course_of, done_at, is_stopped, is_to_fail, stopped_course, unstarted, with_fault, uncalled};
+ghost use Rattle.memory_outside.specs.SharedStop.{met_at};
 ghost use Rattle.memory_outside.specs.declared.stop.Course.TheVariants as courses;
 ghost use Rattle.dsc_terms.specs.Counts.{Rose};
 
+use crate::shared_stop::Turn;
 use crate::stop::{Course, Done, Stop};
 use dsc_outside::Failed;
 use std::marker::Model;
@@ -78,6 +80,27 @@ impl Calls {
         match self.begin() {
             Ok(()) => Course::Runs,
             Err(Failed) => stopped(done),
+        }
+    }
+
+    /// Sets the stop that the next call meets, which leaves that part of a change.
+    pub fn meet(&mut self, turn: Turn, done: Done)
+        ensures { self.new ≡ met_at turn done self.old }
+    {
+        match turn {
+            Turn::Before => {}
+            Turn::Within => {
+                self.stop = Some(Stop {
+                    call: self.begun,
+                    done,
+                });
+            }
+            Turn::After => {
+                self.stop = Some(Stop {
+                    call: 0,
+                    done: Done::Nothing,
+                });
+            }
         }
     }
 

@@ -3,7 +3,8 @@ ghost use Rattle.std.specs.Prelude.{◌≡◌, ◌≤◌, ◌-◌, List, ℕ, le
 ghost use Rattle.dsc_outside.specs.Causes.{HasCause};
 ghost use Rattle.dsc_outside.specs.Disk.{written, Torn, Cut, Follows, Makes, Only, ReadsFrom, TimePasses, Within};
 ghost use Rattle.dsc_outside.specs.Images.{IsImage};
-ghost use Rattle.memory_outside.specs.MemoryDisk.{Looks, TakesCall, exposed_bytes, held_by, images_of, left_at, left_by, moment_of, new_disk, part_of_stop, state_of, stop_of};
+ghost use Rattle.memory_outside.specs.MemoryDisk.{Looks, TakesCall, exposed_bytes, held_by, images_of, left_at, left_by, moment_of, new_disk, part_left, part_of_stop, state_of, stop_of};
+ghost use Rattle.memory_outside.specs.StoppedDisk.{met};
 ghost use Rattle.memory_outside.specs.declared.disk_calls.DiskCall.{DiskCall};
 ghost use Rattle.memory_outside.specs.declared.disk_calls.DiskCall.TheVariants as calls;
 
@@ -12,6 +13,7 @@ use crate::disk_calls::{
     DiskCall, DiskPart, DiskStop, RecordedCall, left_by_call, record_call, recorded_outcome, settle,
 };
 use crate::disk_parts::{fill_ranges, replay, until_sync};
+use crate::shared_stop::Turn;
 use crate::stop::{Done, Stop};
 use dsc_outside::{Disk, Failed};
 use mof_values::{Bytes, Memory};
@@ -102,15 +104,17 @@ impl MemoryDisk {
         ensures bytes { IfOk result (λ bytes. bytes.items ≡ left_by self) }
         ensures image { IfOk result (λ bytes. IsImage (state_of self) bytes.items) }
     {
-        Ok(self.into_left()?)
+        let part = self.left;
+        Ok(self.into_part(part)?)
     }
 
-    fn into_left(self) -> Result<Vec<u8>, AllocError>
-        ensures { IfOk result (λ bytes. bytes.items ≡ left_by self) }
+    /// What that part of the changes since the last sync that succeeded leaves.
+    pub(crate) fn into_part(self, part: DiskPart) -> Result<Vec<u8>, AllocError>
+        ensures { IfOk result (λ bytes. bytes.items ≡ part_left part (state_of self)) }
     {
         let mut first = self.first;
         let mut bytes = self.bytes;
-        match self.left {
+        match part {
             DiskPart::Nothing => {
                 replay(&mut first, until_sync(&self.recorded))?;
                 Ok(first)
@@ -121,6 +125,13 @@ impl MemoryDisk {
                 Ok(bytes)
             }
         }
+    }
+
+    /// Sets the stop that the next call meets.
+    pub(crate) fn meet(&mut self, turn: Turn)
+        ensures { self.new ≡ met turn self.old }
+    {
+        self.calls.meet(turn, Done::All);
     }
 
     // Counts a call, records it and does it, unless it is to fail.

@@ -1,15 +1,17 @@
 //! A host in memory.
-ghost use Rattle.std.specs.Prelude.{◌≡◌, ◌↔◌, IsErr, IsErrOf, IsTrue};
+ghost use Rattle.std.specs.Prelude.{◌≡◌, ◌↔◌, IfErr, IsErr, IsErrOf, IsTrue};
 ghost use Rattle.dsc_outside.specs.Changes.{AddsEntry, PutsPackage, MakesFolder, PutsFile, PutsVariable, RemovesPath, RemovesVariable, with_entry, with_file, with_folder, with_package, with_variable, without_path, without_variable};
 ghost use Rattle.dsc_outside.specs.Host.{IsState, LeavesBuffer, SaysEntry, SaysFile, SaysPackage, SaysReboot, Tells, TellsVariable};
 ghost use Rattle.memory_outside.specs.Memory.{counted, is_to_fail};
+ghost use Rattle.memory_outside.specs.StoppedHost.{met};
 ghost use Rattle.memory_outside.specs.MemoryHost.{ChangesPart, ChangesWhole, CountsFault, IsContents, SettlesChange, TakesWhole, answer_of, exposed_host, first_half, host_of_variables, host_with, looked_at, part_put};
 
 use crate::calls::Calls;
 use crate::contents::HostContents;
 use crate::lists::{add_entry, add_package, find_entry, find_package, find_wanting};
 use crate::paths::{is_file, make_folder, put_file, remove, state_at};
-use crate::stop::{Course, Stop};
+use crate::shared_stop::Turn;
+use crate::stop::{Course, Done, Stop};
 use crate::variable::{Variable, find_value, put_value, remove_value};
 use dsc_outside::{Host, HostError, PathState};
 use std::alloc::AllocError;
@@ -84,6 +86,13 @@ impl MemoryHost {
     {
         self.short
     }
+
+    /// Sets the stop that the next call meets, which leaves that part of a change.
+    pub(crate) fn meet(&mut self, turn: Turn, done: Done)
+        ensures { self.new ≡ met turn done self.old }
+    {
+        self.calls.meet(turn, done);
+    }
 }
 
 // The bytes of a file that a change puts.
@@ -132,6 +141,7 @@ impl Host for MemoryHost {
         ensures answer { Tells (exposed_host self.old) result (IsState path.now) }
         ensures cause { CountsFault self.old self.new result }
         ensures fails { IsErr result ↔ IsTrue (is_to_fail self.old.calls) }
+        ensures failed { IfErr result (λ e. e ≡ HostError.Failed) }
         ensures looks { self.new ≡ looked_at self.old }
     {
         self.calls.begin()?;
@@ -142,6 +152,7 @@ impl Host for MemoryHost {
         ensures answer { Tells (exposed_host self.old) result (SaysFile path.now bytes.now) }
         ensures cause { CountsFault self.old self.new result }
         ensures fails { IsErr result ↔ IsTrue (is_to_fail self.old.calls) }
+        ensures failed { IfErr result (λ e. e ≡ HostError.Failed) }
         ensures looks { self.new ≡ looked_at self.old }
     {
         self.calls.begin()?;
@@ -254,6 +265,7 @@ impl Host for MemoryHost {
         ensures answer { Tells (exposed_host self.old) result (SaysEntry id.now message.now) }
         ensures cause { CountsFault self.old self.new result }
         ensures fails { IsErr result ↔ IsTrue (is_to_fail self.old.calls) }
+        ensures failed { IfErr result (λ e. e ≡ HostError.Failed) }
         ensures looks { self.new ≡ looked_at self.old }
     {
         self.calls.begin()?;
@@ -280,6 +292,7 @@ impl Host for MemoryHost {
         ensures answer { Tells (exposed_host self.old) result (SaysPackage name.now version.now) }
         ensures cause { CountsFault self.old self.new result }
         ensures fails { IsErr result ↔ IsTrue (is_to_fail self.old.calls) }
+        ensures failed { IfErr result (λ e. e ≡ HostError.Failed) }
         ensures looks { self.new ≡ looked_at self.old }
     {
         self.calls.begin()?;
@@ -312,6 +325,7 @@ impl Host for MemoryHost {
         ensures answer { Tells (exposed_host self.old) result (SaysReboot id.now) }
         ensures cause { CountsFault self.old self.new result }
         ensures fails { IsErr result ↔ IsTrue (is_to_fail self.old.calls) }
+        ensures failed { IfErr result (λ e. e ≡ HostError.Failed) }
         ensures looks { self.new ≡ looked_at self.old }
     {
         self.calls.begin()?;

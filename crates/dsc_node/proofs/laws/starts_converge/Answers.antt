@@ -7,10 +7,9 @@ returns-clause-nearer g c =
 
 pub returns-clause-converge : goal.returns-clause-converge
 returns-clause-converge g c =
-    starts_converge g.D.Disk g.H.Host g.C.Clock c.reboot_laws.ensures.nearer c.reboot_laws.ensures.comply c.trace_laws.ensures.together c.valid_starts_complete.ensures
-    c.starts_join.ensures.go_on c.starts_join.ensures.join g.met.D.Disk.honest
+    starts_converge g.D.Disk g.H.Host g.C.Clock c.reboot_laws.ensures.nearer c.reboot_laws.ensures.comply c.trace_laws.ensures.together c.valid_starts_complete.ensures g.met.D.Disk.honest
 
 pub returns-clause-in_time : goal.returns-clause-in_time
 returns-clause-in_time g c =
-    starts_converge_in_time g.D.Disk g.H.Host g.C.Clock c.reboot_laws.ensures.nearer c.reboot_laws.ensures.comply c.trace_laws.ensures.together c.valid_starts_complete.ensures
-    c.starts_join.ensures.go_on c.starts_join.ensures.join g.met.D.Disk.honest c.holding_laws.ensures.bounded
+    starts_converge_in_time g.D.Disk g.H.Host g.C.Clock c.reboot_laws.ensures.nearer c.reboot_laws.ensures.comply c.trace_laws.ensures.together c.valid_starts_complete.ensures g.met.D.Disk.honest
+    c.holding_laws.ensures.bounded

@@ -1,4 +1,4 @@
-use Rattle.std.proofs.Common.{[], ◌∷◌, ap, arith, length, length-append, sym, ◌∙◌}
+use Rattle.std.proofs.Common.{◌∷◌, ap, arith, length, length-append, sym, ◌∙◌}
 use Rattle.lcm_core.proofs.runs.repair_by_names.Goals as goal
 
 pub returns-in-Err-clause-legal : goal.returns-in-Err-clause-legal

@@ -1,0 +1,9 @@
+use Rattle.memory_outside.specs.declared.disk_calls.DiskCall.TheVariants as calls
+use Rattle.memory_outside.proofs.Meeting.{reliable_after, reliable_goes}
+use Rattle.memory_outside.proofs.reliable_disk.ReliableDiskDisk.write_at.Goals as goal
+
+pub invariant_of-self : goal.invariant_of-self
+invariant_of-self c = reliable_after (calls.WriteAt c.args.at c.args.bytes.now) c.self.inside.disk _ _ c.self.invariant (reliable_goes (calls.WriteAt c.args.at c.args.bytes.now) c.self.inside.disk _ _ c.self.invariant c.write_at.ensures.exact)
+
+pub returns-clause-exact : goal.returns-clause-exact
+returns-clause-exact c = rw (← c.self.view_is) (reliable_goes (calls.WriteAt c.args.at c.args.bytes.now) c.self.inside.disk _ _ c.self.invariant c.write_at.ensures.exact)
