@@ -1,9 +1,8 @@
 -- An undisturbed start that repairs Pending makes it Current, or asks for a reboot and comes nearer to that; so a list of them comes to its end.
-use Rattle.std.proofs.Common.{◌≡◌, ◌≢◌, ◌⊎◌, inl, inr, ℕ, ◌+◌, ◌-◌, ◌^◌, ◌<◌, ◌≤◌, ◌==◌, ◌&&◌, Bool, true, false, cond, List, [], ◌∷◌, ◌++◌, length, Option, Some, None, Result, Ok, Err, refl, sym, ◌∙◌, ap, subst, arith, eq-eqb}
-use Rattle.std.specs.Prelude.{IfSome, min}
-use Rattle.std.specs.List.{AllByRecursion}
+use Rattle.std.proofs.Common.{◌≡◌, ◌≢◌, ◌⊎◌, inl, inr, ℕ, zero, suc, ◌+◌, ◌-◌, ◌^◌, ◌≤◌, ◌==◌, ◌&&◌, Bool, true, false, cond, List, [], ◌∷◌, ◌++◌, length, Option, Some, None, Result, Ok, Err, refl, sym, ◌∙◌, ap, subst, arith, eq-eqb}
+use Rattle.std.specs.Prelude.{IfSome}
 use Rattle.std.proofs.Math.Nat.{le-min, le_trans, min-le_left, min-le_right}
-use Rattle.std.proofs.lemmas.Option.{none-some, same_Some}
+use Rattle.std.proofs.lemmas.Option.{none-some}
 use Rattle.dsc_terms.specs.Counts.{Rose, RoseBy}
 use Rattle.dsc_outside.specs.declared.disk.Disk as disks
 use Rattle.dsc_outside.specs.declared.host.Host as hosts
@@ -34,7 +33,7 @@ use Rattle.lcm_core.specs.declared.modes.RunEnd.TheVariants as ends
 use Rattle.lcm_core.specs.declared.modes.RunMode.{RunMode}
 use Rattle.lcm_core.specs.declared.modes.RunMode.TheVariants.{Repair}
 use Rattle.lcm_core.specs.Bounds.{IsBounded, LegalIsBounded}
-use Rattle.lcm_core.specs.Legal.{GoesOn, Legal}
+use Rattle.lcm_core.specs.Legal.{Legal}
 use Rattle.lcm_core.specs.RebootLaws.{AllKnown, ClearRepairsComply, ComesNearer, IsClearRepair, RebootsComeNearer}
 use Rattle.lcm_core.specs.RunLaws.{CompliantHold}
 use Rattle.lcm_core.specs.Whole.{Whole}
@@ -60,16 +59,15 @@ use Rattle.dsc_node.specs.Bringing.{Brought, boot_of, events_of}
 use Rattle.dsc_node.specs.Commands.{IsPlanOf, IsUnmerged, is_stop, runs, stops}
 use Rattle.dsc_node.specs.Commits.{all_of}
 use Rattle.dsc_node.specs.Complete.{IsEndOf, IsEndOfRun, IsValidFor, MayRun, ValidStartsComplete}
-use Rattle.dsc_node.specs.Converging.{AsksForReboot, HostStart, IsPromotedTo, MakesCurrent, Premises, Repairs, RunsAreBounded, Shows, SomeMakesCurrent, StartsComeNearer, StartsConverge, StartsConvergeInTime, WaitsForBoot}
+use Rattle.dsc_node.specs.Converging.{AsksForReboot, HostStart, IsPromotedTo, MakesCurrent, Premises, Repairs, RunsAreBounded, Shows, StartsComeNearer, StartsConverge, StartsConvergeInTime, WaitsForBoot}
 use Rattle.dsc_node.specs.Endings.{Answers, status_of}
 use Rattle.dsc_node.specs.Headline.{HasHeadline, IsRun}
 use Rattle.dsc_node.specs.HostHeadline.{kinds_of, known_on_host, machine_of}
 use Rattle.dsc_node.specs.Path.{disk_counts}
-use Rattle.dsc_node.specs.Ran.{EndsAs, IsWholeOrNone}
-use Rattle.dsc_node.specs.Runs.{Choice, Ran, Reported, Run, chosen_among, chosen_of, end_line, event_of, status_after}
+use Rattle.dsc_node.specs.Ran.{EndsAs}
+use Rattle.dsc_node.specs.Runs.{Choice, Ran, Run, chosen_among, chosen_of, end_line, event_of, status_after}
 use Rattle.dsc_node.specs.Sending.{EndsAfterSending, Sends, Tried}
 use Rattle.dsc_node.specs.Start.{Opened, Outside, Start, opened, refused, unopened}
-use Rattle.dsc_node.specs.Starts.{OneStart}
 use Rattle.dsc_node.specs.Work.{Beside, Finish, Known, StartTable, clock_failed, finished, first_refused, no_run, not_allowed, not_brought, report_kept, report_refused, settled, unended, unready, waiting}
 use Rattle.dsc_node.proofs.Headline.{agent_some}
 use Rattle.dsc_node.proofs.HeadlineRuns.{is_true, whole_of}
@@ -273,7 +271,7 @@ module _ {H : Type 0} (host : hosts.Ghosts H) where
         finish_ran _ _ _ (no_run tried committed broken none idle taken sends answers) = absurd (none-some (pending_choice parts) (sym none ∙ chosen))
         finish_ran _ _ _ (unready idle taken unasked answers) = absurd (subst IsEndOfRun answers.0 ended)
         finish_ran _ _ _ (unended run ran taken unasked answers) = absurd (subst IsEndOfRun answers.0 ended)
-        finish_ran _ _ _ (report_refused run report error text committed broken reported took unasked refused memory shown answers) =
+        finish_ran _ _ _ (report_refused run report error text committed broken reported took unasked refusal memory shown answers) =
             absurd (never_answers error text status lines ended answers)
         finish_ran _ _ _ (report_kept run report text noted tried committed broken reported took shown step sends answers) =
             record {
@@ -298,7 +296,7 @@ module _ {H : Type 0} (host : hosts.Ghosts H) where
         table_ran _ _ _ _ (waiting none is idle answers) = absurd (subst IsEndOfRun answers.0 ended)
         table_ran _ _ _ _ (clock_failed allowed reads gave took rose machine link answers) = absurd (subst IsEndOfRun answers.0 ended)
         table_ran _ _ _ _ (not_brought start error allowed reads brought answers) = absurd (always_brought (kinds_of host) (machine_of host) from start before.link after.link before.machine after.machine plan error repairs brought)
-        table_ran _ _ _ _ (first_refused start event error committed broken allowed reads brought refused answers) = absurd (not_of_store error (subst IsEndOfRun answers.0 ended))
+        table_ran _ _ _ _ (first_refused start event error committed broken allowed reads brought refusal answers) = absurd (not_of_store error (subst IsEndOfRun answers.0 ended))
         table_ran _ _ _ _ (settled start first mid text allowed printed reads brought steps answers) = absurd (cc (printed, runs_next plan repairs))
         table_ran _ _ _ _ (finished start readings heard ready first mid run committed broken allowed follows_run gave took brought steps f) =
             let b = begins (kinds_of host) (machine_of host) from start before.link heard before.machine ready first plan repairs brought in
@@ -548,8 +546,8 @@ module _ {D H C : Type 0} (d : disks.Ghosts D) (host : hosts.Ghosts H) (clock : 
       next_held = p.disk_tells.1.0.0
 
       -- what the next start reads, this one left
-      found : StandsFor Stands (WaitsForBoot node) next_held
-      found = asks.waits next_held (p.unchanged.0.store next_held (honest next.before.disk next_held p.disk_tells.1.0.1))
+      next_node : StandsFor Stands (WaitsForBoot node) next_held
+      next_node = asks.waits next_held (p.unchanged.0.store next_held (honest next.before.disk next_held p.disk_tells.1.0.1))
 
       shown_next : (wanting : List (List ℕ)) × Shows d host clock next.before (record asks.left { wanting = wanting })
       shown_next = p.unchanged.0.host asks.left asks.shows
@@ -560,18 +558,18 @@ module _ {D H C : Type 0} (d : disks.Ghosts D) (host : hosts.Ghosts H) (clock : 
       next_unheld : unheld next_state document ≡ unheld asks.left document
       next_unheld = same_unheld asks.left shown_next.0 document
 
-      next_premises : Premises d host clock parts document found.value next_state next starts
+      next_premises : Premises d host clock parts document next_node.value next_state next starts
       next_premises = record {
         merged = p.merged;
         apart = p.apart;
         known = p.known;
         disk_tells = p.disk_tells.1;
-        reads = subst (λ (shown : Option (List ℕ)). IfSome shown (λ h. Stands h found.value)) (sym p.disk_tells.1.0.1) found.stands;
-        pending = found.has.pending ∙ p.pending;
+        reads = subst (λ (shown : Option (List ℕ)). IfSome shown (λ h. Stands h next_node.value)) (sym p.disk_tells.1.0.1) next_node.stands;
+        pending = next_node.has.pending ∙ p.pending;
         host_tells = shown_next.1;
         clear = still_clear asks.left shown_next.0 document asks.nearer.clear;
-        continues = ap (λ (m : Meta). m.after) found.has.meta ∙ p.continues;
-        enabled = λ disabled. p.enabled (ap (λ (m : Meta). m.refresh) (sym found.has.meta) ∙ disabled);
+        continues = ap (λ (m : Meta). m.after) next_node.has.meta ∙ p.continues;
+        enabled = λ disabled. p.enabled (ap (λ (m : Meta). m.refresh) (sym next_node.has.meta) ∙ disabled);
         repairs = p.repairs.1;
         numbers = p.numbers.1;
         undisturbed = p.undisturbed.1;
@@ -587,7 +585,7 @@ module _ {D H C : Type 0} (d : disks.Ghosts D) (host : hosts.Ghosts H) (clock : 
       | inl made ↦ inl made
       | inr asks ↦
           let fewer : unheld (next_state parts document node state one next starts p asks) document ≤ length starts = omega (arith, next_unheld parts document node state one next starts p asks, asks.nearer.fewer, few) in
-          inr (starts_converge parts document (found parts document node state one next starts p asks).value (next_state parts document node state one next starts p asks) next starts
+          inr (starts_converge parts document (next_node parts document node state one next starts p asks).value (next_state parts document node state one next starts p asks) next starts
           (next_premises parts document node state one next starts p asks) fewer)
     ]
 

@@ -1,5 +1,5 @@
 -- What a host holds is no matter of which resources want a reboot.
-use Rattle.std.proofs.Common.{◌≡◌, inl, inr, ℕ, ◌+◌, Bool, not, cond, List, [], ◌∷◌, length, Option, Some, None, refl, ap, arith}
+use Rattle.std.proofs.Common.{◌≡◌, ℕ, Bool, not, cond, List, [], ◌∷◌, length, Option, Some, None, refl, ap, arith}
 use Rattle.std.specs.Prelude.{count_by}
 use Rattle.std.proofs.lemmas.List.Sums.{sum_by-cons}
 use Rattle.dsc_terms.specs.Lists.{places_below}
@@ -11,6 +11,9 @@ use Rattle.resource_kinds.specs.Apart.{wanted_at}
 use Rattle.resource_kinds.specs.Documents.{Clear}
 use Rattle.resource_kinds.specs.Holding.{holds, is_held, unheld}
 use Rattle.resource_kinds.specs.Holds.{InTheWay}
+
+abbrev one_if : Bool → ℕ
+one_if passes = cond passes 1 0
 
 module _ (host : HostState) (wanting : List (List ℕ)) where
   abbrev other : HostState
@@ -36,8 +39,8 @@ module _ (host : HostState) (wanting : List (List ℕ)) where
       → count_by (λ r. not (is_held other (wanted_at document r))) places ≡ count_by (λ r. not (is_held host (wanted_at document r))) places
   count_stays document [] = refl
   count_stays document (r ∷ places) =
-      let one = λ (h : HostState) (place : ℕ). cond (not (is_held h (wanted_at document place))) 1 0 in
-      omega (arith, sum_by-cons (one other) r places, sum_by-cons (one host) r places, ap (λ b. cond (not b) 1 0) (held_stays (wanted_at document r)), count_stays document places)
+      let one = λ (h : HostState) (place : ℕ). one_if (not (is_held h (wanted_at document place))) in
+      omega (arith, sum_by-cons (one other) r places, sum_by-cons (one host) r places, ap (λ (b : Bool). one_if (not b)) (held_stays (wanted_at document r)), count_stays document places)
 
   pub same_unheld : (document : Document) → unheld other document ≡ unheld host document
   same_unheld document = count_stays document (places_below (length document.resources))

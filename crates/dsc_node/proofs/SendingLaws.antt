@@ -143,14 +143,14 @@ sends_next node next asked heard result is sends =
     (next.server, next.agent, has.server, has.agent, sends)
 
 -- the list, however the sending ends
-abbrev IsTold : Node → List Event → LinkView → LinkView → Result (List Tried) StoreError → List Event → Option Event → Type 0
-IsTold node work asked heard (Ok tried) committed broken = AreSentInOrder node work asked heard tried committed × (broken ≡ None)
-IsTold node work asked heard (Err error) committed broken = AreMarkedInOrder node work asked heard error committed broken
+abbrev IsSentInOrder : Node → List Event → LinkView → LinkView → Result (List Tried) StoreError → List Event → Option Event → Type 0
+IsSentInOrder node work asked heard (Ok tried) committed broken = AreSentInOrder node work asked heard tried committed × (broken ≡ None)
+IsSentInOrder node work asked heard (Err error) committed broken = AreMarkedInOrder node work asked heard error committed broken
 
 accepted_first : (node : Node) (work committed : List Event) (asked mid heard : LinkView) (next : ToSend) (later : Result (List Tried) StoreError) (broken : Option Event)
     → Sound node → to_send node ≡ Some next → NodeSends node next.report asked mid (Ok tt)
-    → IsTold (after node (sent_event next.report)) (work ++ sent_event next.report ∷ []) mid heard later committed broken
-    → IsTold node work asked heard (before_later (accepted_of next.report) later) committed broken
+    → IsSentInOrder (after node (sent_event next.report)) (work ++ sent_event next.report ∷ []) mid heard later committed broken
+    → IsSentInOrder node work asked heard (before_later (accepted_of next.report) later) committed broken
 accepted_first node work committed asked mid heard next (Err error) broken sound is sends later =
     record {
       front = next.report ∷ later.front;
@@ -177,7 +177,7 @@ accepted_first node work committed asked mid heard next (Ok tried) broken sound 
 )
 
 sent_in_order : (from : Node) (counts : ℕ × ℕ) (node : Node) (work committed : List Event) (asked heard : LinkView) (tried : Result (List Tried) StoreError) (broken : Option Event)
-    → Sound node → Sends from counts work node asked heard tried committed broken → IsTold node work asked heard tried committed broken
+    → Sound node → Sends from counts work node asked heard tried committed broken → IsSentInOrder node work asked heard tried committed broken
 sent_in_order from counts node work committed asked heard tried broken sound (all_sent w n view none) =
     (record { front = []; rest = []; divided = none_due node sound none; mid = asked; accepted = refl; last = []; stopped = (refl, refl); tried_is = refl; committed_is = sym (append-nil work) }, refl)
 sent_in_order from counts node work committed asked heard tried broken sound (not_sent w n a h next error is sends other) = (
@@ -226,7 +226,7 @@ sent_in_order from counts node work committed asked heard tried broken sound (un
     }
 sent_in_order from counts node work committed asked heard tried broken sound (sent w n new a mid h next later c b is sends step on) =
     accepted_first node work committed asked mid heard next later broken sound is (sends_next node next asked mid (Ok tt) is sends)
-    (subst (λ (m : Node). IsTold m (work ++ sent_event next.report ∷ []) mid heard later committed broken) step.is
+    (subst (λ (m : Node). IsSentInOrder m (work ++ sent_event next.report ∷ []) mid heard later committed broken) step.is
     (sent_in_order from counts new (work ++ sent_event next.report ∷ []) committed mid heard later broken (steps_are_sound node (sent_event next.report) new sound step) on))
 
 pub reports_are_sent_in_order : ReportsAreSentInOrder

@@ -1,5 +1,5 @@
 -- Convergence: within how many starts what is Pending becomes Current, on a host that shows what it holds and that nobody else changes.
-use Rattle.std.specs.Prelude.{◌≡◌, ◌≢◌, ◌⊎◌, ℕ, ◌+◌, ◌-◌, ◌^◌, ◌<◌, ◌≤◌, true, false, List, [], ◌∷◌, length, Option, Some, None, ⊤}
+use Rattle.std.specs.Prelude.{◌≡◌, ◌≢◌, ◌⊎◌, ℕ, ◌+◌, ◌-◌, ◌^◌, ◌<◌, ◌≤◌, true, false, List, [], ◌∷◌, length, Some, None, ⊤}
 use Rattle.std.specs.List.{AllByRecursion}
 use Rattle.dsc_terms.specs.Counts.{Rose}
 use Rattle.dsc_outside.specs.declared.disk.Disk as disks
@@ -23,7 +23,6 @@ use Rattle.node_state.specs.declared.node.Node.{Node}
 use Rattle.node_store.specs.Stands.{Stands}
 use Rattle.dsc_node.specs.declared.command.Command.{Command}
 use Rattle.dsc_node.specs.declared.command.Command.TheVariants as commands
-use Rattle.dsc_node.specs.declared.status.Status.{Status}
 use Rattle.dsc_node.specs.declared.status.Status.TheVariants as statuses
 use Rattle.dsc_node.specs.HostHeadline.{known_on_host}
 use Rattle.dsc_node.specs.Start.{Outside}

@@ -67,8 +67,8 @@ pub record AreSentInOrder (node : Node) (work : List Event) (asked heard : LinkV
 
 -- how it ends otherwise: memory ran out, at the request for the first of the rest or after the last that is marked; or the first of the rest
 -- was accepted, and its mark was refused
-abbrev pub EndsBefore : Node → List Report → LinkView → LinkView → StoreError → Option Event → Type 0
-EndsBefore node rest mid heard error broken =
+abbrev pub SendingEnds : Node → List Report → LinkView → LinkView → StoreError → Option Event → Type 0
+SendingEnds node rest mid heard error broken =
     ((error ≡ errors.Memory) × (broken ≡ None) × IsLastAsked node rest mid heard)
     ⊎ ((next : Report) × (later : List Report) × (rest ≡ next ∷ later) × NodeSends node next mid heard (Ok tt) × (broken ≡ broken_by (sent_event next) error))
 
@@ -80,7 +80,7 @@ pub record AreMarkedInOrder (node : Node) (work : List Event) (asked heard : Lin
   pub mid : LinkView
   pub accepted : AreAccepted node front asked mid
   pub committed_is : committed ≡ work ++ map sent_event front
-  pub ended : EndsBefore node rest mid heard error broken
+  pub ended : SendingEnds node rest mid heard error broken
 
 -- what a start sends at its end, from the node after its other events
 abbrev pub ReportsAreSentInOrder : Type 0

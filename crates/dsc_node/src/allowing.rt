@@ -1,5 +1,7 @@
 //! Where a plan is allowed, and where it waits or stops.
 ghost use Rattle.std.specs.Prelude.{◌≡◌, option_copied};
+ghost use Rattle.std.specs.List.{list_any};
+ghost use Rattle.meta_config.specs.Parts.{is_pulled};
 ghost use Rattle.node_state.specs.Table.{check};
 ghost use Rattle.dsc_node.specs.Commands.{declares_partials, has_names, has_source, is_disabled, is_one, is_push, is_stop, pulls_some, stops, waits, why_no_agent, why_no_pull, why_no_push, why_no_run, why_not};
 
@@ -101,8 +103,14 @@ fn pulls_some(meta: &Meta) -> bool
     if partials.is_empty() {
         meta.refresh.is_pull()
     } else {
-        partials.iter().any(|partial| partial.is_pulled(meta))
+        any_pulled(meta, partials)
     }
+}
+
+fn any_pulled(meta: &Meta, partials: &[Partial]) -> bool
+    ensures { result ≡ list_any (is_pulled meta.now) partials.now }
+{
+    partials.iter().any(|partial| partial.is_pulled(meta))
 }
 
 // There are names to ask the server for.

@@ -1,7 +1,8 @@
 -- Arguments ask for at most one command; where arguments in no form go wrong.
-use Rattle.std.proofs.Common.{◌≡◌, ℕ, ◌-◌, ◌<◌, ◌≤◌, List, [], ◌∷◌, ◌⊎◌, inl, inr, length, take, drop, get_or, codes, map, unwrap_or, bytes_eq, if◌then◌else◌, refl, sym, ap, ap₂, ◌∙◌, subst, take_all, arith, Some, None}
+use Rattle.std.proofs.Common.{◌≡◌, ℕ, ◌-◌, ◌<◌, ◌≤◌, List, [], ◌∷◌, ◌⊎◌, inl, inr, false, true≢false, length, take, drop, get_or, codes, map, unwrap_or, bytes_eq, if◌then◌else◌, refl, sym, ap, ap₂, ◌∙◌, subst, take_all, arith, Some, None}
 use Rattle.std.specs.Fmt.{decimal}
 use Rattle.std.specs.Str.Parse.{digits_value}
+use Rattle.std.proofs.lemmas.Slice.Eq.{bytes_eq-Decides}
 use Rattle.std.proofs.lemmas.Str.Parse.{numerals_by_value, tells_digits}
 use Rattle.std.proofs.lemmas.Fmt.{digits_value-decimal}
 use Rattle.uuid.proofs.OnLiterals.{uuid_on_literals}
@@ -118,6 +119,24 @@ in_range Reports arguments form = tt
 -- the argument of a command that takes another, or may take one
 abbrev pub TakesWord : List ℕ → Type 0
 TakesWord first = (first ≡ codes "generate") ⊎ ((first ≡ codes "init") ⊎ ((first ≡ codes "remove") ⊎ ((first ≡ codes "register") ⊎ (first ≡ codes "push"))))
+
+-- a text has these bytes, and was compared with this word, which it is not
+abbrev pub Differs : List ℕ → List ℕ → Type 0
+Differs bytes name = (text : List ℕ) × (text ≡ bytes) × (false ≡ bytes_eq text name)
+
+differs : (bytes name : List ℕ) → Differs bytes name → bytes ≡ name → ⊥
+differs bytes name (text, same, unlike) is = true≢false (sym ((bytes_eq-Decides text name).1 (same ∙ is)) ∙ sym unlike)
+
+-- an argument that is none of the five takes no other
+pub takes_none : (first bytes : List ℕ) → first ≡ bytes → Differs bytes (codes "generate") → Differs bytes (codes "init") → Differs bytes (codes "register")
+    → Differs bytes (codes "remove") → Differs bytes (codes "push") → TakesWord first → ⊥
+takes_none first bytes same generate init register remove push takes = elim takes [
+  | inl is ↦ differs bytes _ generate (sym same ∙ is)
+  | inr (inl is) ↦ differs bytes _ init (sym same ∙ is)
+  | inr (inr (inl is)) ↦ differs bytes _ remove (sym same ∙ is)
+  | inr (inr (inr (inl is))) ↦ differs bytes _ register (sym same ∙ is)
+  | inr (inr (inr (inr is))) ↦ differs bytes _ push (sym same ∙ is)
+]
 
 -- any other form is an argument alone
 form_parts : (command : Command) (first : List ℕ) (rest : List (List ℕ)) → IsForm command (first ∷ rest)

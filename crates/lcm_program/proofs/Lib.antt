@@ -1,4 +1,5 @@
 pub mod Checksums
+pub mod Completing
 pub mod Counts
 pub mod Forms
 pub mod GeneratedRuns

@@ -3,6 +3,7 @@ pub mod Canon
 pub mod Check
 pub mod Checksum
 pub mod CommandLine
+pub mod Complete
 pub mod Did
 pub mod Endings
 pub mod Further

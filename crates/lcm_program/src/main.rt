@@ -11,7 +11,8 @@
 //!   the text or the error; as `specs/Canon.antt` with `src/canon.rt`, `specs/Check.antt` with `src/check.rt`.
 //!   `ran_tool` of `proofs/Tools.antt` proves each
 //! - what a command promises that starts the node: `specs/Started.antt`, over the table and the headline of `dsc_node`,
-//!   and what is more over a host (`specs/Further.antt`); `src/starts.rt`
+//!   and what is more over a host (`specs/Further.antt`); `src/starts.rt`; that it is not refused where its input is
+//!   valid and nothing failed: `specs/Complete.antt`, `proofs/Completing.antt`
 //! - the arguments of the command line: `src/words.rt`, `specs/Words.antt`
 //! - which instances, document or meta-configuration an input is, and why it is refused: `src/input.rt`,
 //!   `specs/Input.antt` (`ReadsMeta`); that an input is read in one way `proofs/Readings.antt`; which status an input
@@ -59,7 +60,7 @@ use real_outside::{
 };
 pub use refusal::{is_refusal, refusal_line};
 pub use resource_kinds::{Entry, Failure, Kinds, Resources, SetAnswer, TestAnswer};
-pub use starts::{push, register, set_meta, start_node};
+pub use starts::{push, push_part, register, set_meta, start_node};
 use std::alloc::AllocError;
 use std::process::ExitCode;
 pub use streams::{ReadError, read_all};

@@ -5,6 +5,7 @@ ghost use Rattle.dsc_outside.specs.LinkView.{view_of};
 ghost use Rattle.resource_kinds.specs.Kinds.{calls_of};
 ghost use Rattle.dsc_node.specs.HostHeadline.{kinds_of, machine_of};
 ghost use Rattle.lcm_program.specs.declared.words.Command.{Command};
+ghost use Rattle.lcm_program.specs.Complete.{Completes};
 ghost use Rattle.lcm_program.specs.Did.{Did, DidNothing};
 ghost use Rattle.lcm_program.specs.Objects.{known, objects};
 ghost use Rattle.lcm_program.specs.Further.{nothing_further, further_of_host};
@@ -19,9 +20,10 @@ use crate::printing::{print_answer, print_run, print_status, print_text, print_u
 use crate::starts::{push, push_part, register, set_meta, start_node};
 use crate::test::read_and_monitor;
 use crate::words::{Command, UsageError, read_words};
-use dsc_node::{Command as StartCommand, Status};
+use dsc_node::{Command as StartCommand, Status, valid_starts_complete};
 use dsc_outside::{Clock, Disk, Host, Link, Sink, Source};
 use lcm_core::{repair_laws, trace_laws};
+use meta_config::metas_read_back;
 use mof_values::Memory;
 use resource_kinds::{Kinds, Machine};
 use std::alloc::Global;
@@ -57,6 +59,14 @@ pub fn node<S: Source, K: Sink, D: Disk, H: Host, L: Link, C: Clock>(
         → DidNothing (known S.Ends K.Ends D.Disk (kinds_of H.Host) (machine_of H.Host) L.Link
         C.Clock)
         (map string_bytes arguments.now) result
+        (objects input.old output.old disk.old kinds.old link.old clock.old)
+        (objects input.new output.new disk.new kinds.new link.new clock.new) }
+
+    // A command that starts the node is not refused where its input is valid and nothing failed.
+    ensures completes { (command : Command) → IsForm command (map string_bytes arguments.now)
+        → Completes (known S.Ends K.Ends D.Disk (kinds_of H.Host) (machine_of H.Host) L.Link
+        C.Clock)
+        command result
         (objects input.old output.old disk.old kinds.old link.old clock.old)
         (objects input.new output.new disk.new kinds.new link.new clock.new) }
 
@@ -98,10 +108,19 @@ pub fn node_over<S: Source, K: Sink, D: Disk, M: Machine, L: Link, C: Clock>(
         (objects input.old output.old disk.old machine.old link.old clock.old)
         (objects input.new output.new disk.new machine.new link.new clock.new) }
 
+    // A command that starts the node is not refused where its input is valid and nothing failed.
+    ensures completes { (command : Command) → IsForm command (map string_bytes arguments.now)
+        → Completes (known S.Ends K.Ends D.Disk M.Resources M.Machine.own L.Link C.Clock)
+        command result
+        (objects input.old output.old disk.old machine.old link.old clock.old)
+        (objects input.new output.new disk.new machine.new link.new clock.new) }
+
     // The link is one that it may become, and its exchanges are only added.
     ensures becomes { L.may_become link.old link.new }
     ensures goes_on { GoesOn (view_of L.Link link.old) (view_of L.Link link.new) }
 {
+    valid_starts_complete::<D, M, C>();
+    metas_read_back();
     match read_words(arguments) {
         Ok(command) => do_command(alloc, command, input, output, disk, machine, link, clock),
         Err(UsageError { word }) => print_status(alloc, output, Status::Usage { word }),

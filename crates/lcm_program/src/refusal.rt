@@ -1,5 +1,5 @@
 //! Refusals and their lines.
-ghost use Rattle.std.specs.Prelude.{◌≡◌, ◌++◌, ℕ, List, [], Some, is_some, unwrap_or, codes, IfOk, OnOk, string_bytes};
+ghost use Rattle.std.specs.Prelude.{◌≡◌, ◌++◌, [], is_some, option_map, unwrap_or, codes, IfOk, OnOk, string_bytes};
 ghost use Rattle.lcm_program.specs.InputWords.{error_words};
 ghost use Rattle.lcm_program.specs.Refusal.{line_of, reason_of, why_word};
 
@@ -35,11 +35,14 @@ pub fn is_refusal(status: &Status) -> bool
     }
 }
 
-/// The line of the refusal that the status is.
+/// The line of the refusal that the status is; nothing where it is none.
 pub fn refusal_line(alloc: Global, status: &Status) -> Result<String, AllocError>
-    ensures { (reason : List ℕ) → reason_of status.now ≡ Some reason
-        → IfOk result (λ line. string_bytes line ≡ line_of reason) }
+    ensures { IfOk result (λ line. string_bytes line
+        ≡ unwrap_or (option_map line_of (reason_of status.now)) []) }
 {
+    if !is_refusal(status) {
+        return Ok(String::new(alloc));
+    }
     let mut out = String::new(alloc);
     out.push_str("refused ")?;
     push_reason(&mut out, status)?;

@@ -29,11 +29,12 @@ left_exit {U} result y e P Q is same holds h =
 pub word_some : (name : List ℕ) → all_scalars name ≡ true → IsSome (IsWord name)
 word_some name scalars = (name, scalars, refl)
 
-path_word : List ℕ
+-- the front of a target that names an agent
+abbrev pub path_word : List ℕ
 path_word = codes "/PSDSCPullServer.svc/Nodes(AgentId='"
 
 pub agent_form_free : (end : List ℕ) → PrefixFree (IsAgentForm end)
-agent_form_free end = then_free _ _ (word_free (codes "/PSDSCPullServer.svc/Nodes(AgentId='")) (then_free _ _ agent_free (word_free end))
+agent_form_free end = then_free _ _ (word_free path_word) (then_free _ _ agent_free (word_free end))
 
 pub agent_form_in : (id : ℕ) (end text : List ℕ) → Spells IsPart (agent_parts id (word end ∷ [])) text → IsAgentForm end text
 agent_form_in id end text (a, b, is, first, (a2, b2, is2, second, (a3, b3, is3, third, nil))) =

@@ -102,13 +102,13 @@ fn a_push_and_as_many_boots_as_resources_want_a_reboot(rt: HostRuntime) -> Resul
 
 #[test]
 fn one_boot_more_where_the_push_was_stopped_after_its_stage(rt: HostRuntime) -> Result<(), Fail> {
-    let mut stops = 0_u32;
+    let mut stopped = false;
     for call in 0..32 {
         if let Some(boots) = boots_after_stop(rt.alloc(), call)? {
             assert_eq!(rt; boots, RESOURCES + 1);
-            stops += 1;
+            stopped = true;
         }
     }
-    assert!(rt; stops > 0);
+    assert!(rt; stopped);
     Ok(())
 }

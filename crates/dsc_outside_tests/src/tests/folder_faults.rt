@@ -216,7 +216,12 @@ fn expect_one_in<F: Files + Drop>(
 where
     F::File: AsFd + AsRawFd,
 {
-    expect_one_of(alloc, FolderHost::new(files, folder, None, 0), first, second)
+    expect_one_of(
+        alloc,
+        FolderHost::new(files, folder, None, 0),
+        first,
+        second,
+    )
 }
 
 fn make_before(rt: &HostRuntime, scratch: &str) -> Result<(), Fail> {

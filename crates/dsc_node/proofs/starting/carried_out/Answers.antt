@@ -72,8 +72,8 @@ returns-in-Run-clause-goes g c =
           (subst (λ (b : Bool). Finish (known g.D.Disk g.M.Resources g.M.Machine g.C.Clock) from counts (work ++ events_of c.in-Ok.first.event) mid b (g.C.Clock.coming c.args.clock.now) (g.C.Clock.coming c.finish.new.clock) c.args.start (view_of g.L.Link c.bring.new.link) (view_of g.L.Link c.finish.new.link) c.bring.new.machine c.finish.new.machine c.finish.result.status (string_bytes c.finish.result.lines) ran.0 committed broken) stopped t));
     }
 
-pub returns-in-Text-clause-goes : goal.returns-in-Text-clause-goes
-returns-in-Text-clause-goes g c =
+pub returns-clause-goes : goal.returns-clause-goes
+returns-clause-goes g c =
     let brought = subst (λ (n : Node). Brought g.M.Resources g.M.Machine n c.args.plan.brings c.args.start (view_of g.L.Link c.args.link.now) (view_of g.L.Link c.bring.new.link) c.args.machine.now c.bring.new.machine (Ok c.in-Ok.first.event)) c.state-2.ensures c.in-Ok.ensures.brought in
     let first = c.in_default.ensures.goes in
     let mid = c.commit_first.new.store.node in

@@ -2,6 +2,7 @@ use Rattle.std.proofs.Common.{refl}
 use Rattle.node_pull.proofs.GoingOn.{stays}
 use Rattle.lcm_program.specs.Objects.{known, objects}
 use Rattle.lcm_program.specs.Further.{nothing_further}
+use Rattle.lcm_program.proofs.Completing.{completes}
 use Rattle.lcm_program.proofs.Forms.{in_range}
 use Rattle.lcm_program.proofs.OneRow.{one_row}
 use Rattle.lcm_program.proofs.Tools.{did_nothing}
@@ -19,6 +20,13 @@ returns-in-Ok-clause-did g c = λ command form.
     (objects c.do_command.new.input c.do_command.new.output c.do_command.new.disk c.do_command.new.machine c.do_command.new.link c.do_command.new.clock)
     c.in-Ok.command command _ c.in-Ok.ensures.ok form c.do_command.ensures.did
 
+pub returns-in-Ok-clause-completes : goal.returns-in-Ok-clause-completes
+returns-in-Ok-clause-completes g c = λ command form.
+    completes (known g.S.Ends g.K.Ends g.D.Disk g.M.Resources g.M.Machine g.L.Link g.C.Clock) nothing_further c.valid_starts_complete.ensures c.metas_read_back.ensures.one c.do_command.result
+    (objects c.args.input.now c.args.output.now c.args.disk.now c.args.machine.now c.args.link.now c.args.clock.now)
+    (objects c.do_command.new.input c.do_command.new.output c.do_command.new.disk c.do_command.new.machine c.do_command.new.link c.do_command.new.clock)
+    command (returns-in-Ok-clause-did g c command form)
+
 pub returns-in-Ok-clause-nothing : goal.returns-in-Ok-clause-nothing
 returns-in-Ok-clause-nothing g c = λ none. absurd (none c.in-Ok.command c.in-Ok.ensures.ok)
 
@@ -26,6 +34,9 @@ returns-in-Ok-clause-nothing g c = λ none. absurd (none c.in-Ok.command c.in-Ok
 
 pub returns-in-Err-clause-did : goal.returns-in-Err-clause-did
 returns-in-Err-clause-did g c = λ command form. absurd (c.in-Err.ensures.usage.no_form command form)
+
+pub returns-in-Err-clause-completes : goal.returns-in-Err-clause-completes
+returns-in-Err-clause-completes g c = λ command form. absurd (c.in-Err.ensures.usage.no_form command form)
 
 pub returns-in-Err-clause-nothing : goal.returns-in-Err-clause-nothing
 returns-in-Err-clause-nothing g c = λ none.

@@ -1,8 +1,8 @@
-use Rattle.std.proofs.Common.{◌-◌, inl, inr, ℕ, List, IfOk, IfErr, codes, map, length, take, drop, string_bytes, sym, ◌∙◌, subst, true≢false, arith}
+use Rattle.std.proofs.Common.{◌-◌, inr, ℕ, List, IfOk, IfErr, codes, map, length, take, drop, string_bytes, sym, ◌∙◌, subst, arith}
 use Rattle.std.proofs.lemmas.List.{length-map}
 use Rattle.std.proofs.lemmas.Slice.Eq.{bytes_eq-Decides}
 use Rattle.lcm_program.specs.Words.{IsForm, IsUsage}
-use Rattle.lcm_program.proofs.Forms.{TakesWord, first_and_rest, no_texts, no_word, second_word, wrong_first}
+use Rattle.lcm_program.proofs.Forms.{first_and_rest, no_texts, no_word, second_word, takes_none, wrong_first}
 use Rattle.lcm_program.proofs.words.read_words.Goals as goal
 
 pub returns-in_default-clause-usage : goal.returns-in_default-clause-usage
@@ -93,18 +93,8 @@ returns-then-eq-5-clause-usage c =
 pub returns-in_default-command_of-clause-usage : goal.returns-in_default-command_of-clause-usage
 returns-in_default-command_of-clause-usage c =
     let word = c.deref.result.now in
-    let generate = bytes_eq-Decides c.as_str.result.now (codes "generate") in
-    let init = bytes_eq-Decides c.as_str-2.result.now (codes "init") in
-    let register = bytes_eq-Decides c.as_str-3.result.now (codes "register") in
-    let remove = bytes_eq-Decides c.as_str-4.result.now (codes "remove") in
-    let push = bytes_eq-Decides c.as_str-5.result.now (codes "push") in
-    let other : TakesWord word → ⊥ = λ takes. elim takes [
-      | inl is ↦ true≢false (sym (generate.1 (c.as_str.ensures.value ∙ sym c.deref.ensures ∙ is)) ∙ sym c.if-eq.ensures)
-      | inr (inl is) ↦ true≢false (sym (init.1 (c.as_str-2.ensures.value ∙ sym c.deref.ensures ∙ is)) ∙ sym c.if-eq-2.ensures)
-      | inr (inr (inl is)) ↦ true≢false (sym (remove.1 (c.as_str-4.ensures.value ∙ sym c.deref.ensures ∙ is)) ∙ sym c.if-eq-4.ensures)
-      | inr (inr (inr (inl is))) ↦ true≢false (sym (register.1 (c.as_str-3.ensures.value ∙ sym c.deref.ensures ∙ is)) ∙ sym c.if-eq-3.ensures)
-      | inr (inr (inr (inr is))) ↦ true≢false (sym (push.1 (c.as_str-5.ensures.value ∙ sym c.deref.ensures ∙ is)) ∙ sym c.if-eq-5.ensures)
-    ] in
+    let other = takes_none word _ c.deref.ensures (_, c.as_str.ensures.value, c.if-eq.ensures) (_, c.as_str-2.ensures.value, c.if-eq-2.ensures)
+    (_, c.as_str-3.ensures.value, c.if-eq-3.ensures) (_, c.as_str-4.ensures.value, c.if-eq-4.ensures) (_, c.as_str-5.ensures.value, c.if-eq-5.ensures) in
     subst (λ (arguments : List (List ℕ)). IsUsage arguments 0)
     (first_and_rest string_bytes c.args.arguments.now c.first-item.result word c.in-len1-up.len_at_least c.first-item.is c.deref.ensures)
     (wrong_first word _ (λ command form. inr (inr (inr (inr (c.in_default-command_of.ensures.none command form))))) other)
@@ -114,18 +104,8 @@ returns-in_default-command_of-clause-usage c =
 pub returns-in_default-rest-clause-usage : goal.returns-in_default-rest-clause-usage
 returns-in_default-rest-clause-usage c =
     let word = c.deref.result.now in
-    let generate = bytes_eq-Decides c.as_str.result.now (codes "generate") in
-    let init = bytes_eq-Decides c.as_str-2.result.now (codes "init") in
-    let register = bytes_eq-Decides c.as_str-3.result.now (codes "register") in
-    let remove = bytes_eq-Decides c.as_str-4.result.now (codes "remove") in
-    let push = bytes_eq-Decides c.as_str-5.result.now (codes "push") in
-    let other : TakesWord word → ⊥ = λ takes. elim takes [
-      | inl is ↦ true≢false (sym (generate.1 (c.as_str.ensures.value ∙ sym c.deref.ensures ∙ is)) ∙ sym c.if-eq.ensures)
-      | inr (inl is) ↦ true≢false (sym (init.1 (c.as_str-2.ensures.value ∙ sym c.deref.ensures ∙ is)) ∙ sym c.if-eq-2.ensures)
-      | inr (inr (inl is)) ↦ true≢false (sym (remove.1 (c.as_str-4.ensures.value ∙ sym c.deref.ensures ∙ is)) ∙ sym c.if-eq-4.ensures)
-      | inr (inr (inr (inl is))) ↦ true≢false (sym (register.1 (c.as_str-3.ensures.value ∙ sym c.deref.ensures ∙ is)) ∙ sym c.if-eq-3.ensures)
-      | inr (inr (inr (inr is))) ↦ true≢false (sym (push.1 (c.as_str-5.ensures.value ∙ sym c.deref.ensures ∙ is)) ∙ sym c.if-eq-5.ensures)
-    ] in
+    let other = takes_none word _ c.deref.ensures (_, c.as_str.ensures.value, c.if-eq.ensures) (_, c.as_str-2.ensures.value, c.if-eq-2.ensures)
+    (_, c.as_str-3.ensures.value, c.if-eq-3.ensures) (_, c.as_str-4.ensures.value, c.if-eq-4.ensures) (_, c.as_str-5.ensures.value, c.if-eq-5.ensures) in
     let rest = take (length c.args.arguments.now - 1) (drop 1 c.args.arguments.now) in
     subst (λ (arguments : List (List ℕ)). IsUsage arguments 1)
     (first_and_rest string_bytes c.args.arguments.now c.first-item.result word c.in-len1-up.len_at_least c.first-item.is c.deref.ensures)

@@ -1,14 +1,11 @@
-use Rattle.std.proofs.Common.{ℕ, List, codes, arith}
+use Rattle.std.proofs.Common.{arith}
 use Rattle.std.proofs.lemmas.Result.{err_from_is_err_and}
 use Rattle.pull_messages.specs.Stops.{StopsAt, IsWord, IsAgent, IsAgentForm, Then}
 use Rattle.pull_messages.proofs.Agents.{agent_free, agent_some}
-use Rattle.pull_messages.proofs.FormLaws.{left_exit, word_some, agent_form_taken}
+use Rattle.pull_messages.proofs.FormLaws.{left_exit, word_some, agent_form_taken, path_word}
 use Rattle.pull_messages.proofs.Languages.{stop_first, stop_second, then_some}
 use Rattle.pull_messages.proofs.Words.{word_free, bytes_scalars}
 use Rattle.pull_messages.proofs.forms.agent_form.Goals as goal
-
-abbrev path_word : List ℕ
-path_word = codes "/PSDSCPullServer.svc/Nodes(AgentId='"
 
 pub returns-in_err-rest-clause-stop : goal.returns-in_err-rest-clause-stop
 returns-in_err-rest-clause-stop c =
