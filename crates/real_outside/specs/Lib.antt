@@ -1,2 +1,4 @@
-pub mod Folders
+-- what the layer above cites
 pub mod Real
+-- for private clauses alone
+pub mod Folders

@@ -2,9 +2,9 @@
 ghost use Rattle.std.specs.Prelude.{◌≡◌};
 ghost use Rattle.real_outside.specs.Folders.{has_entry_name, is_entry_name};
 
-use crate::paths::is_staging_name;
 use crate::reading::read_some;
 use dsc_outside::{Failed, HostError};
+use host_layout::is_staging_name;
 use std::io::{ErrorKind, Read};
 use std::rt::Files;
 

@@ -4,8 +4,7 @@ ghost use Rattle.dsc_outside.specs.Causes.{HasCause, count_after};
 
 use crate::held_folder::sync_folder;
 use crate::identity::Identity;
-use crate::places::folder_of;
-use crate::spot::look_at;
+use crate::spot::{folder_of, look_at};
 use dsc_outside::{Disk, Failed};
 use std::fs::{File, Metadata, OpenOptions};
 use std::io::ErrorKind;

@@ -1,7 +1,7 @@
 //! The machine that a folder stands for.
 ghost use Rattle.std.specs.Prelude.{◌≡◌, Err, None, false, true};
 ghost use Rattle.dsc_outside.specs.Causes.{HasCauseOf};
-ghost use Rattle.real_outside.specs.Folders.{has_line_feed, is_plain_path};
+ghost use Rattle.host_layout.specs.Layout.{has_line_feed, is_plain_path};
 ghost use Rattle.dsc_outside.specs.Host.{LeavesBuffer, host_count_after};
 ghost use Rattle.dsc_outside.specs.declared.host.HostError.TheVariants as errors;
 

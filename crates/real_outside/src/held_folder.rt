@@ -1,13 +1,14 @@
 //! Folders that are held open.
 ghost use Rattle.std.specs.Prelude.{◌≡◌, Err, IfOk, false, string_bytes};
-ghost use Rattle.real_outside.specs.Folders.{held_place, is_single_name};
+ghost use Rattle.host_layout.specs.Layout.{is_single_name};
+ghost use Rattle.real_outside.specs.Folders.{held_place};
 ghost use Rattle.dsc_outside.specs.declared.host.HostError.TheVariants as errors;
 
 use crate::identity::Identity;
 use crate::names_below::open_folder;
-use crate::paths::is_single_name;
 use crate::spot::Spot;
 use dsc_outside::{Failed, HostError};
+use host_layout::is_single_name;
 use std::alloc::{AllocError, Global};
 use std::fs::OpenFile;
 use std::io::ErrorKind;

@@ -10,8 +10,8 @@
 //! - what touches the real machine: this crate: standard input, standard output, a file as disk, a folder as host, the
 //!   clock of the system, the arguments (`src/program_arguments.rt`). Connections are in `dsc_network`, a folder as
 //!   shelf and a port as door in `pull_adapters`. Nothing else does, but the tool `merge_calls`, which reads files
-//! - where the folder that is the host keeps what it holds: `specs/Folders.antt`, `src/places.rt`; its paths in
-//!   `src/tree.rt`, its variables, log, packages and reboots in `src/lists.rt`
+//! - what the folder that is the host holds: its paths in `src/tree.rt`, its variables, log, packages and reboots in
+//!   `src/lists.rt`; under which names: the crate `host_layout`
 //! - how a path of it is walked, a file read and placed: `src/above.rt`, through folders that are held
 //!   (`src/held_folder.rt`, `src/ancestors.rt`); `src/plain_files.rt`; `src/placing.rt`, first under a name of
 //!   `src/staging.rt`, which also takes away what stops left
@@ -33,8 +33,6 @@ mod machine_folder;
 mod mounts;
 mod names_below;
 mod out_sink;
-mod paths;
-mod places;
 mod placing;
 mod plain_files;
 mod program_arguments;

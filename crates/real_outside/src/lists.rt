@@ -1,15 +1,16 @@
 //! What a machine that a folder stands for lists: variables, the log, packages, and who wants a reboot.
 ghost use Rattle.std.specs.Prelude.{◌≡◌, Err, true};
-ghost use Rattle.real_outside.specs.Folders.{has_line, has_line_feed};
+ghost use Rattle.host_layout.specs.Layout.{has_line_feed};
+ghost use Rattle.real_outside.specs.Folders.{has_line};
 ghost use Rattle.dsc_outside.specs.Host.{LeavesBuffer};
 ghost use Rattle.dsc_outside.specs.declared.host.HostError.TheVariants as errors;
 
 use crate::held_folder::HeldFolder;
 use crate::machine_folder::MachineFolder;
-use crate::places::{REBOOT, entry_path, join_lines, package_path, variable_path};
 use crate::plain_files::{append_file, file_holds, is_plain_file, take_away};
 use crate::spot::Spot;
 use dsc_outside::HostError;
+use host_layout::{REBOOT, entry_path, join_lines, package_path, variable_path};
 use std::os::fd::AsFd;
 use std::rt::Files;
 

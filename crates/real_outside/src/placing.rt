@@ -1,10 +1,10 @@
 //! Placing files whole.
 use crate::held_folder::HeldFolder;
 use crate::identity::Identity;
-use crate::places::staging_path;
 use crate::spot::{Kind, Spot};
 use crate::staging::new_mark;
 use dsc_outside::HostError;
+use host_layout::staging_path;
 use std::alloc::Global;
 use std::fs::{Metadata, OpenFile, OpenOptions, Permissions};
 use std::io::{ErrorKind, Write};

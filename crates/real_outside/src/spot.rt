@@ -81,3 +81,12 @@ pub fn look_at<R: Files>(rt: &R, place: &str) -> Result<Option<Metadata>, HostEr
         Err(e) => Err(HostError::from(e)),
     }
 }
+
+/// The folder of what stands at the place.
+pub fn folder_of(place: &str) -> &str {
+    match place.trim_end_matches('/').rsplit_once('/') {
+        None => ".",
+        Some(("", _)) => "/",
+        Some((folder, _)) => folder,
+    }
+}

@@ -1,9 +1,9 @@
 //! The reserved names under which files are written, before they take their places.
 use crate::held_folder::HeldFolder;
 use crate::names_below::{Taken, last_error, take_below, take_folder_below};
-use crate::paths::is_staging_name;
 use crate::reading::read_some;
 use dsc_outside::HostError;
+use host_layout::is_staging_name;
 use std::alloc::Global;
 use std::io;
 use std::os::fd::OwnedFd;

@@ -1,6 +1,6 @@
 //! The paths of a machine that a folder stands for. No link under the root is followed.
 ghost use Rattle.std.specs.Prelude.{◌≡◌, Err, false};
-ghost use Rattle.real_outside.specs.Folders.{is_plain_path};
+ghost use Rattle.host_layout.specs.Layout.{is_plain_path};
 ghost use Rattle.dsc_outside.specs.declared.host.HostError.TheVariants as errors;
 
 use crate::above::{Above, split_path};
@@ -8,11 +8,11 @@ use crate::emptiness::is_inhabited;
 use crate::identity::Identity;
 use crate::last_look::LastLook;
 use crate::machine_folder::MachineFolder;
-use crate::places::root_path;
 use crate::plain_files::{file_holds, take_away};
 use crate::removing::remove_folder;
 use crate::spot::{Kind, Spot};
 use dsc_outside::{HostError, PathState};
+use host_layout::root_path;
 use std::fs;
 use std::io::ErrorKind;
 use std::os::fd::AsFd;

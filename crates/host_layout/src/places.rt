@@ -3,7 +3,7 @@ ghost use Rattle.std.specs.Prelude.{◌≡◌, Err, IfOk, false, string_bytes, t
 ghost use Rattle.std.specs.Path.{path_buf_bytes, path_join};
 ghost use Rattle.hex.specs.Hex.{encode_upper};
 ghost use Rattle.sha2.specs.Sha256.{sha256};
-ghost use Rattle.real_outside.specs.Folders.{entry_place, has_line_feed, is_plain_path, package_place, root_place, staged_name, staging_place, two_lines, variable_place};
+ghost use Rattle.host_layout.specs.Layout.{entry_place, has_line_feed, is_plain_path, package_place, root_place, staged_name, staging_place, two_lines, variable_place};
 ghost use Rattle.dsc_outside.specs.declared.host.HostError.TheVariants as errors;
 
 use crate::paths::is_plain_path;
@@ -12,26 +12,26 @@ use sha2::{Digest, Sha256};
 use std::alloc::{AllocError, Global};
 use std::path::PathBuf;
 
-/// The folder for the machine's paths.
-pub const ROOT: &str = "root";
+// The folder for the machine's paths.
+const ROOT: &str = "root";
 
-/// The folder with a file for each environment variable.
-pub const VARIABLES: &str = "env";
+// The folder with a file for each environment variable.
+const VARIABLES: &str = "env";
 
-/// The folder with a file for each entry of the log.
-pub const LOG: &str = "log";
+// The folder with a file for each entry of the log.
+const LOG: &str = "log";
 
-/// The folder with a file for each package.
-pub const PACKAGES: &str = "packages";
+// The folder with a file for each package.
+const PACKAGES: &str = "packages";
 
 /// The text of the ids that want a reboot.
 pub const REBOOT: &str = "reboot";
 
-/// A file that is being written, before it takes its place in the same folder. Names that begin so are reserved.
-pub const STAGED: &str = ".nimchout-staged";
+// A file that is being written, before it takes its place in the same folder. Names that begin so are reserved.
+const STAGED: &str = ".nimchout-staged";
 
-/// What has that name in the folder.
-pub fn path_in(alloc: Global, folder: &str, name: &str) -> Result<PathBuf, AllocError>
+// What has that name in the folder.
+fn path_in(alloc: Global, folder: &str, name: &str) -> Result<PathBuf, AllocError>
     ensures { IfOk result (λ place. path_buf_bytes place ≡ path_join folder.now name.now) }
 {
     let mut place = PathBuf::from_str(alloc, folder)?;
@@ -70,15 +70,6 @@ fn staged_name(alloc: Global, mark: &[u8]) -> Result<String, AllocError>
     name.push('-')?;
     name.push_str(digits.as_str())?;
     Ok(name)
-}
-
-/// The folder of what stands at the place.
-pub fn folder_of(place: &str) -> &str {
-    match place.trim_end_matches('/').rsplit_once('/') {
-        None => ".",
-        Some(("", _)) => "/",
-        Some((folder, _)) => folder,
-    }
 }
 
 /// The file of the variable: its name is the upper-case hexadecimal digits of the variable's.

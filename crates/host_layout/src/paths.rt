@@ -1,6 +1,6 @@
 //! Paths of the machine.
 ghost use Rattle.std.specs.Prelude.{◌≡◌};
-ghost use Rattle.real_outside.specs.Folders.{is_plain_name, is_plain_path, is_single_name, is_staging_name};
+ghost use Rattle.host_layout.specs.Layout.{is_plain_name, is_plain_path, is_single_name, is_staging_name};
 
 /// Answers whether each name of the path is plain. What has another one, as `..`, may lead out of the root.
 pub fn is_plain_path(path: &str) -> bool

@@ -2,8 +2,8 @@
 use Rattle.std.proofs.Common.{rules, lit<}
 use Rattle.std.proofs.lemmas.Iterator.Search.{all_from_yields_List}
 use Rattle.std.proofs.lemmas.Iterator.Splits.{YieldsList-from_str_split}
-use Rattle.real_outside.specs.Folders.{is_plain_name}
-use Rattle.real_outside.proofs.paths.is_plain_path.Goals as goal
+use Rattle.host_layout.specs.Layout.{is_plain_name}
+use Rattle.host_layout.proofs.paths.is_plain_path.Goals as goal
 
 pub returns : goal.returns
 returns c = all_from_yields_List is_plain_name _ _ _ c.all.ensures.ran (YieldsList-from_str_split 47 c.args.path.now (lit< tt) c.split.ensures.text c.split.ensures.has_more c.split.ensures.pattern) (λ x b q k. search rules)
