@@ -5,10 +5,11 @@
 //! which way, is shown or not: forms in memory show it, the real things do not, and the clauses on content hold
 //! where it is shown. `MemoryShelf`, `MemoryConn` and `MemoryDoor` fail in the calls that they were set to fail in,
 //! and in no other but where an item is too long, no connection is left, or they run out of memory for what they keep.
+//! `ReliableShelf` never fails, and its content can change between two calls.
 //!
 //! Where a thing is:
 //! - a shelf or a door: `src/shelf.rt`, `src/door.rt`; `specs/Shelf.antt`, `specs/Door.antt`
-//! - their forms in memory: `src/memory/`, `specs/Memory.antt`
+//! - their forms in memory: `src/memory/`, `specs/Memory.antt`; the shelf that never fails `specs/ReliableShelf.antt`
 #![tactic(auto)]
 
 mod door;
@@ -16,5 +17,7 @@ mod memory;
 mod shelf;
 
 pub use door::{Door, Parting};
-pub use memory::{ClosedConn, Configuration, MemoryConn, MemoryDoor, MemoryShelf, ShelfContents};
+pub use memory::{
+    ClosedConn, Configuration, MemoryConn, MemoryDoor, MemoryShelf, ReliableShelf, ShelfContents,
+};
 pub use shelf::{LONGEST_ITEM, Shelf, ShelfError};

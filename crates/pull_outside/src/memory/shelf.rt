@@ -140,7 +140,7 @@ fn look(calls: &mut Calls, item: Option<&[u8]>, into: &mut Vec<u8>) -> Result<bo
     }
 }
 
-fn content_named<'a>(items: &'a [Configuration], name: &[u8]) -> Option<&'a [u8]>
+pub fn content_named<'a>(items: &'a [Configuration], name: &[u8]) -> Option<&'a [u8]>
     ensures { option_copied result ≡ content_named name.now items.now }
 {
     for item in items {
@@ -151,7 +151,7 @@ fn content_named<'a>(items: &'a [Configuration], name: &[u8]) -> Option<&'a [u8]
     None
 }
 
-fn package_named<'a>(items: &'a [Package], name: &[u8], version: &[u8]) -> Option<&'a [u8]>
+pub fn package_named<'a>(items: &'a [Package], name: &[u8], version: &[u8]) -> Option<&'a [u8]>
     ensures { option_copied result ≡ package_named name.now version.now items.now }
 {
     for item in items {
