@@ -4,12 +4,14 @@ use Rattle.std.proofs.lemmas.Bool.{eqb-true}
 use Rattle.std.specs.Str.{all_scalars}
 use Rattle.pull_messages.specs.declared.parts.Stop.{Stop}
 use Rattle.pull_messages.specs.declared.parts.Stop.TheVariants.{Left, Memory}
+use Rattle.pull_messages.specs.declared.target_kinds.FleetTarget.TheVariants.{Report, Summary}
 use Rattle.pull_messages.specs.declared.target_kinds.Target.{Target}
 use Rattle.pull_messages.specs.declared.target_kinds.Target.TheVariants.{Node, Action, Content, Module, SendReport}
+use Rattle.pull_messages.specs.FleetTargets.{SpellsFleetTarget}
 use Rattle.pull_messages.specs.Spelling.{Spells}
-use Rattle.pull_messages.specs.Stops.{StopsAt, EndsAt, IfLeft, IsWord, IsAnyQuoted, Then, IsAgentForm, IsContentForm, IsModuleForm, IsAnyTarget, better_of}
+use Rattle.pull_messages.specs.Stops.{StopsAt, EndsAt, IfLeft, IsWord, IsAnyQuoted, Then, IsAgentForm, IsContentForm, IsModuleForm, IsReportForm, IsAgent, IsAnyFleetTarget, IsAnyTarget, better_of}
 use Rattle.pull_messages.specs.Targets.{IsPart, SpellsTarget, agent_parts, word, quoted, agent_of}
-use Rattle.pull_messages.proofs.Agents.{agent_free}
+use Rattle.pull_messages.proofs.Agents.{agent_free, agent_some}
 use Rattle.pull_messages.proofs.Languages.{PrefixFree, IsSome, Either, ends_either, then_free, then_some, ends_of_rest, ends_of_stop, stop_first, stop_second}
 use Rattle.pull_messages.proofs.Quotes.{quoted_free, quoted_some}
 use Rattle.pull_messages.proofs.Words.{word_free}
@@ -67,21 +69,21 @@ some_rest [] some = absurd (true≢false some)
 some_rest (x ∷ rest) some = omega arith
 
 -- nothing more, or where the form ends
-abbrev pub finished_of : Target → List ℕ → Result Target Stop
+abbrev pub finished_of : {T : Type 0} → T → List ℕ → Result T Stop
 finished_of target rest = cond (length rest == 0) (Ok target) (Err (Left (length rest)))
 
-pub finished_ok : (result : Result Target Stop) (target : Target) (chars rest : List ℕ) → result ≡ finished_of target rest
-    → (rest ≡ [] → SpellsTarget target chars) → IfOk result (λ t. SpellsTarget t chars)
-finished_ok result target chars rest is spelled = subst (λ (r : Result Target Stop). IfOk r (λ t. SpellsTarget t chars)) (sym is) (at (length rest == 0) refl)
+pub finished_ok : {T : Type 0} (Spelled : T → Type 0) (result : Result T Stop) (target : T) (rest : List ℕ) → result ≡ finished_of target rest
+    → (rest ≡ [] → Spelled target) → IfOk result Spelled
+finished_ok {T} Spelled result target rest is spelled = subst (λ (r : Result T Stop). IfOk r Spelled) (sym is) (at (length rest == 0) refl)
   where
-    at : (b : Bool) → (length rest == 0) ≡ b → IfOk {E = Stop} (cond b (Ok target) (Err (Left (length rest)))) (λ t. SpellsTarget t chars)
+    at : (b : Bool) → (length rest == 0) ≡ b → IfOk {E = Stop} (cond b (Ok target) (Err (Left (length rest)))) Spelled
     at true none = spelled (no_rest rest (eqb-true (length rest) 0 none))
     at false some = tt
 
-pub finished_bad : (language : List ℕ → Type 0) (result : Result Target Stop) (target : Target) (chars f rest : List ℕ) → PrefixFree language
+pub finished_bad : {T : Type 0} (language : List ℕ → Type 0) (result : Result T Stop) (target : T) (chars f rest : List ℕ) → PrefixFree language
     → result ≡ finished_of target rest → chars ≡ f ++ rest → language f → IfLeft result (EndsAt language chars)
-finished_bad language result target chars f rest free is split in_f =
-    subst (λ (r : Result Target Stop). IfLeft r (EndsAt language chars)) (sym is) (at (length rest == 0) refl)
+finished_bad {T} language result target chars f rest free is split in_f =
+    subst (λ (r : Result T Stop). IfLeft r (EndsAt language chars)) (sym is) (at (length rest == 0) refl)
   where
     at : (b : Bool) → (length rest == 0) ≡ b → IfLeft (cond b (Ok target) (Err (Left (length rest)))) (EndsAt language chars)
     at true none = tt
@@ -115,6 +117,41 @@ pub content_third : (chars f rest q last : List ℕ) (n : ℕ) → chars ≡ f +
 content_third chars f rest q last n split in_f split_q in_q stops =
     ends_of_stop IsContentForm chars n content_free (stop_second (IsAgentForm content_end) content_rest chars f rest n (agent_form_free content_end) split in_f
     (stop_second (IsAnyQuoted 41) (IsWord (codes "/ConfigurationContent")) rest q last n (quoted_free 41 (inl refl)) split_q in_q stops))
+
+-- ---- reports that are kept
+
+abbrev pub reports_end : List ℕ
+reports_end = codes "')/Reports(JobId='"
+
+abbrev pub path_end : List ℕ
+path_end = codes "')"
+
+abbrev pub summary_word : List ℕ
+summary_word = codes "/PSDSCPullServer.svc/Fleet"
+
+abbrev job_rest : List ℕ → Type 0
+job_rest = Then IsAgent (IsWord path_end)
+
+pub kept_free : PrefixFree IsReportForm
+kept_free = then_free _ _ (agent_form_free reports_end) (then_free _ _ agent_free (word_free path_end))
+
+pub kept_first : (chars : List ℕ) (n : ℕ) → StopsAt (IsAgentForm reports_end) chars n → EndsAt IsReportForm chars n
+kept_first chars n stops =
+    ends_of_stop IsReportForm chars n kept_free (stop_first (IsAgentForm reports_end) job_rest chars n (agent_form_free reports_end)
+    (then_some IsAgent (IsWord path_end) agent_some (word_some path_end refl)) stops)
+
+in_kept : (chars f rest : List ℕ) (n : ℕ) → chars ≡ f ++ rest → IsAgentForm reports_end f → StopsAt job_rest rest n → EndsAt IsReportForm chars n
+in_kept chars f rest n split in_f stops =
+    ends_of_stop IsReportForm chars n kept_free (stop_second (IsAgentForm reports_end) job_rest chars f rest n (agent_form_free reports_end) split in_f stops)
+
+pub kept_second : (chars f rest : List ℕ) (n : ℕ) → chars ≡ f ++ rest → IsAgentForm reports_end f → StopsAt IsAgent rest n → EndsAt IsReportForm chars n
+kept_second chars f rest n split in_f stops =
+    in_kept chars f rest n split in_f (stop_first IsAgent (IsWord path_end) rest n agent_free (word_some path_end refl) stops)
+
+pub kept_third : (chars f rest j last : List ℕ) (n : ℕ) → chars ≡ f ++ rest → IsAgentForm reports_end f → rest ≡ j ++ last → IsAgent j
+    → StopsAt (IsWord path_end) last n → EndsAt IsReportForm chars n
+kept_third chars f rest j last n split in_f split_j in_j stops =
+    in_kept chars f rest n split in_f (stop_second IsAgent (IsWord path_end) rest j last n agent_free split_j in_j stops)
 
 -- ---- modules
 
@@ -225,6 +262,25 @@ module_in : (name version text : List ℕ) → SpellsTarget (Module name version
 module_in name version text (a, b, is, first, (q, b2, is2, value, (w, b3, is3, between, (v, b4, is4, value2, (l, b5, is5, last, nil))))) =
     let after : b4 ≡ l = is5 ∙ ap (λ (x : List ℕ). l ++ x) nil ∙ append-nil l in
     (a, b, is, first, (q, b2, is2, (name, value), (w, b3, is3, between, (v, b4, is4, (version, value2), subst (λ (x : List ℕ). SameName x last_word) (sym after) last))))
+
+-- the two forms of the fleet
+kept_in : (id job : ℕ) (text : List ℕ) → SpellsFleetTarget (Report id job) text → IsReportForm text
+kept_in id job text (a, b, is, first, (a2, b2, is2, second, (a3, b3, is3, word3, (j, b4, is4, in_j, (l, b5, is5, last, nil))))) =
+    let after : b4 ≡ l = is5 ∙ ap (λ (x : List ℕ). l ++ x) nil ∙ append-nil l in (
+      a ++ (a2 ++ a3),
+      b3,
+      joined text a b (a2 ++ a3) b3 is (joined b a2 b2 a3 b3 is2 is3),
+      (a, a2 ++ a3, refl, first, (a2, a3, refl, (id, second), word3)),
+      (j, b4, is4, (job, in_j), subst (λ (x : List ℕ). SameName x path_end) (sym after) last),
+    )
+
+summary_in : (text : List ℕ) → SpellsFleetTarget Summary text → IsWord summary_word text
+summary_in text (a, b, is, first, nil) =
+    subst (λ (x : List ℕ). SameName x summary_word) (sym (is ∙ ap (λ (l : List ℕ). a ++ l) nil ∙ append-nil a)) first
+
+pub no_fleet : (text : List ℕ) → (IsReportForm text → ⊥) → (IsWord summary_word text → ⊥) → IsAnyFleetTarget text → ⊥
+no_fleet text no_report no_summary (Report id job, spelled) = no_report (kept_in id job text spelled)
+no_fleet text no_report no_summary (Summary, spelled) = no_summary (summary_in text spelled)
 
 abbrev pub AnyForm : List ℕ → Type 0
 AnyForm = Either (IsAgentForm (codes "')")) (Either (IsAgentForm (codes "')/GetDscAction")) (Either (IsAgentForm (codes "')/SendReport")) (Either IsContentForm IsModuleForm)))

@@ -5,13 +5,17 @@ use Rattle.std.proofs.lemmas.List.{length-map}
 use Rattle.std.specs.Char.{to_ascii_lowercase}
 use Rattle.std.specs.Str.{encode_utf8_all}
 use Rattle.mof_values.specs.Fold.{fold_case, SameName}
+use Rattle.pull_messages.specs.declared.target_kinds.FleetTarget.{FleetTarget}
+use Rattle.pull_messages.specs.declared.target_kinds.FleetTarget.TheVariants.{Report, Summary}
 use Rattle.pull_messages.specs.declared.target_kinds.Target.{Target}
 use Rattle.pull_messages.specs.declared.target_kinds.Target.TheVariants.{Node, Action, Content, Module, SendReport}
+use Rattle.pull_messages.specs.Escapes.{AreChars}
+use Rattle.pull_messages.specs.FleetTargets.{SpellsFleetTarget}
 use Rattle.pull_messages.specs.Spelling.{Spells}
 use Rattle.pull_messages.specs.Stops.{IsEnd}
 use Rattle.pull_messages.specs.Targets.{agent, agent_of, agent_parts, IsPart, IsTarget, Part, quoted, SpellsTarget, word}
 use Rattle.pull_messages.proofs.Agents.{agent_length}
-use Rattle.pull_messages.proofs.FormLaws.{content_end}
+use Rattle.pull_messages.proofs.FormLaws.{content_end, path_end, reports_end, summary_word}
 use Rattle.pull_messages.proofs.Languages.{same_front}
 use Rattle.pull_messages.proofs.Quotes.{quoted_free, same_value}
 use Rattle.pull_messages.proofs.TargetLaws.{chars_front, first_bytes, no_byte}
@@ -133,16 +137,78 @@ one_spelled (Module n v) (SendReport y) text s t = absurd (paths_apart y (word r
 one_spelled (Module n v) (Content y m) text s t = absurd (paths_apart y (word content_end ∷ content_parts m) n v text t s)
 one_spelled (Module n v) (Module m w) text s t = modules_same n v m w text s t
 
+-- ---- targets of the fleet
+
+abbrev job_parts : ℕ → List Part
+job_parts job = agent job ∷ word path_end ∷ []
+
+reports_same : (x y j k : ℕ) (text : List ℕ) → SpellsFleetTarget (Report x j) text → SpellsFleetTarget (Report y k) text → Report x j ≡ Report y k
+reports_same x y j k text first second =
+    let ids = agents_same x y (word reports_end ∷ job_parts j) (word reports_end ∷ job_parts k) (text, first, second) in
+    let jobs = agent_same j k (word path_end ∷ []) (word path_end ∷ []) (word_same reports_end (job_parts j) (job_parts k) ids.1) in
+    (λ i. Report (ids.0 i) (jobs.0 i))
+
+summary_agent : (x : ℕ) (p : List Part) (text : List ℕ) → SpellsFleetTarget Summary text → Spells IsPart (agent_parts x p) text → ⊥
+summary_agent x p text (b, s, is2, in_b, none) (a, r, is, in_a, others) =
+    let n : get_or (fold_case text) 21 0 ≡ 110 = letter_at text a r (codes "/PSDSCPullServer.svc/Nodes(AgentId='") 21 is in_a (omega arith) in
+    let f : get_or (fold_case text) 21 0 ≡ 102 = letter_at text b s summary_word 21 is2 in_b (omega arith) in
+    omega (arith, n, f)
+
+summary_module : (name version text : List ℕ) → SpellsFleetTarget Summary text → SpellsTarget (Module name version) text → ⊥
+summary_module name version text (a, r, is, in_a, none) (b, s, is2, in_b, others) =
+    let f : get_or (fold_case text) 21 0 ≡ 102 = letter_at text a r summary_word 21 is in_a (omega arith) in
+    let m : get_or (fold_case text) 21 0 ≡ 109 = letter_at text b s (codes "/PSDSCPullServer.svc/Modules(ModuleName=") 21 is2 in_b (omega arith) in
+    omega (arith, f, m)
+
+pub one_fleet : (t u : FleetTarget) (text : List ℕ) → SpellsFleetTarget t text → SpellsFleetTarget u text → t ≡ u
+one_fleet (Report x j) (Report y k) text s t = reports_same x y j k text s t
+one_fleet (Report x j) Summary text s t = absurd (summary_agent x (word reports_end ∷ job_parts j) text t s)
+one_fleet Summary (Report x j) text s t = absurd (summary_agent x (word reports_end ∷ job_parts j) text s t)
+one_fleet Summary Summary text s t = refl
+
 one_front : (a b u v : List ℕ) → b ≡ a ++ u → a ≡ b ++ v → a ≡ b
 one_front a b [] v first second = sym (first ∙ append-nil a)
 one_front a b (x ∷ u) v first second = absurd (omega (arith, ap length first, length-append a (x ∷ u), ap length second, length-append b v))
 
-pub one_target : (text : List ℕ) (t u : Target) → IsTarget text t → IsTarget text u → t ≡ u
-unfolding IsTarget
-one_target text t u (a, are, spelled) (b, are2, spelled2) =
+pub one_chars : (a b text : List ℕ) → AreChars a text → AreChars b text → a ≡ b
+one_chars a b text are are2 =
     let there = first_bytes (encode_utf8_all a) (encode_utf8_all b) text text [] [] are.1 are2.1 refl no_byte in
     let back = first_bytes (encode_utf8_all b) (encode_utf8_all a) text text [] [] are2.1 are.1 refl no_byte in
     let more = chars_front a b there.0 there.2 in
     let less = chars_front b a back.0 back.2 in
-    let same = one_front a b more.0 less.0 more.1 less.1 in
-    one_spelled t u b (subst (SpellsTarget t) same spelled) spelled2
+    one_front a b more.0 less.0 more.1 less.1
+
+-- ---- targets of the fleet and others are apart
+
+contents_letter : (p q : List Part) → BothSpell (word reports_end ∷ p) (word content_end ∷ q) → ⊥
+contents_letter p q (text, (a, r, is, in_a, others), (b, s, is2, in_b, others2)) =
+    let one : get_or (fold_case text) 3 0 ≡ 114 = letter_at text a r reports_end 3 is in_a (omega arith) in
+    let other : get_or (fold_case text) 3 0 ≡ 99 = letter_at text b s content_end 3 is2 in_b (omega arith) in
+    omega (arith, one, other)
+
+kept_apart : (x j y : ℕ) (end : List ℕ) (text : List ℕ) → length end < length reports_end → SpellsFleetTarget (Report x j) text
+    → Spells IsPart (agent_parts y (word end ∷ [])) text → ⊥
+kept_apart x j y end text less first second = ends_apart y x end reports_end (job_parts j) less (text, second, first)
+
+spelled_apart : (t : FleetTarget) (u : Target) (text : List ℕ) → SpellsFleetTarget t text → SpellsTarget u text → ⊥
+unfolding content_parts
+spelled_apart (Report x j) (Node y) text s t = kept_apart x j y node_end text (omega arith) s t
+spelled_apart (Report x j) (Action y) text s t = kept_apart x j y action_end text (omega arith) s t
+spelled_apart (Report x j) (SendReport y) text s t = kept_apart x j y report_end text (omega arith) s t
+spelled_apart (Report x j) (Content y n) text s t =
+    contents_letter (job_parts j) (content_parts n) (agents_same x y (word reports_end ∷ job_parts j) (word content_end ∷ content_parts n) (text, s, t)).1
+spelled_apart (Report x j) (Module n v) text s t = paths_apart x (word reports_end ∷ job_parts j) n v text s t
+spelled_apart Summary (Node y) text s t = summary_agent y (word node_end ∷ []) text s t
+spelled_apart Summary (Action y) text s t = summary_agent y (word action_end ∷ []) text s t
+spelled_apart Summary (SendReport y) text s t = summary_agent y (word report_end ∷ []) text s t
+spelled_apart Summary (Content y n) text s t = summary_agent y (word content_end ∷ content_parts n) text s t
+spelled_apart Summary (Module n v) text s t = summary_module n v text s t
+
+pub fleet_apart : (t : FleetTarget) (u : Target) (cs text : List ℕ) → AreChars cs text → SpellsFleetTarget t cs → IsTarget text u → ⊥
+unfolding IsTarget
+fleet_apart t u cs text are spelled (b, are2, spelled2) =
+    spelled_apart t u b (subst (SpellsFleetTarget t) (one_chars cs b text are are2) spelled) spelled2
+
+pub one_target : (text : List ℕ) (t u : Target) → IsTarget text t → IsTarget text u → t ≡ u
+unfolding IsTarget
+one_target text t u (a, are, spelled) (b, are2, spelled2) = one_spelled t u b (subst (SpellsTarget t) (one_chars a b text are are2) spelled) spelled2

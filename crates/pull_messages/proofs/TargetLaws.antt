@@ -215,10 +215,9 @@ longest_front text bytes cs cf tail at escaped decoded split front begins longes
               ([], sym (shorter.1 ∙ ap (λ (l : List ℕ). cf ++ l) none ∙ append-nil cf) ∙ sym (append-nil cm))
         ]
 
--- a text that is a target is all of what was decoded
-pub whole_target : (text bytes cs : List ℕ) (t : Target) → IsUnescaped text bytes → IsDecoded bytes cs → IsTarget text t → SpellsTarget t cs
-unfolding IsTarget
-whole_target text bytes cs t escaped decoded (ct, are, spelled) =
+-- characters that the text spells are all that were decoded
+pub same_chars : (text bytes cs ct : List ℕ) → IsUnescaped text bytes → IsDecoded bytes cs → AreChars ct text → cs ≡ ct
+same_chars text bytes cs ct escaped decoded are =
     let found = first_bytes (encode_utf8_all ct) bytes text escaped.front [] escaped.rest are.1 escaped.written (append-nil text ∙ escaped.split) escaped.all in
     let none : length found.1 ≤ 0 = omega (arith, ap length found.3, length-append text found.1, ap length escaped.split, length-append escaped.front escaped.rest) in
     let no_more = nothing_written found.0 found.1 found.4 none in
@@ -233,27 +232,46 @@ whole_target text bytes cs t escaped decoded (ct, are, spelled) =
       length-append (encode_utf8_all ct) (encode_utf8_all ahead.0),
       length-le-encodes ahead.0,
     ) in
-    let same : cs ≡ ct = ahead.1 ∙ ap (λ (l : List ℕ). ct ++ l) (empty ahead.0 tail) ∙ append-nil ct in
-    subst (SpellsTarget t) (sym same) spelled
+    ahead.1 ∙ ap (λ (l : List ℕ). ct ++ l) (empty ahead.0 tail) ∙ append-nil ct
   where
     empty : (u : List ℕ) → length u ≤ 0 → u ≡ []
     empty [] e = refl
     empty (x ∷ u) e = absurd (omega arith)
 
--- what was measured whole is a target
-pub is_target : (text bytes cs : List ℕ) (t : Target) (at : ℕ) → IsUnescaped text bytes → IsDecoded bytes cs → SpellsTarget t cs
-    → IsFrontOf text (length (encode_utf8_all cs)) at → at ≡ length text → IsTarget text t
-unfolding IsTarget
-is_target text bytes cs t at escaped decoded spelled front all =
+-- a text that was measured whole spells them
+pub are_chars : (text bytes cs : List ℕ) (at : ℕ) → IsUnescaped text bytes → IsDecoded bytes cs → IsFrontOf text (length (encode_utf8_all cs)) at
+    → at ≡ length text → AreChars cs text
+are_chars text bytes cs at escaped decoded front all =
     let written : Spells IsWritten (encode_utf8_all cs) front.front =
     subst (λ (l : List ℕ). Spells IsWritten l front.front) (front_is text bytes cs cs [] at escaped decoded (sym (append-nil cs)) front) front.written in
     let none = empty front.rest (omega (arith, all, front.size_is, ap length front.split, length-append front.front front.rest)) in
     let same : text ≡ front.front = front.split ∙ ap (λ (l : List ℕ). front.front ++ l) none ∙ append-nil front.front in
-    (cs, (decoded.scalars, subst (Spells IsWritten (encode_utf8_all cs)) (sym same) written), spelled)
+    (decoded.scalars, subst (Spells IsWritten (encode_utf8_all cs)) (sym same) written)
   where
     empty : (u : List ℕ) → length u ≤ 0 → u ≡ []
     empty [] e = refl
     empty (x ∷ u) e = absurd (omega arith)
+
+-- and one that spells them is measured whole
+pub measured_whole : (text bytes cs : List ℕ) (at : ℕ) → IsUnescaped text bytes → IsDecoded bytes cs → IsFrontOf text (length (encode_utf8_all cs)) at
+    → AreChars cs text → at ≡ length text
+measured_whole text bytes cs at escaped decoded front are =
+    let cells : Spells IsWritten (encode_utf8_all cs ++ []) front.front =
+    subst (λ (l : List ℕ). Spells IsWritten l front.front)
+    (front_is text bytes cs cs [] at escaped decoded (sym (append-nil cs)) front ∙ sym (append-nil (encode_utf8_all cs))) front.written in
+    let more = shorter_text (encode_utf8_all cs) [] text front.front [] front.rest are.1 cells (append-nil text ∙ front.split) in
+    omega (arith, front.size_is, ap length front.split, length-append front.front front.rest, ap length more.1, length-append text more.0)
+
+-- a text that is a target is all of what was decoded
+pub whole_target : (text bytes cs : List ℕ) (t : Target) → IsUnescaped text bytes → IsDecoded bytes cs → IsTarget text t → SpellsTarget t cs
+unfolding IsTarget
+whole_target text bytes cs t escaped decoded (ct, are, spelled) = subst (SpellsTarget t) (sym (same_chars text bytes cs ct escaped decoded are)) spelled
+
+-- what was measured whole is a target
+pub is_target : (text bytes cs : List ℕ) (t : Target) (at : ℕ) → IsUnescaped text bytes → IsDecoded bytes cs → SpellsTarget t cs
+    → IsFrontOf text (length (encode_utf8_all cs)) at → at ≡ length text → IsTarget text t
+unfolding IsTarget
+is_target text bytes cs t at escaped decoded spelled front all = (cs, are_chars text bytes cs at escaped decoded front all, spelled)
 
 target_begins : (text : List ℕ) (t : Target) → IsTarget text t → BeginsTarget text
 unfolding BeginsTarget IsTarget

@@ -2,6 +2,7 @@
 pub mod BadTargets
 pub mod Bodies
 pub mod Escapes
+pub mod FleetTargets
 pub mod Limits
 pub mod Members
 pub mod Names

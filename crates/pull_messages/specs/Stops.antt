@@ -5,7 +5,9 @@ use Rattle.mof_values.specs.Fold.{SameName}
 use Rattle.pull_messages.specs.declared.parts.Stop.{Stop}
 use Rattle.pull_messages.specs.declared.parts.Stop.TheVariants.{Left, Memory}
 use Rattle.pull_messages.specs.Targets.{agent_of, doubled, IsQuoted, SpellsTarget}
+use Rattle.pull_messages.specs.declared.target_kinds.FleetTarget.{FleetTarget}
 use Rattle.pull_messages.specs.declared.target_kinds.Target.{Target}
+use Rattle.pull_messages.specs.FleetTargets.{SpellsFleetTarget}
 
 -- some text of the language begins with the front
 abbrev pub Begins : (List ℕ → Type 0) → List ℕ → Type 0
@@ -76,8 +78,14 @@ IsModuleForm =
     Then (IsWord (codes "/PSDSCPullServer.svc/Modules(ModuleName=")) (Then (IsAnyQuoted 44)
     (Then (IsWord (codes "ModuleVersion=")) (Then (IsAnyQuoted 41) (IsWord (codes "/ModuleContent")))))
 
+abbrev pub IsReportForm : List ℕ → Type 0
+IsReportForm = Then (IsAgentForm (codes "')/Reports(JobId='")) (Then IsAgent (IsWord (codes "')")))
+
 abbrev pub IsAnyTarget : List ℕ → Type 0
 IsAnyTarget text = (target : Target) × SpellsTarget target text
+
+abbrev pub IsAnyFleetTarget : List ℕ → Type 0
+IsAnyFleetTarget text = (target : FleetTarget) × SpellsFleetTarget target text
 
 -- a target, or the longer front
 abbrev pub better_of : Result Target Stop → Result Target Stop → Result Target Stop

@@ -82,8 +82,8 @@ fn module(alloc: Global, chars: &[char]) -> Result<Target, Stop>
     finished(Target::Module(name, version), rest)
 }
 
-// The target, where nothing stands after it.
-fn finished(target: Target, rest: &[char]) -> Result<Target, Stop>
+/// The target, where nothing stands after it.
+pub fn finished<T: Drop>(target: T, rest: &[char]) -> Result<T, Stop>
     ensures { result ≡ (if length rest.now == 0 then Ok target else Err (Stop.Left (length rest.now))) }
 {
     if rest.is_empty() {
@@ -93,8 +93,12 @@ fn finished(target: Target, rest: &[char]) -> Result<Target, Stop>
     }
 }
 
-// The path of an agent up to that word.
-fn agent_form<'c>(alloc: Global, chars: &'c [char], end: &str) -> Result<(u128, &'c [char]), Stop>
+/// The path of an agent up to that word.
+pub fn agent_form<'c>(
+    alloc: Global,
+    chars: &'c [char],
+    end: &str,
+) -> Result<(u128, &'c [char]), Stop>
     ensures taken { IfOk result (λ x. Takes (Spells IsPart (agent_parts x.0 (word_part end.now ∷ []))) chars.now x.1.now) }
     ensures stop { IfLeft result (StopsAt (IsAgentForm end.now) chars.now) }
 {

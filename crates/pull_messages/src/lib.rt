@@ -8,7 +8,8 @@
 //! Where a thing is:
 //! - what a message of the pull protocol may hold: `specs/Tables.antt`, read by `src/members.rt` and `src/lists.rt`; as
 //!   it is written `specs/Writing.antt`
-//! - which targets there are: `specs/Targets.antt`; part by part `src/parts.rt`, form by form `src/forms.rt`
+//! - which targets there are: `specs/Targets.antt`, of the fleet `specs/FleetTargets.antt`; part by part
+//!   `src/parts.rt`, form by form `src/forms.rt`, `src/fleet_forms.rt`
 #![tactic(auto)]
 
 mod action;
@@ -16,6 +17,7 @@ mod body;
 mod error;
 mod escapes;
 mod field;
+mod fleet_forms;
 mod forms;
 mod limits;
 mod lists;
@@ -38,6 +40,6 @@ pub use query::{ActionQuery, Client, read_query, write_query};
 pub use registration::{Registration, read_registration, write_registration};
 pub use report::{ReportMessage, read_report, write_report};
 pub use target_error::TargetError;
-pub use target_kinds::Target;
+pub use target_kinds::{FleetTarget, Target};
 pub use target_text::write_target;
-pub use targets::target;
+pub use targets::{fleet_target, target};

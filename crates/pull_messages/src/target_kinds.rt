@@ -19,3 +19,13 @@ pub enum Target {
     /// A report of an agent.
     SendReport(u128),
 }
+
+/// What a request of two further forms is about: what the server tells of the agents.
+#[derive(Clone, Copy, Debug, PartialEq, Eq)]
+pub enum FleetTarget {
+    /// A report that is kept of an agent, by its job.
+    Report(u128, u128),
+
+    /// The summary of all agents.
+    Summary,
+}

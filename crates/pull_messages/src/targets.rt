@@ -1,16 +1,20 @@
 //! Reading of the target of a request.
-ghost use Rattle.std.specs.Prelude.{◌≡◌, ◌<◌, ◌^◌, IfOk, length, encode_utf8_all};
+ghost use Rattle.std.specs.Prelude.{◌≡◌, ◌<◌, ◌^◌, ◌↔◌, ℕ, List, Some, IfOk, IfSome, length, encode_utf8_all};
 ghost use Rattle.pull_messages.specs.Targets.{IsTarget, IsLongestFront};
 ghost use Rattle.pull_messages.specs.BadTargets.{IfBad};
 ghost use Rattle.pull_messages.specs.Decoding.{IsDecoded};
+ghost use Rattle.pull_messages.specs.Escapes.{AreChars};
+ghost use Rattle.pull_messages.specs.FleetTargets.{IsFleetTarget};
+ghost use Rattle.pull_messages.specs.declared.target_kinds.FleetTarget.{FleetTarget as FleetTargetValue};
 ghost use Rattle.pull_messages.specs.declared.target_kinds.Target.{Target as TargetValue};
 
 use crate::escapes::{front_size, unescape};
+use crate::fleet_forms::spelled_fleet_target;
 use crate::forms::spelled_target;
 use crate::parts::Stop;
 use crate::target_error::TargetError;
-use crate::target_kinds::Target;
-use mof_values::Text;
+use crate::target_kinds::{FleetTarget, Target};
+use mof_values::{Memory, Text};
 use std::alloc::{AllocError, Global};
 use std::str;
 
@@ -39,6 +43,35 @@ pub fn target(alloc: Global, text: &[u8]) -> Result<Target, TargetError>
             Err(TargetError::BadTarget { at })
         }
         Err(Stop::Memory) => Err(TargetError::Memory),
+    }
+}
+
+/// Reads a target of the fleet: the path of a report of an agent, by its job, or of the summary; none where the text
+/// is neither. A text that is one is no other target.
+pub fn fleet_target(alloc: Global, text: &[u8]) -> Result<Option<FleetTarget>, Memory>
+    ensures found { IfOk result (λ found. (t : FleetTargetValue) → (found ≡ Some t) ↔ IsFleetTarget text.now t) }
+    ensures apart { IfOk result (λ found. IfSome found (λ _. (t : TargetValue) → IsTarget text.now t → ⊥)) }
+{
+    let Some(chars) = whole_chars(alloc, text)? else {
+        return Ok(None);
+    };
+    match spelled_fleet_target(alloc, chars.as_slice()) {
+        Ok(target) => Ok(Some(target)),
+        Err(Stop::Left(_)) => Ok(None),
+        Err(Stop::Memory) => Err(Memory),
+    }
+}
+
+// The characters of a text that is nothing else.
+fn whole_chars(alloc: Global, text: &[u8]) -> Result<Option<Text>, AllocError>
+    ensures { IfOk result (λ found. (chars : List ℕ) → (found ≡ Some chars) ↔ AreChars chars text.now) }
+{
+    let bytes = unescape(alloc, text)?;
+    let chars = decoded(alloc, bytes.as_slice())?;
+    if front_size(text, encoded_size(chars.as_slice())) == text.len() {
+        Ok(Some(chars))
+    } else {
+        Ok(None)
     }
 }
 

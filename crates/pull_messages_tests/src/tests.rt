@@ -1,4 +1,5 @@
 mod errors;
+mod fleet_targets;
 mod made;
 mod messages;
 mod rows;

@@ -110,7 +110,8 @@ fn judge_past_head<S: Shelf>(
     }
 }
 
-fn is_known(method: &[u8]) -> bool
+/// Whether the method is one of GET, PUT and POST.
+pub fn is_known(method: &[u8]) -> bool
     ensures { result ≡ is_known method.now }
 {
     method == b"GET".as_slice() || method == b"PUT".as_slice() || method == b"POST".as_slice()
@@ -133,8 +134,8 @@ fn method_of(target: &Target) -> &'static [u8]
     }
 }
 
-// Whether each ProtocolVersion header is 2.0.
-fn is_of_version(headers: &[Header]) -> bool
+/// Whether each ProtocolVersion header is 2.0.
+pub fn is_of_version(headers: &[Header]) -> bool
     ensures { result ≡ all_named (codes "ProtocolVersion") is_version headers.now }
 {
     headers.iter().all(|header| is_of_version_if_named(header))

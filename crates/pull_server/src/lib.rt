@@ -25,4 +25,6 @@ mod signatures;
 mod verdict;
 
 pub use answers::answer;
+pub use judging::{is_known, is_of_version};
 pub use laws::{agents_are_alone, replies_are_of_own_rows, the_first_row_decides};
+pub use replies::{message_reply, plain};

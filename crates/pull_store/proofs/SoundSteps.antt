@@ -11,7 +11,7 @@ use Rattle.pull_store.specs.declared.change.Change.{Change}
 use Rattle.pull_store.specs.declared.change.Change.TheVariants.{Register, Report}
 use Rattle.pull_store.specs.declared.change.Refusal.TheVariants.{TooMany, Unknown}
 use Rattle.pull_store.specs.Rows.{row_of, after_registration, after_report, has_job, replaced, newest, with_report, after, refusal}
-use Rattle.pull_store.specs.Sound.{IsReport, IsRow, AreOnce, AreRows, IsInSize, times, rows_of}
+use Rattle.pull_store.specs.Sound.{IsReport, IsRow, AreApart, AreOnce, AreRows, IsInSize, times, rows_of}
 use Rattle.pull_store.specs.Stands.{Changes, Replays}
 use Rattle.pull_store.specs.Steps.{agent_of, with_row, reports_in, Makes}
 use Rattle.pull_store.specs.declared.limits.TheConstants.{MAX_REPORTS, MAX_ROWS}
@@ -183,6 +183,9 @@ apart_with agent new (row ∷ rows) le = elim (tells (row.agent == new.agent)) [
   ]
 ]
 
+pub apart_placed : (new : Row) (rows : List Row) → AreApart rows → AreApart (with_row new rows)
+apart_placed new rows apart = λ agent. apart_with agent new rows (apart agent)
+
 pub length_with : (new : Row) (rows : List Row) → length (with_row new rows) ≡ (if is_none (row_of new.agent rows) then suc (length rows) else length rows)
 length_with new [] = refl
 length_with new (row ∷ rows) = elim (tells (row.agent == new.agent)) [
@@ -247,7 +250,7 @@ pub sound_with : (change : Change) (rows : List Row) (row : Row) → AreRows row
 sound_with change rows row are size accepted makes = record {
   few = subst (λ (n : ℕ). n ≤ MAX_ROWS) (sym (length_with row rows))
       (subst (λ (a : ℕ). (if is_none (row_of a rows) then suc (length rows) else length rows) ≤ MAX_ROWS) (sym (made_agent change (row_of (agent_of change) rows) row makes)) (few_after change rows are.few accepted));
-  apart = λ agent. apart_with agent row rows (are.apart agent);
+  apart = apart_placed row rows are.apart;
   each = each_with row rows (is_row change rows row are size makes) are.each;
 }
 

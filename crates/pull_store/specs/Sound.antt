@@ -89,8 +89,12 @@ pub record IsRow (row : Row) : Type 0 where
   pub reports : AreOnce row.reports
   pub short : AllByRecursion IsReport row.reports
 
+-- the rows are of different agents
+abbrev pub AreApart : List Row → Type 0
+AreApart rows = (agent : ℕ) → rows_of agent rows ≤ 1
+
 -- at most 512 rows, each agent has one
 pub record AreRows (rows : List Row) : Type 0 where
   pub few : length rows ≤ most_rows
-  pub apart : (agent : ℕ) → rows_of agent rows ≤ 1
+  pub apart : AreApart rows
   pub each : AllByRecursion IsRow rows

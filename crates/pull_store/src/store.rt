@@ -3,7 +3,7 @@ ghost use Rattle.std.specs.Prelude.{◌≡◌, ◌≤◌, length, option_map, ve
 ghost use Rattle.gate_log.specs.Standing.{StandsAtAnyMoment};
 ghost use Rattle.pull_store.specs.declared.change.Change.TheVariants as changes;
 ghost use Rattle.pull_store.specs.Rows.{row_of};
-ghost use Rattle.pull_store.specs.Sound.{IsKeepable, IsKeepableChange, most_bytes};
+ghost use Rattle.pull_store.specs.Sound.{AreApart, IsKeepable, IsKeepableChange, most_bytes};
 ghost use Rattle.pull_store.specs.Stands.{BeforeOrAfter, Stands};
 ghost use Rattle.pull_store.specs.Store.{AddsCell, Changed, HasCapacity, IsKept, IsReady, is_spent};
 ghost use Rattle.pull_store.specs.declared.limits.TheConstants.{BODY_CAPACITY};
@@ -34,19 +34,21 @@ pub struct PullStore {
 impl Model for PullStore {
     ghost use Rattle.std.specs.Prelude.{◌≤◌, vec_capacity};
     ghost use Rattle.pull_store.specs.declared.limits.TheConstants.{BODY_CAPACITY};
+    ghost use Rattle.pull_store.specs.Sound.{AreApart};
     ghost use Rattle.pull_store.specs.Store.{StoreTerm};
 
     ghost Value = { StoreTerm };
 
     ghost view = { λ s. record { log = s.log; rows = s.rows.items } };
 
-    ghost invariant = { λ s. BODY_CAPACITY ≤ vec_capacity s.buffer };
+    ghost invariant = { λ s. (BODY_CAPACITY ≤ vec_capacity s.buffer) × AreApart s.rows.items };
 }
 
 impl PullStore {
     /// A store of these rows; the buffer has capacity for the longest body.
     pub(crate) fn of(alloc: Global, log: Log, rows: Vec<Row>, buffer: Vec<u8>) -> PullStore
-        requires { BODY_CAPACITY ≤ vec_capacity buffer }
+        requires capacity { BODY_CAPACITY ≤ vec_capacity buffer }
+        requires apart { AreApart rows.items }
         ensures { result ≡ record { log = log; rows = rows.items } }
     {
         PullStore {
@@ -55,6 +57,14 @@ impl PullStore {
             rows,
             buffer,
         }
+    }
+
+    /// The rows, of different agents, in the order in which these were first registered. Takes no memory.
+    pub fn rows(&self) -> &[Row]
+        ensures rows { result.now ≡ self.now.rows }
+        ensures apart { AreApart result.now }
+    {
+        &self.rows
     }
 
     /// The row of an agent; none exactly where it has none. Takes no memory.

@@ -47,7 +47,7 @@ returns-clause-ok c =
     let name = c.in_ok-name.ensures.taken in
     let last = c.in_ok-rest.ensures.taken in
     let id = c.in_ok-id.id in
-    finished_ok c.finished.result (Content id c.in_ok-name.name) c.args.chars.now c.in_ok-rest.rest.now c.finished.ensures
+    finished_ok (λ t. SpellsTarget t c.args.chars.now) c.finished.result (Content id c.in_ok-name.name) c.in_ok-rest.rest.now c.finished.ensures
     (λ none.
     let after : Spells IsPart (quoted c.in_ok-name.name 41 ∷ word (codes "/ConfigurationContent") ∷ []) (name.0 ++ (last.0 ++ [])) =
     (name.0, last.0 ++ [], refl, name.2, (last.0, [], refl, last.2, refl)) in

@@ -1,4 +1,4 @@
-use Rattle.std.proofs.Common.{◌≡◌, true, false, length, refl, ◌∙◌}
+use Rattle.std.proofs.Common.{◌≡◌, true, false, length, refl}
 use Rattle.std.specs.Str.{chars}
 use Rattle.std.proofs.lemmas.Str.{encodes-chars}
 use Rattle.pull_messages.specs.Limits.{is_within}

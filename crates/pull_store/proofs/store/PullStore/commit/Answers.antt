@@ -1,15 +1,15 @@
-use Rattle.std.proofs.Common.{◌≡◌, ◌⊎◌, inr, ◌≤◌, ◌∙◌, [], List, None, Ok, Err, false, sym, ap, subst}
+use Rattle.std.proofs.Common.{◌≡◌, ◌⊎◌, inr, ◌≤◌, ◌∙◌, [], List, None, Ok, Err, false, sym, ap, subst, arith}
 use Rattle.gate_log.specs.Log.{LogTerm, capacity_in}
 use Rattle.gate_log.specs.Text.{need_of}
 use Rattle.pull_store.specs.declared.row.Row.{Row}
 use Rattle.pull_store.specs.Bodies.{body_of}
 use Rattle.pull_store.specs.Rows.{after, refusal}
-use Rattle.pull_store.specs.Sound.{AreRows}
+use Rattle.pull_store.specs.Sound.{AreApart, AreRows}
 use Rattle.pull_store.specs.Steps.{with_row}
 use Rattle.pull_store.specs.Store.{AddsCell, StoreTerm, IsKept, HasCapacity, whole_need, bank_capacity, is_spent}
 use Rattle.pull_store.specs.declared.error.PullError.TheVariants.{Agents, NoAgent, Memory, Spent}
 use Rattle.pull_store.proofs.Committed.{is_kept, still_cell, still_moment}
-use Rattle.pull_store.proofs.SoundSteps.{no_rows, placed_after, sound_replayed}
+use Rattle.pull_store.proofs.SoundSteps.{apart_placed, no_rows, placed_after, sound_replayed}
 use Rattle.pull_store.proofs.store.PullStore.commit.Goals as goal
 
 pub returns-in-Some-TooMany-clause-any_moment : goal.returns-in-Some-TooMany-clause-any_moment
@@ -27,6 +27,14 @@ write-requires-clause-sound g c =
     let kept = is_kept g.D.Disk c.args.disk.now c.args.self.now c.requires.ready unspent in
     let same : c.deref-2.result.now ≡ c.args.self.now.rows = c.deref-2.ensures.value ∙ c.in-Ok.ensures.rows ∙ ap (λ (s : StoreTerm). s.rows) c.self.view_is in
     subst AreRows (sym same) (sound_replayed kept.bodies [] c.args.self.now.rows no_rows kept.replays)
+
+pub invariant_of-self-2 : goal.invariant_of-self-2
+invariant_of-self-2 g c =
+    let rows = c.self.inside.rows.items in
+    let placed = c.place.ensures ∙ ap (λ (l : List Row). with_row c.in-Ok.row l) c.in-Ok.ensures.rows in (
+      omega (arith, c.self.invariant.0, c.spell.ensures.capacity, c.in_default.ensures.capacity),
+      subst AreApart (sym placed) (apart_placed c.in-Ok.row rows c.self.invariant.1),
+    )
 
 pub returns-clause-answer : goal.returns-clause-answer
 returns-clause-answer g c =
