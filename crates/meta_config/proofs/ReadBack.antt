@@ -1,15 +1,12 @@
 -- Meta-configurations that were read are read back from their text.
-use Rattle.std.proofs.Common.{◌≡◌, inl, inr, ℕ, ◌≤◌, true, false, nat_le, List, [], ◌++◌, length, codes, encode_utf8_all, refl, sym, ap, subst, ◌∙◌, arith}
-use Rattle.std.specs.Fmt.{decimal}
+use Rattle.std.proofs.Common.{◌≡◌, inl, inr, ℕ, ◌≤◌, true, false, nat_le, List, length, encode_utf8_all, refl, sym, ap, subst, ◌∙◌, arith}
 use lib.Utf8.{encode}
-use Rattle.mof_syntax.specs.Canonical.{canonical_property}
 use Rattle.mof_codec.proofs.OneRefusal.{reads_once}
 use Rattle.meta_config.specs.declared.meta.Meta.{Meta}
 use Rattle.meta_config.specs.Making.{meta_of, usual}
 use Rattle.meta_config.specs.Parts.{IsMeta}
 use Rattle.meta_config.specs.Refusals.{Means}
-use Rattle.meta_config.specs.Writing.{boolean_property, instances_of, text_of_meta, text_property}
-use Rattle.meta_config.proofs.Ports.{port_spelled}
+use Rattle.meta_config.specs.Writing.{instances_of, text_of_meta}
 use Rattle.meta_config.proofs.ReadMetas.{read_is_well_formed}
 use Rattle.meta_config.proofs.WellFormed.{IsWellFormed}
 use Rattle.meta_config.proofs.WrittenAccepted.{written_accepted}
@@ -19,32 +16,9 @@ use Rattle.meta_config.specs.declared.limits.TheConstants.{MAX_META_TEXT}
 
 -- ---- the usual meta-configuration
 
-line : List ℕ → List ℕ → List ℕ
-line name value = codes " " ++ name ++ codes " = " ++ value ++ codes ";\n"
-
--- the text of the usual one, around its numbers
-usual_text : List ℕ → List ℕ → List ℕ
-unfolding line
-usual_text first second =
-    encode_utf8_all ((codes "instance of " ++ codes "MSFT_DSCMetaConfiguration" ++ [] ++ codes "\n{\n" ++ (
-    canonical_property (text_property (codes "ConfigurationMode") (codes "ApplyAndMonitor"))
-    ++ (canonical_property (text_property (codes "RefreshMode") (codes "Push"))
-    ++ (canonical_property (boolean_property (codes "RebootNodeIfNeeded") false)
-    ++ (canonical_property (text_property (codes "ActionAfterReboot") (codes "ContinueConfiguration"))
-    ++ (line (codes "ConfigurationModeFrequencyMins") first
-    ++ (line (codes "RefreshFrequencyMins") second
-    ++ (canonical_property (boolean_property (codes "AllowModuleOverwrite") false) ++ []))))))
-    ) ++ codes "};\n") ++ [])
-
-fifteen : decimal 15 ≡ codes "15"
-fifteen = sym (port_spelled (codes "15") 15 refl).spelled
-
-thirty : decimal 30 ≡ codes "30"
-thirty = sym (port_spelled (codes "30") 30 refl).spelled
-
 usual_is_short : nat_le (length (text_of_meta usual)) MAX_META_TEXT ≡ true
-unfolding usual_text line encode
-usual_is_short = λ k. nat_le (length (usual_text (fifteen k) (thirty k))) MAX_META_TEXT
+unfolding encode
+usual_is_short = refl
 
 usual_is_well_formed : IsWellFormed usual
 usual_is_well_formed = record {

@@ -1,11 +1,11 @@
 -- The bytes that are written of instances are read as these.
-use Rattle.std.proofs.Common.{◌≡◌, ◌≤◌, ◌<◌, ◌/◌, ◌%◌, inl, inr, ℕ, suc, Bool, true, false, ◌&&◌, nat_lt, List, [], ◌∷◌, ◌++◌, length, refl, sym, subst, arith, Option, Some, None, ℤ, pos, negsuc, codes}
+use Rattle.std.proofs.Common.{◌≡◌, ◌≤◌, ◌<◌, ◌/◌, ◌%◌, ◌^◌, inl, inr, ℕ, suc, Bool, true, false, ◌&&◌, nat_lt, List, [], ◌∷◌, ◌++◌, length, refl, sym, subst, arith, Option, Some, None, ℤ, pos, negsuc, codes}
 use Rattle.std.specs.Prelude.{◌==◌, IfSome}
 use Rattle.std.specs.List.{flat_map, AllByRecursion}
 use Rattle.std.specs.Char.{digit_value}
 use Rattle.std.specs.Str.{all_scalars}
 use Rattle.std.specs.Str.Parse.{AllDigits}
-use Rattle.std.specs.Fmt.{decimal, signed_decimal}
+use Rattle.std.specs.Fmt.{decimal}
 use Rattle.std.proofs.lemmas.Bool.{and_parts}
 use Rattle.std.proofs.lemmas.Bool.Decides.{nat_tests}
 use Rattle.std.proofs.lemmas.Fmt.{decimal_is_IsNumeral}
@@ -21,6 +21,8 @@ use Rattle.mof_syntax.specs.Encodings.{Chars}
 use Rattle.mof_syntax.proofs.Bodies.{and_both, Chars-nothing, Chars-from_i}
 use Rattle.mof_syntax.specs.Canonical.{hex_glyph, control_escape, literal_char, canonical_scalar, canonical_elements, canonical_value, canonical_property, canonical_alias, canonical_instance, canonical_text, canonical_bytes}
 use Rattle.mof_syntax.specs.Limits.{IsInRange, ScalarFits, ValueFits, PropertyFits, InstanceFits, IsWithinLimits, document_limit}
+use Rattle.mof_syntax.specs.Numerals.{numeral, signed_numeral}
+use Rattle.mof_syntax.proofs.Numerals.{numeral_decimal}
 use Rattle.mof_syntax.specs.Refusals.{Reads}
 use Rattle.mof_syntax.proofs.Scans.{test_or}
 use Rattle.mof_codec.specs.Written.{AreChars, IsName, ScalarIsValid, ValueIsValid, PropertyIsValid, InstanceIsValid}
@@ -93,9 +95,12 @@ digits_chars (d ∷ ds) all = and_both (scalar d) (all_scalars ds) (low d all.0)
     low : (x : ℕ) → digit_value x < 10 → scalar x ≡ true
     low x h = grind (arith, nat_tests)
 
-integer_chars : (z : ℤ) → IsInRange z → AreChars (signed_decimal z)
-integer_chars (pos n) h = digits_chars (decimal n) (decimal_is_IsNumeral n (omega (arith, ints, h))).0.1
-integer_chars (negsuc n) h = digits_chars (decimal (suc n)) (decimal_is_IsNumeral (suc n) (omega (arith, ints, h))).0.1
+numeral_chars : (n : ℕ) → n < 2 ^ 64 → AreChars (numeral n)
+numeral_chars n h = subst AreChars (sym (numeral_decimal n (omega arith))) (digits_chars (decimal n) (decimal_is_IsNumeral n h).0.1)
+
+integer_chars : (z : ℤ) → IsInRange z → AreChars (signed_numeral z)
+integer_chars (pos n) h = numeral_chars n (omega (arith, ints, h))
+integer_chars (negsuc n) h = numeral_chars (suc n) (omega (arith, ints, h))
 
 scalar_chars : (s : Scalar) → ScalarIsValid s → ScalarFits s → AreChars (canonical_scalar s)
 scalar_chars (scalars.Text text) v f = chars_join (flat_map literal_char text) (34 ∷ []) (literal_chars text v) refl

@@ -3,7 +3,7 @@ use Rattle.std.proofs.Common.{◌≡◌, ◌<◌, ◌+◌, ◌*◌, ◌/◌, ◌
 use Rattle.std.specs.Prelude.{◌==◌, nat_le}
 use Rattle.std.specs.List.{flat_map, list_all}
 use Rattle.std.specs.Char.{digit_value}
-use Rattle.std.specs.Fmt.{decimal, signed_decimal}
+use Rattle.std.specs.Fmt.{decimal}
 use Rattle.std.specs.Str.Parse.{AllDigits, digits_value}
 use Rattle.std.proofs.lemmas.Bool.{and_parts}
 use Rattle.std.proofs.lemmas.Bool.Decides.{nat_tests}
@@ -15,6 +15,8 @@ use Rattle.mof_syntax.specs.Characters.{quote, backslash, dollar, digit_zero, di
 use Rattle.mof_syntax.specs.Strings.{short_escape, HexDigits, full, digit, Escape, short, hexadecimal, Quoted, closed, plain, escaped}
 use Rattle.mof_syntax.specs.Integers.{Magnitude, decimal_value, octal_value, IntegerValue, unsigned, minus}
 use Rattle.mof_syntax.specs.Limits.{IsInRange}
+use Rattle.mof_syntax.specs.Numerals.{numeral, signed_numeral}
+use Rattle.mof_syntax.proofs.Numerals.{numeral_decimal}
 use Rattle.mof_syntax.specs.Tokens.{Identifier, identifier, Word, AliasName, Literal, Number, IsToken, word, alias, literal, integer}
 use Rattle.mof_syntax.proofs.Scans.{test_or}
 use Rattle.mof_codec.proofs.MarkFronts.{equal}
@@ -124,12 +126,15 @@ magnitude_there (suc n) rest small =
     subst (λ (x : ℕ). Magnitude (decimal (suc n) ++ rest) x rest) all.1
     (magnitude_of (decimal (suc n)) rest all.0.1 (first_decimal (suc n) (omega arith) small))
 
-integer_there : (z : ℤ) (rest : List ℕ) → IsInRange z → IntegerValue (signed_decimal z ++ rest) z rest
-integer_there (pos n) rest h = unsigned (decimal n ++ rest) n rest (magnitude_there n rest (omega (arith, ints, h)))
-integer_there (negsuc n) rest h = minus (decimal (suc n) ++ rest) (suc n) rest (magnitude_there (suc n) rest (omega (arith, ints, h)))
+numeral_there : (n : ℕ) (rest : List ℕ) → n < 2 ^ 64 → Magnitude (numeral n ++ rest) n rest
+numeral_there n rest small = subst (λ (xs : List ℕ). Magnitude (xs ++ rest) n rest) (sym (numeral_decimal n (omega arith))) (magnitude_there n rest small)
 
-pub integer_token : (z : ℤ) (rest : List ℕ) → IsInRange z → Stops is_next rest → IsToken (signed_decimal z ++ rest) (Number z) rest
-integer_token z rest h s = integer (signed_decimal z ++ rest) z rest (integer_there z rest h) s
+integer_there : (z : ℤ) (rest : List ℕ) → IsInRange z → IntegerValue (signed_numeral z ++ rest) z rest
+integer_there (pos n) rest h = unsigned (numeral n ++ rest) n rest (numeral_there n rest (omega (arith, ints, h)))
+integer_there (negsuc n) rest h = minus (numeral (suc n) ++ rest) (suc n) rest (numeral_there (suc n) rest (omega (arith, ints, h)))
+
+pub integer_token : (z : ℤ) (rest : List ℕ) → IsInRange z → Stops is_next rest → IsToken (signed_numeral z ++ rest) (Number z) rest
+integer_token z rest h s = integer (signed_numeral z ++ rest) z rest (integer_there z rest h) s
 
 -- names
 

@@ -14,6 +14,8 @@ use Rattle.std.proofs.lemmas.Fmt.{IsAscii-decimal_wide}
 use Rattle.std.proofs.lemmas.Str.Ascii.{encodes-IsAscii}
 use Rattle.mof_values.specs.declared.value.Scalar.{Scalar}
 use Rattle.mof_syntax.specs.Canonical.{canonical_scalar, canonical_elements}
+use Rattle.mof_syntax.specs.Numerals.{signed_numeral}
+use Rattle.mof_syntax.proofs.Numerals.{signed_numeral_decimal}
 use Rattle.mof_codec.specs.Written.{Adds, further_element}
 
 -- one piece after another
@@ -80,9 +82,10 @@ signed_bytes : (z : ℤ) → mag z < 2 ^ 128 → encode_utf8_all (signed_decimal
 signed_bytes (pos n) h = decimal_bytes n (omega arith)
 signed_bytes (negsuc n) h = ap₂ (λ (xs ys : List ℕ). xs ++ ys) (encode_ascii 45 (omega arith)) (decimal_bytes (suc n) (omega arith))
 
-pub adds_integer : (before after : List ℕ) (z : ℤ) → FitsSigned w128 z → after ≡ before ++ signed_decimal (to_z w128 (of_z w128 z)) → Adds before after (signed_decimal z)
+pub adds_integer : (before after : List ℕ) (z : ℤ) → FitsSigned w128 z → after ≡ before ++ signed_decimal (to_z w128 (of_z w128 z)) → Adds before after (signed_numeral z)
 adds_integer before after z fits f =
     let small : mag z < 2 ^ 128 = omega (arith, ints, fits) in
+    subst (λ (xs : List ℕ). Adds before after xs) (sym (signed_numeral_decimal z small))
     record { bytes = f ∙ ap (λ (x : ℤ). before ++ signed_decimal x) (to_z-of_z w128 z fits) ∙ ap (λ (xs : List ℕ). before ++ xs) (sym (signed_bytes z small)) }
 
 -- elements

@@ -27,4 +27,4 @@ mod writer;
 pub use feed::{Feed, FeedError};
 pub use mof_syntax::{Form, MofError, TextError, Token, TokenKind, Tokens, decode_text, tokens};
 pub use reader::read;
-pub use writer::{push_literal, write};
+pub use writer::{push_literal, push_literal_char, write};

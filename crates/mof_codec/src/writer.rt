@@ -9,7 +9,7 @@ mod literals;
 mod scalars;
 
 use declarations::push_instances;
-pub use literals::push_literal;
+pub use literals::{push_literal, push_literal_char};
 use mof_values::{Instance, Memory};
 use std::alloc::Global;
 

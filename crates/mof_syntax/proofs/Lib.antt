@@ -1,3 +1,4 @@
+pub mod Numerals
 pub mod Lists
 pub mod Bodies
 pub mod Scans

@@ -1,7 +1,7 @@
 -- The canonical text of instances: of the spellings that DSP0004, "Instance declarations", allows, the one that is written.
 use Rattle.std.specs.Prelude.{ℕ, ◌/◌, ◌%◌, true, false, nat_lt, ◌==◌, if◌then◌else◌, List, [], ◌∷◌, ◌++◌, Option, Some, None, codes}
 use Rattle.std.specs.List.{flat_map}
-use Rattle.std.specs.Fmt.{signed_decimal, digit_glyph}
+use Rattle.std.specs.Fmt.{digit_glyph}
 use Rattle.std.specs.Str.{encode_utf8_all}
 use Rattle.mof_values.specs.declared.instance.Instance.{Instance}
 use Rattle.mof_values.specs.declared.instance.Property.{Property}
@@ -10,6 +10,7 @@ use Rattle.mof_values.specs.declared.value.Scalar.TheVariants as scalars
 use Rattle.mof_values.specs.declared.value.Value.{Value}
 use Rattle.mof_values.specs.declared.value.Value.TheVariants.{One, Many}
 use Rattle.mof_syntax.specs.Characters.{quote, dollar}
+use Rattle.mof_syntax.specs.Numerals.{signed_numeral}
 
 -- the digit in upper case
 abbrev pub hex_glyph : ℕ → ℕ
@@ -38,7 +39,7 @@ canonical_literal text = quote ∷ flat_map literal_char text ++ quote ∷ []
 
 abbrev pub canonical_scalar : Scalar → List ℕ
 canonical_scalar (scalars.Text text) = canonical_literal text
-canonical_scalar (scalars.Integer z) = signed_decimal z
+canonical_scalar (scalars.Integer z) = signed_numeral z
 canonical_scalar (scalars.Bool true) = codes "TRUE"
 canonical_scalar (scalars.Bool false) = codes "FALSE"
 canonical_scalar scalars.Null = codes "NULL"

@@ -8,6 +8,7 @@ pub mod Fronts
 pub mod Grammar
 pub mod Integers
 pub mod Limits
+pub mod Numerals
 pub mod Profile
 pub mod Refusals
 pub mod Scanning

@@ -7,6 +7,8 @@
 //!
 //! Where a thing is:
 //! - how long texts and their parts may be: `src/limits.rt`; the definitions cite these constants, `specs/Limits.antt`
+//! - the canonical text: `specs/Canonical.antt`; integers in it, of any size, `specs/Numerals.antt`, and that std
+//!   writes these digits of the integers that it has `proofs/Numerals.antt`
 //! - how a text is gone over: `src/text.rt`, character by character; what is after a construct `src/scan.rt`, the
 //!   tokens `src/walk.rt`
 #![tactic(auto)]

@@ -9,12 +9,16 @@ use mof_values::{may_begin, may_follow};
 
 /// A class of characters.
 #[derive(Clone, Copy, Debug, PartialEq, Eq)]
-pub(crate) enum Class {
+pub enum Class {
+    /// What may follow in an identifier.
     Name,
+
     Binary,
     Octal,
     Decimal,
     Hexadecimal,
+
+    /// All but a line feed.
     Line,
 }
 
@@ -34,7 +38,7 @@ impl Class {
 }
 
 /// After the characters of the class, as many as there are.
-pub(crate) fn after(text: &str, class: Class) -> &str
+pub fn after(text: &str, class: Class) -> &str
     ensures { chars result.now ≡ after (is_in class) (chars text.now) }
 {
     let mut left = text;

@@ -53,7 +53,8 @@ fn push_literal_chars(out: &mut String, text: &[char]) -> Result<(), AllocError>
     Ok(())
 }
 
-fn push_literal_char(out: &mut String, c: char) -> Result<(), AllocError>
+/// Appends a character of a literal, as itself or by its escape.
+pub fn push_literal_char(out: &mut String, c: char) -> Result<(), AllocError>
     ensures { OnOk result (Adds (string_bytes out.old) (string_bytes out.new) (literal_char c)) }
 {
     match c {

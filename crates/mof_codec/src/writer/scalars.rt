@@ -1,8 +1,8 @@
 //! Scalars and values.
 ghost use Rattle.std.specs.Prelude.{◌≡◌, ◌++◌, OnOk, string_bytes};
 ghost use Rattle.std.specs.List.{flat_map, AllByRecursion};
-ghost use Rattle.std.specs.Fmt.{signed_decimal};
 ghost use Rattle.mof_syntax.specs.Canonical.{canonical_scalar, canonical_elements, canonical_value};
+ghost use Rattle.mof_syntax.specs.Numerals.{signed_numeral};
 ghost use Rattle.mof_codec.specs.Written.{Adds, further_element, ScalarIsValid, ValueIsValid};
 
 use crate::writer::literals::{push_literal, push_name};
@@ -71,7 +71,7 @@ fn push_scalar(out: &mut String, scalar: &Scalar) -> Result<(), AllocError>
 }
 
 fn push_integer(out: &mut String, value: i128) -> Result<(), AllocError>
-    ensures { OnOk result (Adds (string_bytes out.old) (string_bytes out.new) (signed_decimal value)) }
+    ensures { OnOk result (Adds (string_bytes out.old) (string_bytes out.new) (signed_numeral value)) }
 {
     write!(out, "{value}")?;
     Ok(())
