@@ -6,21 +6,21 @@ import re
 
 # A command that starts the node with an event of its own, and a tool.
 STARTS, TOOL = "Restore", "Check"
-SPAN = re.compile(r"`([^`]+)`|\b(README\.md)\b")
+SPAN = re.compile(r"`([^`]+)`")
 
 
 def places_of(text):
     """The files and folders that a text names; one in `src`, `specs` or `proofs` alone is of the crate that was named last."""
     crate = None
     for span in SPAN.finditer(text):
-        name = span.group(1) or span.group(2)
+        name = span.group(1)
         if os.path.isdir(f"crates/{name}"):
             crate = name
         elif re.match(r"(src|specs|proofs)/", name):
             yield f"crates/{crate}/{name}"
         elif re.match(r"[a-z_]+/(src|specs|proofs)/", name):
             yield f"crates/{name}"
-        elif "/" in name or name == "README.md":
+        elif "/" in name:
             yield name
 
 
