@@ -239,6 +239,24 @@ fn list_merged(alloc: Global, parts: &[Part]) -> Result<OrderedDocument, MergeEr
     merge_ordered(alloc, parts)
 }
 
+// Whether the list is merged to a document of as many resources by the call that gives no order, or refused in the same way.
+fn is_merged_so(
+    alloc: Global,
+    parts: &[Part],
+    ordered: &Result<OrderedDocument, MergeError>,
+) -> bool {
+    if parts.is_empty() || parts.len() > 8 {
+        return false;
+    }
+    match (merge(alloc, parts), ordered) {
+        (Ok(document), Ok(merged)) => {
+            document.resources.as_slice().len() == merged.order.as_slice().len()
+        }
+        (Err(error), Err(refusal)) => error == *refusal,
+        _ => false,
+    }
+}
+
 fn is_spot(spot: Spot, at: (u32, u32)) -> bool {
     spot.part == at.0 && spot.index == at.1
 }
@@ -320,6 +338,7 @@ fn a_list_of_parts_is_merged_or_refused(rt: HostRuntime) -> Result<(), Fail> {
         let parts = parts(&rt, *list)?;
         let found = list_merged(rt.alloc(), &parts);
         assert!(rt; is_answer(&found, wanted), "{found:?}");
+        assert!(rt; is_merged_so(rt.alloc(), &parts, &found), "{found:?}");
     }
     Ok(())
 }

@@ -1,3 +1,6 @@
+mod connections;
+mod stops;
+
 use crate::calls::{Call, new_link, outcome, shelf};
 use dsc_outside::Link;
 use memory_outside::MemoryDisk;

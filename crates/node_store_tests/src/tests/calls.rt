@@ -1,5 +1,5 @@
 //! The calls of the disk that a commit makes.
-use crate::{COMMITS, body_of, commit_body, run};
+use crate::{COMMITS, body_of, commit_body, run, shown, store_after};
 use memory_outside::{CallOutcome, DiskCall, MemoryDisk, RecordedCall};
 use mof_values::Bytes;
 use node_store::{StoreError, open_store};
@@ -57,6 +57,29 @@ fn makes_four(alloc: Global, words: &str, word: &str) -> Result<bool, StoreError
 fn an_event_is_committed_in_four_calls(rt: HostRuntime) -> Result<(), Fail> {
     for (words, word) in COMMITS {
         assert!(rt; makes_four(rt.alloc(), words, word)?, "{words} {word}");
+    }
+    Ok(())
+}
+
+// Whether the memory for a report is reserved, once and again, and the node stays what it is.
+fn is_reserved(alloc: Global, words: &str) -> Result<bool, StoreError> {
+    let mut disk = match store_after(alloc, words) {
+        Ok(disk) => disk,
+        Err(error) => return Err(error),
+    };
+    let mut store = match open_store(alloc, &mut disk) {
+        Ok(store) => store,
+        Err(error) => return Err(error),
+    };
+    let before = shown(alloc, store.state())?;
+    let reserved = store.reserve().is_ok() && store.reserve().is_ok();
+    Ok(reserved && shown(alloc, store.state())? == before)
+}
+
+#[test]
+fn ample_memory_is_reserved(rt: HostRuntime) -> Result<(), Fail> {
+    for (words, _) in COMMITS {
+        assert!(rt; is_reserved(rt.alloc(), words)?, "{words}");
     }
     Ok(())
 }
