@@ -1,14 +1,16 @@
 """Changed inputs for the real programs, for checks/fuzz, which says what is run. The arguments are the node, the server, seconds and a seed."""
-import json, multiprocessing, os, random, re, select, shutil, socket, subprocess, sys, tempfile, threading, time
+import collections, json, multiprocessing, os, random, re, select, shutil, signal, socket, subprocess, sys, tempfile, threading, time
 
-from fuzz_inputs import BYTES, HEADER, changed, documents, made, metas, store_of, text_of
+from fuzz_inputs import BANK, BEGIN, BYTES, HEADER, changed, documents, made, metas, store_of, text_of
 from protocol import (PHRASES, answer, content, fetch, free_port, in_chunks, module, node, query, register, registration, report, request, statuses)
 
 AGENT = '00000000-0000-0000-0000-000000000010'
-REQUESTS = 20  # of each round, beside one input of each other kind
-CONNECTIONS = 5000  # of one server
+BATCH = 200  # requests that are sent side by side, beside OTHERS inputs of each other kind; a server takes 256 connections
+OTHERS = 10
+CONNECTIONS = 100 * BATCH  # of one server
 REFUSED = re.compile(rb'refused [A-Z][A-Za-z]*( [^\n]*)?\n')
 START = {0, 1, 7, 9, 10, 11}
+STAYING = {'check', 'order', 'test', 'canon', 'init', 'meta', 'get', 'reports', 'register', 'remove'}  # the commands that leave the host
 MANAGER = ('instance of MSFT_DSCMetaConfiguration{RefreshMode="Pull";ConfigurationMode="ApplyAndAutoCorrect";};'
            'instance of MSFT_WebDownloadManager{ServerURL="%s";RegistrationKey="k0";%s};instance of MSFT_WebReportManager{ServerURL="%s";};')
 PARTS = ''.join('instance of MSFT_PartialConfiguration{ResourceID="[PartialConfiguration]%s";};' % name for name in ('A', 'B'))
@@ -89,23 +91,29 @@ class Server:
         self.port = free_port()
         words = ['--store', self.store, '--shelf', folder + '/shelf', '--listen', '127.0.0.1:%d' % self.port, '--connections', str(CONNECTIONS)]
         self.process = subprocess.Popen([program, *words], stdin=subprocess.DEVNULL, stdout=subprocess.PIPE, stderr=subprocess.PIPE)
-        self.lines = b''
+        self.lines, self.bank, self.end = b'', b'1', BEGIN
 
-    # Its answer, and its line of the connection.
-    def ask(self, sent):
-        self.served += 1
-        conn = self.connected()
-        with conn:
+    # What came on each of several connections that are open together, the bytes or the error, and their lines, in the order in which they were served.
+    def ask(self, requests):
+        conns = []
+        for sent in requests:
+            conns.append(self.connected())
             try:
-                conn.sendall(sent)
-                conn.shutdown(socket.SHUT_WR)
+                conns[-1].sendall(sent)
+                conns[-1].shutdown(socket.SHUT_WR)
             except OSError:
                 pass  # it may end a connection that is refused
+        came = [self.came(conn) for conn in conns]
+        self.served += len(requests)
+        return came, self.lines_of(len(requests))
+
+    @staticmethod
+    def came(conn):
+        with conn:
             try:
-                got = b''.join(iter(lambda: conn.recv(1 << 16), b''))
+                return b''.join(iter(lambda: conn.recv(1 << 16), b''))
             except OSError as error:
-                got = error
-        return got, self.line()
+                return error
 
     def connected(self):
         until = time.monotonic() + 60
@@ -116,14 +124,33 @@ class Server:
                 demand(self.process.poll() is None and time.monotonic() < until, 'the server: %s' % error)
                 time.sleep(0.005)
 
-    def line(self):
-        while b'\n' not in self.lines:
+    # So many lines, without the numbers, which follow one another.
+    def lines_of(self, count):
+        while self.lines.count(b'\n') < count:
             ready, _, _ = select.select([self.process.stdout], [], [], 60)
             piece = os.read(self.process.stdout.fileno(), 1 << 16) if ready else b''
-            demand(piece, 'no line: the server printed %r, status %s' % (self.lines, self.process.poll()))
+            demand(piece, 'too few lines: the server printed %r, status %s' % (self.lines, self.process.poll()))
             self.lines += piece
-        line, _, self.lines = self.lines.partition(b'\n')
-        return line.decode()
+        *lines, self.lines = self.lines.split(b'\n')
+        begin = self.served - count + 1
+        wanted = [b'%d ' % number for number in range(begin, begin + count)]
+        demand(len(lines) == count and all(map(bytes.startswith, lines, wanted)), 'the lines %r' % lines)
+        return [line.split(b' ', 1)[1].decode() for line in lines]
+
+    # How many bodies were added to its store since the last call; none where the store was written anew.
+    def added(self):
+        with open(self.store, 'rb') as file:
+            bank = file.read(8)[7:]
+            if bank != self.bank:
+                self.bank, self.end = bank, BEGIN + (BANK if bank == b'2' else 0)
+                return None
+            count = 0
+            file.seek(self.end)
+            while file.read(1) == b'\xa5':
+                self.end += 5 + int.from_bytes(file.read(4), 'big')
+                file.seek(self.end)
+                count += 1
+        return count
 
     def stamp(self):
         found = os.stat(self.store)
@@ -145,30 +172,57 @@ class Worker:
         self.number, self.folder = number, '%s/%d' % (self.scratch, number)
         self.store, self.host, self.server = self.folder + '/store', self.folder + '/host', None
         self.counts, self.ends, self.failed, self.documents, self.metas = {}, {}, 0, documents(), metas()
-        self.kinds = (self.document, self.meta, self.stored, self.answers) + (self.requested,) * REQUESTS
+        self.kinds = (self.document, self.meta, self.stored, self.answers) * OTHERS + (self.requests,)
+        os.makedirs(self.folder)
+        self.streams = [os.open('%s/%s' % (self.folder, name), os.O_RDWR | os.O_CREAT) for name in ('input', 'output', 'errors')]
+        signal.signal(signal.SIGALRM, self.too_long)
         self.make_templates()
 
     # ---- the node
 
-    def run(self, among, *words, text=b'', store=None):
+    def run(self, among, *words, text=b''):
         self.words = ' '.join(words)
+        self.is_new = self.is_new and words[0] in STAYING
+        for stream in self.streams:
+            os.ftruncate(stream, 0)
+            os.lseek(stream, 0, os.SEEK_SET)
+        os.pwrite(self.streams[0], text, 0)
+        actions = [(os.POSIX_SPAWN_DUP2, stream, number) for number, stream in enumerate(self.streams)]
+        process = os.posix_spawn(self.program, [self.program, self.store, self.host, *words], os.environ, file_actions=actions)
+        signal.alarm(60)
         try:
-            ended = subprocess.run([self.program, store or self.store, self.host, *words], input=text, capture_output=True, timeout=60)
-        except subprocess.TimeoutExpired as error:
+            status = os.waitstatus_to_exitcode(os.waitpid(process, 0)[1])
+        except TimeoutError as error:
+            os.kill(process, signal.SIGKILL)
+            os.waitpid(process, 0)
             raise Wrong('no end after 60 seconds') from error
-        files = {'output': ended.stdout, 'errors': ended.stderr}
-        demand(not ended.stderr, 'standard error', **files)
-        demand(ended.returncode in among, 'status %d' % ended.returncode, **files)
-        self.ended('%s %d' % (words[0], ended.returncode))
-        return ended.returncode, ended.stdout
+        finally:
+            signal.alarm(0)
+        output, errors = (os.pread(stream, os.fstat(stream).st_size, 0) for stream in self.streams[1:])
+        files = {'output': output, 'errors': errors}
+        demand(not errors, 'standard error', **files)
+        demand(status in among, 'status %d' % status, **files)
+        self.ended('%s %d' % (words[0], status))
+        return status, output
+
+    @staticmethod
+    def too_long(*_):
+        raise TimeoutError
 
     # Counts how an input ended.
     def ended(self, how):
         self.ends[how] = self.ends.get(how, 0) + 1
 
+    # The host of an input: a new one where an earlier input may have changed it.
     def new_host(self):
-        shutil.rmtree(self.host, ignore_errors=True)
-        shutil.copytree(self.template_host, self.host)
+        if not self.is_new:
+            shutil.rmtree(self.host, ignore_errors=True)
+            shutil.copytree(self.template_host, self.host)
+            self.is_new, self.listing = True, listing(self.host)
+
+    # Whether the host is as it was before the input.
+    def is_same(self):
+        return listing(self.host) == self.listing
 
     # Some stores, and the host of each input.
     def make_templates(self):
@@ -177,7 +231,7 @@ class Worker:
             os.makedirs('%s/%s' % (self.template_host, name))
         write(self.template_host + '/root/a/f', b'text')
         write(self.template_host + '/env/56', b'1')
-        self.peer, self.stores, self.pulling = Peer(), [], {}
+        self.peer, self.stores, self.pulling, self.is_new = Peer(), [], {}, False
         self.new_host()
         self.run({0}, 'init', AGENT)
         self.bare = bytes_of(self.store)
@@ -216,7 +270,7 @@ class Worker:
     def one(self, kind, number):
         name = kind.__name__
         self.words, self.input, self.before = '', b'', None
-        self.counts[name] = self.counts.get(name, 0) + 1
+        self.counts[name] = self.counts.get(name, 0) + (BATCH if name == 'requests' else 1)
         try:
             kind(random.Random('%s/%s/%d' % (self.seed, name, number)))
         except Wrong as wrong:
@@ -244,7 +298,6 @@ class Worker:
         self.before = self.bare
         write(self.store, self.bare)
         self.new_host()
-        before = listing(self.host)
         status, line = self.run({0, 3}, 'check', text=text)
         demand((REFUSED if status == 3 else re.compile(rb'ok \d+\n')).fullmatch(line), 'the line of check', output=line)
         word = rng.choice(('order', 'test', 'canon', 'push'))
@@ -258,7 +311,7 @@ class Worker:
             demand(re.search(last + rb'\Z', out), 'the last line', output=out)
             demand(word != 'order' or out.count(b'\n') >= int(line[3:]), 'the number of lines', output=out)
         if status == 3 or word != 'push':
-            demand(bytes_of(self.store) == self.bare and listing(self.host) == before, 'the store or the host has changed')
+            demand(bytes_of(self.store) == self.bare and self.is_same(), 'the store or the host has changed')
 
     # A text that check takes is one that canon takes, and what is written reads back as itself.
     def canon(self, text, status, line):
@@ -273,10 +326,9 @@ class Worker:
         self.before = rng.choice(self.stores)
         write(self.store, self.before)
         self.new_host()
-        before = listing(self.host)
         status, out = self.run({0, 3}, 'meta', text=text)
         demand((REFUSED if status == 3 else re.compile(rb'ok\n')).fullmatch(out), 'the line', output=out)
-        demand(listing(self.host) == before, 'the host has changed')
+        demand(self.is_same(), 'the host has changed')
         demand(status == 0 or bytes_of(self.store) == self.before, 'the store has changed')
         demand(self.run({0}, 'get')[1], 'no lines')
 
@@ -284,7 +336,6 @@ class Worker:
         store = self.before = store_of(rng, self.stores)
         write(self.store, store)
         self.new_host()
-        before = listing(self.host)
         status, out = self.run({0, 5, 7}, 'get')
         demand(status != 7 or out == b'refused NotAllowed NoAgent\n', 'the line', output=out)
         words = rng.choice(('reports', 'consistency', 'boot', 'restore', 'remove current', 'pull', 'push', 'push A', 'push b'))
@@ -292,7 +343,7 @@ class Worker:
         if status == 5:
             demand(re.fullmatch(rb'refused NotAStore \d+\n', out) and int(out.split()[2]) <= len(store), 'the place', output=out)
             demand(self.run({5}, *words.split(' '), text=text)[1] == out, 'another refusal')
-            demand(bytes_of(self.store) == store and listing(self.host) == before, 'the store or the host has changed')
+            demand(bytes_of(self.store) == store and self.is_same(), 'the store or the host has changed')
             return
         opened = bytes_of(self.store)
         demand(len(store) < 10 or store.startswith(opened), 'the opening has changed the store')
@@ -305,7 +356,7 @@ class Worker:
         if REFUSED.fullmatch(out):
             # a store that holds nothing is begun anew by each start
             same = (opened, b'DSCSTOR1\0') if len(opened) < 10 else (opened,)
-            demand(bytes_of(self.store) in same and listing(self.host) == before, 'the store or the host has changed', output=out)
+            demand(bytes_of(self.store) in same and self.is_same(), 'the store or the host has changed', output=out)
         demand(self.run({0, 7}, 'get')[1], 'no lines')
 
     def answers(self, rng):
@@ -314,7 +365,6 @@ class Worker:
         self.before = self.pulling[name, stage]
         write(self.store, self.before)
         self.new_host()
-        before = listing(self.host)
         module_of = rng.choice(('', '', 'ModuleName="xWeb";ModuleVersion="1.0";'))
         texts = [(variable('A', module_of) + HEADER.decode()).encode(), (variable('B') + HEADER.decode()).encode()]
         plan = [answer(204)] if command == 'register' else self.good_answers(name, texts) + [content(b'zip')] * (module_of != '') + [answer(200)]
@@ -332,60 +382,79 @@ class Worker:
         status, out = self.run({0, 6} if command == 'register' else {0, 1, 6}, command, *(['n'] if command == 'register' else []))
         if status == 6:
             demand(re.fullmatch(rb'refused PeerRefused [^\n]*\n', out), 'the line', output=out)
-            demand(bytes_of(self.store) == self.before and listing(self.host) == before, 'the store or the host has changed', output=out)
+            demand(bytes_of(self.store) == self.before and self.is_same(), 'the store or the host has changed', output=out)
         demand(self.run({0}, 'get')[1], 'no lines')
 
-    def requested(self, rng):
+    def requests(self, rng):
         if self.server is None or self.server.served == CONNECTIONS:
             if self.server:
                 self.server.ends()
             self.server = Server(self.server_program, self.folder + '/server')
-        sent = self.input = request_of(rng)
-        stamp = self.server.stamp() if self.server.served else None
+        sent = [request_of(rng) for _ in range(BATCH)]
         try:
-            got, line = self.server.ask(sent)
-            self.served_well(sent, got, line, stamp)
+            stamp = self.server.stamp()
+            came, lines = self.server.ask(sent)
+            self.served_well(sent, came, lines, stamp)
         except Wrong as wrong:
+            wrong.files.update(('request-%d' % at, it) for at, it in enumerate(sent))
             wrong.files['store'] = bytes_of(self.server.store)
             self.server.kill()
             self.server = None
             raise
 
-    def served_well(self, sent, got, line, stamp):
-        number = self.server.served
-        if isinstance(got, OSError):
+    # The answer of each request is one of the protocol, each line is that of an answer, and only what was done is in the store.
+    def served_well(self, sent, came, lines, stamp):
+        left, cut, done = collections.Counter(lines), 0, 0
+        for at, (one, got) in enumerate(zip(sent, came)):
+            line = None if isinstance(got, OSError) else self.line_of(at, one, got)
             # a request that was done ends its connection at once, also where its client still sends
-            demand(line in ('%d answer 200' % number, '%d answer 204' % number), 'the connection: %s, and the line %r' % (got, line))
-            code = 200
-        elif not got:
-            demand(line == '%d torn %d' % (number, len(sent)), 'the line %r of a request of %d bytes' % (line, len(sent)))
-            code = None
-        else:
-            head, _, body = got.partition(b'\r\n\r\n')
-            match = re.match(rb'HTTP/1\.1 (\d\d\d) ', head)
-            code = int(match[1]) if match else None
-            own = [it for it in head.decode('latin-1').split('\r\n')[3:] if not it.startswith('Content-Length:')]
-            demand(code in PHRASES and code != 500 and got == answer(code, body, own), 'the answer', output=got)
-            demand(line == '%d answer %d' % (number, code), 'the line %r' % line, output=got)
-        self.ended('request %s' % (code or 'torn'))
-        if stamp and code not in (200, 204):
-            demand(self.server.stamp() == stamp, 'the store has changed', output=got)
+            cut += line is None
+            done += line in (None, 'answer 200', 'answer 204')
+            if line:
+                demand(left[line], 'no line %r' % line, output=got)
+                left[line] -= 1
+                self.ended('request ' + line.split(' ')[line.startswith('answer')])
+        demand(cut == left['answer 200'] + left['answer 204'] == sum(left.values()), 'the connections that failed, and the lines %r' % +left)
+        added = self.server.added()
+        demand(added is None or added <= done, '%s bodies were added by %d requests' % (added, done))
+        demand(done or self.server.stamp() == stamp, 'the store has changed')
+
+    # The line of what came.
+    @staticmethod
+    def line_of(at, sent, got):
+        if not got:
+            return 'torn %d' % len(sent)
+        head, _, body = got.partition(b'\r\n\r\n')
+        code = int(head[9:12]) if re.match(rb'HTTP/1\.1 \d\d\d ', head) else None
+        own = [it for it in head.decode('latin-1').split('\r\n')[3:] if not it.startswith('Content-Length:')]
+        demand(code in PHRASES and code != 500 and got == answer(code, body, own), 'the answer to request %d' % at, output=got)
+        return 'answer %d' % code
+
+# Good requests, by what they ask.
+def good_requests():
+    numbers, lists = range(1, 5), (('Web',), ('Web', 'App'), (), ('none',))
+    return [[register(it, names, key) for it in numbers for names in lists for key in (b'k0', b'k1', b'k2')],
+            [query(it, ('Web', sum_)) for it in numbers for sum_ in ('', 'A' * 64)], [query(it) for it in numbers],
+            [fetch(it, name) for it in numbers for name in ('Web', 'App', '..', 'none')], [module('xWeb', it) for it in ('1.0', '1.1', '.')],
+            [report(it, job) for it in numbers for job in range(8)],
+            [in_chunks(node(it, '/SendReport'), b'{"JobId":"%s"}' % AGENT.encode(), size) for it in numbers for size in (1, 7, 100)],
+            [request(method, node(it)) for method in ('DELETE', 'GET', 'PUT', 'POST', 'get') for it in numbers]]
+
+GOOD = good_requests()
+ALL = [it for kind in GOOD for it in kind]
+REGISTRATIONS = [registration(list(names)) for names in (('Web',), ('Web', 'App'), (), ('none',))]
+BODIES = [(target, sent.partition(b'\r\n\r\n')[2]) for target, sent in (('/GetDscAction', query(1, ('Web', ''))), ('/SendReport', report(1, 7)))]
 
 # A request that was changed: in its bytes, or in its body, which then has its right length, and its signature at times.
 def request_of(rng):
     number = rng.randrange(1, 5)
-    names = rng.choice((('Web',), ('Web', 'App'), (), ('none',)))
-    good = [lambda: register(number, names, rng.choice((b'k0', b'k1', b'k2'))), lambda: query(number, ('Web', rng.choice(('', 'A' * 64)))), lambda: query(number),
-            lambda: fetch(number, rng.choice(('Web', 'App', '..', 'none'))), lambda: module('xWeb', rng.choice(('1.0', '1.1', '.'))), lambda: report(number, 1),
-            lambda: in_chunks(node(number, '/SendReport'), b'{"JobId":"%s"}' % AGENT.encode(), rng.choice((1, 7, 100))),
-            lambda: request(rng.choice(('DELETE', 'GET', 'PUT', 'POST', 'get')), node(number))]
     how = rng.randrange(4)
     if how == 0:
-        return register(number, body=changed(rng, registration(list(names)), [query(1)], BYTES, 20_000))
+        return register(number, body=changed(rng, rng.choice(REGISTRATIONS), ALL, BYTES, 20_000))
     if how == 1:
-        target, body = rng.choice((('/GetDscAction', query(number, ('Web', '')).partition(b'\r\n\r\n')[2]), ('/SendReport', report(number, 7).partition(b'\r\n\r\n')[2])))
-        return request('POST', node(number, target), changed(rng, body, [registration(['Web'])], BYTES, 20_000))
-    return changed(rng, rng.choice(good)(), [make() for make in good], BYTES, 100_000)
+        target, body = rng.choice(BODIES)
+        return request('POST', node(number, target), changed(rng, body, REGISTRATIONS, BYTES, 20_000))
+    return changed(rng, rng.choice(rng.choice(GOOD)), ALL, BYTES, 100_000)
 
 def work(number, options):
     worker = Worker(number, options)
@@ -399,7 +468,9 @@ def work(number, options):
 
 def main():
     program, server, seconds, seed = sys.argv[1:5]
-    scratch, only = tempfile.mkdtemp(), os.environ.get('ONLY')
+    # in memory where there is a folder of that kind, since what a disk keeps is not looked at here
+    memory = '/dev/shm'
+    scratch, only = tempfile.mkdtemp(dir=memory if os.access(memory, os.W_OK) else None), os.environ.get('ONLY')
     workers = 1 if only else int(os.environ.get('WORKERS') or len(os.sched_getaffinity(0)))
     options = {'program': program, 'server_program': server, 'seed': seed, 'scratch': scratch, 'only': only, 'workers': workers,
                'until': time.monotonic() + float(seconds), 'kept': '%s/nimchout-fuzz-%s' % (tempfile.gettempdir(), seed)}

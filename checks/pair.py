@@ -146,8 +146,8 @@ class Node:
         self.store, self.host = self.folder + '/store', self.folder + '/host'
         os.mkdir(self.host)
 
-    def start(self, *words, text=''):
-        return subprocess.Popen([program, self.store, self.host, *words], stdin=self.input(text), stdout=subprocess.PIPE, stderr=subprocess.PIPE)
+    def start(self, *words, text='', output=subprocess.PIPE):
+        return subprocess.Popen([program, self.store, self.host, *words], stdin=self.input(text), stdout=output, stderr=subprocess.PIPE)
 
     def input(self, text):
         with open(self.folder + '/input', 'w', encoding='utf-8') as file:
@@ -561,7 +561,11 @@ def refused_answers():
             ('a code of 99 in three digits', [b'HTTP/1.1 099 X\r\nContent-Length: 0\r\n\r\n'], 'PeerRefused Status 99'),
             ('a code of two digits', [b'HTTP/1.1 99 X\r\nContent-Length: 0\r\n\r\n'], 'PeerRefused Frame Head'),
             ('a code of four digits', [b'HTTP/1.1 1000 X\r\nContent-Length: 0\r\n\r\n'], 'PeerRefused Frame Head'),
-            ('a code of 100 alone', [b'HTTP/1.1 100 Continue\r\n\r\n'], 'PeerRefused Frame Torn 25')):
+            ('a code of 100 alone', [b'HTTP/1.1 100 Continue\r\n\r\n'], 'PeerRefused Frame Torn 25'),
+            ('a code of 304', [b'HTTP/1.1 304 Not Modified\r\n\r\n'], 'PeerRefused Status 304'),
+            ('statuses that are no object', [ok('[]')], 'PeerRefused Message Wrong Body'),
+            ('a content without its checksum', [None, ok(HEADER)], 'PeerRefused NoChecksum'),
+            ('an answer of 67,108,864 bytes', [bytes(67_108_864)], 'PeerRefused TooLong')):
         relay.plan = plan
         check(name, node.does('pull'), ('refused %s\n' % line, 6))
     # the end of an answer without a length is that of the connection, and a reset is no end
@@ -608,6 +612,22 @@ def a_second_package():
     check('once the second is there', node.does('pull'), (said_no('A', 'B') + 'resources 2 succeeded 2\ncompliant\nend promoted\n', 0))
     fetch = "GET Modules(ModuleName='second',ModuleVersion='1.0')/ModuleContent"
     check('it alone was fetched', [line for line in relay.asked() if 'Modules' in line], [fetch])
+    server.kill()
+
+# An output that takes nothing leaves what was done: each command ends for it, and for nothing else.
+def full_outputs():
+    server = Server()
+    pushed, pulled = variable('A', '1') + HEADER, variable('A', '2') + HEADER
+    server.configure('Web', pulled)
+    node = new_node(meta(server.url()))
+    check('a registration before full outputs', node.does('register', 'n'), ('ok\n', 0))
+    for words, text, value, document in (('push', pushed, '1', pushed), ('consistency', '', '1', pushed), ('pull', '', '2', pulled)):
+        node.variable('A', 'drift')
+        with open('/dev/full', 'wb') as output:
+            process = node.start(words, text=text, output=output)
+            check('a %s whose output is full' % words, (process.communicate()[1], process.returncode), (b'', 4))
+        check('what the %s made' % words, (node.variable('A'), current(node)), (value, [digest(document)]))
+    check('the reports of full outputs', (node.does('reports')[0].count(' sent\n'), server.jobs()), (3, [1, 2, 3]))
     server.kill()
 
 CLOCK = """
@@ -875,7 +895,7 @@ def killed_reports():
 for thread in SILENT_THREADS:
     thread.start()
 PARTS = (two_programs, a_life, partials, two_modes, ordered_modes, a_name_in_another_case, a_flood, packages, sizes, cut_answers, refused_answers,
-         refused_lists, a_second_package, clocks, long_lists, killed_nodes, killed_pushes, killed_registrations, killed_reports, silent_servers)
+         refused_lists, a_second_package, full_outputs, clocks, long_lists, killed_nodes, killed_pushes, killed_registrations, killed_reports, silent_servers)
 for part in PARTS:
     begun = time.monotonic()
     try:

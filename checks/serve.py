@@ -184,7 +184,7 @@ def a_node():
 
 def frames():
     large = report(1, 9, 10000 - len(report(1, 9)) - 1)
-    server = Server(9)
+    server = Server(12)
     check('a registration', server.ask(register(1)), answer(204))
     with server.connect() as conn:
         for at in range(len(large)):
@@ -192,7 +192,11 @@ def frames():
         check('a request that comes byte by byte', (len(large), all_of(conn)), (10000, answer(200)))
     check('two requests on a connection', server.ask(fetch(1, 'Web') * 2), content(b'abc'))
     rubbish = b'A' * 16000000
-    for name, sent, wanted in (('16 MB of one word', rubbish, answer(400, b'head')),
+    asked = node(1, "/Configurations(ConfigurationName='Web')/ConfigurationContent")
+    for name, sent, wanted in (('64 header lines', request('GET', asked, headers=['A: b'] * 62), content(b'abc')),
+                               ('65 header lines', request('GET', asked, headers=['A: b'] * 63), answer(400, b'head')),
+                               ('a target with a wrong escape', request('GET', '%zz'), answer(400, b'target 21')),
+                               ('16 MB of one word', rubbish, answer(400, b'head')),
                                ('16 MB that no request begins with', b'\0' * 16000000, answer(400, b'head')),
                                ('a body of 16 MB', request('POST', node(1, '/SendReport'), rubbish), answer(413))):
         check(name, server.ask(sent), wanted)
@@ -205,7 +209,7 @@ def frames():
     with server.connect() as conn:
         conn.sendall(fetch(1, 'Web')[:30])
         conn.setsockopt(socket.SOL_SOCKET, socket.SO_LINGER, struct.pack('ii', 1, 0))
-    check('frames, the lines', server.end(), lines('answer 204', 'answer 200', 'answer 200', 'answer 400', 'answer 400', 'answer 413', 'torn 30', 'torn 0', 'read fault'))
+    check('frames, the lines', server.end(), lines('answer 204', 'answer 200', 'answer 200', 'answer 200', *['answer 400'] * 4, 'answer 413', 'torn 30', 'torn 0', 'read fault'))
     check('frames, the store', events(server.store), [row(1), b'\2' + bytes(12) + (1).to_bytes(4, 'big') + bytes(12) + (9).to_bytes(4, 'big') + large.split(b'\r\n\r\n', 1)[1]])
 
 def a_shelf():
