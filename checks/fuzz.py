@@ -1,6 +1,7 @@
 """Changed inputs for the real programs, for checks/fuzz, which says what is run. The arguments are the node, the server, seconds and a seed."""
-import collections, json, multiprocessing, os, random, re, select, shutil, signal, socket, subprocess, sys, tempfile, threading, time
+import collections, json, multiprocessing, os, random, re, select, shutil, socket, subprocess, sys, tempfile, threading, time
 
+from fuzz_forks import Program
 from fuzz_inputs import BANK, BEGIN, BYTES, HEADER, changed, documents, made, metas, store_of, text_of
 from protocol import (PHRASES, answer, content, fetch, free_port, in_chunks, module, node, query, register, registration, report, request, statuses)
 
@@ -174,8 +175,7 @@ class Worker:
         self.counts, self.ends, self.failed, self.documents, self.metas = {}, {}, 0, documents(), metas()
         self.kinds = (self.document, self.meta, self.stored, self.answers) * OTHERS + (self.requests,)
         os.makedirs(self.folder)
-        self.streams = [os.open('%s/%s' % (self.folder, name), os.O_RDWR | os.O_CREAT) for name in ('input', 'output', 'errors')]
-        signal.signal(signal.SIGALRM, self.too_long)
+        self.node = Program(self.program, [os.open('%s/%s' % (self.folder, name), os.O_RDWR | os.O_CREAT) for name in ('input', 'output', 'errors')], self.folder)
         self.make_templates()
 
     # ---- the node
@@ -183,31 +183,14 @@ class Worker:
     def run(self, among, *words, text=b''):
         self.words = ' '.join(words)
         self.is_new = self.is_new and words[0] in STAYING
-        for stream in self.streams:
-            os.ftruncate(stream, 0)
-            os.lseek(stream, 0, os.SEEK_SET)
-        os.pwrite(self.streams[0], text, 0)
-        actions = [(os.POSIX_SPAWN_DUP2, stream, number) for number, stream in enumerate(self.streams)]
-        process = os.posix_spawn(self.program, [self.program, self.store, self.host, *words], os.environ, file_actions=actions)
-        signal.alarm(60)
-        try:
-            status = os.waitstatus_to_exitcode(os.waitpid(process, 0)[1])
-        except TimeoutError as error:
-            os.kill(process, signal.SIGKILL)
-            os.waitpid(process, 0)
-            raise Wrong('no end after 60 seconds') from error
-        finally:
-            signal.alarm(0)
-        output, errors = (os.pread(stream, os.fstat(stream).st_size, 0) for stream in self.streams[1:])
+        ended = self.node.run([self.store, self.host, *words], text, 60)
+        demand(ended, 'no end after 60 seconds')
+        status, output, errors = ended
         files = {'output': output, 'errors': errors}
         demand(not errors, 'standard error', **files)
         demand(status in among, 'status %d' % status, **files)
         self.ended('%s %d' % (words[0], status))
         return status, output
-
-    @staticmethod
-    def too_long(*_):
-        raise TimeoutError
 
     # Counts how an input ended.
     def ended(self, how):
@@ -274,7 +257,7 @@ class Worker:
         try:
             kind(random.Random('%s/%s/%d' % (self.seed, name, number)))
         except Wrong as wrong:
-            self.failed += 1
+            self.failed, self.is_new = self.failed + 1, False
             folder = '%s/%s-%d' % (self.kept, name, number)
             os.makedirs(folder, exist_ok=True)
             for file, data in {'why': str(wrong).encode(), 'words': self.words.encode(), 'input': self.input, 'store': self.before, **wrong.files}.items():
@@ -392,7 +375,7 @@ class Worker:
             self.server = Server(self.server_program, self.folder + '/server')
         sent = [request_of(rng) for _ in range(BATCH)]
         try:
-            stamp = self.server.stamp()
+            stamp = self.server.stamp() if self.server.served else None
             came, lines = self.server.ask(sent)
             self.served_well(sent, came, lines, stamp)
         except Wrong as wrong:
@@ -417,7 +400,7 @@ class Worker:
         demand(cut == left['answer 200'] + left['answer 204'] == sum(left.values()), 'the connections that failed, and the lines %r' % +left)
         added = self.server.added()
         demand(added is None or added <= done, '%s bodies were added by %d requests' % (added, done))
-        demand(done or self.server.stamp() == stamp, 'the store has changed')
+        demand(done or not stamp or self.server.stamp() == stamp, 'the store has changed')
 
     # The line of what came.
     @staticmethod
