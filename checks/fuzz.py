@@ -39,13 +39,16 @@ def write(path, data):
 
 # What a folder holds, but for the packages, which stay where a later answer is refused.
 def listing(folder):
-    found = {}
-    for at, names, files in os.walk(folder):
-        for name in files:
-            path = os.path.join(at, name)
-            found[path] = bytes_of(path)
-        found.update((os.path.join(at, name), None) for name in names)
-    return {path: data for path, data in found.items() if not path.startswith(folder + '/packages')}
+    found, left = {}, [folder]
+    while left:
+        with os.scandir(left.pop()) as entries:
+            for entry in entries:
+                is_folder = entry.is_dir(follow_symlinks=False)
+                found[entry.path] = None if is_folder else bytes_of(entry.path)
+                if is_folder and entry.path != folder + '/packages':
+                    left.append(entry.path)
+    found.pop(folder + '/packages', None)
+    return found
 
 def variable(name, more=''):
     return 'instance of MSFT_EnvironmentResource{ResourceID="[Environment]%s";Name="%s";Value="1";%s};' % (name, name, more)

@@ -1,4 +1,4 @@
-"""Runs of one program, each in a process that is forked before its `main` begins, for checks/fuzz: a library before that of the system takes
+"""Runs of one program, each in a process that is forked once the program is loaded, for checks/fuzz: a library before that of the system takes
 the words of each run. So a run costs no start of a program. Without a C compiler each run is a start."""
 import os, shutil, signal, struct, subprocess
 
@@ -12,7 +12,7 @@ LIBRARY = r'''
 #include <unistd.h>
 
 typedef int (*program_main)(int, char **, char **);
-static program_main own_main;
+typedef int (*starter)(program_main, int, char **, void (*)(void), void (*)(void), void (*)(void), void *);
 
 static void take(char *into, size_t size) {
     for (ssize_t got; size; into += got, size -= got)
@@ -23,13 +23,14 @@ static void tell(int32_t number) {
     if (write(TOLD, &number, 4) != 4) _exit(1);
 }
 
-static int forking_main(int count, char **words, char **environment) {
+int __libc_start_main(program_main main, int count, char **words, void (*init)(void), void (*end)(void), void (*linked)(void), void *stack) {
+    starter next = (starter)dlsym(RTLD_NEXT, "__libc_start_main");
     for (;;) {
         uint32_t size;
-        char *text, *taken[64];
+        static char *taken[64];
         int status, at = 1;
         take((char *)&size, 4);
-        text = malloc(size + 1);
+        char *text = malloc(size + 1);
         take(text, size);
         text[size] = 0;
         pid_t process = fork();
@@ -39,19 +40,13 @@ static int forking_main(int count, char **words, char **environment) {
             taken[0] = words[0];
             for (char *word = text; word < text + size && at < 63; word += strlen(word) + 1) taken[at++] = word;
             taken[at] = NULL;
-            exit(own_main(at, taken, environment));
+            return next(main, at, taken, init, end, linked, stack);
         }
         free(text);
         tell(process);
         waitpid(process, &status, 0);
         tell(status);
     }
-}
-
-int __libc_start_main(program_main main, int count, char **words, void (*init)(void), void (*end)(void), void (*linked)(void), void *stack) {
-    int (*next)(program_main, int, char **, void (*)(void), void (*)(void), void (*)(void), void *) = dlsym(RTLD_NEXT, "__libc_start_main");
-    own_main = main;
-    return next(forking_main, count, words, init, end, linked, stack);
 }
 '''
 ASKED, TOLD = 198, 199

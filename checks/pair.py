@@ -622,7 +622,8 @@ def full_outputs():
     node = new_node(meta(server.url()))
     check('a registration before full outputs', node.does('register', 'n'), ('ok\n', 0))
     for words, text, value, document in (('push', pushed, '1', pushed), ('consistency', '', '1', pushed), ('pull', '', '2', pulled)):
-        node.variable('A', 'drift')
+        if words == 'consistency':
+            node.variable('A', 'drift')
         with open('/dev/full', 'wb') as output:
             process = node.start(words, text=text, output=output)
             check('a %s whose output is full' % words, (process.communicate()[1], process.returncode), (b'', 4))
