@@ -1,0 +1,10 @@
+pub mod HostLaws
+pub mod Laws
+pub mod MemorySpawner
+pub mod Parts
+pub mod Programs
+pub mod Runs
+pub mod Spawning
+pub mod StepLaws
+pub mod Steps
+pub mod Tables
