@@ -1,15 +1,24 @@
-use Rattle.std.proofs.Common.{◌∙◌, ℕ, List, Option, Vec, Global, ap, sym, refl, rules}
+use Rattle.std.proofs.Common.{◌≡◌, ◌∙◌, ℕ, List, Option, Vec, Global, false, ap, sym, subst, refl, rules}
 use Rattle.std.specs.Prelude.{option_map}
+use Rattle.gate_log.specs.Log.{LogTerm}
 use Rattle.meta_config.specs.Writing.{text_of_meta}
 use Rattle.node_state.specs.declared.node.Node.{Node}
 use Rattle.node_state.specs.Table.{after}
-use Rattle.node_store.specs.Store.{StoreTerm}
+use Rattle.node_store.specs.Store.{IsKeptBy, StoreTerm, is_spent}
 use Rattle.node_store.proofs.Fronts.{text_none, text_some}
-use Rattle.node_store.proofs.AtRest.{before}
+use Rattle.node_store.proofs.AtRest.{before, is_kept}
 use Rattle.node_store.proofs.store.NodeStore.commit.Goals as goal
 
 abbrev items : Option (Vec ℕ Global) → Option (List ℕ)
 items text = option_map (λ (v : Vec ℕ Global). v.items) text
+
+pub write-requires-clause-kept : goal.write-requires-clause-kept
+write-requires-clause-kept g c =
+    let unspent : is_spent c.args.self.now ≡ false = ap (λ (s : StoreTerm). s.log.spent) (sym c.self.view_is) ∙ sym c.is_spent.ensures ∙ c.if-is_spent.false in
+    let kept = is_kept g.D.Disk c.args.disk.now c.args.self.now c.requires.ready unspent in
+    let same = c.in-Ok-supply.ensures.same in
+    subst (λ (l : LogTerm). IsKeptBy g.D.Disk c.args.disk.now l c.supply.new.self.node) (sym same.0)
+    (subst (λ (n : Node). IsKeptBy g.D.Disk c.args.disk.now c.args.self.now.log n) (sym same.1) kept)
 
 pub returns-in-Some-clause-any_moment : goal.returns-in-Some-clause-any_moment
 returns-in-Some-clause-any_moment g c = λ kept. before g.D.Disk g.met.D.Disk.only_now c.args.disk.now c.args.self.now.log c.args.self.now.node kept c.args.event
