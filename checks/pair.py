@@ -1,5 +1,5 @@
 """The pull server with the real node, for checks/pair, which says what is run. The arguments are the node and the server."""
-import hashlib, os, shutil, signal, socket, struct, subprocess, sys, tempfile, threading, time
+import hashlib, os, shutil, signal, socket, struct, subprocess, sys, tempfile, threading, time, urllib.request
 
 from protocol import free_port
 
@@ -81,6 +81,11 @@ class Server:
     def jobs(self):
         """The numbers of the reports that it keeps."""
         return [event[32] ^ 0x10 for event in events(self.store) if event[0] == 2]
+
+    def numbers(self):
+        """The numbers of its agents."""
+        with urllib.request.urlopen(self.url() + '/Fleet', timeout=60) as answer:
+            return answer.read().decode()
 
     def url(self):
         return 'http://127.0.0.1:%d/PSDSCPullServer.svc' % self.port
@@ -248,6 +253,7 @@ def a_life():
     node.variable('A', 'drift')
     check('drift is put right', node.does('consistency'), (said_no('A') + said_yes('B') + ends(2, 'noted', 2), 0))
     check('what it sent', relay.asked(), ['POST NODE/SendReport'])
+    check('what the server counts', server.numbers(), '{"Agents":1,"Compliant":1,"Failed":0,"Other":0,"Silent":0}')
     check('the machine again', node.variable('A'), '1')
     check('a pull of what is there', node.does('pull'), (said_yes('A', 'B') + ends(2, 'noted', 3), 0))
     check('nothing was fetched', relay.asked(), ['POST NODE/GetDscAction', 'POST NODE/SendReport'])

@@ -72,6 +72,18 @@ def in_chunks(target, body, size):
     framed = b''.join(b'%04x;a=b\r\n%s\r\n' % (len(piece), piece) for piece in pieces)
     return request('POST', target, headers=('Transfer-Encoding: Chunked',)) + framed + b'0\r\nTrailer: t\r\n\r\n'
 
-def report(number, job, pad=0):
-    body = json.dumps({'JobId': agent(job), 'OperationType': 'Consistency', 'Status': 'Success', 'Errors': []}) + ' ' * pad
+def report_body(job, status='Success', pad=0):
+    return (json.dumps({'JobId': agent(job), 'OperationType': 'Consistency', 'Status': status, 'Errors': []}) + ' ' * pad).encode()
+
+# The answer to a request for the numbers of agents.
+def fleet(compliant=0, failed=0, other=0, silent=0):
+    agents = compliant + failed + other + silent
+    body = '{"Agents":%d,"Compliant":%d,"Failed":%d,"Other":%d,"Silent":%d}' % (agents, compliant, failed, other, silent)
+    return answer(200, body.encode(), ('Content-Type: application/json',))
+
+def kept(number, job):
+    return request('GET', node(number, "/Reports(JobId='%s')" % agent(job)))
+
+def report(number, job, pad=0, status='Success'):
+    body = report_body(job, status, pad).decode()
     return request('POST', node(number, '/SendReport'), body.encode())

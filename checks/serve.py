@@ -1,8 +1,8 @@
 """The pull server with real clients, for checks/serve, which says what is run. The argument is the program."""
 import hashlib, json, os, random, resource, shutil, signal, socket, struct, subprocess, sys, tempfile, threading, time
 
-from protocol import (DATE, agent, answer, content, fetch, in_chunks, module, node, query, register, registration, report, request, signature,
-                      statuses)
+from protocol import (DATE, agent, answer, content, fetch, fleet, in_chunks, kept, module, node, query, register, registration, report, report_body,
+                      request, signature, statuses)
 
 program = sys.argv[1]
 passed = failed = 0
@@ -181,6 +181,43 @@ def a_node():
         (report(1, 8), answer(200)),
         server=Server(2, server.folder))
     check('the store after a restart', events(server.store), [row(1), row(1, ('Web', 'App')), row(2), kept_report(1, 7), kept_report(1, 8)])
+
+# The numbers of agents by their last reports, and the reports; the same after a restart.
+def a_fleet():
+    asked = request('GET', 'Fleet')
+    told = lambda job, status: answer(200, report_body(job, status), ('Content-Type: application/json',))
+    server = expect('a fleet',
+        (asked, fleet()),
+        (register(1), answer(204)),
+        (register(2), answer(204)),
+        (register(3), answer(204)),
+        (asked, fleet(silent=3)),
+        (report(1, 5), answer(200)),
+        (report(2, 6, status='Failure'), answer(200)),
+        (asked, fleet(compliant=1, failed=1, silent=1)),
+        (report(2, 7), answer(200)),
+        (asked, fleet(compliant=2, silent=1)),
+        (report(2, 7, status='InProgress'), answer(200)),
+        (asked, fleet(compliant=1, other=1, silent=1)),
+        (report(2, 6), answer(200)),
+        (request('GET', '%46leet'), fleet(compliant=1, other=1, silent=1)),
+        (kept(2, 6), told(6, 'Success')),
+        (kept(2, 7), told(7, 'InProgress')),
+        (kept(1, 6), answer(404)),
+        (kept(4, 6), answer(404)),
+        (report(4, 6), answer(404)),
+        (request('POST', 'Fleet', b''), answer(405)),
+        (request('POST', 'Fleet'), answer(411)),
+        (request('DELETE', 'Fleet'), answer(501)),
+        (register(2, ('Web', 'App')), answer(204)),
+        (asked, fleet(compliant=1, other=1, silent=1)))
+    expect('the same fleet after a restart',
+        (asked, fleet(compliant=1, other=1, silent=1)),
+        *((report(1, job, status='Failure'), answer(200)) for job in (8, 9, 10, 11)),
+        (kept(1, 5), answer(404)),
+        (kept(1, 8), told(8, 'Failure')),
+        (asked, fleet(failed=1, other=1, silent=1)),
+        server=Server(8, server.folder))
 
 def frames():
     large = report(1, 9, 10000 - len(report(1, 9)) - 1)
@@ -628,7 +665,7 @@ def a_common_client():
     if not shutil.which('curl'):
         print('skipped: requests by curl, since it is missing', flush=True)
         return
-    server = Server(3)
+    server = Server(5)
     base = 'http://127.0.0.1:%d/PSDSCPullServer.svc/' % server.port
     body = registration(['Web'])
     def curl(target, *words):
@@ -638,9 +675,11 @@ def a_common_client():
     check('curl fetches', curl(node(1, "/Configurations(ConfigurationName='Web')/ConfigurationContent")), content(b'abc'))
     check('curl reports in chunks', curl(node(1, '/SendReport'), '-H', 'Transfer-Encoding: chunked', '--data-binary',
                                          report(1, 5).split(b'\r\n\r\n', 1)[1].decode()), answer(200))
-    check('curl, the lines', server.end(), served(204, 200, 200))
+    check('curl asks for the numbers', curl('Fleet'), fleet(compliant=1))
+    check('curl asks for a report', curl(node(1, "/Reports(JobId='%s')" % agent(5))), answer(200, report_body(5), ('Content-Type: application/json',)))
+    check('curl, the lines', server.end(), served(204, 200, 200, 200, 200))
 
-todo = [a_node, frames, a_shelf, contents_that_change, a_second_bank, a_full_second_bank, long_registrations, many_at_once, too_many, no_descriptors, whole_answers,
+todo = [a_node, a_fleet, frames, a_shelf, contents_that_change, a_second_bank, a_full_second_bank, long_registrations, many_at_once, too_many, no_descriptors, whole_answers,
         a_crowd_of_drippers, a_crowd_that_does_not_read, addresses, refusals, a_full_output, kills, a_common_client]
 slow = [lambda: beside('a silent client', until_ended, 9, 14, 'answer 501', 'read fault'),
         lambda: beside('a client that sends a byte a second', dripping, 28, 36, 'answer 501', 'read fault'),

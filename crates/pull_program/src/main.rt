@@ -1,17 +1,18 @@
 //! The pull server program, over the files and the network of this machine.
 //!
-//! `serve` serves connections; its contract says what each was answered and what was printed. `main` makes the real
-//! objects that the arguments name, hands them to `serve` with the same arguments, lets the door finish, and ends with
-//! the number of the status.
+//! `serve_fleet` serves connections; its contract says what each was answered and what was printed. `main` makes the
+//! real objects that the arguments name, hands them to `serve_fleet` with the same arguments, lets the door finish, and
+//! ends with the number of the status.
 //!
 //! Where a thing is:
-//! - the command line, and a run of the server: `serve_words`; `pull_serving`
+//! - the command line, and a run of the server: `serve_words`; `fleet_view`, `pull_serving`
 #![tactic(auto)]
 
 use dsc_outside::{Failed, Sink, write_all};
+use fleet_view::serve_fleet;
 use mof_values::Memory;
 use pull_adapters::{FolderShelf, PollDoor};
-use pull_serving::{ServeStatus, serve};
+use pull_serving::ServeStatus;
 use real_outside::{FileDisk, OutSink, arguments, hold_standard_descriptors};
 use serve_words::{ServeWords, WordsError, serve_words};
 use std::alloc::{AllocError, Global};
@@ -31,7 +32,7 @@ fn main(rt: HostRuntime) -> ExitCode {
     ExitCode::from(status.number())
 }
 
-// Makes the real objects, which touch nothing before their first call, and calls `serve`.
+// Makes the real objects, which touch nothing before their first call, and calls `serve_fleet`.
 fn run_server(rt: &HostRuntime, arguments: &[String]) -> ServeStatus {
     let places = match places_of(rt.alloc(), arguments) {
         Ok(places) => places,
@@ -41,7 +42,7 @@ fn run_server(rt: &HostRuntime, arguments: &[String]) -> ServeStatus {
     let mut shelf = FolderShelf::new(rt, places.shelf);
     let mut door = PollDoor::new(rt, rt.alloc(), places.listen);
     let mut output = OutSink::new(rt);
-    let status = serve(
+    let status = serve_fleet(
         rt.alloc(),
         arguments,
         &mut door,
@@ -76,7 +77,7 @@ struct Places {
     listen: String,
 }
 
-// Where the arguments are refused, the places are empty, and `serve` touches none of them.
+// Where the arguments are refused, the places are empty, and `serve_fleet` touches none of them.
 fn places_of(alloc: Global, arguments: &[String]) -> Result<Places, Memory> {
     match serve_words(alloc, arguments) {
         Ok(values) => named(&values),

@@ -1,0 +1,7 @@
+mod Answered
+mod Classed
+mod Counted
+mod Heard
+mod Placed
+mod Reported
+mod Settled

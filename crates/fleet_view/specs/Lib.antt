@@ -1,0 +1,7 @@
+-- what the layer above cites
+pub mod Classes
+pub mod Counting
+pub mod FleetReplies
+pub mod Members
+-- for private clauses alone
+pub mod News

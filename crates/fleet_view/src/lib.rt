@@ -1,0 +1,31 @@
+//! The fleet of a pull server: how many of its agents are as they are to be, and the reports that they sent.
+//!
+//! A `FleetStore` is a pull server's store with a `Fleet` beside it, which knows what the last report of each agent
+//! says. It answers two further targets, a report that is kept and the summary of all agents, and any other request as
+//! the pull server does; nothing is counted anew at a request. A layer above may rely on this: the numbers of a summary
+//! are those of the rows at that moment, a change that was not committed changes no number, and all that
+//! `pull_serving` says of a service holds of this one.
+//!
+//! Where a thing is:
+//! - the class of an agent: `specs/Classes.antt`, `src/class.rt`; how many there are of each, and the text of the
+//!   summary: `specs/Counting.antt`, `src/counts.rt`, `src/fleet.rt`
+//! - what the two targets are answered: `specs/FleetReplies.antt`, `src/replies.rt`
+//! - the store with its fleet, as a service: `src/fleet_store.rt`; what a request may change of the classes:
+//!   `specs/News.antt`, `src/news.rt`; a whole run `src/serving.rt`
+#![tactic(auto)]
+
+mod class;
+mod counts;
+mod fleet;
+mod fleet_store;
+mod member;
+mod news;
+mod replies;
+mod serving;
+
+pub use class::{Class, class_of};
+pub use counts::Counts;
+pub use fleet::Fleet;
+pub use fleet_store::{FleetStore, answer_fleet, open_fleet};
+pub use member::Member;
+pub use serving::serve_fleet;

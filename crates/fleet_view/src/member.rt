@@ -1,0 +1,9 @@
+//! What a fleet knows of an agent.
+use crate::class::Class;
+
+/// An agent and its class.
+#[derive(Clone, Copy, Debug, PartialEq, Eq)]
+pub struct Member {
+    pub agent: u128,
+    pub class: Class,
+}

@@ -1,0 +1,4 @@
+mod answers;
+mod classes;
+mod faults;
+mod openings;
