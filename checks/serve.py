@@ -459,19 +459,19 @@ def never_reading():
         took = time.monotonic() - begun
         check('a client that never reads, how long it was borne: %.1f s' % took, 9 <= took <= 20, True)
 
-# 200 connections, of which 150 are silent and 20 are rude: each of 30 that ask properly has its answer in two seconds.
-def a_crowd(name, server, rude):
-    others = [server.connect() for _ in range(20)]
-    begun, stop = threading.Semaphore(0), threading.Event()
-    threads = [threading.Thread(target=rude, args=(conn, begun, stop), daemon=True) for conn in others]
+# 200 connections, of which 150 are silent and 20 are rude: each of 30 that ask properly has its answer in two seconds. What the rude ones do
+# begins a second before that, or right before it.
+def a_crowd(name, server, earlier=None, at_once=None):
+    others, stop = [server.connect() for _ in range(20)], threading.Event()
+    threads = [threading.Thread(target=earlier, args=(conn, stop), daemon=True) for conn in others if earlier]
     for thread in threads:
         thread.start()
-    for _ in threads:
-        begun.acquire(timeout=60)
     silent = [server.connect() for _ in range(150)]
     time.sleep(1)
     took = []
     good = [threading.Thread(target=lambda: took.append(time_of(server, fetch(1, 'Web'), content(b'abc')))) for _ in range(30)]
+    for number, conn in enumerate(others if at_once else []):
+        at_once(conn, number)
     for thread in good:
         thread.start()
     for thread in good:
@@ -481,35 +481,70 @@ def a_crowd(name, server, rude):
     stop.set()
     for thread in threads:
         thread.join(60)
-    for conn in silent + others:
-        conn.close()
+    return silent, others
 
 def a_crowd_of_drippers():
-    def drips(conn, begun, stop):
-        begun.release()
+    def drips(conn, stop):
         while not stop.wait(1):
             conn.sendall(b'G')
     server = Server(31)
     check('a crowd, an agent', server.ask(register(1)), answer(204))
-    a_crowd('a crowd, of which 20 send a byte a second', server, drips)
+    silent, others = a_crowd('a crowd, of which 20 send a byte a second', server, earlier=drips)
+    for conn in silent + others:
+        conn.close()
     check('a crowd, the lines', server.end(), (lines('answer 204', *['answer 200'] * 30)[0] + 'let go 170\n', '', 0))
 
-# The 20 come one after the other: it takes the server a while to make an answer of 60 MB, for which the others wait. Each then has the front
-# of its own, and takes nothing.
-def a_crowd_that_does_not_read():
-    turn = threading.Lock()
-    def asks(conn, begun, stop):
-        with turn:
-            conn.sendall(module('Large', '1'))
-            conn.recv(1, socket.MSG_PEEK)
-        begun.release()
-        stop.wait(60)
-    server = Server(51)
-    server.put('modules/Large_1.zip', b'')
-    os.truncate(server.shelf + '/modules/Large_1.zip', 60000000)
-    check('a crowd, an agent', server.ask(register(1)), answer(204))
-    a_crowd('a crowd, of which 20 ask for 60 MB and do not read', server, asks)
-    check('a crowd that does not read, the lines', server.end(), (lines('answer 204', *['answer 200'] * 50)[0] + 'let go 150\n', '', 0))
+# Whether what comes is a content of that size, zeros behind these bytes.
+def is_whole(conn, front, size):
+    zeros, got, count = bytes(1 << 20), b'', 0
+    try:
+        while b'\r\n\r\n' + front not in got and len(got) < 1000:
+            got += conn.recv(1000 - len(got)) or bytes(1000)
+        head, _, rest = got.partition(b'\r\n\r\n')
+        if not head.startswith(b'HTTP/1.1 200 OK\r\n') or not rest.startswith(front) or not zeros.startswith(rest[len(front):]):
+            return False
+        count = len(rest)
+        for piece in iter(lambda: conn.recv(1 << 20), b''):
+            if not zeros.startswith(piece):
+                return False
+            count += len(piece)
+    except OSError:
+        return False
+    return count == size
+
+# 20 ask for 60 MB when the good ones do, and take nothing until these are answered: for one package, of which the server keeps one copy, and
+# for ten, of which it keeps no more than it may. Each gets all in the end.
+def a_crowd_that_does_not_read(packages, most):
+    name, size = 'a crowd, of which 20 ask for 60 MB of %d packages and do not read' % packages, 60000000
+    server = Server(202)
+    for number in range(packages):
+        server.put('modules/Large_%d.zip' % number, b'%02d' % number)
+        os.truncate('%s/modules/Large_%d.zip' % (server.shelf, number), size)
+    check(name + ', an agent', server.ask(register(1)), answer(204))
+    silent, others = a_crowd(name, server, at_once=lambda conn, number: conn.sendall(module('Large', '%d' % (number % packages))))
+    for conn in silent:
+        conn.close()
+    whole = []
+    readers = [threading.Thread(target=lambda conn=conn, number=number: whole.append(is_whole(conn, b'%02d' % (number % packages), size)))
+               for number, conn in enumerate(others)]
+    for thread in readers:
+        thread.start()
+    for thread in readers:
+        thread.join(120)
+    check(name + ', each gets all in the end', whole, [True] * 20)
+    check('%s: it takes at most %d MB' % (name, most), most_memory(server) <= most, True)
+    for conn in others:
+        conn.close()
+    check(name + ', one after it', server.ask(request('DELETE', node(1))), answer(501))
+    ended = server.end()
+    check(name + ', the lines', sorted(line.split(' ', 1)[1] for line in ended[0].splitlines()),
+          sorted(['answer 204', 'answer 501'] + ['answer 200'] * 50 + ['torn 0'] * 150))
+    check(name + ', its end', ended[1:], ('', 0))
+
+# The most megabytes that the server had in memory.
+def most_memory(server):
+    with open('/proc/%d/status' % server.process.pid) as status:
+        return next(int(line.split()[1]) for line in status if line.startswith('VmHWM:')) / 1000
 
 # Where 256 wait already, the one that has been silent longest is let go.
 def too_many():
@@ -680,7 +715,7 @@ def a_common_client():
     check('curl, the lines', server.end(), served(204, 200, 200, 200, 200))
 
 todo = [a_node, a_fleet, frames, a_shelf, contents_that_change, a_second_bank, a_full_second_bank, long_registrations, many_at_once, too_many, no_descriptors, whole_answers,
-        a_crowd_of_drippers, a_crowd_that_does_not_read, addresses, refusals, a_full_output, kills, a_common_client]
+        a_crowd_of_drippers, lambda: a_crowd_that_does_not_read(1, 320), lambda: a_crowd_that_does_not_read(10, 720), addresses, refusals, a_full_output, kills, a_common_client]
 slow = [lambda: beside('a silent client', until_ended, 9, 14, 'answer 501', 'read fault'),
         lambda: beside('a client that sends a byte a second', dripping, 28, 36, 'answer 501', 'read fault'),
         lambda: beside('a client that never closes', never_closing(request('DELETE', node(1))), 0, 8, 'answer 501', 'answer 501'),

@@ -8,6 +8,7 @@ use crate::poll_door::DoorLimits;
 use dsc_outside::Failed;
 use mio::unix::SourceFd;
 use mio::{Events, Interest, Poll, Token};
+use pull_outside::LONGEST_ITEM;
 use std::alloc::Global;
 use std::net::{Net, OpenListener, OpenStream, TcpListener};
 use std::os::fd::{AsRawFd, RawFd};
@@ -21,6 +22,9 @@ const MOST_TAKEN: usize = 64;
 
 // How often a connection is read from that was just taken.
 const FIRST_READS: usize = 4;
+
+// The most bytes of an answer beside its item.
+const LARGEST_HEAD: usize = 65_536;
 
 // How long the first of these reads may wait, in milliseconds.
 const FIRST_WAIT_MILLIS: u64 = 1;
@@ -132,6 +136,11 @@ impl<R: Net + Clock> EventLoop<R> {
         self.departures.capacity()
     }
 
+    /// Notes of how many bytes the answer to the request was, and whether it failed.
+    pub fn note(&mut self, request: &[u8], written: u64, failed: bool) {
+        self.arrivals.note(request, written, failed);
+    }
+
     /// Takes a connection that was served, with what its peer has not taken of its answer.
     pub fn part(&mut self, served: Outgoing<R::Stream>, left: Vec<u8>) {
         let both = Interest::READABLE | Interest::WRITABLE;
@@ -163,7 +172,29 @@ impl<R: Net + Clock> EventLoop<R> {
         let_go
     }
 
+    // The first that waits for nothing more. One that is put off goes after the others, or after many of them.
     fn first(&mut self, now: Duration) -> Result<Option<Incoming<R::Stream>>, Failed> {
+        if self.arrivals.is_due() {
+            if let Some(given) = self.first_put_off(now) {
+                return Ok(Some(given));
+            }
+        }
+        if let Some(given) = self.first_of_others(now)? {
+            self.arrivals.pass(&given);
+            return Ok(Some(given));
+        }
+        Ok(self.first_put_off(now))
+    }
+
+    // An answer that is likely to be large is not made before it can be kept, so that its write waits for no peer.
+    fn first_put_off(&mut self, now: Duration) -> Option<Incoming<R::Stream>> {
+        if !self.arrivals.has_put_off() || self.capacity() <= LONGEST_ITEM + LARGEST_HEAD {
+            return None;
+        }
+        self.arrivals.take_put_off(now)
+    }
+
+    fn first_of_others(&mut self, now: Duration) -> Result<Option<Incoming<R::Stream>>, Failed> {
         if let Some(given) = self.arrivals.turn(now) {
             return Ok(Some(given));
         }
@@ -178,14 +209,14 @@ impl<R: Net + Clock> EventLoop<R> {
         Ok(None)
     }
 
-    // Reads what is there at once, or in a moment. Where more has to come it waits with the others, and another one may be lost
-    // for it.
+    // Reads what is there at once, or in a moment. Where more has to come, or its request is put off, it waits with the others, and
+    // another one may be lost for it.
     fn admit(&mut self, stream: R::Stream, now: Duration) -> Option<Incoming<R::Stream>> {
         let end = now.saturating_add(self.limits.whole);
         let mut fresh = Incoming::new(self.alloc, stream, now, end);
         self.read_first(&mut fresh, now);
         if fresh.progress != Progress::Awaited {
-            return Some(fresh);
+            return self.arrivals.put_off(fresh);
         }
         if !is_registered(&self.poll, fresh.fd(), Interest::READABLE) {
             fresh.lose();

@@ -2,6 +2,7 @@
 ghost use Rattle.std.specs.Prelude.{◌≡◌, ◌≤◌, true, vec_len};
 ghost use Rattle.std.specs.Option.{ForSome};
 
+use crate::large_answers::Rank;
 use http_frames::RequestReader;
 use std::alloc::Global;
 use std::io::{ErrorKind, Read};
@@ -36,6 +37,9 @@ pub struct Incoming<S: Drop> {
     pub ended: bool,
     pub progress: Progress,
 
+    /// When it is given out, once its request has come.
+    pub rank: Rank,
+
     /// Whether a read may give something.
     pub ready: bool,
 
@@ -59,6 +63,7 @@ impl<S: Read + OpenStream + AsRawFd + Drop> Incoming<S> {
             came: Vec::new(alloc),
             ended: false,
             progress: Progress::Awaited,
+            rank: Rank::First,
             ready: true,
             registered: false,
             heard: now,
@@ -92,6 +97,16 @@ impl<S: Read + OpenStream + AsRawFd + Drop> Incoming<S> {
         if self.progress == Progress::Awaited && self.last_moment(patience) <= now {
             self.lose();
         }
+    }
+
+    /// Whether its request has come and is put off for others.
+    pub fn is_put_off(&self) -> bool {
+        self.progress == Progress::Come && self.rank != Rank::First
+    }
+
+    /// The time for which it was put off is not its own.
+    pub fn prolong(&mut self, now: Duration) {
+        self.end = self.end.saturating_add(now.saturating_sub(self.heard));
     }
 
     /// Gives it up, and what is kept of it.

@@ -12,7 +12,8 @@
 //!   `src/places.rt`; how a file is read `src/item_files.rt`; which digest is kept `src/last_digest.rt`; which keys a
 //!   text has `specs/Keys.antt`, `src/keys.rt`
 //! - how many connections wait, for how long, and which is given out: `src/poll_door.rt`, `src/event_loop.rt`; what has
-//!   come of a request `src/arrivals.rt`, `src/incoming.rt`; errors of `accept` `src/listening.rt`
+//!   come of a request `src/arrivals.rt`, `src/incoming.rt`; which requests are put off for others
+//!   `src/large_answers.rt`; errors of `accept` `src/listening.rt`
 //! - what is read and written of a connection that is served: `src/poll_conn.rt`; how its answer reaches a slow peer,
 //!   and how it is ended `src/departures.rt`, `src/outgoing.rt`, `src/kept_answers.rt`
 #![tactic(auto)]
@@ -25,6 +26,7 @@ mod incoming;
 mod item_files;
 mod kept_answers;
 mod keys;
+mod large_answers;
 mod last_digest;
 mod listening;
 mod outgoing;

@@ -92,6 +92,20 @@ impl<'r, R: Net + Clock> PollConn<'r, R> {
         self.faults > 0 || (self.kept.is_empty() && (self.ended || (at_once && self.is_small())))
     }
 
+    /// The bytes that came.
+    pub(crate) fn came(&self) -> &[u8] {
+        &self.came
+    }
+
+    /// How many bytes were written.
+    pub(crate) fn written(&self) -> u64 {
+        self.written
+    }
+
+    pub(crate) fn has_failed(&self) -> bool {
+        self.faults > 0
+    }
+
     fn is_small(&self) -> bool {
         self.written <= MOST_QUEUED
     }

@@ -43,6 +43,11 @@ pub struct DoorLimits {
 /// fail; where there are too many connections or bytes, the one that has been silent longest is. The port is bound at the first
 /// `next`; where that cannot be done, each `next` fails, and tries it again.
 ///
+/// A request is put off where one like it was answered by a megabyte or more, so that those who ask for little wait for one such
+/// answer at most: it is given out where no other has come whole, or after 64 others, and only while an answer of the longest can
+/// be kept. Like it is one whose line is the same as far as the first parenthesis; of these the same line goes last. The 16 lines
+/// last answered so are known. The time for which a connection is put off is not counted. At most 128 are.
+///
 /// What a peer does not take at once of its answer waits until it does, beside the service of others: up to 256 connections,
 /// with at most 536,870,912 bytes, of which equal ones count once. Where there are as many, `next` waits until one is ended, and
 /// where there are as many bytes, a write waits for its own peer: no answer is cut for it. A connection that is handed back
@@ -187,6 +192,9 @@ impl<'r, R: Net + Clock> Port<'r, R> {
     }
 
     fn part(&mut self, conn: PollConn<'r, R>, at_once: bool) {
+        if let Some(event_loop) = &mut self.event_loop {
+            event_loop.note(conn.came(), conn.written(), conn.has_failed());
+        }
         if conn.is_over(at_once) {
             return;
         }
