@@ -77,7 +77,7 @@ def faults_of_lists():
     """The tables of checks/README.md, which checks/run reads, and of bench/README.md list what is there, and nothing else."""
     checks = {path for path in os.listdir("checks") if "." not in path and os.access(f"checks/{path}", os.X_OK) and os.path.isfile(f"checks/{path}")}
     benches = {path.split("/")[1] for path in glob.glob("bench/*/run")}
-    for path, there in (("checks/README.md", checks - {"run", "refused_memory", "rows_by_try"}), ("bench/README.md", benches)):
+    for path, there in (("checks/README.md", checks - {"run", "refused_memory", "rows_by_try", "tutorial"}), ("bench/README.md", benches)):
         with open(path, encoding="utf-8") as page:
             rows = set(re.findall(r"^\| `([a-z_]+)`[^|]* \|", page.read(), re.MULTILINE))
         yield from (f"{path}: no row for {name}" for name in sorted(there - rows))

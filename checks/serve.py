@@ -459,9 +459,10 @@ def never_reading():
         took = time.monotonic() - begun
         check('a client that never reads, how long it was borne: %.1f s' % took, 9 <= took <= 20, True)
 
-# 200 connections, of which 150 are silent and 20 are rude: each of 30 that ask properly has its answer in two seconds. What the rude ones do
-# begins a second before that, or right before it.
+# 200 connections, of which 150 are silent and 20 are rude: each of 30 that ask properly has its answer in two seconds, or as many times as long
+# as other work makes each of the processors serve at once. What the rude ones do begins a second before that, or right before it.
 def a_crowd(name, server, earlier=None, at_once=None):
+    most = 2 * max(1, os.getloadavg()[0] / len(os.sched_getaffinity(0)))
     others, stop = [server.connect() for _ in range(20)], threading.Event()
     threads = [threading.Thread(target=earlier, args=(conn, stop), daemon=True) for conn in others if earlier]
     for thread in threads:
@@ -477,7 +478,8 @@ def a_crowd(name, server, earlier=None, at_once=None):
     for thread in good:
         thread.join(60)
     slowest = max(took, key=lambda it: 99 if it is None else it, default=None)
-    check('%s: each of 30 good ones is answered in 2 s, the slowest in %s s' % (name, slowest), [is_prompt(it) for it in took], [True] * 30)
+    check('%s: each of 30 good ones is answered in %.1f s, the slowest in %s s' % (name, most, slowest), [it is not None and it <= most for it in took],
+          [True] * 30)
     stop.set()
     for thread in threads:
         thread.join(60)

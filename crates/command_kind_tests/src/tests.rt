@@ -1,5 +1,5 @@
 //! What runs of commands answer, and which programs they run.
-ghost use Rattle.std.specs.Prelude.{◌≡◌, ◌<◌, ◌≤◌, ◌*◌, ◌^◌, [], length};
+ghost use Rattle.std.specs.Prelude.{◌≡◌, ◌<◌, ◌≤◌, ◌*◌, ◌^◌, [], length, IfOk};
 ghost use Rattle.command_kind.specs.Laws.{RunOfCommands};
 ghost use Rattle.command_kind.specs.Parts.{calls_of, spare_of};
 ghost use Rattle.depend_order.specs.Documents.{IsOrderOfDocument};
@@ -29,7 +29,9 @@ fn spawner(rt: &impl AllocGlobal, statuses: &[u8]) -> Result<MemorySpawner, Fail
 fn commands(
     rt: &impl AllocGlobal,
     statuses: &[u8],
-) -> Result<Commands<Kinds<MemoryHost>, MemorySpawner>, Fail> {
+) -> Result<Commands<Kinds<MemoryHost>, MemorySpawner>, Fail>
+    ensures { IfOk result (λ commands. calls_of commands ≡ []) }
+{
     let alloc = rt.alloc();
     let kinds = Kinds::new(alloc, MemoryHost::new(Vec::new(alloc), Vec::new(alloc)));
     Ok(Commands::new(alloc, kinds, spawner(rt, statuses)?))

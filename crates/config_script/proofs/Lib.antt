@@ -1,0 +1,17 @@
+pub mod Checked
+pub mod Compiled
+pub mod Cuts
+pub mod Denoted
+pub mod Fronts
+pub mod Kept
+pub mod Lexed
+pub mod Others
+pub mod Pushed
+pub mod Rules
+pub mod Scalars
+pub mod Scanned
+pub mod Stepping
+pub mod Stuck
+pub mod Texts
+pub mod Walked
+pub mod Wrong

@@ -1,0 +1,5 @@
+//! The tests of `config_script`.
+#![tactic(auto)]
+
+#[cfg(test)]
+mod tests;
