@@ -70,7 +70,7 @@ kept_set_true before after id (Ok asked) answer kept (inr named) true =
 kept_set_true before after id (Err failure) answer kept (inr named) true = (told_set failure answer kept named.0 named.1 true.0, true.1)
 
 module _ (document : Document) where
-  kept_tells : (before after : Option HostState) (entry e : Entry) → IsKeptEntry entry e → TellsEntry before document entry after → TellsEntry before document e after
+  pub kept_tells : (before after : Option HostState) (entry e : Entry) → IsKeptEntry entry e → TellsEntry before document entry after → TellsEntry before document e after
   kept_tells None after (Tested place answer) (Tested other kept) is tells = (
     tells.0,
     subst (λ (p : ℕ). KeepsTable document (Tested p kept)) (sym is.0)

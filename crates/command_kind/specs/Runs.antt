@@ -15,7 +15,6 @@ use Rattle.resource_kinds.specs.declared.entry.Entry.TheVariants.{Tested, Set}
 use Rattle.resource_kinds.specs.Trace.{place_of}
 use Rattle.resource_kinds.specs.True.{IsTold}
 use Rattle.command_kind.specs.declared.program.Purpose.TheVariants as purposes
-use Rattle.command_kind.specs.declared.running.TheConstants.{HOLDS, WANTS_REBOOT}
 use Rattle.command_kind.specs.declared.spawner.Run.{Run}
 use Rattle.command_kind.specs.Programs.{Program, program_of}
 use Rattle.command_kind.specs.Spawning.{ran}
@@ -34,16 +33,16 @@ RanOtherwise program status runs = (other : ℕ) × (other ≢ status) × RanOnc
 -- The run that the answer of a Test stands for. It is yes where the program ended with 0, and no where it ended with another status; where
 -- the program gave none, the host failed, and no other fault is answered.
 abbrev pub TestRan : Program → TestAnswer → List Run → Type 0
-TestRan program tests.Yes runs = RanOnce program (Some HOLDS) runs
-TestRan program tests.No runs = RanOtherwise program HOLDS runs
+TestRan program tests.Yes runs = RanOnce program (Some 0) runs
+TestRan program tests.No runs = RanOtherwise program 0 runs
 TestRan program (tests.Fault failure) runs = (failure ≡ HostFailed) × RanOnce program None runs
 TestRan program tests.Memory runs = runs ≡ []
 
 -- The run that the answer of a Set stands for. It asks for a reboot where the program ended with 194, the low byte of 3010 by which
 -- installers ask for one, and is done where it ended with another status.
 abbrev pub SetRan : Program → SetAnswer → List Run → Type 0
-SetRan program sets.Done runs = RanOtherwise program WANTS_REBOOT runs
-SetRan program sets.Reboot runs = RanOnce program (Some WANTS_REBOOT) runs
+SetRan program sets.Done runs = RanOtherwise program 194 runs
+SetRan program sets.Reboot runs = RanOnce program (Some 194) runs
 SetRan program (sets.Fault failure) runs = (failure ≡ HostFailed) × RanOnce program None runs
 SetRan program sets.Memory runs = runs ≡ []
 

@@ -13,7 +13,7 @@ use Rattle.mof_codec.specs.Written.{further_element}
 use Rattle.config_script.specs.Scripts.{Property, Resource, Block}
 use Rattle.config_script.specs.Places as events
 use Rattle.config_script.specs.Places.{Event, elements_events, value_events, property_events, resource_events, block_events, script_events}
-use Rattle.config_script.specs.Denoting.{Kind, file, environment, log, kind_named, given, last_properties, instance_of, instance_list, instances_of, header, names_node, resources_of, denoted}
+use Rattle.config_script.specs.Denoting.{Kind, file, environment, log, command, kind_named, given, last_properties, instance_of, instance_list, instances_of, header, names_node, resources_of, denoted}
 use Rattle.config_script.specs.Refused.{first_unknown}
 use Rattle.config_script.specs.Writing.{opening, closing, event_text, named_after, written}
 
@@ -123,48 +123,56 @@ assemble l f m t r =
 abbrev modules : List ℕ
 modules = codes " ModuleName = \"PSDesiredStateConfiguration\";\n ModuleVersion = \"1.0\";\n ConfigurationName = \""
 
-pieces_file : (title node : List ℕ) (r : Resource) (rest : List ℕ) → Pieces title node r file rest
-pieces_file title node r rest =
-    ap (λ (x : List ℕ). codes "instance of MSFT_FileDirectoryConfiguration\n{\n ResourceID = \"[File]" ++ x)
+-- after the front of a resource, which ends within the text of its ResourceID
+pieces_after : (front title : List ℕ) (r : Resource) (rest : List ℕ)
+    → front ++ ((flat_map literal_char r.name ++ codes "\";\n") ++ (flat_map canonical_property (map given r.properties) ++ (closing title ++ rest)))
+    ≡ front ++ (((((flat_map literal_char r.name ++ 34 ∷ []) ++ codes ";\n")
+    ++ flat_map canonical_property (map given r.properties ++ last_properties title)) ++ codes "};\n") ++ rest)
+pieces_after front title r rest =
+    ap (λ (x : List ℕ). front ++ x)
     (assemble (flat_map literal_char r.name) (flat_map canonical_property (map given r.properties)) modules (flat_map literal_char title) rest
     ∙ ap (λ (g : List ℕ). ((((flat_map literal_char r.name ++ 34 ∷ []) ++ codes ";\n") ++ g) ++ codes "};\n") ++ rest)
     (sym (properties_join (map given r.properties) (last_properties title))))
+
+pieces_file : (title node : List ℕ) (r : Resource) (rest : List ℕ) → Pieces title node r file rest
+pieces_file title node r rest = pieces_after (codes "instance of MSFT_FileDirectoryConfiguration\n{\n ResourceID = \"[File]") title r rest
 
 pieces_environment : (title node : List ℕ) (r : Resource) (rest : List ℕ) → Pieces title node r environment rest
-pieces_environment title node r rest =
-    ap (λ (x : List ℕ). codes "instance of MSFT_EnvironmentResource\n{\n ResourceID = \"[Environment]" ++ x)
-    (assemble (flat_map literal_char r.name) (flat_map canonical_property (map given r.properties)) modules (flat_map literal_char title) rest
-    ∙ ap (λ (g : List ℕ). ((((flat_map literal_char r.name ++ 34 ∷ []) ++ codes ";\n") ++ g) ++ codes "};\n") ++ rest)
-    (sym (properties_join (map given r.properties) (last_properties title))))
+pieces_environment title node r rest = pieces_after (codes "instance of MSFT_EnvironmentResource\n{\n ResourceID = \"[Environment]") title r rest
 
 pieces_log : (title node : List ℕ) (r : Resource) (rest : List ℕ) → Pieces title node r log rest
-pieces_log title node r rest =
-    ap (λ (x : List ℕ). codes "instance of MSFT_LogResource\n{\n ResourceID = \"[Log]" ++ x)
-    (assemble (flat_map literal_char r.name) (flat_map canonical_property (map given r.properties)) modules (flat_map literal_char title) rest
-    ∙ ap (λ (g : List ℕ). ((((flat_map literal_char r.name ++ 34 ∷ []) ++ codes ";\n") ++ g) ++ codes "};\n") ++ rest)
-    (sym (properties_join (map given r.properties) (last_properties title))))
+pieces_log title node r rest = pieces_after (codes "instance of MSFT_LogResource\n{\n ResourceID = \"[Log]") title r rest
+
+pieces_command : (title node : List ℕ) (r : Resource) (rest : List ℕ) → Pieces title node r command rest
+pieces_command title node r rest = pieces_after (codes "instance of DSC_CommandResource\n{\n ResourceID = \"[Command]") title r rest
 
 -- a kind that is known is one of these
-abbrev chosen : Bool → Bool → Bool → Option Kind
-chosen a b c =
+abbrev chosen : Bool → Bool → Bool → Bool → Option Kind
+chosen a b c d =
     cond a (Some file)
     (cond b (Some environment)
-    (cond c (Some log) None))
+    (cond c (Some log)
+    (cond d (Some command) None)))
 
 pieces : (title node : List ℕ) (r : Resource) (kind : Kind) (rest : List ℕ) → kind_named r.kind ≡ Some kind → Pieces title node r kind rest
-pieces title node r kind rest e = by (same_name r.kind (codes "File")) (same_name r.kind (codes "Environment")) (same_name r.kind (codes "Log")) e
+pieces title node r kind rest e =
+    by (same_name r.kind (codes "File")) (same_name r.kind (codes "Environment")) (same_name r.kind (codes "Log"))
+    (same_name r.kind (codes "Command")) e
   where
-    by : (a b c : Bool) → chosen a b c ≡ Some kind → Pieces title node r kind rest
-    by true b c e =
+    by : (a b c d : Bool) → chosen a b c d ≡ Some kind → Pieces title node r kind rest
+    by true b c d e =
         let is : file ≡ kind = cc in
         subst (λ (k : Kind). Pieces title node r k rest) is (pieces_file title node r rest)
-    by false true c e =
+    by false true c d e =
         let is : environment ≡ kind = cc in
         subst (λ (k : Kind). Pieces title node r k rest) is (pieces_environment title node r rest)
-    by false false true e =
+    by false false true d e =
         let is : log ≡ kind = cc in
         subst (λ (k : Kind). Pieces title node r k rest) is (pieces_log title node r rest)
-    by false false false e = cc
+    by false false false true e =
+        let is : command ≡ kind = cc in
+        subst (λ (k : Kind). Pieces title node r k rest) is (pieces_command title node r rest)
+    by false false false false e = cc
 
 resource_named : (title node : List ℕ) (r : Resource) (kind : Kind) (es : List Event) → kind_named r.kind ≡ Some kind
     → W title node true (resource_events r ++ es) ≡ canonical_instance (instance_of title r kind) ++ W title node true es

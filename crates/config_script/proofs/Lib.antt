@@ -5,6 +5,8 @@ pub mod Denoted
 pub mod Fronts
 pub mod Kept
 pub mod Lexed
+pub mod OneAnswer
+pub mod OneScript
 pub mod Others
 pub mod Pushed
 pub mod Rules

@@ -167,7 +167,7 @@ pub blank_or_sign : (c : ℕ) → is_blank c ≡ true → separates c ≡ true
 blank_or_sign c e = ap (λ (b : Bool). b || (c == 35)) e
 
 -- no separator comes first after the separators
-separated_stops : (within f : Bool) (cs : List ℕ) → Stops separates (separated f within cs).1
+pub separated_stops : (within f : Bool) (cs : List ℕ) → Stops separates (separated f within cs).1
 separated_stops true f [] = tt
 separated_stops false f [] = tt
 separated_stops true f (c ∷ cs) = by (c == 10) (separated_stops false true cs) (separated_stops true f cs)
@@ -189,7 +189,7 @@ pub at_text_end : (f : Bool) (ts : List Placed) → Lexes f [] ts → ts ≡ []
 at_text_end f ts (end g) = refl
 at_text_end f ts (token g us t rest vs is l) = let found = token_is us t rest is in cc
 
-token_found : (f : Bool) (cs : List ℕ) (ts : List Placed) (t : Token) (rest : List ℕ) → Stops separates cs → first_token cs ≡ Some (t, rest) → Lexes f cs ts
+pub token_found : (f : Bool) (cs : List ℕ) (ts : List Placed) (t : Token) (rest : List ℕ) → Stops separates cs → first_token cs ≡ Some (t, rest) → Lexes f cs ts
     → (us : List Placed) × (ts ≡ placed f cs t ∷ us) × Lexes false rest us
 token_found f cs ts t rest s e (end g) = cc
 token_found f cs ts t rest s e (blank g c us vs is l) = let no = blank_or_sign c is in cc

@@ -8,7 +8,7 @@ use Rattle.config_script.specs.declared.error.CompileError.{CompileError}
 use Rattle.config_script.specs.declared.error.CompileError.TheVariants as reasons
 use Rattle.config_script.specs.declared.kind.Kind as code
 use Rattle.config_script.specs.declared.kind.Kind.TheVariants as variants
-use Rattle.config_script.specs.Denoting.{Kind, kind_named, is_reserved, file, environment, log}
+use Rattle.config_script.specs.Denoting.{Kind, kind_named, is_reserved, file, environment, log, command}
 use Rattle.config_script.specs.Places as events
 use Rattle.config_script.specs.Places.{Event}
 
@@ -17,6 +17,7 @@ abbrev pub kind_of : code.Kind → Kind
 kind_of variants.File = file
 kind_of variants.Environment = environment
 kind_of variants.Log = log
+kind_of variants.Command = command
 
 -- the script from the first kind on that is not known
 abbrev pub unknown_in : List Event → Option (List ℕ)

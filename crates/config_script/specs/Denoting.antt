@@ -22,9 +22,12 @@ environment = record { name = codes "Environment"; class = codes "MSFT_Environme
 abbrev pub log : Kind
 log = record { name = codes "Log"; class = codes "MSFT_LogResource" }
 
+abbrev pub command : Kind
+command = record { name = codes "Command"; class = codes "DSC_CommandResource" }
+
 -- the kinds that a script may hold
 abbrev pub kinds : List Kind
-kinds = file ∷ environment ∷ log ∷ []
+kinds = file ∷ environment ∷ log ∷ command ∷ []
 
 -- the kind of that name, by fold
 abbrev pub kind_named : List ℕ → Option Kind

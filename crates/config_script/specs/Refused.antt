@@ -14,7 +14,7 @@ use Rattle.config_script.specs.declared.error.CompileError.{CompileError}
 use Rattle.config_script.specs.declared.error.CompileError.TheVariants as reasons
 use Rattle.config_script.specs.declared.limits.TheConstants.{MAX_SCRIPT}
 use Rattle.config_script.specs.Tokens.{line_of}
-use Rattle.config_script.specs.Scripts.{Resource, Property, Block, Script, GoesWrongOn}
+use Rattle.config_script.specs.Scripts.{Block, Script, GoesWrongOn}
 use Rattle.config_script.specs.Denoting.{kind_named, is_reserved, names_node, resources_of, denoted}
 
 -- the script from the first kind on that is not known, in whatever block

@@ -15,6 +15,7 @@ pub(crate) enum Kind {
     File,
     Environment,
     Log,
+    Command,
 }
 
 impl Kind {
@@ -28,6 +29,8 @@ impl Kind {
             Some(Kind::Environment)
         } else if is_word(word, "Log") {
             Some(Kind::Log)
+        } else if is_word(word, "Command") {
+            Some(Kind::Command)
         } else {
             None
         }
@@ -43,6 +46,7 @@ impl Kind {
             Kind::Environment =>
                 "instance of MSFT_EnvironmentResource\n{\n ResourceID = \"[Environment]",
             Kind::Log => "instance of MSFT_LogResource\n{\n ResourceID = \"[Log]",
+            Kind::Command => "instance of DSC_CommandResource\n{\n ResourceID = \"[Command]",
         }
     }
 }

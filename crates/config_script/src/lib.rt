@@ -5,7 +5,8 @@
 //!
 //! A layer above may rely on this: `compile` gives the canonical text of the document that the blocks naming the node
 //! stand for, where the text is a script of known kinds and free names, some block names the node, and what is
-//! written merges as one part; else the first of the reasons against it, with its line.
+//! written merges as one part; else the first of the reasons against it, with its line. By `one_answer` this is the one
+//! answer, out of memory aside.
 //!
 //! Where a thing is:
 //! - what a script is: `specs/Tokens.antt` (characters to tokens) and `specs/Scripts.antt` (tokens to blocks); the
@@ -34,5 +35,5 @@ mod writing;
 
 pub use compiling::compile;
 pub use error::CompileError;
-pub use laws::other_blocks_change_nothing;
+pub use laws::{one_answer, other_blocks_change_nothing};
 pub use limits::MAX_SCRIPT;

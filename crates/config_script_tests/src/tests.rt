@@ -63,6 +63,21 @@ const HEADER: &str = "instance of OMI_ConfigurationDocument
 };
 ";
 
+const COMMAND_S: &str = "instance of DSC_CommandResource
+{
+ ResourceID = \"[Command]S\";
+ TestArguments = {\"-a\", \"b\"};
+ ModuleName = \"PSDesiredStateConfiguration\";
+ ModuleVersion = \"1.0\";
+ ConfigurationName = \"Demo\";
+};
+instance of OMI_ConfigurationDocument
+{
+ Version = \"2.0.0\";
+ Name = \"Demo\";
+};
+";
+
 // An answer for each reason, and for places at which one ends and another begins.
 const ANSWERS: &[Case] = &[
     (DEMO, "web3", Wanted::NoNode),
@@ -72,9 +87,9 @@ const ANSWERS: &[Case] = &[
         Wanted::UnknownKind(0),
     ),
     (
-        "Configuration D { Node a { Command S { } } }",
+        "Configuration Demo { Node a { command S { TestArguments = @('-a', 'b') } } }",
         "a",
-        Wanted::UnknownKind(0),
+        Wanted::Text(COMMAND_S),
     ),
     ("Configuration D { }", "a", Wanted::NoNode),
     ("Configuration D {", "a", Wanted::Shape(0)),

@@ -73,7 +73,7 @@ impl<S: Read + Write + OpenStream + AsRawFd + Drop> Departures<S> {
         false
     }
 
-    /// Takes one that was served, with what its peer has not taken of its answer.
+    /// Takes one that was served, with what its peer has not taken of its answer; out of memory it is closed, and nothing of it is kept.
     pub fn add(&mut self, mut served: Outgoing<S>, left: Vec<u8>) {
         if self.list.len() >= MOST_OUTGOING {
             return;
@@ -81,8 +81,12 @@ impl<S: Read + Write + OpenStream + AsRawFd + Drop> Departures<S> {
         if !left.is_empty() {
             served.answer = self.answers.keep(left);
         }
-        self.busy = true;
-        let _ = self.list.push(served);
+        let kept = served.answer;
+        if self.list.push(served).is_ok() {
+            self.busy = true;
+        } else if let Some(number) = kept {
+            self.answers.release(number);
+        }
     }
 
     /// Does what can be done at once for each, and closes those that are ended, or whose time is over.
