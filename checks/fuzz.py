@@ -2,7 +2,7 @@
 import collections, json, multiprocessing, os, random, re, select, shutil, socket, subprocess, sys, tempfile, threading, time
 
 from fuzz_forks import Program
-from fuzz_inputs import BANK, BEGIN, BYTES, HEADER, changed, documents, made, metas, store_of, text_of
+from fuzz_inputs import BANK, BEGIN, BYTES, HEADER, TEXTS, changed, documents, made, metas, scripts, store_of, text_of
 from protocol import (PHRASES, answer, content, fetch, free_port, in_chunks, module, node, query, register, registration, report, request, statuses)
 
 AGENT = '00000000-0000-0000-0000-000000000010'
@@ -10,8 +10,9 @@ BATCH = 200  # requests that are sent side by side, beside OTHERS inputs of each
 OTHERS = 10
 CONNECTIONS = 100 * BATCH  # of one server
 REFUSED = re.compile(rb'refused [A-Z][A-Za-z]*( [^\n]*)?\n')
+REFUSED_PULL = {4: re.compile(rb'refused HostFault\n'), 6: re.compile(rb'refused PeerRefused [^\n]*\n')}
 START = {0, 1, 7, 9, 10, 11}
-STAYING = {'check', 'order', 'test', 'canon', 'init', 'meta', 'get', 'reports', 'register', 'remove'}  # the commands that leave the host
+STAYING = {'check', 'order', 'test', 'canon', 'compile', 'rehearse', 'init', 'meta', 'get', 'reports', 'register', 'remove'}  # the commands that leave the host
 MANAGER = ('instance of MSFT_DSCMetaConfiguration{RefreshMode="Pull";ConfigurationMode="ApplyAndAutoCorrect";};'
            'instance of MSFT_WebDownloadManager{ServerURL="%s";RegistrationKey="k0";%s};instance of MSFT_WebReportManager{ServerURL="%s";};')
 PARTS = ''.join('instance of MSFT_PartialConfiguration{ResourceID="[PartialConfiguration]%s";};' % name for name in ('A', 'B'))
@@ -36,6 +37,11 @@ def bytes_of(path):
 def write(path, data):
     with open(path, 'wb') as file:
         file.write(data)
+
+# Whether the document of an answer may have a module with a line feed in its name, of which a folder host keeps no package.
+def names_no_package(sent):
+    body = sent.partition(b'\r\n\r\n')[2].lower()
+    return b'modulename' in body and any(it in body for it in (b'\n', b'\\n', b'\\x'))
 
 # What a folder holds, but for the packages, which stay where a later answer is refused.
 def listing(folder):
@@ -175,8 +181,8 @@ class Worker:
         self.__dict__.update(options)
         self.number, self.folder = number, '%s/%d' % (self.scratch, number)
         self.store, self.host, self.server = self.folder + '/store', self.folder + '/host', None
-        self.counts, self.ends, self.failed, self.documents, self.metas = {}, {}, 0, documents(), metas()
-        self.kinds = (self.document, self.meta, self.stored, self.answers) * OTHERS + (self.requests,)
+        self.counts, self.ends, self.failed, self.documents, self.metas, self.scripts = {}, {}, 0, documents(), metas(), scripts()
+        self.kinds = (self.document, self.meta, self.script, self.stored, self.answers) * OTHERS + (self.requests,)
         os.makedirs(self.folder)
         self.node = Program(self.program, [os.open('%s/%s' % (self.folder, name), os.O_RDWR | os.O_CREAT) for name in ('input', 'output', 'errors')], self.folder)
         self.make_templates()
@@ -318,6 +324,20 @@ class Worker:
         demand(status == 0 or bytes_of(self.store) == self.before, 'the store has changed')
         demand(self.run({0}, 'get')[1], 'no lines')
 
+    # What a script gives is a document, and a canonical text.
+    def script(self, rng):
+        text = self.input = changed(rng, rng.choice(self.scripts), self.scripts, TEXTS)
+        self.before = self.bare
+        write(self.store, self.bare)
+        self.new_host()
+        status, out = self.run({0, 3}, 'compile', rng.choice(('web1', 'n', 'B')), text=text)
+        if status == 3:
+            demand(REFUSED.fullmatch(out), 'the line', output=out)
+        else:
+            self.run({0}, 'check', text=out)
+            demand(self.run({0}, 'canon', text=out)[1] == out, 'the text is no canonical text', output=out)
+        demand(bytes_of(self.store) == self.bare and self.is_same(), 'the store or the host has changed')
+
     def stored(self, rng):
         store = self.before = store_of(rng, self.stores)
         write(self.store, store)
@@ -365,9 +385,10 @@ class Worker:
             plan[at] = answer(200, changed(rng, body, plan, BYTES), ('Content-Type: application/json',))
         self.input = b'\n----\n'.join(plan)
         self.peer.plan = plan
-        status, out = self.run({0, 6} if command == 'register' else {0, 1, 6}, command, *(['n'] if command == 'register' else []))
-        if status == 6:
-            demand(re.fullmatch(rb'refused PeerRefused [^\n]*\n', out), 'the line', output=out)
+        ends = {0, 6} if command == 'register' else {0, 1, 6} | ({4} if any(map(names_no_package, plan)) else set())
+        status, out = self.run(ends, command, *(['n'] if command == 'register' else []))
+        if status in REFUSED_PULL:
+            demand(REFUSED_PULL[status].fullmatch(out), 'the line', output=out)
             demand(bytes_of(self.store) == self.before and self.is_same(), 'the store or the host has changed', output=out)
         demand(self.run({0}, 'get')[1], 'no lines')
 

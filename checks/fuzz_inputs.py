@@ -47,6 +47,9 @@ def files(*patterns):
 def documents():
     return rows(DOCUMENTS) + files('examples/*.mof', 'examples/shelf/configurations/*')
 
+def scripts():
+    return rows(('compile',)) + files('examples/*.ps1')
+
 def metas():
     return rows(METAS) + files('examples/*.meta.mof')
 

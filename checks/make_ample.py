@@ -422,6 +422,86 @@ def metas():
     case("a key of 261,144 characters", "meta", settings + report, 0, "ok\n")
 
 
+# ---- configuration scripts
+
+SCRIPT_LIMIT = 8_388_608  # the most bytes of a script
+SCRIPT_SLOW = 5  # seconds that one may take
+
+
+def written(resources, name="D"):
+    """The document of a configuration of that name: its resources by kind, class, name and the lines of their properties."""
+    last = f' ModuleName = "PSDesiredStateConfiguration";\n ModuleVersion = "1.0";\n ConfigurationName = "{name}";\n}};\n'
+    head = f'instance of OMI_ConfigurationDocument\n{{\n Version = "2.0.0";\n Name = "{name}";\n}};\n'
+    return "".join(f'instance of {class_}\n{{\n ResourceID = "[{kind}]{id_}";\n{lines}{last}' for kind, class_, id_, lines in resources) + head
+
+
+def compiled(name, script, status, lines, node="a"):
+    case(name, f"compile {node}", script, status, lines, SCRIPT_SLOW)
+
+
+def logs(count, lines=""):
+    return [("Log", "MSFT_LogResource", str(n), lines) for n in range(count)]
+
+
+def scripts():
+    """Scripts of 8 MB that must not take long, and what stands at their ends."""
+    begin, end = "Configuration D { ", "}"
+    node = begin + "Node a { "
+    room = SCRIPT_LIMIT - 1024
+    for count in (0, 1, 2, 40, 300, 4096):
+        blocks = "".join(f"Log {n} {{ Message = 'it''s {n}' }}\n" for n in range(count))
+        wanted = [("Log", "MSFT_LogResource", str(n), f' Message = "it\'s {n}";\n') for n in range(count)]
+        blocks = blocks.replace("Log ", "Log '").replace(" { Message", "' { Message")
+        compiled(f"a script of {count} resources", node + blocks + "} }", 0, written(wanted))
+        others = "Node b { Log x { } } " * (room // 30)
+        compiled(f"{count} resources after the blocks of other nodes", begin + others + "Node a { " + blocks + "} }", 0, written(wanted))
+    # the limits of a document: the 4,098th instance begins with the header
+    blocks = "".join(f"Log '{n}' {{ }}\n" for n in range(4097))
+    text = written(logs(4097))
+    compiled("4097 resources", node + blocks + "} }", 3, f"refused Compile Part 0 TooMany {text.rindex('instance of')}\n")
+    compiled("100,000 resources", node + "Log A{}" * 100_000 + "} }", 3, "refused Compile Part 0 TooLong\n")
+    compiled("two resources of one id", node + "Log A{} Log a{} } }", 3, "refused Compile Part 0 DuplicateId 0 1\n")
+    digits = "9" * 1_000_000
+    place = written([("Log", "MSFT_LogResource", "A", " X = 9;\n")]).index("9;")
+    compiled("an integer of a million digits", node + f"Log A {{ X = {digits} }} }} }}", 3, f"refused Compile Part 0 NumberRange {place}\n")
+    compiled("an integer of 8 MB", node + f"Log A {{ X = {'9' * room} }} }} }}", 3, "refused Compile Part 0 TooLong\n")
+    place = written([("Log", "MSFT_LogResource", "A", " X = 9;\n")]).index("X = 9")
+    compiled("a name of 256 characters", node + f"Log A {{ {'n' * 256} = 9 }} }} }}", 3, f"refused Compile Part 0 TooMany {place}\n")
+    quotes = 500_000
+    text = written([("Log", "MSFT_LogResource", "A", f' X = "{chr(39) * quotes}";\n')])
+    compiled("a text of 500,000 quotes", node + f"Log A {{ X = '{chr(39) * 2 * quotes}' }} }} }}", 0, text)
+    text = written([("Log", "MSFT_LogResource", "A", ' X = "' + "ä\\n" * 200_000 + '";\n')])
+    compiled("a text of 200,000 lines", node + 'Log A { X = "' + "ä\n" * 200_000 + '" } } }', 0, text)
+    elements = ", ".join(["-5"] * 4096)
+    text = written([("Log", "MSFT_LogResource", "A", f" X = {{{elements}}};\n")])
+    compiled("an array of 4096", node + f"Log A {{ X = @({elements}) }} }} }}", 0, text)
+    # many of one thing
+    compiled("a million blocks", begin + "Node a{}" * 1_000_000 + end, 0, written([]))
+    compiled("a million blocks of another node", begin + "Node a{}" * 1_000_000 + end, 3, "refused Compile NoNode\n", "b")
+    compiled("a million names", begin + "Node " + "b," * 1_000_000 + "a {} }", 0, written([]))
+    compiled("two million names, none of them it", begin + "Node " + "b," * 2_000_000 + "b {} }", 3, "refused Compile NoNode\n")
+    compiled("two million semicolons", node + "Log A { " + ";" * 2_000_000 + "} } }", 0, written(logs(1)).replace("]0", "]A"))
+    # what is no script, on what line
+    lines = room // 2
+    compiled("an open text of 8 MB", node + "Log '" + "x\n" * lines, 3, f"refused Compile Shape {lines}\n")
+    compiled("an open text after lines", "\n" * lines + node + 'Log "' + "x" * (lines - 100), 3, f"refused Compile Shape {lines}\n")
+    compiled("a comment of 8 MB", "#" + "x" * room, 3, "refused Compile Shape 0\n")
+    compiled("four million comments", "#\n" * lines, 3, f"refused Compile Shape {lines}\n")
+    compiled("nested braces", begin + "\n" + "{\n" * lines, 3, "refused Compile Shape 1\n")
+    compiled("nested arrays", node + "Log A { X = " + "@(" * lines, 3, "refused Compile Shape 0\n")
+    compiled("8 MB of spaces", " " * SCRIPT_LIMIT, 3, "refused Compile Shape 0\n")
+    compiled("8 MB of line feeds", "\n" * SCRIPT_LIMIT, 3, f"refused Compile Shape {SCRIPT_LIMIT}\n")
+    compiled("one byte more", " " * (SCRIPT_LIMIT + 1), 3, "refused TooLong\n")
+    compiled("a word of 8 MB", "C" * room, 3, "refused Compile Shape 0\n")
+    compiled("something after the script", begin + end + "\n" * lines + "x", 3, f"refused Compile Shape {lines}\n")
+    good = begin + "Node a { Log A { }\n" + "# \n" * (room // 3)
+    feeds = good.count("\n")
+    compiled("an unknown kind after 8 MB", good + "Service S { } } }", 3, f"refused Compile UnknownKind {feeds}\n")
+    compiled("a reserved property after 8 MB", good + "Log S { ResourceID = 1 } } }", 3, f"refused Compile Reserved {feeds}\n")
+    bad = good.encode() + b"\xff"
+    compiled("no character after 8 MB", bad, 3, f"refused Compile NotText {len(bad) - 1}\n")
+
+
 documents()
 starts()
 metas()
@@ -432,4 +512,5 @@ refusals()
 utf16()
 hostile()
 generated()
+scripts()
 cases.close()

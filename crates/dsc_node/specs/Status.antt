@@ -1,5 +1,5 @@
--- The exit statuses.
-use Rattle.std.specs.Prelude.{ℕ, true, false}
+-- The exit statuses, and the names of how the program ends.
+use Rattle.std.specs.Prelude.{ℕ, List, true, false, codes}
 use Rattle.dsc_node.specs.declared.status.Status.{Status}
 use Rattle.dsc_node.specs.declared.status.Status.TheVariants.{Done, NotCompliant, Usage, InputRefused, ReadFault, WriteFault, DiskFault, ClockFault, LinkFault, HostFault, NotAStore, PeerRefused, NotAllowed, RebootWaiting, RebootAsked, Memory}
 
@@ -21,3 +21,22 @@ number_of Memory = 8
 number_of RebootWaiting = 9
 number_of (RebootAsked index false) = 10
 number_of (RebootAsked index true) = 11
+
+-- the name of a status, without its values
+abbrev pub name_of : Status → List ℕ
+name_of Done = codes "Done"
+name_of (NotCompliant count) = codes "NotCompliant"
+name_of (Usage word) = codes "Usage"
+name_of (InputRefused error) = codes "InputRefused"
+name_of ReadFault = codes "ReadFault"
+name_of WriteFault = codes "WriteFault"
+name_of DiskFault = codes "DiskFault"
+name_of ClockFault = codes "ClockFault"
+name_of LinkFault = codes "LinkFault"
+name_of HostFault = codes "HostFault"
+name_of (NotAStore at) = codes "NotAStore"
+name_of (PeerRefused fault) = codes "PeerRefused"
+name_of (NotAllowed why) = codes "NotAllowed"
+name_of RebootWaiting = codes "RebootWaiting"
+name_of (RebootAsked index now) = codes "RebootAsked"
+name_of Memory = codes "Memory"

@@ -31,7 +31,7 @@
 //!   `specs/Converging.antt`, `proofs/Converging.antt`
 //! - what is printed of a run, and that it spells one trace: `src/lines.rt`, `specs/Lines.antt`,
 //!   `specs/LineLaws.antt`; what `get` and `reports` print: `specs/Shown.antt`, `src/showing.rt`
-//! - exit statuses: `src/status.rt`, `specs/Status.antt`
+//! - exit statuses, and their names: `src/status.rt`, `specs/Status.antt`
 #![tactic(auto)]
 
 mod allowing;

@@ -1,7 +1,8 @@
 //! How the program ends.
 ghost use Rattle.std.specs.Prelude.{◌≡◌};
-ghost use Rattle.dsc_node.specs.Status.{number_of};
+ghost use Rattle.dsc_node.specs.Status.{name_of, number_of};
 
+use config_script::CompileError;
 use meta_config::MetaError;
 use mof_codec::MofError;
 use mof_values::Items;
@@ -12,8 +13,8 @@ use partial_merge::MergeError;
 /// Why the input was refused.
 #[derive(Debug, Drop, PartialEq)]
 pub enum InputError {
-    /// It is longer than the command takes: 2,097,152 bytes of a document, 262,144 bytes of a meta-configuration, 67,108,864
-    /// bytes for a checksum.
+    /// It is longer than the command takes: 2,097,152 bytes of a document, 262,144 bytes of a meta-configuration, 8,388,608
+    /// bytes of a configuration script, 4,194,304 bytes of a rehearsal, 67,108,864 bytes for a checksum.
     TooLong,
 
     /// It spells no instances. `MofError::TooLong` and `MofError::Memory` are never reported so.
@@ -34,6 +35,14 @@ pub enum InputError {
 
     /// That list has more than 16,777,216 bytes together: this many.
     ListTooLong { bytes: u64 },
+
+    /// It is no script that gives the node a document. `CompileError::TooLong` and `CompileError::Memory` are never reported
+    /// so.
+    Compile(CompileError),
+
+    /// It is no script of a rehearsal: the first line, counted from 0, that is in no form or names an unknown text, or the
+    /// number of the lines where a text does not end.
+    Script { line: u32 },
 }
 
 /// How the program ended.
@@ -87,6 +96,30 @@ pub enum Status {
 }
 
 impl Status {
+    /// The name of the status, without its values.
+    pub fn name(&self) -> &'static str
+        ensures { result.now ≡ name_of self.now }
+    {
+        match self {
+            Status::Done => "Done",
+            Status::NotCompliant { .. } => "NotCompliant",
+            Status::Usage { .. } => "Usage",
+            Status::InputRefused(_) => "InputRefused",
+            Status::ReadFault => "ReadFault",
+            Status::WriteFault => "WriteFault",
+            Status::DiskFault => "DiskFault",
+            Status::ClockFault => "ClockFault",
+            Status::LinkFault => "LinkFault",
+            Status::HostFault => "HostFault",
+            Status::NotAStore { .. } => "NotAStore",
+            Status::PeerRefused(_) => "PeerRefused",
+            Status::NotAllowed(_) => "NotAllowed",
+            Status::RebootWaiting => "RebootWaiting",
+            Status::RebootAsked { .. } => "RebootAsked",
+            Status::Memory => "Memory",
+        }
+    }
+
     /// The exit status of the program.
     pub fn number(&self) -> u8
         ensures { result ≡ number_of self.now }

@@ -8,7 +8,7 @@ use Rattle.meta_config.specs.Parts.{IsOrderOfParts}
 use Rattle.dsc_node.specs.declared.command.Command.{Command as StartCommand}
 use Rattle.dsc_node.specs.declared.command.Command.TheVariants as commands
 use Rattle.dsc_node.specs.declared.status.InputError.{InputError}
-use Rattle.dsc_node.specs.declared.status.InputError.TheVariants.{TooLong, Mof, Merge, Meta, Parts, Fit, ListTooLong}
+use Rattle.dsc_node.specs.declared.status.InputError.TheVariants.{TooLong, Mof, Merge, Meta, Parts, Fit, ListTooLong, Compile, Script}
 use Rattle.dsc_node.specs.declared.status.Status.{Status}
 use Rattle.dsc_node.specs.declared.status.Status.TheVariants as statuses
 use Rattle.dsc_node.specs.Complete.{IsEndOf, IsEndOfRun, IsValid, ValidStartsComplete}
@@ -48,6 +48,8 @@ module _ (one : BytesMeanOne) where
       (subst (λ (m : declared.Meta). IsOrderOfParts m is.ordered.0) (one all meta refused.meta is.means refused.means) is.ordered.1)
   never_refused all meta (Fit error) is refused = refused
   never_refused all meta (ListTooLong bytes) is refused = refused
+  never_refused all meta (Compile reason) is refused = refused
+  never_refused all meta (Script line) is refused = refused
 
   meta_is_one : IsOneValue ReadsMeta
   meta_is_one = record {
@@ -151,6 +153,7 @@ module _ {S K D M L C : Type 0} (o : Known S K D M L C) (further : Further D M C
   good_completes words.Order row start by good = absurd by
   good_completes words.Canon row start by good = absurd by
   good_completes words.Checksum row start by good = absurd by
+  good_completes (words.Compile node) row start by good = absurd by
   good_completes (words.Generate count) row start by good = absurd by
   good_completes (words.Init agent) row start by good = row_completes (commands.Init agent) start by good row
   good_completes words.Meta row start by good =

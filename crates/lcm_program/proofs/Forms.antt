@@ -9,7 +9,7 @@ use Rattle.uuid.proofs.OnLiterals.{uuid_on_literals}
 use Rattle.node_state.specs.declared.event.Stage.{Stage}
 use Rattle.node_state.specs.declared.event.Stage.TheVariants.{Pending, Current, Previous}
 use Rattle.lcm_program.specs.declared.words.Command.{Command}
-use Rattle.lcm_program.specs.declared.words.Command.TheVariants.{Test, Check, Order, Canon, Checksum, Generate, Init, Meta, Register, Pull, Push, Consistency, Boot, Get, Restore, Remove, Reports}
+use Rattle.lcm_program.specs.declared.words.Command.TheVariants.{Test, Check, Order, Canon, Checksum, Compile, Generate, Init, Meta, Register, Pull, Push, Consistency, Boot, Get, Restore, Remove, Reports}
 use Rattle.lcm_program.specs.Words.{IsAgent, IsCount, IsForm, IsInRange, IsName, IsStage, IsUsage, agent_of}
 
 -- the first letter of an argument, and that of the first argument, which distinguishes the commands that take another argument from all others
@@ -38,6 +38,7 @@ named_stage word Previous is = ap stage_of is
 
 -- the command, where it has a name with that name at no place of its own
 abbrev pub plain : Command → Command
+plain (Compile node) = Compile (record { ref_ptr = (0, 0); now = node.now })
 plain (Register name) = Register (record { ref_ptr = (0, 0); now = name.now })
 plain (Push (Some name)) = Push (Some (record { ref_ptr = (0, 0); now = name.now }))
 plain command = command
@@ -56,6 +57,7 @@ asked arguments =
     if bytes_eq first (codes "order") then Order else
     if bytes_eq first (codes "canon") then Canon else
     if bytes_eq first (codes "checksum") then Checksum else
+    if bytes_eq first (codes "compile") then Compile (record { ref_ptr = (0, 0); now = get_or arguments 1 [] }) else
     if bytes_eq first (codes "meta") then Meta else
     if bytes_eq first (codes "pull") then Pull else
     if bytes_eq first (codes "push") then push_of (drop 1 arguments) else
@@ -76,6 +78,7 @@ form_asks Check arguments form = ap asked form
 form_asks Order arguments form = ap asked form
 form_asks Canon arguments form = ap asked form
 form_asks Checksum arguments form = ap asked form
+form_asks (Compile node) arguments (is, named) = ap asked is
 form_asks (Generate count) arguments (word, is, counted) =
     ap asked is ∙ ap (λ (n : ℕ). Generate n) (ap (digits_value 10) counted.0 ∙ digits_value-decimal (numerals_by_value _ tells_digits) count (omega (arith, counted.2)))
 form_asks (Init agent) arguments (word, is, named) = ap asked is ∙ ap (λ found. Init (unwrap_or found 0)) named
@@ -101,6 +104,7 @@ in_range Check arguments form = tt
 in_range Order arguments form = tt
 in_range Canon arguments form = tt
 in_range Checksum arguments form = tt
+in_range (Compile node) arguments form = tt
 in_range (Generate count) arguments form = (form.2.1, form.2.2)
 in_range (Init agent) arguments form = tt
 in_range Meta arguments form = tt
@@ -118,7 +122,7 @@ in_range Reports arguments form = tt
 
 -- the argument of a command that takes another, or may take one
 abbrev pub TakesWord : List ℕ → Type 0
-TakesWord first = (first ≡ codes "generate") ⊎ ((first ≡ codes "init") ⊎ ((first ≡ codes "remove") ⊎ ((first ≡ codes "register") ⊎ (first ≡ codes "push"))))
+TakesWord first = (first ≡ codes "generate") ⊎ ((first ≡ codes "init") ⊎ ((first ≡ codes "remove") ⊎ ((first ≡ codes "register") ⊎ ((first ≡ codes "push") ⊎ (first ≡ codes "compile")))))
 
 -- a text has these bytes, and was compared with this word, which it is not
 abbrev pub Differs : List ℕ → List ℕ → Type 0
@@ -127,15 +131,17 @@ Differs bytes name = (text : List ℕ) × (text ≡ bytes) × (false ≡ bytes_e
 differs : (bytes name : List ℕ) → Differs bytes name → bytes ≡ name → ⊥
 differs bytes name (text, same, unlike) is = true≢false (sym ((bytes_eq-Decides text name).1 (same ∙ is)) ∙ sym unlike)
 
--- an argument that is none of the five takes no other
+-- an argument that is none of the six takes no other
 pub takes_none : (first bytes : List ℕ) → first ≡ bytes → Differs bytes (codes "generate") → Differs bytes (codes "init") → Differs bytes (codes "register")
-    → Differs bytes (codes "remove") → Differs bytes (codes "push") → TakesWord first → ⊥
-takes_none first bytes same generate init register remove push takes = elim takes [
+    → Differs bytes (codes "remove") → Differs bytes (codes "push") → Differs bytes (codes "compile")
+    → TakesWord first → ⊥
+takes_none first bytes same generate init register remove push compile takes = elim takes [
   | inl is ↦ differs bytes _ generate (sym same ∙ is)
   | inr (inl is) ↦ differs bytes _ init (sym same ∙ is)
   | inr (inr (inl is)) ↦ differs bytes _ remove (sym same ∙ is)
   | inr (inr (inr (inl is))) ↦ differs bytes _ register (sym same ∙ is)
-  | inr (inr (inr (inr is))) ↦ differs bytes _ push (sym same ∙ is)
+  | inr (inr (inr (inr (inl is)))) ↦ differs bytes _ push (sym same ∙ is)
+  | inr (inr (inr (inr (inr is)))) ↦ differs bytes _ compile (sym same ∙ is)
 ]
 
 -- any other form is an argument alone
@@ -146,13 +152,14 @@ form_parts Check first rest form = inl (ap (take 1) form, ap (drop 1) form)
 form_parts Order first rest form = inl (ap (take 1) form, ap (drop 1) form)
 form_parts Canon first rest form = inl (ap (take 1) form, ap (drop 1) form)
 form_parts Checksum first rest form = inl (ap (take 1) form, ap (drop 1) form)
+form_parts (Compile node) first rest (is, named) = inr (inr (inr (inr (inr (inr (ap (λ arguments. get_or arguments 0 []) is))))))
 form_parts (Generate count) first rest (word, is, counted) = inr (inl (ap (λ arguments. get_or arguments 0 []) is))
 form_parts (Init agent) first rest (word, is, named) = inr (inr (inl (ap (λ arguments. get_or arguments 0 []) is)))
 form_parts Meta first rest form = inl (ap (take 1) form, ap (drop 1) form)
 form_parts (Register name) first rest (is, named) = inr (inr (inr (inr (inl (ap (λ arguments. get_or arguments 0 []) is)))))
 form_parts Pull first rest form = inl (ap (take 1) form, ap (drop 1) form)
-form_parts (Push None) first rest form = inr (inr (inr (inr (inr (ap (λ arguments. get_or arguments 0 []) form)))))
-form_parts (Push (Some name)) first rest (is, named) = inr (inr (inr (inr (inr (ap (λ arguments. get_or arguments 0 []) is)))))
+form_parts (Push None) first rest form = inr (inr (inr (inr (inr (inl (ap (λ arguments. get_or arguments 0 []) form))))))
+form_parts (Push (Some name)) first rest (is, named) = inr (inr (inr (inr (inr (inl (ap (λ arguments. get_or arguments 0 []) is))))))
 form_parts Consistency first rest form = inl (ap (take 1) form, ap (drop 1) form)
 form_parts Boot first rest form = inl (ap (take 1) form, ap (drop 1) form)
 form_parts Get first rest form = inl (ap (take 1) form, ap (drop 1) form)
@@ -166,6 +173,7 @@ some_word Check arguments form = omega (arith, ap length form)
 some_word Order arguments form = omega (arith, ap length form)
 some_word Canon arguments form = omega (arith, ap length form)
 some_word Checksum arguments form = omega (arith, ap length form)
+some_word (Compile node) arguments (is, named) = omega (arith, ap length is)
 some_word (Generate count) arguments (word, is, counted) = omega (arith, ap length is)
 some_word (Init agent) arguments (word, is, named) = omega (arith, ap length is)
 some_word Meta arguments form = omega (arith, ap length form)
@@ -286,6 +294,7 @@ generate_form Check rest form = absurd (omega (arith, ap first_letter form))
 generate_form Order rest form = absurd (omega (arith, ap first_letter form))
 generate_form Canon rest form = absurd (omega (arith, ap first_letter form))
 generate_form Checksum rest form = absurd (omega (arith, ap first_letter form))
+generate_form (Compile node) rest (is, named) = absurd (omega (arith, ap first_letter is))
 generate_form (Generate count) rest (word, is, counted) = (word, ap (drop 1) is, (count, counted))
 generate_form (Init agent) rest (word, is, named) = absurd (omega (arith, ap first_letter is))
 generate_form Meta rest form = absurd (omega (arith, ap first_letter form))
@@ -313,6 +322,7 @@ init_form Check rest form = absurd (omega (arith, ap first_letter form))
 init_form Order rest form = absurd (omega (arith, ap first_letter form))
 init_form Canon rest form = absurd (omega (arith, ap first_letter form))
 init_form Checksum rest form = absurd (omega (arith, ap first_letter form))
+init_form (Compile node) rest (is, named) = absurd (omega (arith, ap first_letter is))
 init_form (Generate count) rest (word, is, counted) = absurd (omega (arith, ap first_letter is))
 init_form (Init agent) rest (word, is, named) = (word, ap (drop 1) is, (agent, named))
 init_form Meta rest form = absurd (omega (arith, ap first_letter form))
@@ -347,6 +357,7 @@ remove_form Check rest form = absurd (omega (arith, ap first_letter form))
 remove_form Order rest form = absurd (omega (arith, ap first_letter form))
 remove_form Canon rest form = absurd (omega (arith, ap first_letter form))
 remove_form Checksum rest form = absurd (omega (arith, ap first_letter form))
+remove_form (Compile node) rest (is, named) = absurd (omega (arith, ap first_letter is))
 remove_form (Generate count) rest (word, is, counted) = absurd (omega (arith, ap first_letter is))
 remove_form (Init agent) rest (word, is, named) = absurd (omega (arith, ap first_letter is))
 remove_form Meta rest form = absurd (omega (arith, ap first_letter form))
@@ -371,6 +382,7 @@ register_form Check rest form = absurd (omega (arith, ap first_letter form))
 register_form Order rest form = absurd (omega (arith, ap first_letter form))
 register_form Canon rest form = absurd (omega (arith, ap first_letter form))
 register_form Checksum rest form = absurd (omega (arith, ap first_letter form))
+register_form (Compile node) rest (is, named) = absurd (omega (arith, ap first_letter is))
 register_form (Generate count) rest (word, is, counted) = absurd (omega (arith, ap first_letter is))
 register_form (Init agent) rest (word, is, named) = absurd (omega (arith, ap first_letter is))
 register_form Meta rest form = absurd (omega (arith, ap first_letter form))
@@ -388,12 +400,38 @@ register_form Reports rest form = absurd (omega (arith, ap first_length form))
 pub some_register : (word : List ℕ) × (command : Command) × IsForm command (codes "register" ∷ word ∷ [])
 some_register = (codes "n", Register (record { ref_ptr = (0, 0); now = codes "n" }), (refl, (omega arith, omega arith)))
 
+pub compile_form : (command : Command) (rest : List (List ℕ)) → IsForm command (codes "compile" ∷ rest)
+    → (word : List ℕ) × (rest ≡ word ∷ []) × IsName word
+compile_form Test rest form = absurd (omega (arith, ap first_letter form))
+compile_form Check rest form = absurd (omega (arith, ap first_length form))
+compile_form Order rest form = absurd (omega (arith, ap first_letter form))
+compile_form Canon rest form = absurd (omega (arith, ap first_length form))
+compile_form Checksum rest form = absurd (omega (arith, ap first_length form))
+compile_form (Compile node) rest (is, named) = (node.now, ap (drop 1) is, named)
+compile_form (Generate count) rest (word, is, counted) = absurd (omega (arith, ap first_letter is))
+compile_form (Init agent) rest (word, is, named) = absurd (omega (arith, ap first_letter is))
+compile_form Meta rest form = absurd (omega (arith, ap first_letter form))
+compile_form (Register name) rest (is, named) = absurd (omega (arith, ap first_letter is))
+compile_form Pull rest form = absurd (omega (arith, ap first_letter form))
+compile_form (Push None) rest form = absurd (omega (arith, ap first_letter form))
+compile_form (Push (Some name)) rest (is, named) = absurd (omega (arith, ap first_letter is))
+compile_form Consistency rest form = absurd (omega (arith, ap first_length form))
+compile_form Boot rest form = absurd (omega (arith, ap first_letter form))
+compile_form Get rest form = absurd (omega (arith, ap first_letter form))
+compile_form Restore rest form = absurd (omega (arith, ap first_letter form))
+compile_form (Remove stage) rest (word, is, named) = absurd (omega (arith, ap first_letter is))
+compile_form Reports rest form = absurd (omega (arith, ap first_letter form))
+
+pub some_compile : (word : List ℕ) × (command : Command) × IsForm command (codes "compile" ∷ word ∷ [])
+some_compile = (codes "n", Compile (record { ref_ptr = (0, 0); now = codes "n" }), (refl, (omega arith, omega arith)))
+
 pub push_form : (command : Command) (word : List ℕ) (more : List (List ℕ)) → IsForm command (codes "push" ∷ word ∷ more) → (more ≡ []) × IsName word
 push_form Test word more form = absurd (omega (arith, ap length form))
 push_form Check word more form = absurd (omega (arith, ap length form))
 push_form Order word more form = absurd (omega (arith, ap length form))
 push_form Canon word more form = absurd (omega (arith, ap length form))
 push_form Checksum word more form = absurd (omega (arith, ap length form))
+push_form (Compile node) word more (is, named) = absurd (omega (arith, ap first_letter is))
 push_form (Generate count) word more (given, is, counted) = absurd (omega (arith, ap first_letter is))
 push_form (Init agent) word more (given, is, named) = absurd (omega (arith, ap first_letter is))
 push_form Meta word more form = absurd (omega (arith, ap length form))

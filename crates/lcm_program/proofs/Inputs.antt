@@ -44,7 +44,7 @@ longer left now taken p above =
 
 -- ---- one reading in place of another
 
-weaker : {A B : Type 0} (P : Reading A) (Q : Reading B) → ((all : List ℕ) (error : InputError) → P all (Err error) → Q all (Err error))
+pub weaker : {A B : Type 0} (P : Reading A) (Q : Reading B) → ((all : List ℕ) (error : InputError) → P all (Err error) → Q all (Err error))
     → (e : Unread) (left : Option (List ℕ)) (before now : ℕ) → IsUnread P e left before now → IsUnread Q e left before now
 weaker P Q f (unread.Refused error) left before now cause =
     record { all = cause.all; input_is = cause.input_is; is_answer = f cause.all error cause.is_answer }

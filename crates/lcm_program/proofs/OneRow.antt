@@ -2,7 +2,7 @@
 use Rattle.std.proofs.Common.{◌≡◌, ℕ, List, Some, None, refl, sym, subst}
 use Rattle.dsc_node.specs.declared.status.Status.{Status}
 use Rattle.lcm_program.specs.declared.words.Command.{Command}
-use Rattle.lcm_program.specs.declared.words.Command.TheVariants.{Test, Check, Order, Canon, Checksum, Generate, Init, Meta, Register, Pull, Push, Consistency, Boot, Get, Restore, Remove, Reports}
+use Rattle.lcm_program.specs.declared.words.Command.TheVariants.{Test, Check, Order, Canon, Checksum, Compile, Generate, Init, Meta, Register, Pull, Push, Consistency, Boot, Get, Restore, Remove, Reports}
 use Rattle.lcm_program.specs.Did.{Did}
 use Rattle.lcm_program.specs.Objects.{Known, Objects}
 use Rattle.lcm_program.specs.Further.{Further}
@@ -17,6 +17,7 @@ module _ {S K D M L C : Type 0} (o : Known S K D M L C) (further : Further D M C
   same_row Order = refl
   same_row Canon = refl
   same_row Checksum = refl
+  same_row (Compile node) = refl
   same_row (Generate count) = refl
   same_row (Init agent) = refl
   same_row Meta = refl

@@ -11,7 +11,7 @@ use Rattle.partial_merge.specs.Merged.{Merged}
 use Rattle.partial_merge.specs.Parts.{IsWhole}
 use Rattle.partial_merge.proofs.OneMerge.{never_both, one_refusal}
 use Rattle.dsc_node.specs.declared.status.InputError.{InputError}
-use Rattle.dsc_node.specs.declared.status.InputError.TheVariants.{TooLong, Mof, Merge, Meta, Parts, Fit, ListTooLong}
+use Rattle.dsc_node.specs.declared.status.InputError.TheVariants.{TooLong, Mof, Merge, Meta, Parts, Fit, ListTooLong, Compile, Script}
 use Rattle.dsc_node.specs.declared.status.Status.{Status}
 use Rattle.dsc_node.specs.declared.status.Status.TheVariants.{InputRefused, ReadFault, Memory}
 use Rattle.lcm_program.specs.Answers.{Allows, EachAllows, UsesInput}
@@ -43,6 +43,8 @@ instances_decide all (Ok x) (Err (Meta f)) p q = q
 instances_decide all (Ok x) (Err (Parts w)) p q = q
 instances_decide all (Ok x) (Err (Fit w)) p q = q
 instances_decide all (Ok x) (Err (ListTooLong w)) p q = q
+instances_decide all (Ok x) (Err (Compile w)) p q = q
+instances_decide all (Ok x) (Err (Script w)) p q = q
 instances_decide all (Err TooLong) (Ok y) p q = omega (arith, q.within, p)
 instances_decide all (Err (Mof e)) (Ok y) p q = p.1.unspelled y q
 instances_decide all (Err (Merge e)) (Ok y) p q = p
@@ -50,6 +52,8 @@ instances_decide all (Err (Meta e)) (Ok y) p q = p
 instances_decide all (Err (Parts w)) (Ok y) p q = p
 instances_decide all (Err (Fit w)) (Ok y) p q = p
 instances_decide all (Err (ListTooLong w)) (Ok y) p q = p
+instances_decide all (Err (Compile w)) (Ok y) p q = p
+instances_decide all (Err (Script w)) (Ok y) p q = p
 instances_decide all (Err TooLong) (Err TooLong) p q = refl
 instances_decide all (Err TooLong) (Err (Mof f)) p q = absurd (omega (arith, p, q.0))
 instances_decide all (Err TooLong) (Err (Merge f)) p q = absurd q
@@ -57,6 +61,8 @@ instances_decide all (Err TooLong) (Err (Meta f)) p q = absurd q
 instances_decide all (Err TooLong) (Err (Parts w)) p q = absurd q
 instances_decide all (Err TooLong) (Err (Fit w)) p q = absurd q
 instances_decide all (Err TooLong) (Err (ListTooLong w)) p q = absurd q
+instances_decide all (Err TooLong) (Err (Compile w)) p q = absurd q
+instances_decide all (Err TooLong) (Err (Script w)) p q = absurd q
 instances_decide all (Err (Mof e)) (Err TooLong) p q = absurd (omega (arith, q, p.0))
 instances_decide all (Err (Mof e)) (Err (Mof f)) p q =
     ap (λ (x : MofError). Mof x) (refuses_once all e f p.1.caused q.1.caused p.1.refused q.1.refused)
@@ -65,11 +71,15 @@ instances_decide all (Err (Mof e)) (Err (Meta f)) p q = absurd q
 instances_decide all (Err (Mof e)) (Err (Parts w)) p q = absurd q
 instances_decide all (Err (Mof e)) (Err (Fit w)) p q = absurd q
 instances_decide all (Err (Mof e)) (Err (ListTooLong w)) p q = absurd q
+instances_decide all (Err (Mof e)) (Err (Compile w)) p q = absurd q
+instances_decide all (Err (Mof e)) (Err (Script w)) p q = absurd q
 instances_decide all (Err (Merge e)) (Err f) p q = absurd p
 instances_decide all (Err (Meta e)) (Err f) p q = absurd p
 instances_decide all (Err (Parts w)) (Err f) p q = absurd p
 instances_decide all (Err (Fit w)) (Err f) p q = absurd p
 instances_decide all (Err (ListTooLong w)) (Err f) p q = absurd p
+instances_decide all (Err (Compile w)) (Err f) p q = absurd p
+instances_decide all (Err (Script w)) (Err f) p q = absurd p
 
 -- a document is within the limit
 document_fits : (all : List ℕ) (d : Document) → Merged (parts_of all) d → length all ≤ input_limit
@@ -88,6 +98,8 @@ document_decides all (Ok x) (Err (Meta f)) p q = q
 document_decides all (Ok x) (Err (Parts w)) p q = q
 document_decides all (Ok x) (Err (Fit w)) p q = q
 document_decides all (Ok x) (Err (ListTooLong w)) p q = q
+document_decides all (Ok x) (Err (Compile w)) p q = q
+document_decides all (Ok x) (Err (Script w)) p q = q
 document_decides all (Err TooLong) (Ok y) p q = omega (arith, document_fits all y q, p)
 document_decides all (Err (Mof e)) (Ok y) p q = p
 document_decides all (Err (Merge e)) (Ok y) p q = never_both (parts_of all) y e p.cause q p.wins
@@ -95,6 +107,8 @@ document_decides all (Err (Meta e)) (Ok y) p q = p
 document_decides all (Err (Parts w)) (Ok y) p q = p
 document_decides all (Err (Fit w)) (Ok y) p q = p
 document_decides all (Err (ListTooLong w)) (Ok y) p q = p
+document_decides all (Err (Compile w)) (Ok y) p q = p
+document_decides all (Err (Script w)) (Ok y) p q = p
 document_decides all (Err TooLong) (Err TooLong) p q = refl
 document_decides all (Err TooLong) (Err (Mof f)) p q = absurd q
 document_decides all (Err TooLong) (Err (Merge f)) p q = absurd (omega (arith, p, q.fits))
@@ -102,6 +116,8 @@ document_decides all (Err TooLong) (Err (Meta f)) p q = absurd q
 document_decides all (Err TooLong) (Err (Parts w)) p q = absurd q
 document_decides all (Err TooLong) (Err (Fit w)) p q = absurd q
 document_decides all (Err TooLong) (Err (ListTooLong w)) p q = absurd q
+document_decides all (Err TooLong) (Err (Compile w)) p q = absurd q
+document_decides all (Err TooLong) (Err (Script w)) p q = absurd q
 document_decides all (Err (Mof e)) (Err f) p q = absurd p
 document_decides all (Err (Merge e)) (Err TooLong) p q = absurd (omega (arith, q, p.fits))
 document_decides all (Err (Merge e)) (Err (Mof f)) p q = absurd q
@@ -109,10 +125,14 @@ document_decides all (Err (Merge e)) (Err (Meta f)) p q = absurd q
 document_decides all (Err (Merge e)) (Err (Parts w)) p q = absurd q
 document_decides all (Err (Merge e)) (Err (Fit w)) p q = absurd q
 document_decides all (Err (Merge e)) (Err (ListTooLong w)) p q = absurd q
+document_decides all (Err (Merge e)) (Err (Compile w)) p q = absurd q
+document_decides all (Err (Merge e)) (Err (Script w)) p q = absurd q
 document_decides all (Err (Meta e)) (Err f) p q = absurd p
 document_decides all (Err (Parts w)) (Err f) p q = absurd p
 document_decides all (Err (Fit w)) (Err f) p q = absurd p
 document_decides all (Err (ListTooLong w)) (Err f) p q = absurd p
+document_decides all (Err (Compile w)) (Err f) p q = absurd p
+document_decides all (Err (Script w)) (Err f) p q = absurd p
 document_decides all (Err (Merge e)) (Err (Merge f)) p q =
     ap (λ (x : MergeError). Merge x) (one_refusal (parts_of all) e f p.cause q.cause p.wins q.wins)
 

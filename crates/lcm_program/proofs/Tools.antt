@@ -14,7 +14,7 @@ use Rattle.lcm_program.specs.Input.{IsInput, IsRefused, IsUnread, Reading}
 use Rattle.lcm_program.specs.Objects.{IsUntouched, Known, Objects}
 use Rattle.lcm_program.specs.Printed.{Prints}
 use Rattle.lcm_program.specs.Tool.{RanTool, ToolEnds}
-use Rattle.lcm_program.specs.Words.{IsUsage}
+use Rattle.lcm_program.specs.Words.{IsUsageOf}
 use Rattle.lcm_program.proofs.Readings.{Decides, each_failed, each_memory, each_refused, each_used}
 
 module _ {S K D M L C : Type 0} (o : Known S K D M L C) (before after : Objects S K D M L C) where
@@ -97,12 +97,12 @@ module _ {S K D M L C : Type 0} (o : Known S K D M L C) (before after : Objects 
   generated count text status input untouched made prints =
       record { input = input; untouched = untouched; ends = generated_ends count text status made prints }
 
-  nothing_ends : (arguments : List (List ℕ)) (place : ℕ) (status : Status) → IsUsage arguments place
-      → RefusalEnds o.sink (Usage place) status before.output after.output → UsageEnds o arguments status before after
-  nothing_ends arguments place status usage (inl printed) = subst (λ (s : Status). UsageEnds o arguments s before after) (sym printed.0) (usage, printed.1)
-  nothing_ends arguments place status usage (inr silent) = subst (λ (s : Status). UsageEnds o arguments s before after) (sym silent.0) silent.1
+  module _ {A : Type 0} (is_form : A → List (List ℕ) → Type 0) (arguments : List (List ℕ)) (place : ℕ) where
+    nothing_ends : (status : Status) → IsUsageOf is_form arguments place
+        → RefusalEnds o.sink (Usage place) status before.output after.output → UsageEnds is_form o arguments status before after
+    nothing_ends status usage (inl printed) = subst (λ (s : Status). UsageEnds is_form o arguments s before after) (sym printed.0) (usage, printed.1)
+    nothing_ends status usage (inr silent) = subst (λ (s : Status). UsageEnds is_form o arguments s before after) (sym silent.0) silent.1
 
-  pub did_nothing : (arguments : List (List ℕ)) (place : ℕ) (status : Status) → after.input ≡ before.input → IsUntouched before after → IsUsage arguments place
-      → RefusalEnds o.sink (Usage place) status before.output after.output → DidNothing o arguments status before after
-  did_nothing arguments place status input untouched usage ends =
-      record { input = input; untouched = untouched; ends = nothing_ends arguments place status usage ends }
+    pub did_nothing : (status : Status) → after.input ≡ before.input → IsUntouched before after → IsUsageOf is_form arguments place
+        → RefusalEnds o.sink (Usage place) status before.output after.output → DidNothing is_form o arguments status before after
+    did_nothing status input untouched usage ends = record { input = input; untouched = untouched; ends = nothing_ends status usage ends }

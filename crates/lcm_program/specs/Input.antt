@@ -18,7 +18,7 @@ use Rattle.meta_config.specs.declared.meta.Meta as declared
 use Rattle.meta_config.specs.Parts.{HasPartsOrder, IsCycleOfParts, IsOrderOfParts}
 use Rattle.meta_config.specs.Refusals as metas
 use Rattle.dsc_node.specs.declared.status.InputError.{InputError}
-use Rattle.dsc_node.specs.declared.status.InputError.TheVariants.{TooLong, Mof, Merge, Meta, Parts, Fit, ListTooLong}
+use Rattle.dsc_node.specs.declared.status.InputError.TheVariants.{TooLong, Mof, Merge, Meta, Parts, Fit, ListTooLong, Compile, Script}
 use Rattle.lcm_program.specs.declared.input.Unread.{Unread}
 use Rattle.lcm_program.specs.declared.input.Unread.TheVariants as unread
 
@@ -50,6 +50,8 @@ ReadsInstances all (Err (Meta error)) = ⊥
 ReadsInstances all (Err (Parts walk)) = ⊥
 ReadsInstances all (Err (Fit error)) = ⊥
 ReadsInstances all (Err (ListTooLong bytes)) = ⊥
+ReadsInstances all (Err (Compile reason)) = ⊥
+ReadsInstances all (Err (Script line)) = ⊥
 
 -- the part that an input is, which has no name
 abbrev pub parts_of : List ℕ → List Part
@@ -71,6 +73,8 @@ ReadsDocument all (Err (Meta error)) = ⊥
 ReadsDocument all (Err (Parts walk)) = ⊥
 ReadsDocument all (Err (Fit error)) = ⊥
 ReadsDocument all (Err (ListTooLong bytes)) = ⊥
+ReadsDocument all (Err (Compile reason)) = ⊥
+ReadsDocument all (Err (Script line)) = ⊥
 
 -- the bytes are within the limit and declare no meta-configuration, and of the refusals that apply to them this one wins
 pub record IsNoMeta (all : List ℕ) (error : MetaError) : Type 0 where
@@ -102,6 +106,8 @@ ReadsMeta all (Err (Meta error)) = IsNoMeta all error
 ReadsMeta all (Err (Parts walk)) = IsUnordered all walk
 ReadsMeta all (Err (Fit error)) = ⊥
 ReadsMeta all (Err (ListTooLong bytes)) = ⊥
+ReadsMeta all (Err (Compile reason)) = ⊥
+ReadsMeta all (Err (Script line)) = ⊥
 
 -- ---- inputs
 

@@ -16,11 +16,13 @@ use Rattle.meta_config.specs.declared.error.Limit.{Limit}
 use Rattle.meta_config.specs.declared.error.Limit.TheVariants as limits
 use Rattle.meta_config.specs.declared.error.MetaError.{MetaError}
 use Rattle.meta_config.specs.declared.error.MetaError.TheVariants as metas
+use Rattle.config_script.specs.declared.error.CompileError.{CompileError}
+use Rattle.config_script.specs.declared.error.CompileError.TheVariants as scripts
 use Rattle.node_state.specs.declared.error.FitError.{FitError}
 use Rattle.node_state.specs.declared.error.FitError.TheVariants as fits
 use Rattle.dsc_node.specs.Quoted.{quoted}
 use Rattle.dsc_node.specs.declared.status.InputError.{InputError}
-use Rattle.dsc_node.specs.declared.status.InputError.TheVariants.{TooLong, Mof, Merge, Meta, Parts, Fit, ListTooLong}
+use Rattle.dsc_node.specs.declared.status.InputError.TheVariants.{TooLong, Mof, Merge, Meta, Parts, Fit, ListTooLong, Compile, Script}
 
 -- the name of a text's refusal, and its values; out of memory has a status of its own, and is never reported so
 abbrev pub mof_words : MofError → List ℕ
@@ -112,6 +114,17 @@ meta_words (metas.DuplicatePartial first second) = pair_words (codes "DuplicateP
 meta_words (metas.DependsUnknown index name) = unknown_part_words index name
 meta_words metas.Memory = codes "Memory"
 
+-- why a script gives a node no document, and the values; of what is merged to no document, those of that refusal
+abbrev pub compile_words : CompileError → List ℕ
+compile_words scripts.TooLong = codes "TooLong"
+compile_words (scripts.NotText at) = codes "NotText " ++ decimal at
+compile_words (scripts.Shape line) = codes "Shape " ++ decimal line
+compile_words (scripts.UnknownKind line) = codes "UnknownKind " ++ decimal line
+compile_words (scripts.Reserved line) = codes "Reserved " ++ decimal line
+compile_words scripts.NoNode = codes "NoNode"
+compile_words (scripts.Merge error) = merge_words error
+compile_words scripts.Memory = codes "Memory"
+
 -- the name of an input's error, and its values
 abbrev pub error_words : InputError → List ℕ
 error_words TooLong = codes "TooLong"
@@ -121,3 +134,5 @@ error_words (Meta error) = codes "Meta " ++ meta_words error
 error_words (Parts walk) = codes "Parts" ++ flat_map place_words walk
 error_words (Fit error) = codes "Fit " ++ fit_words error
 error_words (ListTooLong bytes) = codes "ListTooLong " ++ decimal bytes
+error_words (Compile reason) = codes "Compile " ++ compile_words reason
+error_words (Script line) = codes "Script " ++ decimal line

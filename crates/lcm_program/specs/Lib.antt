@@ -3,10 +3,13 @@ pub mod Canon
 pub mod Check
 pub mod Checksum
 pub mod CommandLine
+pub mod Compile
 pub mod Complete
 pub mod Did
+pub mod DidWords
 pub mod Endings
 pub mod Further
+pub mod FurtherCommands
 pub mod Generate
 pub mod Input
 pub mod InputWords
@@ -15,6 +18,7 @@ pub mod Order
 pub mod PeerWords
 pub mod Printed
 pub mod Refusal
+pub mod Rehearse
 pub mod Started
 pub mod Test
 pub mod Tool

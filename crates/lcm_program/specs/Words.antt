@@ -8,7 +8,7 @@ use Rattle.mof_values.specs.declared.limits.TheConstants.{MAX_NAME_BYTES}
 use Rattle.node_state.specs.declared.event.Stage.{Stage}
 use Rattle.node_state.specs.declared.event.Stage.TheVariants.{Pending, Current, Previous}
 use Rattle.lcm_program.specs.declared.words.Command.{Command}
-use Rattle.lcm_program.specs.declared.words.Command.TheVariants.{Test, Check, Order, Canon, Checksum, Generate, Init, Meta, Register, Pull, Push, Consistency, Boot, Get, Restore, Remove, Reports}
+use Rattle.lcm_program.specs.declared.words.Command.TheVariants.{Test, Check, Order, Canon, Checksum, Compile, Generate, Init, Meta, Register, Pull, Push, Consistency, Boot, Get, Restore, Remove, Reports}
 
 -- the argument is this number of resources, in decimal
 abbrev pub IsCount : List ℕ → ℕ → Type 0
@@ -41,6 +41,7 @@ IsForm Check arguments = arguments ≡ codes "check" ∷ []
 IsForm Order arguments = arguments ≡ codes "order" ∷ []
 IsForm Canon arguments = arguments ≡ codes "canon" ∷ []
 IsForm Checksum arguments = arguments ≡ codes "checksum" ∷ []
+IsForm (Compile node) arguments = (arguments ≡ codes "compile" ∷ node.now ∷ []) × IsName node.now
 IsForm (Generate count) arguments = (word : List ℕ) × (arguments ≡ codes "generate" ∷ word ∷ []) × IsCount word count
 IsForm (Init agent) arguments = (word : List ℕ) × (arguments ≡ codes "init" ∷ word ∷ []) × IsAgent word agent
 IsForm Meta arguments = arguments ≡ codes "meta" ∷ []
@@ -60,13 +61,26 @@ abbrev pub IsInRange : Command → Type 0
 IsInRange (Generate count) = (0 < count) × (count ≤ MAX_RESOURCES)
 IsInRange _ = ⊤
 
--- some form begins with these arguments
-abbrev pub BeginsForm : List (List ℕ) → Type 0
-BeginsForm arguments = (command : Command) × (more : List (List ℕ)) × IsForm command (arguments ++ more)
+-- what the program is asked for: a command of the node, or the rehearsal of a script
+pub data Asked : Type 0 where
+  to_do : Command → Asked
+  to_rehearse : Asked
 
--- the arguments are in no form; the front before that place begins one, and no form goes on with the argument there
-pub record IsUsage (arguments : List (List ℕ)) (place : ℕ) : Type 0 where
-  pub no_form : (command : Command) → IsForm command arguments → ⊥
+abbrev pub IsAsked : Asked → List (List ℕ) → Type 0
+IsAsked (to_do command) arguments = IsForm command arguments
+IsAsked to_rehearse arguments = arguments ≡ codes "rehearse" ∷ []
+
+-- one of these forms begins with these arguments
+abbrev pub BeginsForm : {A : Type 0} → (A → List (List ℕ) → Type 0) → List (List ℕ) → Type 0
+BeginsForm {A} is_form arguments = (asked : A) × (more : List (List ℕ)) × is_form asked (arguments ++ more)
+
+-- the arguments are in none of these forms; the front before that place begins one, and none goes on with the argument there
+pub record IsUsageOf {A : Type 0} (is_form : A → List (List ℕ) → Type 0) (arguments : List (List ℕ)) (place : ℕ) : Type 0 where
+  pub no_form : (asked : A) → is_form asked arguments → ⊥
   pub within : place ≤ length arguments
-  pub begins : BeginsForm (take place arguments)
-  pub stops : place < length arguments → BeginsForm (take (place + 1) arguments) → ⊥
+  pub begins : BeginsForm is_form (take place arguments)
+  pub stops : place < length arguments → BeginsForm is_form (take (place + 1) arguments) → ⊥
+
+-- the same of the forms of the node's commands
+abbrev pub IsUsage : List (List ℕ) → ℕ → Type 0
+IsUsage arguments place = IsUsageOf IsForm arguments place

@@ -1,5 +1,5 @@
 //! What the input is: bytes, instances, and the document that they declare.
-ghost use Rattle.std.specs.Prelude.{◌≡◌, ◌≢◌, ◌≤◌, ◌⊎◌, IfErr, IfOk, Ok};
+ghost use Rattle.std.specs.Prelude.{◌≡◌, ◌≢◌, ◌<◌, ◌^◌, ◌⊎◌, IfErr, IfOk, Ok};
 ghost use Rattle.depend_order.specs.Ordered.{IsOrdered};
 ghost use Rattle.node_state.specs.Metas.{IsNodeMeta};
 ghost use Rattle.lcm_program.specs.declared.input.Unread.TheVariants.{Memory};
@@ -159,9 +159,9 @@ pub fn read_bytes<S: Source>(alloc: Global, input: &mut S) -> Result<Vec<u8>, Un
     read_within(alloc, input, MAX_DOCUMENT)
 }
 
-// Reads the input to its end, if it has at most this number of bytes.
-fn read_within<S: Source>(alloc: Global, input: &mut S, limit: usize) -> Result<Vec<u8>, Unread>
-    requires { limit ≤ input_limit }
+/// Reads the input to its end, if it has at most this number of bytes.
+pub fn read_within<S: Source>(alloc: Global, input: &mut S, limit: usize) -> Result<Vec<u8>, Unread>
+    requires { limit < 2 ^ 62 }
     ensures ok { IfOk result (λ bytes. IsInput (ReadsBytes limit) (S.left input.old)
         (Ok bytes.items)) }
     ensures err { IfErr result (λ e. IsUnread (ReadsBytes limit) e (S.left input.old)

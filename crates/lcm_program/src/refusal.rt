@@ -3,6 +3,7 @@ ghost use Rattle.std.specs.Prelude.{◌≡◌, ◌++◌, [], is_some, option_map
 ghost use Rattle.lcm_program.specs.InputWords.{error_words};
 ghost use Rattle.lcm_program.specs.Refusal.{line_of, reason_of, why_word};
 
+use crate::compile_words::push_compile_error;
 use crate::merge_words::{push_fit_error, push_merge_error, push_places};
 use crate::meta_words::push_meta_error;
 use crate::mof_words::push_mof_error;
@@ -98,6 +99,11 @@ fn push_input_error(out: &mut String, error: &InputError) -> Result<(), AllocErr
             push_fit_error(out, *error)
         }
         InputError::ListTooLong { bytes } => write!(out, "ListTooLong {bytes}"),
+        InputError::Compile(error) => {
+            out.push_str("Compile ")?;
+            push_compile_error(out, error)
+        }
+        InputError::Script { line } => write!(out, "Script {line}"),
     }
 }
 

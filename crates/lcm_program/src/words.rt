@@ -25,6 +25,9 @@ pub enum Command<'a> {
     /// Prints the checksum of the input.
     Checksum,
 
+    /// Prints the document that the script in the input gives the node of this name, 1 to 255 bytes.
+    Compile { node: &'a str },
+
     /// Repairs an empty machine in memory by a document of this number of resources, 1 to 4,096, and prints the result.
     Generate { count: u32 },
 
@@ -91,6 +94,9 @@ pub fn read_words<'a>(arguments: &'a [String]) -> Result<Command<'a>, UsageError
     }
     if first.as_str() == "push" {
         return read_push(rest);
+    }
+    if first.as_str() == "compile" {
+        return read_compile(rest);
     }
     let Some(command) = command_of(first) else {
         return Err(UsageError { word: 0 });
@@ -198,6 +204,26 @@ fn read_push<'a>(rest: &'a [String]) -> Result<Command<'a>, UsageError>
     }
     match more {
         [] => Ok(Command::Push { name: Some(name) }),
+        _ => Err(UsageError { word: 2 }),
+    }
+}
+
+// What the arguments after `compile` ask for.
+fn read_compile<'a>(rest: &'a [String]) -> Result<Command<'a>, UsageError>
+    ensures ok { IfOk result (λ command. IsForm command
+        (codes "compile" ∷ map string_bytes rest.now)) }
+    ensures usage { IfErr result (λ error. IsUsage (codes "compile" ∷ map string_bytes rest.now)
+        error.word) }
+{
+    let [word, more @ ..] = rest else {
+        return Err(UsageError { word: 1 });
+    };
+    let node = word.as_str();
+    if !is_name(node) {
+        return Err(UsageError { word: 1 });
+    }
+    match more {
+        [] => Ok(Command::Compile { node }),
         _ => Err(UsageError { word: 2 }),
     }
 }

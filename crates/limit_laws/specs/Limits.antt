@@ -4,6 +4,7 @@ use Rattle.mof_values.specs.declared.limits.TheConstants.{MAX_IDENTIFIER, MAX_NA
 use Rattle.mof_syntax.specs.declared.limits.TheConstants.{MAX_DOCUMENT, MAX_ELEMENTS, MAX_INSTANCES, MAX_PROPERTIES}
 use Rattle.dsc_document.specs.declared.limits.TheConstants.{MAX_ID, MAX_RESOURCES, MAX_VERSION}
 use Rattle.meta_config.specs.declared.limits.TheConstants as metas
+use Rattle.config_script.specs.declared.limits.TheConstants as config_scripts
 use Rattle.report_log.specs.declared.limits.TheConstants as report_logs
 use Rattle.node_state.specs.declared.limits.TheConstants as nodes
 use Rattle.node_store.specs.declared.limits.TheConstants as node_stores
@@ -12,6 +13,7 @@ use Rattle.pull_messages.specs.declared.limits.TheConstants.{MAX_LIST_ITEMS, MAX
 use Rattle.pull_outside.specs.declared.shelf.TheConstants.{LONGEST_ITEM}
 use Rattle.pull_store.specs.declared.limits.TheConstants as pull_stores
 use Rattle.serve_words.specs.declared.command.TheConstants.{MAX_CONNECTIONS}
+use Rattle.rehearsal.specs.declared.limits.TheConstants as rehearsals
 
 -- a text in bytes, its instances, properties and elements; identifiers in characters, names of files in bytes; resources, ids and versions
 pub record DocumentLimits : Type 0 where
@@ -24,6 +26,11 @@ pub record DocumentLimits : Type 0 where
   pub resources : MAX_RESOURCES ≡ 4096
   pub id : MAX_ID ≡ 256
   pub version : MAX_VERSION ≡ 64
+
+-- a script of a configuration and one of a rehearsal, in bytes
+pub record ScriptLimits : Type 0 where
+  pub configuration : config_scripts.MAX_SCRIPT ≡ 8388608
+  pub rehearsal : rehearsals.MAX_SCRIPT ≡ 4194304
 
 -- its text in bytes, a URL in characters, its names and partial configurations
 pub record MetaLimits : Type 0 where

@@ -1,9 +1,11 @@
 //! The law of the limits. The call does nothing; its clauses are the law.
-ghost use Rattle.limit_laws.specs.Limits.{DocumentLimits, MessageLimits, MetaLimits, NodeLimits, ServerLimits};
+ghost use Rattle.limit_laws.specs.Limits.{DocumentLimits, MessageLimits, MetaLimits, NodeLimits, ScriptLimits, ServerLimits};
 
-/// The limits of documents, of meta-configurations, of a node's state and store, of messages, and of the pull server.
+/// The limits of documents, of scripts, of meta-configurations, of a node's state and store, of messages, and of the
+/// pull server.
 pub fn limits_are()
     ensures documents { DocumentLimits }
+    ensures scripts { ScriptLimits }
     ensures metas { MetaLimits }
     ensures nodes { NodeLimits }
     ensures messages { MessageLimits }

@@ -1,6 +1,12 @@
 pub mod CallWords
+pub mod Lists
+pub mod OneLine
+pub mod OneReading
 pub mod Places
+pub mod Plays
 pub mod ReadTo
 pub mod ScriptLines
 pub mod ScriptWords
 pub mod StartForm
+pub mod Started
+pub mod Worlds

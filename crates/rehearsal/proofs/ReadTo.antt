@@ -117,3 +117,15 @@ module _ (script : List ℕ) (at count from : ℕ) (name : List ℕ) (steps : Li
         fails = subst (λ (r : List (List ℕ)). Fails texts r (1 + own)) (sym b.is) (inr (name, own, b.utf8, b.begins, part, refl));
         place = omega (arith, t.counts);
       }
+
+-- each step has a line of its own
+pub few_steps : (done : List (List ℕ)) (steps : List Step) (texts : List NamedText) → Reads done steps texts → length steps ≤ length done
+few_steps done steps texts nothing = omega arith
+few_steps done steps texts (empty front before given reads) = omega (arith, few_steps front before given reads, length-append front ([] ∷ []))
+few_steps done steps texts (text front before given line name body reads utf8 is own) =
+    omega (arith, few_steps front before given reads, length-append (front ++ line ∷ body) (codes "." ∷ []), length-append front (line ∷ body))
+few_steps done steps texts (step front before given line does reads utf8 is) =
+    omega (arith, few_steps front before given reads, length-append front (line ∷ []), length-append before (does ∷ []))
+
+pub read_few : (script : List ℕ) (at count : ℕ) (steps : List Step) (texts : List NamedText) → IsReadTo script at count steps texts → length steps ≤ length script
+read_few script at count steps texts t = omega (arith, few_steps t.done steps texts t.reads, t.counts, t.few, t.within)

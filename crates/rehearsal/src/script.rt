@@ -72,6 +72,7 @@ impl fmt::Display for ScriptError {
 pub fn read_script<'a>(alloc: Global, script: &'a [u8]) -> Result<Vec<Step<'a>>, ScriptError>
     requires { length script.now ≤ MAX_SCRIPT }
     ensures ok { IfOk result (λ steps. IsScript script.now steps.items) }
+    ensures few { IfOk result (λ steps. length steps.items ≤ MAX_SCRIPT) }
     ensures error { IfErr result (IsScriptError script.now) }
 {
     let mut reader = Reader {

@@ -48,6 +48,6 @@ pub enum StopPart {
     /// It holds the new bytes, and a change of the host is done.
     New,
 
-    /// It holds 57 in each byte; of a file that is put, the first half of its bytes is there, and any other change of the host is done.
+    /// It holds the byte 0x57 in each place; of a file that is put, the first half of its bytes is there, and any other change of the host is done.
     Filled,
 }

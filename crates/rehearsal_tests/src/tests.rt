@@ -1,4 +1,6 @@
 //! Which scripts are read, to which steps, and at which line others fail.
+mod playing;
+
 use mof_values::Memory;
 use rehearsal::{MAX_SCRIPT, ScriptError, Step, StopAt, StopPart, read_script};
 use std::alloc::{AllocError, Global};

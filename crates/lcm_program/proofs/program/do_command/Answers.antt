@@ -1,12 +1,16 @@
-use Rattle.std.proofs.Common.{refl, string_bytes}
+use Rattle.std.proofs.Common.{List, ℕ, refl, string_bytes, subst}
+use Rattle.std.specs.Str.{chars}
 use Rattle.node_pull.proofs.GoingOn.{stays}
 use Rattle.lcm_program.specs.Canon.{AnswersCanon, IsCanonicalText}
 use Rattle.lcm_program.specs.Check.{AnswersCheck, IsCountLine}
 use Rattle.lcm_program.specs.Checksum.{IsChecksumLine, checksum_limit}
+use Rattle.lcm_program.specs.Compile.{AnswersCompile}
 use Rattle.lcm_program.specs.Input.{ReadsBytes, ReadsDocument, ReadsInstances}
 use Rattle.lcm_program.specs.Objects.{known, objects}
 use Rattle.lcm_program.specs.Order.{AnswersOrder, AreIdLines}
-use Rattle.lcm_program.proofs.Readings.{bytes_decide, document_decides, instances_decide, shown_decides}
+use Rattle.lcm_program.specs.Tool.{RanTool}
+use Rattle.lcm_program.proofs.Compiling.{compile_decides}
+use Rattle.lcm_program.proofs.Readings.{bytes_decide, document_decides, each_memory, instances_decide, shown_decides}
 use Rattle.lcm_program.proofs.Monitoring.{tested}
 use Rattle.lcm_program.proofs.Tools.{not_summed, ran_tool}
 use Rattle.lcm_program.proofs.program.do_command.Goals as goal
@@ -54,6 +58,27 @@ returns-in-Err-clause-did g c =
     (objects c.read_checksum.new.input c.print_unread.new.output c.args.disk.now c.args.machine.now c.args.link.now c.args.clock.now)
     (shown_decides (ReadsBytes checksum_limit) IsChecksumLine (bytes_decide checksum_limit)) c.in-Err.unread c.print_unread.result
     (record { offline = record { disk = refl; link = refl; clock = refl }; machine = refl }) c.in-Err.ensures.err c.print_unread.ensures)
+
+-- a node whose name took memory
+pub returns-in-Ok-from_utf8-clause-did : goal.returns-in-Ok-from_utf8-clause-did
+returns-in-Ok-from_utf8-clause-did g c =
+    let o = known g.S.Ends g.K.Ends g.D.Disk g.M.Resources g.M.Machine g.L.Link g.C.Clock in
+    let before = objects c.args.input.now c.args.output.now c.args.disk.now c.args.machine.now c.args.link.now c.args.clock.now in
+    let after = objects c.read_compiled.new.input c.print_answer-in-Ok-from_utf8.new.output c.args.disk.now c.args.machine.now c.args.link.now c.args.clock.now in
+    let node = c.in-Ok-from_utf8.node in
+    let ran : RanTool (AnswersCompile node) o c.print_answer-in-Ok-from_utf8.result before after =
+    ran_tool o before after (AnswersCompile node) (compile_decides node c.one_answer.ensures.never_both c.one_answer.ensures.one_reason) (λ text. text.items)
+    c.read_compiled.result c.print_answer-in-Ok-from_utf8.result (record { offline = record { disk = refl; link = refl; clock = refl }; machine = refl })
+    c.read_compiled.ensures.ok c.read_compiled.ensures.err c.print_answer-in-Ok-from_utf8.ensures.ok c.print_answer-in-Ok-from_utf8.ensures.err in
+    rw c.in-Compile.is (subst (λ (name : List ℕ). RanTool (AnswersCompile name) o c.print_answer-in-Ok-from_utf8.result before after) c.in-Ok-from_utf8.ensures ran)
+
+pub returns-in-Err-from_utf8-clause-did : goal.returns-in-Err-from_utf8-clause-did
+returns-in-Err-from_utf8-clause-did g c =
+    rw c.in-Compile.is (record {
+      untouched = record { offline = record { disk = refl; link = refl; clock = refl }; machine = refl };
+      ends = refl;
+      each = each_memory (AnswersCompile (chars c.in-Compile.node.now)) (g.S.Ends.left c.args.input.now) _ _;
+    })
 
 -- starts
 
@@ -112,6 +137,12 @@ returns-in-Ok-clause-goes_on g c = stays _
 
 pub returns-in-Err-clause-goes_on : goal.returns-in-Err-clause-goes_on
 returns-in-Err-clause-goes_on g c = stays _
+
+pub returns-in-Ok-from_utf8-clause-goes_on : goal.returns-in-Ok-from_utf8-clause-goes_on
+returns-in-Ok-from_utf8-clause-goes_on g c = stays _
+
+pub returns-in-Err-from_utf8-clause-goes_on : goal.returns-in-Err-from_utf8-clause-goes_on
+returns-in-Err-from_utf8-clause-goes_on g c = stays _
 
 pub returns-in-Ok-repair_generated-clause-goes_on : goal.returns-in-Ok-repair_generated-clause-goes_on
 returns-in-Ok-repair_generated-clause-goes_on g c = stays _

@@ -1,4 +1,4 @@
-use Rattle.std.proofs.Common.{◌-◌, inr, ℕ, List, IfOk, IfErr, codes, map, length, take, drop, string_bytes, sym, ◌∙◌, subst, arith}
+use Rattle.std.proofs.Common.{◌-◌, inl, inr, ℕ, List, IfOk, IfErr, codes, map, length, take, drop, string_bytes, sym, ◌∙◌, subst, arith}
 use Rattle.std.proofs.lemmas.List.{length-map}
 use Rattle.std.proofs.lemmas.Slice.Eq.{bytes_eq-Decides}
 use Rattle.lcm_program.specs.Words.{IsForm, IsUsage}
@@ -88,16 +88,33 @@ returns-then-eq-5-clause-usage c =
     (first_and_rest string_bytes c.args.arguments.now c.first-item.result (codes "push") c.in-len1-up.len_at_least c.first-item.is (sym push ∙ c.as_str-5.ensures.value))
     c.read_push.ensures.usage
 
+-- they begin with `compile`
+
+pub returns-then-eq-6-clause-ok : goal.returns-then-eq-6-clause-ok
+returns-then-eq-6-clause-ok c =
+    let compile = (bytes_eq-Decides c.as_str-6.result.now (codes "compile")).0 (sym c.if-eq-6.ensures) in
+    subst (λ (arguments : List (List ℕ)). IfOk c.read_compile.result (λ command. IsForm command arguments))
+    (first_and_rest string_bytes c.args.arguments.now c.first-item.result (codes "compile") c.in-len1-up.len_at_least c.first-item.is (sym compile ∙ c.as_str-6.ensures.value))
+    c.read_compile.ensures.ok
+
+pub returns-then-eq-6-clause-usage : goal.returns-then-eq-6-clause-usage
+returns-then-eq-6-clause-usage c =
+    let compile = (bytes_eq-Decides c.as_str-6.result.now (codes "compile")).0 (sym c.if-eq-6.ensures) in
+    subst (λ (arguments : List (List ℕ)). IfErr c.read_compile.result (λ error. IsUsage arguments error.word))
+    (first_and_rest string_bytes c.args.arguments.now c.first-item.result (codes "compile") c.in-len1-up.len_at_least c.first-item.is (sym compile ∙ c.as_str-6.ensures.value))
+    c.read_compile.ensures.usage
+
 -- they begin with the argument of no command
 
 pub returns-in_default-command_of-clause-usage : goal.returns-in_default-command_of-clause-usage
 returns-in_default-command_of-clause-usage c =
     let word = c.deref.result.now in
     let other = takes_none word _ c.deref.ensures (_, c.as_str.ensures.value, c.if-eq.ensures) (_, c.as_str-2.ensures.value, c.if-eq-2.ensures)
-    (_, c.as_str-3.ensures.value, c.if-eq-3.ensures) (_, c.as_str-4.ensures.value, c.if-eq-4.ensures) (_, c.as_str-5.ensures.value, c.if-eq-5.ensures) in
+    (_, c.as_str-3.ensures.value, c.if-eq-3.ensures) (_, c.as_str-4.ensures.value, c.if-eq-4.ensures) (_, c.as_str-5.ensures.value, c.if-eq-5.ensures)
+    (_, c.as_str-6.ensures.value, c.if-eq-6.ensures) in
     subst (λ (arguments : List (List ℕ)). IsUsage arguments 0)
     (first_and_rest string_bytes c.args.arguments.now c.first-item.result word c.in-len1-up.len_at_least c.first-item.is c.deref.ensures)
-    (wrong_first word _ (λ command form. inr (inr (inr (inr (c.in_default-command_of.ensures.none command form))))) other)
+    (wrong_first word _ (λ command form. inr (inr (inr (inr (inl (c.in_default-command_of.ensures.none command form)))))) other)
 
 -- an argument follows one that stands alone
 
@@ -105,7 +122,8 @@ pub returns-in_default-rest-clause-usage : goal.returns-in_default-rest-clause-u
 returns-in_default-rest-clause-usage c =
     let word = c.deref.result.now in
     let other = takes_none word _ c.deref.ensures (_, c.as_str.ensures.value, c.if-eq.ensures) (_, c.as_str-2.ensures.value, c.if-eq-2.ensures)
-    (_, c.as_str-3.ensures.value, c.if-eq-3.ensures) (_, c.as_str-4.ensures.value, c.if-eq-4.ensures) (_, c.as_str-5.ensures.value, c.if-eq-5.ensures) in
+    (_, c.as_str-3.ensures.value, c.if-eq-3.ensures) (_, c.as_str-4.ensures.value, c.if-eq-4.ensures) (_, c.as_str-5.ensures.value, c.if-eq-5.ensures)
+    (_, c.as_str-6.ensures.value, c.if-eq-6.ensures) in
     let rest = take (length c.args.arguments.now - 1) (drop 1 c.args.arguments.now) in
     subst (λ (arguments : List (List ℕ)). IsUsage arguments 1)
     (first_and_rest string_bytes c.args.arguments.now c.first-item.result word c.in-len1-up.len_at_least c.first-item.is c.deref.ensures)

@@ -4,6 +4,9 @@ use Rattle.limit_laws.proofs.laws.limits_are.Goals as goal
 pub returns-clause-documents : goal.returns-clause-documents
 returns-clause-documents c = record { document = refl; instances = refl; properties = refl; elements = refl; identifier = refl; name = refl; resources = refl; id = refl; version = refl }
 
+pub returns-clause-scripts : goal.returns-clause-scripts
+returns-clause-scripts c = record { configuration = refl; rehearsal = refl }
+
 pub returns-clause-metas : goal.returns-clause-metas
 returns-clause-metas c = record { text = refl; url = refl; names = refl; partials = refl }
 

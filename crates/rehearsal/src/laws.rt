@@ -1,0 +1,27 @@
+//! Laws of the definitions. The calls do nothing but call laws; their clauses are the laws.
+ghost use Rattle.rehearsal.specs.Laws.{OnlyStopsStop, PlaysInParts, RowsTellNodes, ShelvesAreOfLines};
+ghost use Rattle.rehearsal.specs.OneReading.{FailuresAreOne, NeverBoth, StepsAreOne};
+
+use crate::starter::Starter;
+use node_store::images_have_one_meaning;
+
+/// A script is read to one list of steps at most, or fails at one line at most, and never both.
+pub fn one_reading()
+    ensures steps { StepsAreOne }
+    ensures line { FailuresAreOne }
+    ensures never { NeverBoth }
+{}
+
+/// Each step begins in what the one before it left, and the shelf that a start sees is made of the lines above it alone.
+pub fn steps_follow<S: Starter>()
+    ensures parts { PlaysInParts S.Starter }
+    ensures shelf { ShelvesAreOfLines S.Starter }
+{}
+
+/// Only a start with a stop is said to be stopped, and a row tells of the one node that the next start finds.
+pub fn rows_are_true<S: Starter>()
+    ensures stops { OnlyStopsStop S.Starter }
+    ensures nodes { RowsTellNodes S.Starter }
+{
+    images_have_one_meaning();
+}
