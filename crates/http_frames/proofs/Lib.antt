@@ -28,3 +28,4 @@ pub mod HeadBegins
 pub mod HeadPasses
 pub mod TargetTexts
 pub mod HeadReading
+pub mod ReadBack

@@ -11,6 +11,7 @@ pub mod Heads
 pub mod Limits
 pub mod OneAnswer
 pub mod Phases
+pub mod ReadBack
 pub mod Reading
 pub mod Replies
 pub mod Sending

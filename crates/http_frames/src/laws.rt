@@ -1,5 +1,6 @@
 //! Laws of the answers. The calls do nothing; their clauses are the laws.
 ghost use Rattle.http_frames.specs.OneAnswer.{OneRequestAnswer, HeadOrOpen, OneReplyAnswer, RequestAnswersStay, ReplyErrorsStay};
+ghost use Rattle.http_frames.specs.ReadBack.{RepliesReadBack, RequestsReadBack};
 
 /// The causes of answers exclude each other: of the same bytes one answer may come, from `RequestReader::feed` and from
 /// `read_answer`, where memory is ample. In one case two may come: of a request's bytes that end inside its target, and
@@ -15,4 +16,11 @@ pub fn one_answer()
 pub fn answers_stay()
     ensures requests { RequestAnswersStay }
     ensures replies { ReplyErrorsStay }
+{}
+
+/// A message that is written reads back as itself: the text of a request or of an answer that is sendable is its frame, with the lines that
+/// are added, and nothing else is answered of these bytes, where memory is ample.
+pub fn messages_read_back()
+    ensures requests { RequestsReadBack }
+    ensures replies { RepliesReadBack }
 {}

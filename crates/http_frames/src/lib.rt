@@ -13,7 +13,7 @@
 //!   `specs/Phases.antt`, `src/chunks.rt`
 //! - the limits of messages: `specs/Limits.antt`, `src/limits.rt`
 //! - which messages read back when they are written, and that bytes have one answer: `specs/Sending.antt`,
-//!   `specs/OneAnswer.antt`
+//!   `specs/OneAnswer.antt`; that what is written reads back as itself alone: `specs/ReadBack.antt`, `src/laws.rt`
 #![tactic(auto)]
 
 mod answer;
@@ -34,7 +34,7 @@ mod writing;
 pub use answer::read_answer;
 pub use frame_error::FrameError;
 pub use headers::{count_named, first_named};
-pub use laws::{answers_stay, one_answer};
+pub use laws::{answers_stay, messages_read_back, one_answer};
 pub use limits::MAX_MESSAGE_BODY;
 pub use message::{Header, Reply, Request};
 pub use reader::RequestReader;
