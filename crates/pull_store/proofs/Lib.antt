@@ -1,6 +1,7 @@
 pub mod BodiesRead
 pub mod Building
 pub mod Committed
+pub mod Failing
 pub mod InPlace
 pub mod Others
 pub mod Placing

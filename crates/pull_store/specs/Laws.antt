@@ -5,7 +5,7 @@ use Rattle.pull_store.specs.declared.row.StoredReport.{StoredReport}
 use Rattle.pull_store.specs.declared.change.Change.{Change}
 use Rattle.pull_store.specs.Rows.{row_of, with_report}
 use Rattle.pull_store.specs.Sound.{AreRows, AreOnce}
-use Rattle.pull_store.specs.Stands.{Changes, IsBody, Stands}
+use Rattle.pull_store.specs.Stands.{Changes, FailsAt, IsBody, Stands}
 use Rattle.pull_store.specs.Steps.{agent_of}
 
 -- the rows that an image stands for: at most 512 of different agents, each with at most four reports of different jobs
@@ -38,3 +38,7 @@ BodiesAreOfOne = (bytes : List ℕ) (one other : Change) → IsBody bytes one �
 -- an image stands for one list of rows at most
 abbrev pub RowsAreOne : Type 0
 RowsAreOne = (image : List ℕ) (one other : List Row) → Stands image one → Stands image other → one ≡ other
+
+-- an image that fails stands for no rows
+abbrev pub FailingStandForNone : Type 0
+FailingStandForNone = (image : List ℕ) (at : ℕ) (rows : List Row) → FailsAt image at → Stands image rows → ⊥

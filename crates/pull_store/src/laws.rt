@@ -1,5 +1,5 @@
 //! What holds of the rows of a store.
-ghost use Rattle.pull_store.specs.Laws.{RowsAreSound, ChangesKeep, OthersStay, JobsStandOnce, LastIsKept, BodiesAreOfOne, RowsAreOne};
+ghost use Rattle.pull_store.specs.Laws.{RowsAreSound, ChangesKeep, OthersStay, JobsStandOnce, LastIsKept, BodiesAreOfOne, RowsAreOne, FailingStandForNone};
 
 /// Rows are at most 512, of different agents, and a change leaves every other agent's row.
 pub fn rows_are_apart()
@@ -14,8 +14,9 @@ pub fn jobs_stand_once()
     ensures last { LastIsKept }
 {}
 
-/// A body is of one change at most, and an image stands for one list of rows at most.
+/// A body is of one change at most, an image stands for one list of rows at most, and an image that fails stands for none.
 pub fn images_have_one_meaning()
     ensures bodies { BodiesAreOfOne }
     ensures rows { RowsAreOne }
+    ensures none { FailingStandForNone }
 {}
