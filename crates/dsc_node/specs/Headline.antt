@@ -112,7 +112,7 @@ IsRun machine None before after = after ≡ before
 IsRun machine (Some run) before after = Ran machine run before after
 
 -- the statuses of a pull that came to nothing: the clock, the link or the host failed, an answer of the server was refused, or memory was
--- refused. The start may end with the first or the last of these also for a step after the pull.
+-- refused. The start may end with the last of these also for a step after the pull.
 abbrev pub IsPullFault : Status → Type 0
 IsPullFault statuses.ClockFault = ⊤
 IsPullFault statuses.LinkFault = ⊤

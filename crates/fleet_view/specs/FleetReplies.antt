@@ -41,6 +41,10 @@ fleet_reply target request rows =
     else if not (all_named (codes "ProtocolVersion") is_version request.headers) then saying 400 (codes "wrong ProtocolVersion")
     else told target rows
 
+-- the request has one of the fleet's targets
+abbrev pub AsksFleet : Request → Type 0
+AsksFleet request = (target : FleetTarget) × IsFleetTarget request.target target
+
 -- The reply to a request, and the rows after it. A target of the fleet leaves the rows; any other is answered as the pull server does.
 pub data FleetReplies (store : StoreTerm) (shelf : Contents) (request : Request) (rose : Type 0) (reply : Reply) (rows : List Row) : Type 0 where
   of_fleet : (target : FleetTarget) → IsFleetTarget request.target target → reply ≡ fleet_reply target request store.rows → rows ≡ store.rows

@@ -11,13 +11,14 @@
 //!   summary: `specs/Counting.antt`, `src/counts.rt`, `src/fleet.rt`
 //! - what the two targets are answered: `specs/FleetReplies.antt`, `src/replies.rt`
 //! - the store with its fleet, as a service: `src/fleet_store.rt`; what a request may change of the classes:
-//!   `specs/News.antt`, `src/news.rt`; a whole run `src/serving.rt`
+//!   `specs/News.antt`, `src/news.rt`; a whole run `src/serving.rt`; what a run means `src/laws.rt`
 #![tactic(auto)]
 
 mod class;
 mod counts;
 mod fleet;
 mod fleet_store;
+mod laws;
 mod member;
 mod news;
 mod replies;
@@ -27,5 +28,6 @@ pub use class::{Class, class_of};
 pub use counts::Counts;
 pub use fleet::Fleet;
 pub use fleet_store::{FleetStore, answer_fleet, open_fleet};
+pub use laws::fleet_runs_leave_agents_alone;
 pub use member::Member;
 pub use serving::serve_fleet;

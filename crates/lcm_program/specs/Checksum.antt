@@ -6,14 +6,13 @@ use Rattle.shared_key.specs.Checksum.{checksum_of}
 use Rattle.dsc_node.specs.declared.status.InputError.{InputError}
 use Rattle.dsc_node.specs.declared.status.Status.{Status}
 use Rattle.dsc_node.specs.declared.status.Status.TheVariants.{Memory}
-use Rattle.lcm_program.specs.declared.checksum.TheConstants.{LIMIT}
 use Rattle.lcm_program.specs.Input.{IsInput, Reading, ReadsBytes}
 use Rattle.lcm_program.specs.Objects.{Known, Objects}
 use Rattle.lcm_program.specs.Tool.{RanTool, Shows}
 
 -- the most bytes of an input: 64 MiB
 abbrev pub checksum_limit : ℕ
-checksum_limit = LIMIT
+checksum_limit = 67108864
 
 -- the checksum of a digest, and a line end
 abbrev pub checksum_line : List ℕ → List ℕ

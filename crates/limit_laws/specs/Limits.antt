@@ -8,9 +8,13 @@ use Rattle.config_script.specs.declared.limits.TheConstants as config_scripts
 use Rattle.report_log.specs.declared.limits.TheConstants as report_logs
 use Rattle.node_state.specs.declared.limits.TheConstants as nodes
 use Rattle.node_store.specs.declared.limits.TheConstants as node_stores
+use Rattle.dsc_outside.specs.Clock.{last_moment}
+use Rattle.dsc_outside.specs.Link.{answer_limit}
+use Rattle.http_frames.specs.Limits.{answer_limits, head_bytes, header_lines, request_limits}
 use Rattle.http_frames.specs.declared.limits.TheConstants.{MAX_MESSAGE_BODY}
 use Rattle.pull_messages.specs.declared.limits.TheConstants.{MAX_LIST_ITEMS, MAX_TEXT_BYTES}
 use Rattle.pull_outside.specs.declared.shelf.TheConstants.{LONGEST_ITEM}
+use Rattle.pull_server.specs.Signed.{most_keys}
 use Rattle.pull_store.specs.declared.limits.TheConstants as pull_stores
 use Rattle.serve_words.specs.declared.command.TheConstants.{MAX_CONNECTIONS}
 use Rattle.rehearsal.specs.declared.limits.TheConstants as rehearsals
@@ -56,10 +60,25 @@ pub record MessageLimits : Type 0 where
   pub items : MAX_LIST_ITEMS ≡ 16
   pub item : LONGEST_ITEM ≡ 62914560
 
--- agents and the reports of each; a message, a bank of the store and a body in it, in bytes; connections until the server ends
+-- the greatest moment of a clock, in seconds since 1970-01-01T00:00:00Z; what an answer over a link has fewer bytes than
+pub record OutsideLimits : Type 0 where
+  pub moment : last_moment ≡ 253402207200
+  pub answer : answer_limit ≡ 67108864
+
+-- the lines and the bytes of a head; the content of a body in bytes, and all bytes of one that comes in chunks, of a request and of an answer
+pub record FrameLimits : Type 0 where
+  pub lines : header_lines ≡ 64
+  pub head : head_bytes ≡ 16384
+  pub request : request_limits.content ≡ 131072
+  pub request_in_chunks : request_limits.chunked ≡ 1048576
+  pub answer : answer_limits.content ≡ 67108864
+  pub answer_in_chunks : answer_limits.chunked ≡ 67108864
+
+-- agents and the reports of each; the keys of a shelf that count; a message, a bank of the store and a body in it, in bytes; connections until the server ends
 pub record ServerLimits : Type 0 where
   pub agents : pull_stores.MAX_ROWS ≡ 512
   pub reports : pull_stores.MAX_REPORTS ≡ 4
+  pub keys : most_keys ≡ 64
   pub message : pull_stores.MAX_BYTES ≡ 131072
   pub bank : pull_stores.BANK ≡ 335544320
   pub body : pull_stores.MAX_BODY ≡ 196608

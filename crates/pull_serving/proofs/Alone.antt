@@ -1,5 +1,5 @@
 -- The turns of a run are exchanges.
-use Rattle.std.proofs.Common.{◌≡◌, inl, inr, List, [], ◌∷◌, length, Option, Some, None, refl, sym, ◌∙◌, ap, subst}
+use Rattle.std.proofs.Common.{◌≡◌, ◌⊎◌, inl, inr, List, [], ◌∷◌, length, Option, Some, None, refl, sym, ◌∙◌, ap, subst}
 use Rattle.std.specs.List.{AllByRecursion}
 use Rattle.std.proofs.lemmas.Bool.{false≢true}
 use Rattle.http_frames.specs.declared.message.Request.{Request}
@@ -18,8 +18,8 @@ use Rattle.pull_server.specs.Table.{Outcome, leaves, makes}
 use Rattle.pull_server.proofs.Alone.{alone}
 use Rattle.pull_serving.specs.declared.connection.ConnectionEnd.{ConnectionEnd}
 use Rattle.pull_serving.specs.declared.connection.ConnectionEnd.TheVariants as ends
-use Rattle.pull_serving.specs.Alone.{AreExchanges, IsExchange, IsNoExchange, IsOwnReply, RunsLeaveAgentsAlone, Wrote, no_turns, with_one, without}
-use Rattle.pull_serving.specs.Turn.{IsEnd, IsReply, IsTurn, Leaves, OutsideRose, State, Turn}
+use Rattle.pull_serving.specs.Alone.{AreExchanges, IsBeside, IsExchange, IsNoExchange, IsOwnReply, RunsLeaveAgentsAlone, Wrote, beside, no_turns, with_one, without}
+use Rattle.pull_serving.specs.Turn.{Answering, IsEnd, IsReply, IsTurn, Leaves, OutsideRose, State, Turn}
 use Rattle.pull_serving.specs.Turns.{Runs}
 
 -- the rows after an outcome are those that the exchange leaves
@@ -28,15 +28,21 @@ after_is change old (leaves reply) new is = is
 after_is None old (makes reply) new is = absurd is
 after_is (Some change) old (makes reply) new is = is
 
--- a turn is an exchange, or it is none
-data TurnIs (contents : Contents) (t : Turn) : Type 0 where
-  no_exchange : IsNoExchange t → TurnIs contents t
-  exchange : (e : Exchange) → IsExchange contents t e → (IsOwnReply e → IsAnswered contents t.before.store.rows e) → TurnIs contents t
+-- a turn is an exchange, or it is none, or its request was answered apart
+data TurnIs (apart : Request → Type 0) (contents : Contents) (t : Turn) : Type 0 where
+  no_exchange : IsNoExchange t → TurnIs apart contents t
+  answered_apart : IsBeside apart t → TurnIs apart contents t
+  exchange : (e : Exchange) → IsExchange contents t e → (IsOwnReply e → IsAnswered contents t.before.store.rows e) → TurnIs apart contents t
 
-module _ (contents : Contents) (t : Turn) where
+-- a service answers by the table, or a request of its own, which leaves the rows
+abbrev pub AnswersBeside : Answering → (Request → Type 0) → Type 1
+AnswersBeside how apart = (store : StoreTerm) (contents : Contents) (request : Request) (rose : Type 0) (reply : Reply) (rows : List Row)
+    → how store contents request rose reply rows → Replies store contents request rose reply rows ⊎ (apart request × (rows ≡ store.rows))
+
+module _ (how : Answering) (apart : Request → Type 0) (tells : AnswersBeside how apart) (contents : Contents) (t : Turn) where
   -- by the table, or 500 since a count rose
   pulled_is : (asks : Exchange) (reply : Reply) → t.received ≡ received.Request asks.request → IsAim asks.request.target asks.aim → Wrote t.end t reply
-      → Pulled t.before.store contents asks.request asks.aim (OutsideRose t) reply t.after.store.rows → TurnIs contents t
+      → Pulled t.before.store contents asks.request asks.aim (OutsideRose t) reply t.after.store.rows → TurnIs apart contents t
   unfolding asked
   pulled_is asks reply same is_aim wrote (by_table outcome row is now) =
       exchange (record { request = asks.request; aim = asks.aim; outcome = outcome }) (record {
@@ -61,22 +67,28 @@ module _ (contents : Contents) (t : Turn) where
         rows = now;
       }) (λ unshared. absurd (false≢true (sym unshared)))
 
-  other : (r : Received) → t.received ≡ r → ((request : Request) → r ≡ received.Request request → ⊥) → t.after ≡ t.before → TurnIs contents t
+  other : (r : Received) → t.received ≡ r → ((request : Request) → r ≡ received.Request request → ⊥) → t.after ≡ t.before → TurnIs apart contents t
   other r same isnt stays = no_exchange (record {
     unanswered = λ request is. absurd (isnt request (sym same ∙ is));
     rows = ap (λ (s : State). s.store.rows) stays;
   })
 
-  replied : (r : Received) (reply : Reply) → t.received ≡ r → Leaves r t.before t.after → IsReply Replies (Some contents) t r reply → Wrote t.end t reply → TurnIs contents t
-  replied (received.Request request) reply same left is wrote =
-      let told = is.table contents refl in
+  answered : (request : Request) (reply : Reply) → t.received ≡ received.Request request → Wrote t.end t reply
+      → Replies t.before.store contents request (OutsideRose t) reply t.after.store.rows ⊎ (apart request × (t.after.store.rows ≡ t.before.store.rows))
+      → TurnIs apart contents t
+  answered request reply same wrote (inl told) =
       pulled_is (record { request = request; aim = told.aim; outcome = leaves reply }) reply same told.is_aim wrote told.pulled
+  answered request reply same wrote (inr (is_apart, rows)) = answered_apart (record { request = request; is_request = same; is_apart = is_apart; rows = rows })
+
+  replied : (r : Received) (reply : Reply) → t.received ≡ r → Leaves r t.before t.after → IsReply how (Some contents) t r reply → Wrote t.end t reply → TurnIs apart contents t
+  replied (received.Request request) reply same left is wrote =
+      answered request reply same wrote (tells t.before.store contents request (OutsideRose t) reply t.after.store.rows (is.table contents refl))
   replied (received.Refused e) reply same left is wrote = other (received.Refused e) same (λ request isnt. cc isnt) left
   replied (received.Torn at) reply same left is wrote = absurd is
   replied received.ReadFault reply same left is wrote = absurd is
   replied received.Memory reply same left is wrote = absurd is
 
-  ended : (end : ConnectionEnd) → t.end ≡ end → IsTurn Replies (Some contents) t → IsEnd Replies (Some contents) t end → TurnIs contents t
+  ended : (end : ConnectionEnd) → t.end ≡ end → IsTurn how (Some contents) t → IsEnd how (Some contents) t end → TurnIs apart contents t
   ended (ends.Answered code) same turn is =
       replied t.received is.reply refl turn.leaves is.is_reply (subst (λ (e : ConnectionEnd). Wrote e t is.reply) (sym same) (is.has_code, is.written))
   ended ends.DiskFault same turn is = replied t.received (plain 500) refl turn.leaves is.is_reply (subst (λ (e : ConnectionEnd). Wrote e t (plain 500)) (sym same) is.written)
@@ -95,17 +107,23 @@ abbrev rows_in : State → List Row
 rows_in s = s.store.rows
 
 -- the exchanges of a run, and that they are by the table
-pub record Answered (contents : Contents) (first : State) (turns : List Turn) (last : State) : Type 0 where
+pub record Answered (apart : Request → Type 0) (contents : Contents) (first : State) (turns : List Turn) (last : State) : Type 0 where
   pub exchanges : List Exchange
-  pub are : AreExchanges contents turns exchanges
+  pub are : AreExchanges apart contents turns exchanges
   pub answered : AllByRecursion IsOwnReply exchanges → AnsweredAll contents first.store.rows exchanges last.store.rows
 
-module _ (contents : Contents) (last : State) where
-  one_more : (first : State) (t : Turn) (ts : List Turn) → t.before ≡ first → TurnIs contents t → Answered contents t.after ts last → Answered contents first (t ∷ ts) last
+module _ (how : Answering) (apart : Request → Type 0) (tells : AnswersBeside how apart) (contents : Contents) (last : State) where
+  one_more : (first : State) (t : Turn) (ts : List Turn) → t.before ≡ first → TurnIs apart contents t → Answered apart contents t.after ts last
+      → Answered apart contents first (t ∷ ts) last
   one_more first t ts before (no_exchange none) rest = record {
     exchanges = rest.exchanges;
     are = without t ts rest.exchanges none rest.are;
     answered = λ unshared. subst (λ (rows : List Row). AnsweredAll contents rows rest.exchanges last.store.rows) (none.rows ∙ ap rows_in before) (rest.answered unshared);
+  }
+  one_more first t ts before (answered_apart one) rest = record {
+    exchanges = rest.exchanges;
+    are = beside t ts rest.exchanges one rest.are;
+    answered = λ unshared. subst (λ (rows : List Row). AnsweredAll contents rows rest.exchanges last.store.rows) (one.rows ∙ ap rows_in before) (rest.answered unshared);
   }
   one_more first t ts before (exchange e is answers) rest = record {
     exchanges = e ∷ rest.exchanges;
@@ -116,13 +134,13 @@ module _ (contents : Contents) (last : State) where
     );
   }
 
-  run_answered : (first : State) (turns : List Turn) → Runs Replies (Some contents) first turns last → Answered contents first turns last
+  run_answered : (first : State) (turns : List Turn) → Runs how (Some contents) first turns last → Answered apart contents first turns last
   run_answered first [] runs = record { exchanges = []; are = no_turns; answered = λ unshared. ap rows_in runs }
-  run_answered first (t ∷ ts) runs = one_more first t ts runs.0 (ended contents t t.end refl runs.2 runs.2.end) (run_answered t.after ts runs.3)
+  run_answered first (t ∷ ts) runs = one_more first t ts runs.0 (ended how apart tells contents t t.end refl runs.2 runs.2.end) (run_answered t.after ts runs.3)
 
-pub runs_alone : RunsLeaveAgentsAlone
-runs_alone contents first last turns runs =
-    let a = run_answered contents last first turns runs in
+pub runs_alone : (how : Answering) (apart : Request → Type 0) → AnswersBeside how apart → RunsLeaveAgentsAlone how apart
+runs_alone how apart tells contents first last turns runs =
+    let a = run_answered how apart tells contents last first turns runs in
     record {
       exchanges = a.exchanges;
       are = a.are;

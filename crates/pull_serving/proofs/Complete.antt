@@ -3,14 +3,13 @@ use Rattle.std.proofs.Common.{◌≡◌, inl, ℕ, List, Option, IfSome, subst}
 use Rattle.pull_outside.specs.Shelf.{Contents}
 use Rattle.pull_exchange.specs.declared.exchange.Received.{Received}
 use Rattle.pull_exchange.specs.Exchange.{IsReceived}
-use Rattle.pull_server.specs.Answers.{Replies}
 use Rattle.pull_serving.specs.declared.connection.ConnectionEnd.{ConnectionEnd}
 use Rattle.pull_serving.specs.declared.connection.ConnectionEnd.TheVariants as ends
 use Rattle.pull_serving.specs.Complete.{EndsWell, IsUndisturbed, UndisturbedAreAnswered}
-use Rattle.pull_serving.specs.Turn.{IsEnd, IsTurn, Turn}
+use Rattle.pull_serving.specs.Turn.{Answering, IsEnd, IsTurn, Turn}
 
-module _ (shelf : Option Contents) (t : Turn) (turn : IsTurn Replies shelf t) (undisturbed : IsUndisturbed t) where
-  ends_well : (end : ConnectionEnd) → IsEnd Replies shelf t end → EndsWell end
+module _ (how : Answering) (shelf : Option Contents) (t : Turn) (turn : IsTurn how shelf t) (undisturbed : IsUndisturbed t) where
+  ends_well : (end : ConnectionEnd) → IsEnd how shelf t end → EndsWell end
   ends_well (ends.Answered code) is = tt
   ends_well ends.DiskFault is = undisturbed.outside (inl is.rose)
   ends_well (ends.Torn at) is =
@@ -21,5 +20,5 @@ module _ (shelf : Option Contents) (t : Turn) (turn : IsTurn Replies shelf t) (u
   ends_well ends.WriteFault is = undisturbed.connection is.rose
   ends_well ends.Memory is = tt
 
-pub undisturbed_answered : UndisturbedAreAnswered
-undisturbed_answered shelf t turn undisturbed = ends_well shelf t turn undisturbed t.end turn.end
+pub undisturbed_answered : (how : Answering) → UndisturbedAreAnswered how
+undisturbed_answered how shelf t turn undisturbed = ends_well how shelf t turn undisturbed t.end turn.end

@@ -1,4 +1,4 @@
-mod Alone
+pub mod Alone
 mod Complete
 pub mod Ends
 pub mod Opened

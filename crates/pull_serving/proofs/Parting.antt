@@ -8,7 +8,7 @@ use Rattle.pull_exchange.specs.declared.exchange.Received.TheVariants as receive
 use Rattle.pull_exchange.specs.Exchange.{refusal_of}
 use Rattle.pull_outside.specs.Shelf.{Contents}
 use Rattle.pull_outside.specs.declared.door.Parting.TheVariants as partings
-use Rattle.pull_server.specs.Answers.{Replies, is_done}
+use Rattle.pull_server.specs.Answers.{is_done}
 use Rattle.pull_serving.specs.declared.connection.ConnectionEnd.{ConnectionEnd}
 use Rattle.pull_serving.specs.declared.connection.ConnectionEnd.TheVariants as ends
 use Rattle.pull_serving.specs.Parting.{IsDoneWith, OnlyDoneEndAtOnce, parting_of}
@@ -49,5 +49,5 @@ module _ (how : Answering) (shelf : Option Contents) (t : Turn) where
   done_with ends.WriteFault is at_once = absurd (cc at_once)
   done_with ends.Memory is at_once = absurd (cc at_once)
 
-pub only_done : OnlyDoneEndAtOnce
-only_done shelf t turn at_once = done_with Replies shelf t t.end turn.end at_once
+pub only_done : (how : Answering) → OnlyDoneEndAtOnce how
+only_done how shelf t turn at_once = done_with how shelf t t.end turn.end at_once

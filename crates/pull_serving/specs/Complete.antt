@@ -2,10 +2,9 @@
 use Rattle.std.specs.Prelude.{◌≡◌, ℕ, List, Option, Some, ⊤}
 use Rattle.http_frames.specs.Frames.{AwaitsRest}
 use Rattle.pull_outside.specs.Shelf.{Contents}
-use Rattle.pull_server.specs.Answers.{Replies}
 use Rattle.pull_serving.specs.declared.connection.ConnectionEnd.{ConnectionEnd}
 use Rattle.pull_serving.specs.declared.connection.ConnectionEnd.TheVariants as ends
-use Rattle.pull_serving.specs.Turn.{ConnectionRose, IsTurn, OutsideRose, Turn}
+use Rattle.pull_serving.specs.Turn.{Answering, ConnectionRose, IsTurn, OutsideRose, Turn}
 
 -- the connection shows its bytes, which do not end inside a request, and no count of faults rose while it was served
 pub record IsUndisturbed (t : Turn) : Type 0 where
@@ -24,5 +23,6 @@ EndsWell ends.ReadFault = ⊥
 EndsWell ends.WriteFault = ⊥
 EndsWell ends.Memory = ⊤
 
-abbrev pub UndisturbedAreAnswered : Type 0
-UndisturbedAreAnswered = (shelf : Option Contents) (t : Turn) → IsTurn Replies shelf t → IsUndisturbed t → EndsWell t.end
+-- of any service
+abbrev pub UndisturbedAreAnswered : Answering → Type 0
+UndisturbedAreAnswered how = (shelf : Option Contents) (t : Turn) → IsTurn how shelf t → IsUndisturbed t → EndsWell t.end

@@ -5,7 +5,7 @@ use Rattle.pull_outside.specs.Shelf.{Contents}
 use Rattle.pull_outside.specs.declared.door.Parting.{Parting}
 use Rattle.pull_outside.specs.declared.door.Parting.TheVariants as partings
 use Rattle.pull_exchange.specs.declared.exchange.Received.TheVariants as received
-use Rattle.pull_server.specs.Answers.{Replies, is_done}
+use Rattle.pull_server.specs.Answers.{is_done}
 use Rattle.pull_serving.specs.declared.connection.ConnectionEnd.{ConnectionEnd}
 use Rattle.pull_serving.specs.declared.connection.ConnectionEnd.TheVariants as ends
 use Rattle.pull_serving.specs.Turn.{Answering, IsAnswered, IsTurn, Turn}
@@ -27,6 +27,6 @@ pub record IsDoneWith (how : Answering) (shelf : Option Contents) (t : Turn) : T
   pub says_done : is_done code ≡ true
   pub is_answered : IsAnswered how shelf t code
 
--- of the pull server no other connection is to end at once
-abbrev pub OnlyDoneEndAtOnce : Type 0
-OnlyDoneEndAtOnce = (shelf : Option Contents) (t : Turn) → IsTurn Replies shelf t → parting_of t.end ≡ partings.AtOnce → IsDoneWith Replies shelf t
+-- of any service no other connection is to end at once
+abbrev pub OnlyDoneEndAtOnce : Answering → Type 0
+OnlyDoneEndAtOnce how = (shelf : Option Contents) (t : Turn) → IsTurn how shelf t → parting_of t.end ≡ partings.AtOnce → IsDoneWith how shelf t

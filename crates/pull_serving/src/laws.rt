@@ -1,21 +1,25 @@
 //! What a run of connections means.
-ghost use Rattle.pull_serving.specs.Alone.{RunsLeaveAgentsAlone};
+ghost use Rattle.pull_server.specs.Answers.{Replies};
+ghost use Rattle.pull_serving.specs.Alone.{NoneApart, RunsLeaveAgentsAlone};
 ghost use Rattle.pull_serving.specs.Complete.{UndisturbedAreAnswered};
 ghost use Rattle.pull_serving.specs.Parting.{OnlyDoneEndAtOnce};
 
-/// A connection is to end at once only where its request was read whole, and the answer that it was done was written whole.
-pub fn only_done_requests_end_at_once()
-    ensures { OnlyDoneEndAtOnce }
+use crate::answerer::Answerer;
+
+/// Of any service a connection is to end at once only where its request was read whole, and the answer that it was done was written
+/// whole.
+pub fn only_done_requests_end_at_once<A: Answerer>()
+    ensures { OnlyDoneEndAtOnce A.replies }
 {}
 
-/// Over a shelf that shows what it holds, a run is a list of exchanges; where no reply is 500, 503 or 507, an agent is answered
+/// Over a shelf that shows what it holds, a run of the pull server is a list of exchanges; where no reply is 500, 503 or 507, an agent is answered
 /// in it as if no other agent had asked.
 pub fn runs_leave_agents_alone()
-    ensures { RunsLeaveAgentsAlone }
+    ensures { RunsLeaveAgentsAlone Replies NoneApart }
 {}
 
-/// A connection that shows its bytes, which do not end inside a request, is answered, or memory runs out, where no count of faults rises
-/// while it is served.
-pub fn undisturbed_connections_are_answered()
-    ensures { UndisturbedAreAnswered }
+/// Of any service a connection that shows its bytes, which do not end inside a request, is answered, or memory runs out, where no count of
+/// faults rises while it is served.
+pub fn undisturbed_connections_are_answered<A: Answerer>()
+    ensures { UndisturbedAreAnswered A.replies }
 {}

@@ -16,5 +16,11 @@ returns-clause-nodes c = record { parts = refl; reports = refl; older_reports = 
 pub returns-clause-messages : goal.returns-clause-messages
 returns-clause-messages c = record { body = refl; text = refl; items = refl; item = refl }
 
+pub returns-clause-outside : goal.returns-clause-outside
+returns-clause-outside c = record { moment = refl; answer = refl }
+
+pub returns-clause-frames : goal.returns-clause-frames
+returns-clause-frames c = record { lines = refl; head = refl; request = refl; request_in_chunks = refl; answer = refl; answer_in_chunks = refl }
+
 pub returns-clause-servers : goal.returns-clause-servers
-returns-clause-servers c = record { agents = refl; reports = refl; message = refl; bank = refl; body = refl; connections = refl }
+returns-clause-servers c = record { agents = refl; reports = refl; keys = refl; message = refl; bank = refl; body = refl; connections = refl }
