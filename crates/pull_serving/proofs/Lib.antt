@@ -1,5 +1,6 @@
 pub mod Alone
 mod Complete
+mod CompleteRuns
 pub mod Ends
 pub mod Opened
 mod Parting

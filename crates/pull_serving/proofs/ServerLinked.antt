@@ -1,5 +1,5 @@
 -- One exchange of a link to a server, from what serving its connection did.
-use Rattle.std.proofs.Common.{◌≡◌, ℕ, ◌≤◌, List, [], ◌∷◌, ◌++◌, length, Some, Result, Ok, Err, IfOk, refl, ◌∙◌, subst}
+use Rattle.std.proofs.Common.{◌≡◌, ℕ, ◌≤◌, ◌<◌, List, [], ◌∷◌, ◌++◌, length, Some, Result, Ok, Err, IfOk, refl, ◌∙◌, subst}
 use Rattle.dsc_outside.specs.declared.disk.Disk as disks
 use Rattle.dsc_outside.specs.declared.exchange.Exchange.{Exchange}
 use Rattle.dsc_outside.specs.declared.exchange.Outcome.{Outcome}
@@ -16,7 +16,7 @@ use Rattle.pull_serving.specs.Turn.{IsServed, Turn}
 -- what was taken of the connection, or it ran out of memory
 gives_of : (t : Turn) (held : List ℕ) (taken : Result (List ℕ) Memory) (outcome : Outcome) → IfOk taken (λ bytes. TookAll t.end t.went.faults × (bytes ≡ held)) → IsOutcomeOf taken outcome
     → Gives t held outcome
-gives_of t held (Ok bytes) (Answered given) took is = (took.0, is ∙ took.1)
+gives_of t held (Ok bytes) (Answered given) took is = (took.0, is.0 ∙ took.1, subst (λ (l : List ℕ). length l < answer_limit) took.1 is.1)
 gives_of t held (Ok bytes) TooLong took long = (took.0, subst (λ (l : List ℕ). answer_limit ≤ length l) took.1 long)
 gives_of t held (Ok bytes) Failed took is = tt
 gives_of t held (Err e) (Answered given) took is = absurd is

@@ -1,6 +1,7 @@
 -- what the layer above cites
 pub mod Alone
 pub mod Complete
+pub mod CompleteRuns
 pub mod Parting
 pub mod Printing
 pub mod ServerLink

@@ -1,5 +1,5 @@
 -- A pull server in memory as a link: its exchanges are turns over its store.
-use Rattle.std.specs.Prelude.{◌≡◌, ◌≢◌, ◌≤◌, ℕ, true, false, List, [], ◌∷◌, ◌++◌, length, Option, Some, Result, Ok, Err, ⊤}
+use Rattle.std.specs.Prelude.{◌≡◌, ◌≢◌, ◌≤◌, ◌<◌, ℕ, true, false, List, [], ◌∷◌, ◌++◌, length, Option, Some, Result, Ok, Err, ⊤}
 use Rattle.dsc_terms.specs.Counts.{Rose}
 use Rattle.dsc_outside.specs.declared.disk.Disk as disks
 use Rattle.dsc_outside.specs.declared.exchange.Exchange.{Exchange}
@@ -32,13 +32,13 @@ TookAll end faults = (end ≢ ends.Memory) × (faults ≡ 0)
 
 -- what comes of a turn whose connection took these bytes: they are the answer, or too many for one, or memory ran out
 abbrev pub Gives : Turn → List ℕ → Outcome → Type 0
-Gives t taken (Answered bytes) = TookAll t.end t.went.faults × (bytes ≡ taken)
+Gives t taken (Answered bytes) = TookAll t.end t.went.faults × (bytes ≡ taken) × (length taken < answer_limit)
 Gives t taken TooLong = TookAll t.end t.went.faults × (answer_limit ≤ length taken)
 Gives t taken Failed = ⊤
 
 -- the outcome of an exchange of which these bytes were taken, or which ran out of memory
 abbrev pub IsOutcomeOf : Result (List ℕ) Memory → Outcome → Type 0
-IsOutcomeOf (Ok taken) (Answered bytes) = bytes ≡ taken
+IsOutcomeOf (Ok taken) (Answered bytes) = (bytes ≡ taken) × (length taken < answer_limit)
 IsOutcomeOf (Ok taken) TooLong = answer_limit ≤ length taken
 IsOutcomeOf (Ok taken) Failed = ⊤
 IsOutcomeOf (Err e) (Answered bytes) = ⊥

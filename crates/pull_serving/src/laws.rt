@@ -2,9 +2,11 @@
 ghost use Rattle.pull_server.specs.Answers.{Replies};
 ghost use Rattle.pull_serving.specs.Alone.{NoneApart, RunsLeaveAgentsAlone};
 ghost use Rattle.pull_serving.specs.Complete.{UndisturbedAreAnswered};
+ghost use Rattle.pull_serving.specs.CompleteRuns.{ValidRunsComplete};
 ghost use Rattle.pull_serving.specs.Parting.{OnlyDoneEndAtOnce};
 
 use crate::answerer::Answerer;
+use dsc_outside::Disk;
 
 /// Of any service a connection is to end at once only where its request was read whole, and the answer that it was done was written
 /// whole.
@@ -22,4 +24,10 @@ pub fn runs_leave_agents_alone()
 /// faults rises while it is served.
 pub fn undisturbed_connections_are_answered<A: Answerer>()
     ensures { UndisturbedAreAnswered A.replies }
+{}
+
+/// A run of valid arguments, over a disk that holds rows, serves all its connections, or memory runs out, where no count of faults rises of the
+/// disk, the door or the output.
+pub fn valid_runs_complete<A: Answerer, D: Disk>()
+    ensures { ValidRunsComplete A.replies D.Disk }
 {}

@@ -10,7 +10,8 @@
 //! Where a thing is:
 //! - what serving a connection comes to, or a run of many: `specs/Turn.antt`, `specs/Turns.antt`, `specs/Serving.antt`;
 //!   which connections end at once `src/connection.rt`, `specs/Parting.antt`
-//! - that a connection which nothing disturbs is answered: `specs/Complete.antt`
+//! - that a connection which nothing disturbs is answered: `specs/Complete.antt`; that so a run serves all its
+//!   connections: `specs/CompleteRuns.antt`
 //! - a service over a store: `src/answerer.rt`; the server as a link: `src/server_link.rt`, `specs/ServerLink.antt`; a
 //!   run in which each agent is alone: `specs/Alone.antt`
 //! - a line of the server, a status: `specs/Printing.antt`, `src/printing.rt`; `specs/Status.antt`, `src/status.rt`
@@ -29,6 +30,7 @@ pub use answerer::Answerer;
 pub use connection::{ConnectionEnd, serve_connection};
 pub use laws::{
     only_done_requests_end_at_once, runs_leave_agents_alone, undisturbed_connections_are_answered,
+    valid_runs_complete,
 };
 pub use server_link::ServerLink;
 pub use serving::{serve, serve_over};
