@@ -16,10 +16,10 @@ use Rattle.dsc_node.specs.Starts.{BeginsWhole, Brings, Finds, FindsPart, FindsWh
 use Rattle.dsc_node.specs.Work.{Known}
 
 -- of an image that stands for a value with P, the node has P
-has_it : (P : Node → Type 0) (image : List ℕ) (node : Node) → StandsFor Stands P image → Stands image node → P node
+pub has_it : (P : Node → Type 0) (image : List ℕ) (node : Node) → StandsFor Stands P image → Stands image node → P node
 has_it P image node it stands = subst P (one_node image it.value node it.stands stands) it.has
 
-or_later : {A B C : Type 0} → A ⊎ B → A ⊎ (B ⊎ C)
+pub or_later : {A B C : Type 0} → A ⊎ B → A ⊎ (B ⊎ C)
 or_later (inl a) = inl a
 or_later (inr b) = inr (inl b)
 
@@ -57,7 +57,7 @@ module _ {D S C : Type 0} (o : Known D S C) (counts_now : (disk : D) (t : ℕ) (
       at_any before.disk after.disk (IsOnTheWay o.disk before.disk s.from (all_of s.ended.committed s.ended.broken)) image (s.ended.passes all) left
 
   -- each image at its end stands for a node that it leaves
-  leaves : (command : Command) (before after : Outside D S C) (status : Status) (lines : List ℕ) (start : Start o command before after status lines) → AllStand o.disk before.disk Stands Any
+  pub leaves : (command : Command) (before after : Outside D S C) (status : Status) (lines : List ℕ) (start : Start o command before after status lines) → AllStand o.disk before.disk Stands Any
       → (image : List ℕ) → o.disk.images after.disk image → StandsFor Stands (Leaves o command before after status lines start) image
   leaves command before after status lines (refused error unmerged same ends) all image there =
       stood before.disk image all (subst (λ (x : Outside D S C). o.disk.images x.disk image) same there)
@@ -65,7 +65,7 @@ module _ {D S C : Type 0} (o : Known D S C) (counts_now : (disk : D) (t : ℕ) (
       at_any before.disk after.disk (StoodFor o.disk before.disk Stands) image (moments all) (inr there)
   leaves command before after status lines (opened s) all image there = s.ended.left image there
 
-  left_anywhere : (one : OneStart o) → BeginsWhole o one → (image : List ℕ) → LeavesImage o one image
+  pub left_anywhere : (one : OneStart o) → BeginsWhole o one → (image : List ℕ) → LeavesImage o one image
       → StandsFor Stands (MayLeave o one.command one.before one.after one.status one.lines one.start) image
   left_anywhere one whole image left = may_leave one.command one.before one.after one.status one.lines one.start whole image left
 
@@ -110,7 +110,7 @@ module _ {D S C : Type 0} (o : Known D S C) (counts_now : (disk : D) (t : ℕ) (
       ⊎_elim (λ there. inl (found_part before.disk exposed s.from part there)) (λ brought. inr (s.from, s.reads, brought)) ((headline s).parts_are_as_brought node part way slot)
 
   -- and of an image that it leaves
-  of_image : (one : OneStart o) → IsExposed o one → BeginsWhole o one → (image : List ℕ) (node : Node) (part : Part) → LeavesImage o one image → Stands image node → IsSlot node part
+  pub of_image : (one : OneStart o) → IsExposed o one → BeginsWhole o one → (image : List ℕ) (node : Node) (part : Part) → LeavesImage o one image → Stands image node → IsSlot node part
       → FindsPart o one part ⊎ Brings o one part
   of_image one exposed whole image node part left stands slot =
       of_one one.command one.before one.after one.status one.lines one.start one.headline exposed node part

@@ -19,6 +19,7 @@ pub mod SendingLaws
 pub mod Shown
 pub mod Start
 pub mod Starts
+pub mod StartsOfTwo
 pub mod Status
 pub mod Work
 -- for private clauses alone

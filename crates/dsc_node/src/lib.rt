@@ -25,7 +25,8 @@
 //! - what a crash at any moment of a start leaves, and the headline: `specs/Path.antt`, `specs/Headline.antt`, over a
 //!   host `specs/HostHeadline.antt`; one call after another `proofs/Commits.antt`; the headline row by row
 //!   `proofs/Headline.antt`, of its nodes `proofs/Nodes.antt`, of its run `proofs/HeadlineRuns.antt`
-//! - starts in a row: `specs/Starts.antt`, `src/laws.rt`, `proofs/Joining.antt`; which input is valid, and that a start
+//! - starts in a row: `specs/Starts.antt`, `src/laws.rt`, `proofs/Joining.antt`; over objects of two kinds
+//!   `specs/StartsOfTwo.antt`, `src/starts_of_two.rt`, `proofs/JoiningTwo.antt`; which input is valid, and that a start
 //!   of it is not refused: `specs/Complete.antt`, `proofs/Completing.antt`
 //! - within how many starts what is Pending becomes Current, and how often a run calls a resource:
 //!   `specs/Converging.antt`, `proofs/Converging.antt`
@@ -51,6 +52,7 @@ mod running;
 mod sending;
 mod showing;
 mod starting;
+mod starts_of_two;
 mod status;
 
 pub use answer::StartEnd;
@@ -63,4 +65,5 @@ pub use lines::{id, lines_of, push_resources};
 pub use order::ordered_of_merged;
 pub use run::{run_kinds, run_merged};
 pub use starting::{start, start_over};
+pub use starts_of_two::starts_of_two_join;
 pub use status::{InputError, Status};
