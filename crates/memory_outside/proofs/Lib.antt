@@ -2,9 +2,9 @@ mod Bounds
 mod ClockReadings
 mod DiskBytes
 mod DiskCalls
-mod DiskParts
+pub mod DiskParts
 mod Fronts
-mod Images
+pub mod Images
 mod Meeting
 mod Named
 mod PathEntries

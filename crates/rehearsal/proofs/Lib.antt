@@ -1,4 +1,5 @@
 pub mod CallWords
+pub mod Chain
 pub mod Lists
 pub mod OneLine
 pub mod OneReading

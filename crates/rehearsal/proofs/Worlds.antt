@@ -22,16 +22,15 @@ use Rattle.rehearsal.specs.World.{HasLasted}
 use Rattle.dsc_terms.specs.Counts.{Rose}
 
 -- the image of no bytes stands for a new node
-new_stands : StandsFor Stands Any []
-new_stands = record {
-  value = new_node;
-  stands = record {
-    bodies = [];
-    gives = fresh (omega arith);
-    leads = record { front = []; events = []; first = new_node; is = refl; builds = refl; steps = refl; pieces = tt; ranges = tt };
-  };
-  has = tt;
+pub nothing_stands : Stands [] new_node
+nothing_stands = record {
+  bodies = [];
+  gives = fresh (omega arith);
+  leads = record { front = []; events = []; first = new_node; is = refl; builds = refl; steps = refl; pieces = tt; ranges = tt };
 }
+
+new_stands : StandsFor Stands Any []
+new_stands = record { value = new_node; stands = nothing_stands; has = tt }
 
 no_bytes : (c : List ℕ) → IsImage (settled []) c → c ≡ []
 no_bytes [] image = refl

@@ -1,4 +1,5 @@
 -- what the layer above cites
+pub mod Chain
 pub mod Laws
 pub mod Objects
 pub mod OneReading

@@ -1,4 +1,5 @@
 //! Laws of the definitions. The calls do nothing but call laws; their clauses are the laws.
+ghost use Rattle.rehearsal.specs.Chain.{EndsCross, PlaysAreStarts, StopsCross};
 ghost use Rattle.rehearsal.specs.Laws.{OnlyStopsStop, PlaysInParts, RowsTellNodes, ShelvesAreOfLines};
 ghost use Rattle.rehearsal.specs.OneReading.{FailuresAreOne, NeverBoth, StepsAreOne};
 
@@ -22,6 +23,21 @@ pub fn steps_follow<S: Starter>()
 pub fn rows_are_true<S: Starter>()
     ensures stops { OnlyStopsStop S.Starter }
     ensures nodes { RowsTellNodes S.Starter }
+{
+    images_have_one_meaning();
+}
+
+/// The next start opens what a start leaves on its disk: it begins with one image, and that is one of those that a crash at the end of the
+/// start before it may leave, wherever this was stopped.
+pub fn images_cross<S: Starter>()
+    ensures ends { EndsCross S.Starter }
+    ensures stops { StopsCross S.Starter }
+{}
+
+/// The text of a play is the lines of a chain of starts, one for each line of the script that is a start, from a new node on, and each node
+/// of the chain is sound.
+pub fn plays_are_starts<S: Starter>()
+    ensures { PlaysAreStarts S.Starter }
 {
     images_have_one_meaning();
 }
