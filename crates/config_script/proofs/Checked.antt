@@ -11,14 +11,9 @@ use Rattle.config_script.specs.Places as events
 use Rattle.config_script.specs.Places.{Event, elements_events, value_events, property_events, resource_events, block_events, script_events}
 use Rattle.config_script.specs.Denoting.{kind_named, is_reserved, names_node, resources_of}
 use Rattle.config_script.specs.Refused.{first_unknown, first_reserved}
-use Rattle.config_script.specs.Checking.{unknown_in, reserved_in, named_in}
+use Rattle.config_script.specs.Checking.{unknown_in, reserved_in, named_in, or_else}
 
--- the first of two
-abbrev or_else : Option (List ℕ) → Option (List ℕ) → Option (List ℕ)
-or_else (Some x) other = Some x
-or_else None other = other
-
-or_else_assoc : (a b c : Option (List ℕ)) → or_else (or_else a b) c ≡ or_else a (or_else b c)
+pub or_else_assoc : (a b c : Option (List ℕ)) → or_else (or_else a b) c ≡ or_else a (or_else b c)
 or_else_assoc (Some x) b c = refl
 or_else_assoc None b c = refl
 

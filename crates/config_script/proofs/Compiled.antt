@@ -1,16 +1,17 @@
 -- What compile answers, from what was read, looked for, written and merged.
-use Rattle.std.proofs.Common.{◌≡◌, ◌≢◌, inl, inr, ◌≤◌, ◌<◌, ◌+◌, ℕ, true, false, List, [], ◌∷◌, ◌++◌, length, length-append, refl, sym, ap, subst, ◌∙◌, Bool, Option, Some, None, Result, Err, IfErr, encode_utf8_all, arith}
-use Rattle.std.specs.Str.{all_scalars, chars, IsUtf8, IsValidUpTo}
+use Rattle.std.proofs.Common.{◌≡◌, inl, inr, ◌≤◌, ◌<◌, ℕ, true, false, List, [], ◌∷◌, ◌++◌, length, length-append, refl, sym, ap, subst, ◌∙◌, Option, Some, None, Result, Err, IfErr, IfSome, IfNone, encode_utf8_all, arith}
+use Rattle.std.specs.Borrow.{Bor}
+use Rattle.std.specs.Prelude.{string_bytes}
+use Rattle.std.specs.Str.{all_scalars, chars, IsUtf8}
 use Rattle.std.proofs.lemmas.Str.{chars_from_encodes, encodes-chars}
-use Rattle.mof_values.specs.declared.instance.Instance.{Instance}
+use Rattle.mof_syntax.specs.Canonical.{canonical_instance}
 use Rattle.mof_syntax.specs.Limits.{document_limit}
-use Rattle.mof_syntax.specs.Refusals.{Reads}
+use Rattle.mof_syntax.specs.Scanning.{left_of}
 use Rattle.mof_syntax.specs.declared.mof_error.MofError.TheVariants as mof
 use Rattle.dsc_document.specs.declared.document.Document.{Document}
 use Rattle.partial_merge.specs.Merged.{Merged}
 use Rattle.partial_merge.specs.Parts.{unnamed_part}
 use Rattle.partial_merge.specs.Refused as merges
-use Rattle.partial_merge.specs.declared.error.MergeError.{MergeError}
 use Rattle.partial_merge.specs.declared.error.MergeError.TheVariants as merge_errors
 use Rattle.partial_merge.specs.declared.error.PartFault.TheVariants.{Mof}
 use Rattle.partial_merge.proofs.OnePart.{refused_first}
@@ -18,14 +19,18 @@ use Rattle.config_script.specs.declared.error.CompileError.{CompileError}
 use Rattle.config_script.specs.declared.error.CompileError.TheVariants as reasons
 use Rattle.config_script.specs.declared.limits.TheConstants.{MAX_SCRIPT}
 use Rattle.config_script.specs.Tokens.{line_of}
-use Rattle.config_script.specs.Scripts.{IsScript, Script}
-use Rattle.config_script.specs.Places.{Event, IsRead, script_events}
+use Rattle.config_script.specs.Scripts.{IsScript}
+use Rattle.config_script.specs.Places.{Event, IsRead}
 use Rattle.config_script.specs.Checking.{MergesAs, unknown_in, reserved_in, named_in}
 use Rattle.config_script.specs.Refused.{IsText, IsScriptOf, Serves, Compiles, HasShapeFault, HasUnknownKind, HasReserved, HasNoNode, IsUnmerged, Refuses, text_for, first_unknown, first_reserved}
+use Rattle.config_script.specs.Denoting.{header}
+use Rattle.config_script.specs.Reading.{Continues, IsReadOf}
 use Rattle.config_script.specs.Writing.{IsWritten, written}
+use Rattle.config_script.specs.declared.read.Reading.{Reading}
 use Rattle.config_script.specs.Fronts.{LongestFront}
 use Rattle.config_script.proofs.Checked.{script_unknown, script_reserved, script_named}
 use Rattle.config_script.proofs.Denoted.{script_written}
+use Rattle.config_script.proofs.Taken.{leaves_none}
 use Rattle.config_script.proofs.Wrong.{goes_wrong}
 
 -- what the exit of a `?` hands on as it is
@@ -33,18 +38,6 @@ pub handed_on : {U : Type 0} (result : Result U CompileError) (y e : CompileErro
     → IfErr result P
 handed_on {U} result y e P is same h =
     subst (λ (r : Result U CompileError). IfErr r P) (sym is) (subst (λ (x : CompileError). P x) (sym same) h)
-
--- what was written, under the names that its bytes and the node have later
-pub written_is : (bytes later name node : List ℕ) (es : List Event) → later ≡ bytes → name ≡ node → IsWritten bytes (written [] name false es)
-    → IsWritten later (written [] node false es)
-written_is bytes later name node es e n w = subst (λ (xs : List ℕ). IsWritten xs (written [] node false es)) (sym e)
-    (subst (λ (xs : List ℕ). IsWritten bytes (written [] xs false es)) n w)
-
--- whether a block names the node, under the name that the node has later
-pub named_is : (found value : Bool) (name node : List ℕ) (es : List Event) → found ≡ named_in name es → found ≡ value → name ≡ node
-    → named_in node es ≡ value
-named_is found value name node es e f n =
-    ap (λ (xs : List ℕ). named_in xs es) (sym n) ∙ sym e ∙ f
 
 pub merges_same : (document bytes : List ℕ) (error : CompileError) → document ≡ bytes → MergesAs document error → MergesAs bytes error
 merges_same document bytes error e m = subst (λ (xs : List ℕ). MergesAs xs error) e m
@@ -170,3 +163,45 @@ module _ (text : List ℕ) (u : IsUtf8 text) (short : length text ≤ MAX_SCRIPT
     }
     unmerged document reasons.Memory w few m = tt
     unmerged document error w few m = absurd m
+
+-- ---- what was read
+
+pub read_is : (found : Option Reading) (reading : Reading) (text name node : List ℕ) → found ≡ Some reading → name ≡ node → IfSome found (IsReadOf text name)
+    → IsReadOf text node reading
+read_is found reading text name node e n h = subst (λ (xs : List ℕ). IsReadOf text xs reading) n (subst (λ (o : Option Reading). IfSome o (IsReadOf text name)) e h)
+
+pub not_read : (found : Option Reading) (text : List ℕ) → found ≡ None → IfNone found (IsScript text → ⊥) → IsScript text → ⊥
+not_read found text e h = subst (λ (o : Option Reading). IfNone o (IsScript text → ⊥)) e h
+
+module _ (text node : List ℕ) (u : IsUtf8 text) (short : length text ≤ MAX_SCRIPT) (reading : Reading) (r : IsReadOf (chars text) node reading) where
+  none_unknown : reading.findings.unknown ≡ None → None ≡ unknown_in r.events
+  none_unknown k = sym (ap left_of k) ∙ r.unknown
+
+  none_reserved : reading.findings.reserved ≡ None → None ≡ reserved_in r.events
+  none_reserved f = sym (ap left_of f) ∙ r.reserved
+
+  pub unknown_found : (from : Bor (List ℕ)) (line : ℕ) → reading.findings.unknown ≡ Some from → line ≡ line_of (chars text) (chars from.now) → HasUnknownKind text line
+  unknown_found from line e counted = unknown_kind text u short r.events r.script (chars from.now) line (sym (ap left_of e) ∙ r.unknown) counted
+
+  pub reserved_found : (from : Bor (List ℕ)) (line : ℕ) → reading.findings.unknown ≡ None → reading.findings.reserved ≡ Some from
+      → line ≡ line_of (chars text) (chars from.now) → HasReserved text line
+  reserved_found from line k e counted =
+      reserved_name text u short r.events r.script (chars from.now) line (none_unknown k) (sym (ap left_of e) ∙ r.reserved) counted
+
+  pub unnamed_found : reading.findings.unknown ≡ None → reading.findings.reserved ≡ None → reading.findings.names_node ≡ false → HasNoNode text node
+  unnamed_found k f n = no_node text u short r.events r.script node (none_unknown k) (none_reserved f) (sym r.named ∙ n)
+
+  module _ (k : reading.findings.unknown ≡ None) (f : reading.findings.reserved ≡ None) (n : reading.findings.names_node ≡ true) (document out : List ℕ)
+      (same : document ≡ out) (c : Continues (string_bytes reading.writer.out) out (canonical_instance (header (chars reading.writer.title.now)))) where
+    is_written : IsWritten document (written [] node false r.events)
+    is_written = subst (λ (xs : List ℕ). IsWritten xs (written [] node false r.events)) (sym same)
+        (leaves_none (written [] node false r.events) (string_bytes reading.writer.out) out (chars reading.writer.title.now) node reading.writer.is_named r.written c)
+
+    pub too_long_found : document_limit < length document → IsUnmerged text node (merge_errors.Part 0 (Mof mof.TooLong))
+    too_long_found long = too_long text u short r.events r.script node (none_unknown k) (none_reserved f) (sym r.named ∙ n) document is_written long
+
+    pub unmerged_found : (error : CompileError) → length document ≤ document_limit → MergesAs document error → Refuses text node error
+    unmerged_found error few m = unmerged text u short r.events r.script node (none_unknown k) (none_reserved f) (sym r.named ∙ n) document error is_written few m
+
+    pub compiles_found : length document ≤ document_limit → (merged : Document) × Merged (unnamed_part document ∷ []) merged → Compiles text node document
+    compiles_found few m = compiles text u short r.events r.script node (none_unknown k) (none_reserved f) (sym r.named ∙ n) document is_written few m

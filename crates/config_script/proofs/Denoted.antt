@@ -15,7 +15,7 @@ use Rattle.config_script.specs.Places as events
 use Rattle.config_script.specs.Places.{Event, elements_events, value_events, property_events, resource_events, block_events, script_events}
 use Rattle.config_script.specs.Denoting.{Kind, file, environment, log, command, kind_named, given, last_properties, instance_of, instance_list, instances_of, header, names_node, resources_of, denoted}
 use Rattle.config_script.specs.Refused.{first_unknown}
-use Rattle.config_script.specs.Writing.{opening, closing, event_text, named_after, written}
+use Rattle.config_script.specs.Writing.{opening, closing, written}
 
 -- ---- lists of instances
 

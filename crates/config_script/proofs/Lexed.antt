@@ -1,20 +1,18 @@
 -- The tokens that code finds are those of the definitions: where one stands it is found, and what is found stands there.
-use Rattle.std.proofs.Common.{◌≡◌, ◌⊎◌, inl, inr, ◌+◌, ◌*◌, ◌<◌, ◌≤◌, ℕ, zero, suc, Bool, true, false, not, ◌||◌, List, [], ◌∷◌, ◌++◌, refl, sym, ap, ap₂, subst, ◌∙◌, append_assoc, append-nil, get_or, Option, Some, None, codes, ℤ, pos, neg_ℤ, cond, arith}
-use Rattle.std.specs.Prelude.{◌==◌, option_map, nat_le}
-use Rattle.std.specs.Str.Parse.{AllDigits, digits_value, digits_value_after}
-use Rattle.std.specs.Char.{digit_value}
+use Rattle.std.proofs.Common.{◌≡◌, ◌⊎◌, inl, inr, ◌<◌, ℕ, Bool, true, false, not, ◌||◌, List, [], ◌∷◌, ◌++◌, refl, sym, ap, ap₂, subst, ◌∙◌, get_or, Option, Some, None, codes, ℤ, pos, neg_ℤ, cond, arith}
+use Rattle.std.specs.Prelude.{◌==◌}
+use Rattle.std.specs.Str.Parse.{digits_value}
 use Rattle.std.proofs.lemmas.Bool.Decides.{nat_tests}
 use Rattle.std.proofs.lemmas.Slice.Eq.{bytes_eq-Decides}
 use Rattle.mof_values.specs.Fold.{SameName, same_name, fold_case}
 use Rattle.mof_values.specs.Ident.{is_first, is_next}
-use Rattle.mof_syntax.specs.Characters.{digit_of, is_blank, Stops, Run, stop, more}
-use Rattle.mof_syntax.specs.Separators.{LineComment, at_end, at_feed, over}
-use Rattle.mof_syntax.specs.Scanning.{after, is_in_line, stopped}
+use Rattle.mof_syntax.specs.Characters.{digit_of, Stops, Run, stop, more}
+use Rattle.mof_syntax.specs.Scanning.{after, stopped}
 use Rattle.mof_syntax.specs.Tokens.{Identifier, identifier}
 use Rattle.config_script.specs.Digits.{signed}
 use Rattle.config_script.specs.Tokens.{is_apostrophe, is_inert, Verbatim, Magnitude, Token, Word, Text, Integer, True, False, Null, LeftBrace, RightBrace, EqualsSign, Semicolon, Comma, ArrayBegin, ArrayEnd, IsToken, word, verbatim, quoted, unsigned, negative, true_constant, false_constant, null_constant, left_brace_mark, right_brace_mark, equals_mark, semicolon_mark, comma_mark, array_begin_mark, array_end_mark, Placed, placed, Lexes}
 use Rattle.config_script.specs.Tokens as tokens
-use Rattle.config_script.specs.Lexing.{Lexed, lexed, Split, split, as_token, onto, taken, identifier_in, digits_rest, with_rest, digits_in, verbatim_in, quoted_in, constant_named, constant_of, constant_in, array_begin_in, integer_in, first_token, separated}
+use Rattle.config_script.specs.Lexing.{Lexed, lexed, Split, split, as_token, onto, taken, identifier_in, with_rest, digits_in, verbatim_in, quoted_in, constant_named, constant_of, constant_in, array_begin_in, integer_in, first_token}
 
 -- ---- answers
 

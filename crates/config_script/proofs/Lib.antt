@@ -1,3 +1,4 @@
+pub mod Added
 pub mod Checked
 pub mod Compiled
 pub mod Cuts
@@ -14,6 +15,7 @@ pub mod Scalars
 pub mod Scanned
 pub mod Stepping
 pub mod Stuck
+pub mod Taken
 pub mod Texts
 pub mod Walked
 pub mod Wrong

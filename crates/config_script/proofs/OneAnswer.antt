@@ -22,10 +22,10 @@ use Rattle.config_script.proofs.OneScript.{script_once}
 text_once : (bytes one other : List ℕ) → IsText bytes one → IsText bytes other → one ≡ other
 text_once bytes one other is also = encodes_same one other (is.encoded ∙ sym also.encoded)
 
-too_long : (bytes : List ℕ) → MAX_SCRIPT < length bytes → length bytes ≤ MAX_SCRIPT → ⊥
+pub too_long : (bytes : List ℕ) → MAX_SCRIPT < length bytes → length bytes ≤ MAX_SCRIPT → ⊥
 too_long bytes long within = omega arith
 
-no_text : (bytes chars : List ℕ) (at : ℕ) → IsTextFault bytes at → IsText bytes chars → ⊥
+pub no_text : (bytes chars : List ℕ) (at : ℕ) → IsTextFault bytes at → IsText bytes chars → ⊥
 no_text bytes chars at fault is = fault.outside (chars, (is.scalars, is.encoded))
 
 fault_once : (bytes : List ℕ) (one other : ℕ) → IsTextFault bytes one → IsTextFault bytes other → one ≡ other
@@ -34,7 +34,7 @@ fault_once bytes one other is also =
 
 -- ---- characters as a script
 
-no_script : (bytes chars title : List ℕ) (blocks : List Block) (line : ℕ) → HasShapeFault bytes line → IsScriptOf bytes chars title blocks → ⊥
+pub no_script : (bytes chars title : List ℕ) (blocks : List Block) (line : ℕ) → HasShapeFault bytes line → IsScriptOf bytes chars title blocks → ⊥
 no_script bytes chars title blocks line fault is =
     let same : chars ≡ fault.chars = text_once bytes chars fault.chars is.is_text fault.is_text in
     fault.wrong.none (subst (λ (cs : List ℕ). IsScript cs) same (title, blocks, is.script))
@@ -52,10 +52,10 @@ shape_once bytes one other is also =
     wrong_once also.chars one other (subst (λ (cs : List ℕ). GoesWrongOn cs one) same is.wrong) also.wrong
 
 -- two readings of the bytes as a script are one
-abbrev Same : List ℕ → List ℕ → List ℕ → List ℕ → List Block → List Block → Type 0
+abbrev pub Same : List ℕ → List ℕ → List ℕ → List ℕ → List Block → List Block → Type 0
 Same chars others title name blocks rest = (chars ≡ others) × (title ≡ name) × (blocks ≡ rest)
 
-of_once : (bytes chars others title name : List ℕ) (blocks rest : List Block) → IsScriptOf bytes chars title blocks
+pub of_once : (bytes chars others title name : List ℕ) (blocks rest : List Block) → IsScriptOf bytes chars title blocks
     → IsScriptOf bytes others name rest → Same chars others title name blocks rest
 of_once bytes chars others title name blocks rest is also =
     let same : chars ≡ others = text_once bytes chars others is.is_text also.is_text in

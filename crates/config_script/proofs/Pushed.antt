@@ -1,23 +1,20 @@
 -- What is written piece by piece.
-use Rattle.std.proofs.Common.{◌≡◌, inl, inr, ◌≤◌, ◌<◌, ◌+◌, ◌-◌, ◌*◌, ◌/◌, ◌%◌, ℕ, zero, suc, Bool, true, false, nat_lt, List, [], ◌∷◌, ◌++◌, length, take, drop, get_or, refl, sym, ap, subst, ◌∙◌, append_assoc, append-nil, codes, encode_utf8_all, pos, neg_ℤ, cond, arith}
-use Rattle.std.specs.Prelude.{◌==◌, map}
+use Rattle.std.proofs.Common.{◌≡◌, ◌≤◌, ◌<◌, ◌+◌, ◌*◌, ◌/◌, ◌%◌, ℕ, zero, suc, Bool, true, false, nat_lt, List, [], ◌∷◌, ◌++◌, refl, sym, ap, subst, ◌∙◌, append_assoc, append-nil, codes, encode_utf8_all, pos, neg_ℤ, cond, arith}
+use Rattle.std.specs.Prelude.{◌==◌}
 use Rattle.std.specs.List.{flat_map}
 use Rattle.std.specs.Str.{chars, IsUtf8}
 use Rattle.std.specs.Str.Parse.{digits_value}
-use Rattle.std.proofs.Math.Seq.{take-length}
 use Rattle.std.proofs.lemmas.Bool.Decides.{nat_tests}
 use Rattle.std.proofs.lemmas.Str.{encodes-append, encodes-chars}
 use Rattle.mof_syntax.specs.Canonical.{literal_char, canonical_instance}
-use Rattle.mof_syntax.specs.Limits.{document_limit}
 use Rattle.mof_syntax.specs.Numerals.{numeral, signed_numeral}
 use Rattle.mof_syntax.proofs.Numerals.{numeral_digit, numeral_step}
 use Rattle.mof_codec.specs.Written.{Adds}
 use Rattle.mof_codec.proofs.Writing.{adds_join}
 use Rattle.config_script.specs.Denoting.{header}
 use Rattle.config_script.specs.Digits.{IsPlain, signed}
-use Rattle.config_script.specs.Places.{Event, event_of}
-use Rattle.config_script.specs.declared.part.Part.{Part}
-use Rattle.config_script.specs.Writing.{IsWritten, named_after, named_text, sign_of, title_after, written}
+use Rattle.config_script.specs.Places.{Event}
+use Rattle.config_script.specs.Writing.{named_after, named_text, sign_of, title_after, written}
 
 -- three pieces
 pub adds_three : (before one two after a b c : List ℕ) → Adds before one a → Adds one two b → Adds two after c → Adds before after (a ++ (b ++ c))
@@ -93,10 +90,6 @@ adds_number before one after sign negative ds plain e x y =
 abbrev pub SoFar : List ℕ → List ℕ → List ℕ → List ℕ → Bool → List Event → Type 0
 SoFar whole out title node named left = out ++ encode_utf8_all (written title node named left) ≡ encode_utf8_all whole
 
-pub so_far_begins : (out title node : List ℕ) (es : List Event) → out ≡ [] → title ≡ [] → SoFar (written [] node false es) out title node false es
-so_far_begins out title node es o t =
-    ap (λ (xs : List ℕ). xs ++ encode_utf8_all (written title node false es)) o ∙ ap (λ (xs : List ℕ). encode_utf8_all (written xs node false es)) t
-
 pub so_far_next : (whole out after title node : List ℕ) (named : Bool) (e : Event) (left : List Event) (title_then : List ℕ) (named_then : Bool)
     → SoFar whole out title node named (e ∷ left) → Adds out after (named_text title named e) → title_then ≡ title_after title e → named_then ≡ named_after node named e
     → SoFar whole after title_then node named_then left
@@ -107,47 +100,3 @@ so_far_next whole out after title node named e left title_then named_then s a t 
     ∙ ap (λ (xs : List ℕ). out ++ encode_utf8_all (named_text title named e ++ written xs node named_then left)) t
     ∙ ap (λ (b : Bool). out ++ encode_utf8_all (named_text title named e ++ written (title_after title e) node b left)) n
     ∙ s
-
--- a front that is longer than a document may be
-pub so_far_long : (whole out after title node : List ℕ) (named : Bool) (e : Event) (left : List Event)
-    → SoFar whole out title node named (e ∷ left) → Adds out after (named_text title named e) → document_limit < length after → IsWritten after whole
-so_far_long whole out after title node named e left s a long =
-    let next = so_far_next whole out after title node named e left (title_after title e) (named_after node named e) s a refl refl in
-    inr (encode_utf8_all (written (title_after title e) node (named_after node named e) left), sym next, long)
-
-pub so_far_whole : (whole out after title node : List ℕ) (named : Bool) → SoFar whole out title node named [] → Adds out after (canonical_instance (header title)) → IsWritten after whole
-so_far_whole whole out after title node named s a = inl (a.bytes ∙ s)
-
--- ---- the parts, one after the other
-
-first_part : (left : List Part) (part : Part) → 1 ≤ length left → part ≡ get_or left 0 part
-    → map event_of left ≡ event_of part ∷ map event_of (take (length left - 1) (drop 1 left))
-first_part [] part some is = absurd (omega arith)
-first_part (p ∷ ps) part some is =
-    let count : length (p ∷ ps) - 1 ≡ length ps = omega arith in
-    ap (λ (x : Part). event_of x ∷ map event_of ps) (sym is)
-    ∙ ap (λ (xs : List Part). event_of part ∷ map event_of xs) (sym (ap (λ (n : ℕ). take n ps) count ∙ take-length ps))
-
-no_part : (left : List Part) → length left < 1 → map event_of left ≡ []
-no_part [] few = refl
-no_part (p ∷ ps) few = absurd (omega arith)
-
-pub parts_next : (whole out title node : List ℕ) (named : Bool) (left : List Part) → SoFar whole out title node named (map event_of left)
-    → (after title_then : List ℕ) (named_then : Bool) (part : Part) → 1 ≤ length left → part ≡ get_or left 0 part
-    → Adds out after (named_text title named (event_of part)) → title_then ≡ title_after title (event_of part) → named_then ≡ named_after node named (event_of part)
-    → SoFar whole after title_then node named_then (map event_of (take (length left - 1) (drop 1 left)))
-parts_next whole out title node named left s after title_then named_then part some is a t n =
-    so_far_next whole out after title node named (event_of part) (map event_of (take (length left - 1) (drop 1 left))) title_then named_then
-    (subst (λ (es : List Event). SoFar whole out title node named es) (first_part left part some is) s) a t n
-
-pub parts_long : (whole out title node : List ℕ) (named : Bool) (left : List Part) → SoFar whole out title node named (map event_of left)
-    → (after : List ℕ) (part : Part) → 1 ≤ length left → part ≡ get_or left 0 part
-    → Adds out after (named_text title named (event_of part)) → document_limit < length after → IsWritten after whole
-parts_long whole out title node named left s after part some is a long =
-    so_far_long whole out after title node named (event_of part) (map event_of (take (length left - 1) (drop 1 left)))
-    (subst (λ (es : List Event). SoFar whole out title node named es) (first_part left part some is) s) a long
-
-pub parts_end : (whole out title node : List ℕ) (named : Bool) (left : List Part) → SoFar whole out title node named (map event_of left)
-    → (after : List ℕ) → length left < 1 → Adds out after (canonical_instance (header title)) → IsWritten after whole
-parts_end whole out title node named left s after few a =
-    so_far_whole whole out after title node named (subst (λ (es : List Event). SoFar whole out title node named es) (no_part left few) s) a

@@ -5,7 +5,6 @@ use Rattle.std.specs.List.{flat_map}
 use Rattle.std.proofs.lemmas.Slice.Eq.{bytes_eq-Decides}
 use Rattle.mof_values.specs.Fold.{SameName, same_name, fold_case}
 use Rattle.mof_values.specs.declared.value.Scalar.{Scalar}
-use Rattle.mof_values.specs.declared.value.Scalar.TheVariants as scalars
 use Rattle.mof_values.specs.declared.value.Value.{Value}
 use Rattle.mof_values.specs.declared.value.Value.TheVariants as values
 use Rattle.config_script.specs.declared.place.Place.{Place}

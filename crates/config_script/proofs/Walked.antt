@@ -1,5 +1,5 @@
 -- How code goes over a text: separators, tokens, and the places between them.
-use Rattle.std.proofs.Common.{◌≡◌, ◌≤◌, inl, inr, length, ℕ, Bool, true, false, not, ◌||◌, List, [], ◌∷◌, ◌++◌, refl, sym, ap, ap₂, subst, ◌∙◌, append_assoc, append-nil, Option, Some, None, cond, arith}
+use Rattle.std.proofs.Common.{◌≡◌, ◌≤◌, length, ℕ, Bool, true, false, not, ◌||◌, List, [], ◌∷◌, ◌++◌, refl, sym, ap, ap₂, subst, ◌∙◌, append_assoc, append-nil, Option, Some, None, cond, arith}
 use Rattle.std.specs.Prelude.{◌==◌}
 use Rattle.std.proofs.lemmas.Bool.Decides.{nat_tests}
 use Rattle.mof_values.specs.Ident.{is_first, is_next}
@@ -10,7 +10,7 @@ use Rattle.config_script.specs.declared.place.Place.{Place}
 use Rattle.config_script.specs.declared.place.Place.TheVariants.{Start, End}
 use Rattle.config_script.specs.Tokens.{Magnitude, nought, digits, Token, IsToken, word, verbatim, quoted, unsigned, negative, true_constant, false_constant, null_constant, left_brace_mark, right_brace_mark, equals_mark, semicolon_mark, comma_mark, array_begin_mark, array_end_mark, Placed, placed, Lexes, end, blank, comment, token}
 use Rattle.mof_syntax.specs.Tokens.{identifier}
-use Rattle.config_script.specs.Scripts.{Block, Script, IsScript, Configuration}
+use Rattle.config_script.specs.Scripts.{Block, Script, IsScript}
 use Rattle.config_script.specs.Lexing.{first_token, separated}
 use Rattle.config_script.specs.Places.{Event, Step, step, with_event, Goes, script_events}
 use Rattle.config_script.specs.Places as places

@@ -19,6 +19,11 @@ kind_of variants.Environment = environment
 kind_of variants.Log = log
 kind_of variants.Command = command
 
+-- the first of two
+abbrev pub or_else : Option (List ℕ) → Option (List ℕ) → Option (List ℕ)
+or_else (Some x) other = Some x
+or_else None other = other
+
 -- the script from the first kind on that is not known
 abbrev pub unknown_in : List Event → Option (List ℕ)
 unknown_in [] = None

@@ -1,5 +1,5 @@
 -- What a script gives a node: the instances of a configuration document, a concatenation over the blocks that name it.
-use Rattle.std.specs.Prelude.{ℕ, Bool, List, [], ◌∷◌, ◌++◌, Option, Some, None, codes, map, filter, find, option_map}
+use Rattle.std.specs.Prelude.{ℕ, Bool, List, [], ◌∷◌, ◌++◌, Option, Some, None, codes, map, filter, find}
 use Rattle.std.specs.List.{flat_map, list_any}
 use Rattle.mof_values.specs.Fold.{same_name}
 use Rattle.mof_values.specs.declared.instance.Instance.{Instance}

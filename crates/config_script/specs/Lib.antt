@@ -11,4 +11,5 @@ pub mod Fronts
 pub mod Lexing
 pub mod Named
 pub mod Places
+pub mod Reading
 pub mod Writing

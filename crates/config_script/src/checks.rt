@@ -1,9 +1,9 @@
-//! What is wrong with a script, and whether it names a node.
-ghost use Rattle.std.specs.Prelude.{◌≡◌, map};
+//! What is wrong with a script, and whether it names a node, as far as it was read.
+ghost use Rattle.std.specs.Prelude.{◌≡◌, ◌||◌, [], ◌∷◌, None, false};
 ghost use Rattle.std.specs.Str.{chars};
 ghost use Rattle.mof_syntax.specs.Scanning.{left_of};
 ghost use Rattle.mof_values.specs.Fold.{same_name};
-ghost use Rattle.config_script.specs.Checking.{unknown_in, reserved_in, named_in};
+ghost use Rattle.config_script.specs.Checking.{unknown_in, reserved_in, named_in, or_else};
 ghost use Rattle.config_script.specs.Denoting.{is_reserved};
 ghost use Rattle.config_script.specs.Named.{name_chars};
 ghost use Rattle.config_script.specs.Places.{event_of};
@@ -12,36 +12,59 @@ use crate::kind::Kind;
 use crate::name::{Name, is_word};
 use crate::part::Part;
 
-/// The script from the first kind on that is not known.
-pub(crate) fn first_unknown<'a>(parts: &[Part<'a>]) -> Option<&'a str>
-    ensures { left_of result ≡ unknown_in (map event_of parts.now) }
-{
-    let mut left = parts;
-    while let [part, rest @ ..] = left {
-        if let Part::Kind(word) = part
-            && Kind::named(word.text).is_none()
-        {
-            return Some(word.from);
-        }
-        left = rest;
-    }
-    None
+/// What was found in the parts of a script.
+#[derive(Clone, Copy, Debug)]
+pub(crate) struct Findings<'a> {
+    /// The script from the first kind on that is not known.
+    pub(crate) unknown: Option<&'a str>,
+
+    /// The script from the first property on whose name is reserved.
+    pub(crate) reserved: Option<&'a str>,
+
+    /// Whether some block names the node.
+    pub(crate) names_node: bool,
 }
 
-/// The script from the first property on whose name is reserved.
-pub(crate) fn first_reserved<'a>(parts: &[Part<'a>]) -> Option<&'a str>
-    ensures { left_of result ≡ reserved_in (map event_of parts.now) }
-{
-    let mut left = parts;
-    while let [part, rest @ ..] = left {
-        if let Part::Property(word) = part
-            && is_reserved(word.text)
-        {
-            return Some(word.from);
+impl<'a> Findings<'a> {
+    /// Where no part was read.
+    pub(crate) fn none() -> Findings<'a>
+        ensures unknown { left_of result.unknown ≡ None }
+        ensures reserved { left_of result.reserved ≡ None }
+        ensures named { result.names_node ≡ false }
+    {
+        Findings {
+            unknown: None,
+            reserved: None,
+            names_node: false,
         }
-        left = rest;
     }
-    None
+
+    /// With a further part.
+    pub(crate) fn with(self, part: Part<'a>, node: &[char]) -> Findings<'a>
+        ensures unknown { left_of result.unknown
+            ≡ or_else (left_of self.entry.unknown) (unknown_in (event_of part.entry ∷ [])) }
+        ensures reserved { left_of result.reserved
+            ≡ or_else (left_of self.entry.reserved) (reserved_in (event_of part.entry ∷ [])) }
+        ensures named { result.names_node
+            ≡ (self.entry.names_node || named_in node.now (event_of part.entry ∷ [])) }
+    {
+        match part {
+            Part::Kind(word) if self.unknown.is_none() && Kind::named(word.text).is_none() =>
+                Findings {
+                    unknown: Some(word.from),
+                    ..self
+                },
+            Part::Property(word) if self.reserved.is_none() && is_reserved(word.text) => Findings {
+                reserved: Some(word.from),
+                ..self
+            },
+            Part::Node(name) => Findings {
+                names_node: self.names_node || is_node(name, node),
+                ..self
+            },
+            _ => self,
+        }
+    }
 }
 
 // Returns whether a script may give no property of that name.
@@ -53,22 +76,6 @@ fn is_reserved(word: &str) -> bool
         || is_word(word, "ModuleVersion")
         || is_word(word, "SourceInfo")
         || is_word(word, "ConfigurationName")
-}
-
-/// Returns whether some block names the node.
-pub(crate) fn names_node(parts: &[Part<'_>], node: &[char]) -> bool
-    ensures { result ≡ named_in node.now (map event_of parts.now) }
-{
-    let mut left = parts;
-    while let [part, rest @ ..] = left {
-        if let Part::Node(name) = part
-            && is_node(*name, node)
-        {
-            return true;
-        }
-        left = rest;
-    }
-    false
 }
 
 // Returns whether the name is the node's, by fold.

@@ -1,22 +1,18 @@
 //! The document that a script gives a node.
-ghost use Rattle.std.specs.Prelude.{◌≤◌, [], ◌∷◌, IfErr, IfOk, length, map};
+ghost use Rattle.std.specs.Prelude.{◌≤◌, [], ◌∷◌, IfErr, IfOk, length};
 ghost use Rattle.std.specs.Str.{chars};
 ghost use Rattle.dsc_document.specs.declared.document.Document.{Document};
 ghost use Rattle.partial_merge.specs.Merged.{Merged};
 ghost use Rattle.partial_merge.specs.Parts.{unnamed_part};
 ghost use Rattle.config_script.specs.Checking.{MergesAs};
-ghost use Rattle.config_script.specs.Places.{event_of, IsRead};
 ghost use Rattle.config_script.specs.Refused.{Compiles, Refuses};
 ghost use Rattle.config_script.specs.declared.limits.TheConstants as limits;
 
 use crate::MAX_SCRIPT;
-use crate::checks::{first_reserved, first_unknown, names_node};
 use crate::error::CompileError;
 use crate::lines::line_of;
-use crate::part::Part;
 use crate::read::read;
 use crate::shape::torn_rest;
-use crate::writing::written;
 use mof_codec::MofError;
 use mof_syntax::MAX_DOCUMENT;
 use mof_values::Text;
@@ -49,39 +45,25 @@ fn compile_text(alloc: Global, text: &str, node: &Text) -> Result<Vec<u8>, Compi
     ensures compiled { IfOk result (λ compiled. Compiles text.now node.now compiled.items) }
     ensures refused { IfErr result (Refuses text.now node.now) }
 {
-    match read(alloc, text)? {
-        Some(parts) => compile_parts(alloc, text, parts.as_slice(), node),
-        None => Err(CompileError::Shape {
+    let Some(reading) = read(alloc, text, node.as_slice())? else {
+        return Err(CompileError::Shape {
             line: line_of(text, torn_rest(text)),
-        }),
-    }
-}
-
-fn compile_parts(
-    alloc: Global,
-    text: &str,
-    parts: &[Part<'_>],
-    node: &Text,
-) -> Result<Vec<u8>, CompileError>
-    requires short { length text.now ≤ limits.MAX_SCRIPT }
-    requires read { IsRead (chars text.now) (map event_of parts.now) }
-    ensures compiled { IfOk result (λ compiled. Compiles text.now node.now compiled.items) }
-    ensures refused { IfErr result (Refuses text.now node.now) }
-{
-    if let Some(from) = first_unknown(parts) {
+        });
+    };
+    if let Some(from) = reading.findings.unknown {
         return Err(CompileError::UnknownKind {
             line: line_of(text, from),
         });
     }
-    if let Some(from) = first_reserved(parts) {
+    if let Some(from) = reading.findings.reserved {
         return Err(CompileError::Reserved {
             line: line_of(text, from),
         });
     }
-    if !names_node(parts, node.as_slice()) {
+    if !reading.findings.names_node {
         return Err(CompileError::NoNode);
     }
-    let document = written(alloc, parts, node.as_slice())?.into_bytes();
+    let document = reading.writer.finish()?.into_bytes();
     if document.len() > MAX_DOCUMENT {
         return Err(CompileError::Merge(MergeError::Part {
             index: 0,

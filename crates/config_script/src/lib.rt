@@ -11,6 +11,7 @@
 //! Where a thing is:
 //! - what a script is: `specs/Tokens.antt` (characters to tokens) and `specs/Scripts.antt` (tokens to blocks); the
 //!   order of tokens as code has it `src/place.rt`, `specs/Places.antt`
+//! - how it is read in one pass, without a list of its parts: `src/read.rt`, `specs/Reading.antt`
 //! - what it stands for: `specs/Denoting.antt`, and the laws `specs/Laws.antt`; how that is written `src/writing.rt`,
 //!   the kinds `src/kind.rt`
 //! - why a text is refused: `specs/Refused.antt`, `src/checks.rt`; the line of a text that is no script
@@ -35,5 +36,5 @@ mod writing;
 
 pub use compiling::compile;
 pub use error::CompileError;
-pub use laws::{one_answer, other_blocks_change_nothing};
+pub use laws::{added_blocks_change_nothing, one_answer, other_blocks_change_nothing};
 pub use limits::MAX_SCRIPT;

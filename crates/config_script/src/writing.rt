@@ -1,5 +1,5 @@
 //! The canonical text of what the blocks of a node stand for.
-ghost use Rattle.std.specs.Prelude.{◌≡◌, ◌++◌, [], false, true, IfOk, OnOk, Some, codes, map, nat_lt, string_bytes};
+ghost use Rattle.std.specs.Prelude.{◌≡◌, ◌++◌, [], false, true, IfOk, OnOk, Some, codes, nat_lt, string_bytes};
 ghost use Rattle.std.specs.List.{flat_map, list_all};
 ghost use Rattle.std.specs.Str.{chars};
 ghost use Rattle.mof_syntax.specs.Canonical.{canonical_instance, canonical_literal, canonical_scalar, literal_char};
@@ -9,7 +9,8 @@ ghost use Rattle.config_script.specs.Checking.{kind_of};
 ghost use Rattle.config_script.specs.Denoting.{header, kind_named};
 ghost use Rattle.config_script.specs.Named.{name_chars, number_value};
 ghost use Rattle.config_script.specs.Places.{event_of, scalar_of};
-ghost use Rattle.config_script.specs.Writing.{IsWritten, closing, event_text, named_after, named_text, opening, sign_of, title_after, written};
+ghost use Rattle.config_script.specs.Reading.{Continues, Writes};
+ghost use Rattle.config_script.specs.Writing.{closing, event_text, named_after, named_text, opening, sign_of, title_after};
 
 use crate::kind::Kind;
 use crate::name::Name;
@@ -20,30 +21,54 @@ use mof_syntax::MAX_DOCUMENT;
 use mof_syntax::text::first_char;
 use std::alloc::{AllocError, Global};
 
-/// The text of the resources in the blocks that name the node, and of the document's header; of a text that is longer
-/// than a document may be, a front that is so too.
-pub(crate) fn written(
-    alloc: Global,
-    parts: &[Part<'_>],
-    node: &[char],
-) -> Result<String, AllocError>
-    ensures { IfOk result (λ out. IsWritten (string_bytes out) (written [] node.now false (map event_of parts.now))) }
-{
-    let mut out = String::new(alloc);
-    let mut title = "";
-    let mut named = false;
-    let mut left = parts;
-    while let [part, rest @ ..] = left {
-        push_named(&mut out, named, part, title)?;
+/// The text of a node's document, as it is written while the script is read: the resources in the blocks that name the
+/// node. Once it is longer than a document may be, nothing more is written.
+#[derive(Drop)]
+pub(crate) struct Writer<'a> {
+    pub(crate) out: String,
+
+    /// The name of the configuration, as far as it was read.
+    pub(crate) title: &'a str,
+
+    /// Whether the block that goes on names the node.
+    pub(crate) is_named: bool,
+}
+
+impl<'a> Writer<'a> {
+    pub(crate) fn new(alloc: Global) -> Writer<'a>
+        ensures out { string_bytes result.out ≡ [] }
+        ensures title { chars result.title.now ≡ [] }
+        ensures named { result.is_named ≡ false }
+    {
+        Writer {
+            out: String::new(alloc),
+            title: "",
+            is_named: false,
+        }
+    }
+
+    /// Writes what a further part adds.
+    pub(crate) fn take(&mut self, part: Part<'a>, node: &[char]) -> Result<(), AllocError>
+        ensures { OnOk result (Writes node.now self.old self.new (event_of part.entry)) }
+    {
+        push_within(&mut self.out, self.is_named, &part, self.title)?;
+        self.title = title_after(self.title, &part);
+        self.is_named = named_after(self.is_named, &part, node);
+        Ok(())
+    }
+
+    /// The text with the header, where that was the last part.
+    pub(crate) fn finish(self) -> Result<String, AllocError>
+        ensures { IfOk result (λ text. Continues (string_bytes self.entry.out) (string_bytes text)
+            (canonical_instance (header (chars self.entry.title.now)))) }
+    {
+        let mut out = self.out;
         if out.len() > MAX_DOCUMENT {
             return Ok(out);
         }
-        title = title_after(title, part);
-        named = named_after(named, part, node);
-        left = rest;
+        push_header(&mut out, self.title)?;
+        Ok(out)
     }
-    push_header(&mut out, title)?;
-    Ok(out)
 }
 
 // The name of the configuration, as far as it was read.
@@ -65,6 +90,22 @@ fn named_after(named: bool, part: &Part<'_>, node: &[char]) -> bool
         Part::BlockEnd => false,
         _ => named,
     }
+}
+
+// What is written of a part, where its block names the node and the text is not too long already.
+fn push_within(
+    out: &mut String,
+    named: bool,
+    part: &Part<'_>,
+    title: &str,
+) -> Result<(), AllocError>
+    ensures { OnOk result (Continues (string_bytes out.old) (string_bytes out.new) (named_text (chars title.now) named (event_of part.now))) }
+{
+    if out.len() > MAX_DOCUMENT {
+        return Ok(());
+    }
+    push_named(out, named, part, title)?;
+    Ok(())
 }
 
 // What is written of a part, where its block names the node.

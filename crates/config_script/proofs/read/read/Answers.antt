@@ -1,19 +1,18 @@
-use Rattle.std.proofs.Common.{◌≡◌, ap, false, length, map, rules, sym, true}
+use Rattle.std.proofs.Common.{◌≡◌, false, length, rules, sym, true}
 use Rattle.std.specs.Prelude.{◌==◌}
-use Rattle.config_script.specs.Places.{event_of}
-use Rattle.config_script.proofs.Stepping.{empty_chars, full_chars, left_shorter, read_begins, read_goes_on, read_tears}
-use Rattle.config_script.proofs.Walked.{read_cut, read_stuck, read_whole}
+use Rattle.config_script.proofs.Stepping.{empty_chars, full_chars, left_shorter}
+use Rattle.config_script.proofs.Taken.{begins, cut, goes_on, stuck, tears, whole}
 use Rattle.config_script.proofs.read.read.Goals as goal
 
 pub loop-left-init : goal.loop-left-init
 loop-left-init c =
-    (search rules, read_begins _ _ _ _ c.separators_rest-fed.ensures.fed c.separators_rest-fed.ensures.rest (ap (map event_of) c.new-parts.ensures.items))
+    (search rules, begins _ _ _ _ _ c.separators_rest-fed.ensures.fed c.separators_rest-fed.ensures.rest c.new-reading.ensures)
 
 pub loop-left-preserved : goal.loop-left-preserved
 loop-left-preserved c = (
   search rules,
-  read_goes_on _ _ _ _ _ c.loop-left.invariant.1 _ _ _ _ _ _ (sym c.in-Some.ensures) (sym c.in-Some-after.ensures)
-      c.separators_rest.ensures.fed c.separators_rest.ensures.rest c.in_ok-push.ensures,
+  goes_on _ _ _ _ _ _ c.loop-left.invariant.1 _ _ _ _ _ _ (sym c.in-Some.ensures) (sym c.in-Some-after.ensures)
+      c.separators_rest.ensures.fed c.separators_rest.ensures.rest c.in_ok-take.ensures,
 )
 
 pub loop-left-smaller : goal.loop-left-smaller
@@ -22,17 +21,17 @@ loop-left-smaller c = left_shorter _ _ _ _ (sym c.in-Some.ensures) c.separators_
 pub returns-in_default-clause-none : goal.returns-in_default-clause-none
 returns-in_default-clause-none c =
     let full : (length c.loop-left.left.now == 0) ≡ false = cc in
-    read_tears _ _ _ _ _ c.loop-left.invariant.1 (full_chars c.loop-left.left.now c.loop-left.invariant.0 full) (sym c.in_default.ensures)
+    tears _ _ _ _ _ _ c.loop-left.invariant.1 (full_chars c.loop-left.left.now c.loop-left.invariant.0 full) (sym c.in_default.ensures)
 
 pub returns-in_default-after-clause-none : goal.returns-in_default-after-clause-none
-returns-in_default-after-clause-none c = read_stuck _ _ _ _ _ c.loop-left.invariant.1 _ _ (sym c.in-Some.ensures) (sym c.in_default-after.ensures)
+returns-in_default-after-clause-none c = stuck _ _ _ _ _ _ c.loop-left.invariant.1 _ _ (sym c.in-Some.ensures) (sym c.in_default-after.ensures)
 
 pub returns-in-End-clause-some : goal.returns-in-End-clause-some
 returns-in-End-clause-some c =
     let empty : (length c.loop-left.left.now == 0) ≡ true = cc in
-    read_whole _ _ _ _ _ c.loop-left.invariant.1 (empty_chars c.loop-left.left.now empty) c.in-End.is
+    whole _ _ _ _ _ _ c.loop-left.invariant.1 (empty_chars c.loop-left.left.now empty) c.in-End.is
 
 pub returns : goal.returns
 returns c =
     let empty : (length c.loop-left.left.now == 0) ≡ true = cc in
-    record { some = tt; none = read_cut _ _ _ _ _ c.loop-left.invariant.1 (empty_chars c.loop-left.left.now empty) c.in_default-place.not-End }
+    record { some = tt; none = cut _ _ _ _ _ _ c.loop-left.invariant.1 (empty_chars c.loop-left.left.now empty) c.in_default-place.not-End }
