@@ -1,0 +1,82 @@
+"""Stores that are made for `checks/page` and `bench/page`: a made store is a file with the lines that nimchout-fleet would print of it. And a
+program that prints them in its place, so that what must be shown is known from the rows that were made."""
+import datetime
+import hashlib
+import json
+import os
+import random
+
+CLASSES = ["Compliant", "Failed", "Other", "Silent"]
+REASONS = ["NotInDesiredState", "HostFailed", "InTheWay", "Skipped"]
+PLACES = 512
+# A store that is none begins so, and one that makes the program end without its last line has only rows.
+PROGRAM = """#!/bin/sh
+# Prints a made store as nimchout-fleet prints a real one; each call is a line of CALLS.
+[ -z "${CALLS-}" ] || echo "$*" >> "$CALLS"
+for store; do :; done
+case $(head -c 8 "$store") in 'no store') echo 'refused NotAStore 0'; exit 5 ;; esac
+cat "$store"
+! grep -qE '"class":"(Failed|Silent)"|"stale":true' "$store"
+"""
+# What a machine might call itself to be more than a text.
+HOSTILE = "</script><img src=x onerror=\"document.title='owned'\"><b>\u202egnp.exe &amp;"
+
+
+def stated(seconds):
+    """A moment as a node states it."""
+    return datetime.datetime.fromtimestamp(seconds, datetime.timezone.utc).strftime("%Y-%m-%dT%H:%M:%S.000Z")
+
+
+def agent(number):
+    return f"{hashlib.sha256(str(number).encode()).hexdigest()[:8]}-0000-4000-8000-{number:012x}"
+
+
+def job(number):
+    return f"{number:08x}-1111-4000-8000-000000000000"
+
+
+def row(store, number, name, of_class, now, age, missed=(), configurations=("Base",), stale=False, run=1):
+    """A row whose last report ended `age` seconds ago."""
+    silent = of_class == "Silent"
+    return {"store": store, "agent": agent(number), "node_name": name, "configurations": list(configurations), "class": of_class, "stale": stale,
+            "job": None if silent else job(1000 * number + run), "operation": None if silent else "Consistency",
+            "start": None if silent else stated(now - age - 7), "end": None if silent else stated(now - age),
+            "not_in_desired_state": [{"id": each, "reason": REASONS[len(each) % len(REASONS)]} for each in missed], "count": len(missed)}
+
+
+def made(folder, count, now, seed=1, per_store=350):
+    """Makes the stores of so many machines in a folder, and gives all rows."""
+    chance, rows = random.Random(seed), []
+    for first in range(0, count, per_store):
+        path = f"{folder}/store-{first // per_store + 1}"
+        mine = [chosen(chance, path, number, now) for number in range(first, min(first + per_store, count))]
+        put(path, mine)
+        rows += mine
+    return rows
+
+
+def chosen(chance, path, number, now):
+    of_class = chance.choices(CLASSES, [88, 6, 1, 5])[0]
+    role = chance.choice(["web", "db", "mail", "build", "kiosk"])
+    missed = [f"[{chance.choice(['File', 'Command', 'Environment'])}]{chance.choice('ABCDEFGH')}{role}" for _ in range(chance.randint(1, 6))] if of_class == "Failed" else []
+    stale = of_class == "Compliant" and chance.random() < 0.03
+    age = chance.randint(90000, 900000) if stale else chance.randint(10, 80000)
+    name = None if chance.random() < 0.01 else f"{role}{number}"
+    return row(path, number, name, of_class, now, age, sorted(set(missed)), ["Base", role.capitalize()], stale)
+
+
+def put(path, rows):
+    """Writes a store in place of the one that was there."""
+    with open(path + ".new", "w", encoding="utf-8") as file:
+        for each in rows:
+            file.write(json.dumps(each, ensure_ascii=False, separators=(",", ":")) + "\n")
+        file.write(json.dumps({"store": path, "agents": len(rows), "places": PLACES}) + "\n")
+    os.rename(path + ".new", path)
+
+
+def program(path):
+    """Puts the program there."""
+    with open(path, "w", encoding="ascii") as file:
+        file.write(PROGRAM)
+    os.chmod(path, 0o755)
+    return path
