@@ -359,6 +359,20 @@ def no_machine(browser, scratch):
     browser.picture(f"{PICTURES}/none.png")
 
 
+def without_reports(browser, scratch):
+    """A machine that sent none, and one whose last report is none that can be read."""
+    fleet, now = Fleet(scratch), int(time.time())
+    path = f"{fleet.stores}/store-1"
+    fleet.put("store-1", [stores.row(path, 1, "web1", "Silent", now, 0), {**stores.row(path, 2, "web2", "Silent", now, 0), "class": "Other"}])
+    fleet.write()
+    opened(browser, site_of(fleet))
+    for name, text in (("web2", "No report of it was seen that can be read."), ("web1", "It has sent no report yet.")):
+        browser.value(f"[...document.querySelectorAll('.name')].find(button => button.textContent === '{name}').click()")
+        browser.until("document.querySelector('.detail .facts') !== null", WAIT)
+        check(f"{name} is opened", text_of(browser, ".detail td > p"), text)
+    browser.complaints[:] = [said for said in browser.complaints if "404" not in said]
+
+
 def three_machines(browser, scratch):
     """What is hostile is shown as it is; the reports of a machine, while more come; how old the data is."""
     fleet, now = Fleet(scratch), int(time.time())
@@ -515,7 +529,7 @@ def kept_address(browser, rows):
     check("the same from the address", browser.value(LISTED), wanted)
     browser.open(address.partition("#")[0] + "#class=%3Cb%3E&sort=toString&since=1e9&page=-3")
     browser.until("typeof state !== 'undefined' && state.data !== null", WAIT)
-    check("an address that says nothing", (text_of(browser, "#found"), browser.value("state.sort")), ("all 5,000 machines", "class"))
+    check("an address that says nothing", (text_of(browser, "#found"), browser.value("[state.sort, document.getElementById('since').selectedIndex]")), ("all 5,000 machines", ["class", 0]))
 
 
 def looks(browser):
@@ -596,7 +610,7 @@ def heard(browser):
     check("the classes can be chosen", pressed, [("Compliant 1", "false"), ("Silent 1", "false"), ("Other 0", "false"), ("Failed 1", "false"), ("Stale 1", "false")])
 
 
-PARTS = [no_machine, three_machines, many_machines, by_keys]
+PARTS = [no_machine, without_reports, three_machines, many_machines, by_keys]
 
 
 def main():
