@@ -1,3 +1,4 @@
 mod Calls
+pub mod Classes
 mod HostTraces
 mod Traces

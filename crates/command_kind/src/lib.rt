@@ -11,7 +11,8 @@
 //! - what a status means, and which run an entry stands for: `specs/Runs.antt`, `src/running.rt`
 //! - what one call does to the machine and to the spawner: `specs/Steps.antt`, `src/commands.rt`
 //! - the runs of a whole trace, and what the machine did along it: `specs/Laws.antt`, `src/laws.rt`;
-//!   `proofs/Traces.antt`; over a host `specs/HostLaws.antt`, `proofs/HostTraces.antt`
+//!   `proofs/Traces.antt`; over a host, and that a command is of no kind of it, `specs/HostLaws.antt`,
+//!   `proofs/HostTraces.antt`, `proofs/Classes.antt`
 //! - what runs programs: `src/spawner.rt`, `specs/Spawning.antt`; in memory `src/memory_spawner.rt`,
 //!   `specs/MemorySpawner.antt`
 #![tactic(auto)]
@@ -26,6 +27,6 @@ mod spawner;
 mod tables;
 
 pub use commands::Commands;
-pub use laws::{command_laws, host_laws};
+pub use laws::{class_laws, command_laws, host_laws};
 pub use memory_spawner::MemorySpawner;
 pub use spawner::{Run, SpawnError, Spawner};

@@ -1,5 +1,5 @@
 -- Convergence: within how many starts what is Pending becomes Current, on a host that shows what it holds and that nobody else changes.
-use Rattle.std.specs.Prelude.{◌≡◌, ◌≢◌, ◌⊎◌, ℕ, ◌+◌, ◌-◌, ◌^◌, ◌<◌, ◌≤◌, true, false, List, [], ◌∷◌, length, Some, None, ⊤}
+use Rattle.std.specs.Prelude.{◌≡◌, ◌≢◌, ◌⊎◌, ℕ, ◌≤◌, List, [], ◌∷◌, length, Some, ⊤}
 use Rattle.std.specs.List.{AllByRecursion}
 use Rattle.dsc_terms.specs.Counts.{Rose}
 use Rattle.dsc_outside.specs.declared.disk.Disk as disks
@@ -21,10 +21,9 @@ use Rattle.lcm_core.specs.Bounds.{IsBounded}
 use Rattle.lcm_core.specs.RebootLaws.{AllKnown, ComesNearer}
 use Rattle.node_state.specs.declared.node.Node.{Node}
 use Rattle.node_store.specs.Stands.{Stands}
-use Rattle.dsc_node.specs.declared.command.Command.{Command}
-use Rattle.dsc_node.specs.declared.command.Command.TheVariants as commands
 use Rattle.dsc_node.specs.declared.status.Status.TheVariants as statuses
 use Rattle.dsc_node.specs.HostHeadline.{known_on_host}
+use Rattle.dsc_node.specs.RepairStarts.{HasNumber, IsPromotedTo, IsRepair, WaitsForBoot}
 use Rattle.dsc_node.specs.Start.{Outside}
 use Rattle.dsc_node.specs.Starts.{EndsBefore, IsExposed, OneStart}
 use Rattle.dsc_node.specs.Work.{Known}
@@ -34,26 +33,6 @@ use Rattle.dsc_node.specs.Work.{Known}
 -- a start makes at most two Tests of each resource, and one Set, over any machine
 abbrev pub RunsAreBounded : {D S C : Type 0} → Known D S C → Type 0
 RunsAreBounded o = (one : OneStart o) → o.resources.trace one.before.beside.machine ≡ [] → IsBounded (o.resources.trace one.after.beside.machine)
-
--- ---- nodes
-
--- the two commands that repair what is Pending: a boot, and, where no reboot is waited for, a consistency
-abbrev pub Repairs : Node → Command → Type 0
-Repairs node commands.Boot = ⊤
-Repairs node commands.Consistency = node.reboot ≡ false
-Repairs node _ = ⊥
-
--- Pending is Current, and nothing is Pending
-pub record IsPromotedTo (parts : List Part) (node : Node) : Type 0 where
-  pub current : node.current ≡ Some parts
-  pub pending : node.pending ≡ None
-
--- the node waits for a boot, with the same Pending and meta-configuration, and the next number for a report
-pub record WaitsForBoot (before node : Node) : Type 0 where
-  pub marked : node.reboot ≡ true
-  pub pending : node.pending ≡ before.pending
-  pub meta : node.meta ≡ before.meta
-  pub job : node.next_job ≡ before.next_job + 1
 
 module _ {D H C : Type 0} (d : disks.Ghosts D) (h : hosts.Ghosts H) (c : clocks.Ghosts C) where
   -- a start over the kinds of resources of a host
@@ -65,14 +44,6 @@ module _ {D H C : Type 0} (d : disks.Ghosts D) (h : hosts.Ghosts H) (c : clocks.
   -- the state that the host shows
   abbrev pub Shows : Outside D (Kinds H) C → HostState → Type 0
   Shows outside state = h.shown (host_of outside.beside.machine) ≡ Some state
-
-  -- the start is one of these of the node that its disk reads as
-  abbrev pub IsRepair : HostStart → Type 0
-  IsRepair one = (node : Node) → ReadsAs d one.before.disk Stands node → Repairs node one.command
-
-  -- that node has a number for its next report
-  abbrev pub HasNumber : HostStart → Type 0
-  HasNumber one = (node : Node) → ReadsAs d one.before.disk Stands node → node.next_job < 2 ^ 64 - 1
 
   -- no count of faults rose, and memory did not run out
   pub record IsUndisturbed (one : HostStart) : Type 0 where
@@ -107,8 +78,8 @@ module _ {D H C : Type 0} (d : disks.Ghosts D) (h : hosts.Ghosts H) (c : clocks.
     pub continues : node.meta.after ≡ ContinueConfiguration
     pub enabled : node.meta.refresh ≢ refreshes.Disabled
     -- each is a boot, or a consistency that waits for no reboot; it has a number for its report, and is undisturbed
-    pub repairs : AllByRecursion IsRepair (first ∷ starts)
-    pub numbers : AllByRecursion HasNumber (first ∷ starts)
+    pub repairs : AllByRecursion (IsRepair (known_on_host d h c)) (first ∷ starts)
+    pub numbers : AllByRecursion (HasNumber (known_on_host d h c)) (first ∷ starts)
     pub undisturbed : AllByRecursion IsUndisturbed (first ∷ starts)
     -- and nobody else changes the store or the host between two of them
     pub unchanged : AreUnchanged first starts

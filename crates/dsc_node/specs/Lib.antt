@@ -7,12 +7,14 @@ pub mod Converging
 pub mod Endings
 pub mod Headline
 pub mod HostHeadline
+pub mod LastingStarts
 pub mod LineLaws
 pub mod Lines
 pub mod Path
 pub mod Quoted
 pub mod Ran
 pub mod Readings
+pub mod RepairStarts
 pub mod Runs
 pub mod Sending
 pub mod SendingLaws

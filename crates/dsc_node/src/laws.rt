@@ -1,13 +1,14 @@
 //! Laws of starts, of the lines of a run, and of the reports that are sent. The calls do nothing; their clauses are the laws.
 ghost use Rattle.dsc_node.specs.Complete.{ValidStartsComplete};
 ghost use Rattle.dsc_node.specs.Converging.{RunsAreBounded, StartsComeNearer, StartsConverge, StartsConvergeInTime};
+ghost use Rattle.dsc_node.specs.LastingStarts.{LastingStartsConverge, LastingStartsGoOn};
 ghost use Rattle.dsc_node.specs.LineLaws.{LinesSpellOneTrace};
 ghost use Rattle.dsc_node.specs.SendingLaws.{ReportsAreMarkedInOrder, ReportsAreSentInOrder};
 ghost use Rattle.dsc_node.specs.Starts.{FindsWhatIsRead, PartsAreBrought, StartsGoOn, StartsJoin};
 ghost use Rattle.dsc_node.specs.Work.{known};
 
 use dsc_outside::{Clock, Disk, Host};
-use lcm_core::{reboot_laws, trace_laws};
+use lcm_core::{lasting_laws, reboot_laws, trace_laws};
 use node_pull::serving_laws;
 use resource_kinds::{Kinds, Machine, holding_laws};
 
@@ -67,4 +68,15 @@ pub fn starts_converge<D: Disk, H: Host, C: Clock>()
     trace_laws();
     holding_laws();
     valid_starts_complete::<D, Kinds<H>, C>();
+}
+
+/// Over any machine, where no Test or Set answers a fault, and after a Set of a resource no Test of it answers no: an undisturbed boot, or a
+/// consistency that waits for no reboot, makes what is Pending Current, or it asks for a reboot. One more of such starts than there are
+/// resources make it Current. What is asked of the starts stands in `LastingPremises` of `specs/LastingStarts.antt`.
+pub fn lasting_starts_converge<D: Disk, M: Machine, C: Clock>()
+    ensures go_on { LastingStartsGoOn (known D.Disk M.Resources M.Machine.own C.Clock) }
+    ensures converge { LastingStartsConverge (known D.Disk M.Resources M.Machine.own C.Clock) }
+{
+    lasting_laws();
+    valid_starts_complete::<D, M, C>();
 }

@@ -29,7 +29,9 @@
 //!   `specs/StartsOfTwo.antt`, `src/starts_of_two.rt`, `proofs/JoiningTwo.antt`; which input is valid, and that a start
 //!   of it is not refused: `specs/Complete.antt`, `proofs/Completing.antt`
 //! - within how many starts what is Pending becomes Current, and how often a run calls a resource:
-//!   `specs/Converging.antt`, `proofs/Converging.antt`
+//!   `specs/Converging.antt`, `proofs/Converging.antt`; over any machine, where what Sets make lasts,
+//!   `specs/LastingStarts.antt`, `proofs/LastingStarts.antt`; what such a start does `specs/RepairStarts.antt`,
+//!   `proofs/RepairStarts.antt`
 //! - what is printed of a run, and that it spells one trace: `src/lines.rt`, `specs/Lines.antt`,
 //!   `specs/LineLaws.antt`; what `get` and `reports` print: `specs/Shown.antt`, `src/showing.rt`
 //! - exit statuses, and their names: `src/status.rt`, `specs/Status.antt`
@@ -58,8 +60,8 @@ mod status;
 pub use answer::StartEnd;
 pub use command::Command;
 pub use laws::{
-    lines_spell_one_trace, parts_are_brought, reports_are_sent_in_order, runs_are_bounded,
-    starts_converge, starts_join, valid_starts_complete,
+    lasting_starts_converge, lines_spell_one_trace, parts_are_brought, reports_are_sent_in_order,
+    runs_are_bounded, starts_converge, starts_join, valid_starts_complete,
 };
 pub use lines::{id, lines_of, push_resources};
 pub use order::ordered_of_merged;

@@ -1,5 +1,7 @@
 pub mod Bounded
 pub mod Compliance
+pub mod HostEntries
+pub mod Lasting
 pub mod OneTurn
 pub mod Past
 pub mod Ready
@@ -9,3 +11,4 @@ pub mod RepairedEntries
 pub mod RepairedReports
 pub mod Successes
 pub mod Traces
+pub mod WellAnswered

@@ -41,7 +41,7 @@ use Rattle.lcm_core.proofs.Traces.{ends_with_push}
 -- ---- the states along a trace
 
 -- the states before and after an entry, with what leads to the first and from the second
-true_parts : (document : Document) (a b : HostState) (front : List Entry) (e : Entry) (rest : List Entry) → True document a (front ++ e ∷ rest) b
+pub true_parts : (document : Document) (a b : HostState) (front : List Entry) (e : Entry) (rest : List Entry) → True document a (front ++ e ∷ rest) b
     → (x y : HostState) × True document a front x × IsTrueEntry x document e y × True document y rest b
 true_parts document a b [] e rest chain = (a, chain.0, refl, chain.1, chain.2)
 true_parts document a b (f ∷ front) e rest chain =
@@ -50,31 +50,31 @@ true_parts document a b (f ∷ front) e rest chain =
 
 -- ---- entries that blame nothing
 
-failures_at : (front : List Entry) (e : Entry) (rest : List Entry) → host_failures (front ++ e ∷ rest) ≡ 0 → entry_failures e ≡ 0
+pub failures_at : (front : List Entry) (e : Entry) (rest : List Entry) → host_failures (front ++ e ∷ rest) ≡ 0 → entry_failures e ≡ 0
 failures_at front e rest none = omega (arith, none, sum_by-append entry_failures front (e ∷ rest), sum_by-cons entry_failures e rest)
 
-is_one : (p : ℕ) (failure : Failure) → failure ≡ faults.HostFailed → entry_failures (Set p (sets.Fault failure)) ≡ 1
+pub is_one : (p : ℕ) (failure : Failure) → failure ≡ faults.HostFailed → entry_failures (Set p (sets.Fault failure)) ≡ 1
 is_one p failure is = ap (λ (f : Failure). entry_failures (Set p (sets.Fault f))) is
 
-tested_one : (p : ℕ) (failure : Failure) → failure ≡ faults.HostFailed → entry_failures (Tested p (tests.Fault failure)) ≡ 1
+pub tested_one : (p : ℕ) (failure : Failure) → failure ≡ faults.HostFailed → entry_failures (Tested p (tests.Fault failure)) ≡ 1
 tested_one p failure is = ap (λ (f : Failure). entry_failures (Tested p (tests.Fault f))) is
 
 -- a Set breaks off where the host failed, or memory ran out
-unbroken_entry : (e : Entry) → entry_failures e ≡ 0 → (WantsMemory e → ⊥) → IsUnbroken e
+pub unbroken_entry : (e : Entry) → entry_failures e ≡ 0 → (WantsMemory e → ⊥) → IsUnbroken e
 unbroken_entry (Tested p answer) none fed = tt
 unbroken_entry (Set p sets.Done) none fed = λ broke. broke
 unbroken_entry (Set p sets.Reboot) none fed = λ broke. broke
 unbroken_entry (Set p (sets.Fault failure)) none fed = λ broke. omega (arith, none, is_one p failure broke)
 unbroken_entry (Set p sets.Memory) none fed = λ broke. fed refl
 
-wants_final : (e : Entry) → WantsMemory e → IsFinal e
+pub wants_final : (e : Entry) → WantsMemory e → IsFinal e
 wants_final (Tested p answer) wants = wants
 wants_final (Set p sets.Done) wants = absurd (cc (wants))
 wants_final (Set p sets.Reboot) wants = tt
 wants_final (Set p (sets.Fault failure)) wants = absurd (cc (wants))
 wants_final (Set p sets.Memory) wants = tt
 
-whole_entry : (document : Document) (e : Entry) → IsUnbroken e → IsWhole document e
+pub whole_entry : (document : Document) (e : Entry) → IsUnbroken e → IsWhole document e
 whole_entry document (Tested p answer) unbroken = tt
 whole_entry document (Set p answer) unbroken = λ broke. absurd (unbroken broke)
 
@@ -94,7 +94,7 @@ listed : (resources : List Resource) (k q : ℕ) (resource : Option Resource)
 listed resources k q None names = absurd names
 listed resources k q (Some resource) names = named resources q (slice_get resource.depends k) names
 
-comes_to_a_place : (document : Document) (r s : ℕ) → r < length document.resources → ComesTo document r s → s < length document.resources
+pub comes_to_a_place : (document : Document) (r s : ℕ) → r < length document.resources → ComesTo document r s → s < length document.resources
 comes_to_a_place document r s lt (itself q) = lt
 comes_to_a_place document r s lt (through p q t depends comes) =
     comes_to_a_place document q t (listed document.resources depends.0 q (slice_get document.resources p) depends.1) comes

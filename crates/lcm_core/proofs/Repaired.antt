@@ -1,16 +1,13 @@
--- Why a resource without faults ends with a Test that answered yes.
-use Rattle.std.proofs.Common.{◌≡◌, ◌⊎◌, inl, inr, ℕ, zero, suc, ◌+◌, ◌<◌, true, List, [], ◌∷◌, ◌++◌, length, slice_get, Option, Some, None, Result, Ok, Err, option_and_then, refl, sym, ◌∙◌, ap, subst, arith, length-append}
-use Rattle.std.specs.Prelude.{Contains}
+-- Why a resource without faults ends with a Test that answered yes: its entries, which are true of a host, answer well.
+use Rattle.std.proofs.Common.{◌≡◌, ℕ, Bool, true, cond, List, [], ◌∷◌, ◌++◌, slice_get, Option, Some, None, Result, Ok, Err, option_and_then, refl, sym, ◌∙◌, ap, subst}
+use Rattle.std.specs.Prelude.{filter}
 use Rattle.std.specs.Option.{IsSomeAnd}
 use Rattle.std.specs.Result.{result_ok}
-use Rattle.std.proofs.lemmas.List.{append_assoc}
-use Rattle.std.proofs.lemmas.List.Elements.{All-head, All-tail}
+use Rattle.std.proofs.lemmas.List.Elements.{All-head, All-tail, filter-append}
 use Rattle.std.proofs.lemmas.Option.{none-some, same_Some}
-use Rattle.dsc_terms.proofs.Splits.{contains_front, split_of}
 use Rattle.dsc_outside.specs.Host.{HostState}
 use Rattle.dsc_document.specs.declared.document.Document.{Document}
 use Rattle.dsc_document.specs.declared.document.Resource.{Resource}
-use Rattle.dsc_document.specs.Dependencies.{IsDependency}
 use Rattle.resource_kinds.specs.declared.entry.Failure.{Failure}
 use Rattle.resource_kinds.specs.declared.entry.Failure.TheVariants as faults
 use Rattle.resource_kinds.specs.declared.entry.TestAnswer.{TestAnswer}
@@ -23,14 +20,12 @@ use Rattle.resource_kinds.specs.declared.wanted.Wanted.{Wanted}
 use Rattle.resource_kinds.specs.Apart.{wanted_at}
 use Rattle.resource_kinds.specs.Holds.{Holds}
 use Rattle.resource_kinds.specs.Laws.{SetMakesHold}
-use Rattle.resource_kinds.specs.Trace.{EndsWith, HasEntry, IsFinal, Succeeded, entry_is_yes, is_yes, place_of}
+use Rattle.resource_kinds.specs.Trace.{place_of}
 use Rattle.resource_kinds.specs.True.{AnswersKnown, AnswersTrue, IsTrueEntry, LeavesFaulty, SetsKnown, SetsTrue, True}
 use Rattle.resource_kinds.specs.Wanted.{wanted_of}
-use Rattle.lcm_core.specs.declared.modes.RunMode.TheVariants.{Repair}
-use Rattle.lcm_core.specs.Legal.{IsFirstTest}
-use Rattle.lcm_core.specs.RepairLaws.{ComesTo, EntryBlames, FaultsAreContained, IsFullRepair, IsKnown, IsOfMachine, IsSpared, RepairSucceeds, itself, through}
-use Rattle.lcm_core.specs.Whole.{IsReached}
-use Rattle.lcm_core.proofs.RepairedEntries.{final_ends, last_is, last_of, set_has, test_has}
+use Rattle.lcm_core.specs.LastingRuns.{IsFault, KnownEntriesAnswerWell}
+use Rattle.lcm_core.specs.RepairLaws.{EntryBlames, FaultsAreContained, IsOfMachine, IsSpared, RepairSucceeds}
+use Rattle.lcm_core.proofs.WellAnswered.{well_answered_succeed}
 
 -- ---- what its entries say of a resource without a fault of its own
 
@@ -79,99 +74,79 @@ pub true_split : (document : Document) (a b : HostState) (front : List Entry) (e
 true_split document a b [] e rest chain = (a, chain.0, chain.1, chain.2)
 true_split document a b (f ∷ front) e rest chain = true_split document chain.0 b front e rest chain.2
 
-blameless : (front : List Entry) (e : Entry) (rest : List Entry) → IsSpared (front ++ e ∷ rest) (place_of e) → EntryBlames e → ⊥
-blameless [] e rest spared = All-head (λ (x : Entry). place_of x ≡ place_of e → EntryBlames x → ⊥) e rest spared refl
-blameless (f ∷ front) e rest spared =
-    blameless front e rest (All-tail (λ (x : Entry). place_of x ≡ place_of e → EntryBlames x → ⊥) f (front ++ e ∷ rest) spared)
+blameless : (r : ℕ) (front : List Entry) (e : Entry) (rest : List Entry) → IsSpared (front ++ e ∷ rest) r → place_of e ≡ r → EntryBlames e → ⊥
+blameless r [] e rest spared of = All-head (λ (x : Entry). place_of x ≡ r → EntryBlames x → ⊥) e rest spared of
+blameless r (f ∷ front) e rest spared of =
+    blameless r front e rest (All-tail (λ (x : Entry). place_of x ≡ r → EntryBlames x → ⊥) f (front ++ e ∷ rest) spared) of
 
--- after a Set that was done the resource holds, so its Test does not answer no
-never_no : (document : Document) (a b : HostState) (front : List Entry) (p : ℕ) (rest : List Entry) (wanted : Wanted) → SetMakesHold → wanted_at document p ≡ Some wanted
-    → True document a (front ++ Set p sets.Done ∷ Tested p tests.No ∷ rest) b → ⊥
-never_no document a b front p rest wanted makes asks chain =
-    let (x, y, step, after_set) = true_split document a b front (Set p sets.Done) (Tested p tests.No ∷ rest) chain in
-    let set = set_known document x y p wanted sets.Done asks step in
-    let holds = subst (λ (h : HostState). Holds h wanted) (sym set.1.0.applied) (makes x wanted) in
-    answer_known document y after_set.0 p wanted tests.No asks after_set.1 holds
+-- ---- beside entries of others
 
--- ---- one resource
+module _ (is_of_host : Entry → Bool) where
+  pub kept_first : (e : Entry) (rest : List Entry) → is_of_host e ≡ true → filter is_of_host (e ∷ rest) ≡ e ∷ filter is_of_host rest
+  kept_first e rest is = ap (λ (b : Bool). cond b (e ∷ filter is_of_host rest) (filter is_of_host rest)) is
 
-module _ (makes : SetMakesHold) (document : Document) (order : List ℕ) (before after : HostState) (trace : List Entry) (run : IsFullRepair document order before trace after) where
-  reached : (r : ℕ) → IsReached order trace r
-  reached r e ends final = absurd (run.finished e ends final)
+  pub kept_split : (front : List Entry) (e : Entry) (rest : List Entry) → is_of_host e ≡ true
+      → filter is_of_host (front ++ e ∷ rest) ≡ filter is_of_host front ++ e ∷ filter is_of_host rest
+  kept_split front e rest is =
+      filter-append is_of_host front (e ∷ rest) ∙ ap (λ (t : List Entry). filter is_of_host front ++ t) (kept_first e rest is)
 
-  module _ (front rest : List Entry) where
-    step_at : (e : Entry) → trace ≡ front ++ e ∷ rest → (x y : HostState) × IsTrueEntry x document e y × True document y rest after
-    step_at e is = true_split document before after front e rest (subst (λ (t : List Entry). True document before t after) is run.is_true)
+  module _ (makes : SetMakesHold) (document : Document) (before after : HostState) (trace : List Entry) (r : ℕ) (is_true : True document before (filter is_of_host trace) after)
+      (wanted : Wanted) (asks : wanted_at document r ≡ Some wanted) (its : (e : Entry) → place_of e ≡ r → is_of_host e ≡ true) where
+    step_at : (front : List Entry) (e : Entry) (rest : List Entry) → trace ≡ front ++ e ∷ rest → place_of e ≡ r
+        → (x y : HostState) × IsTrueEntry x document e y × True document y (filter is_of_host rest) after
+    step_at front e rest is of =
+        true_split document before after (filter is_of_host front) e (filter is_of_host rest)
+        (subst (λ (t : List Entry). True document before t after) (ap (filter is_of_host) is ∙ kept_split front e rest (its e of)) is_true)
 
-    innocent : (e : Entry) → trace ≡ front ++ e ∷ rest → IsSpared trace (place_of e) → EntryBlames e → ⊥
-    innocent e is spared = blameless front e rest (subst (λ (t : List Entry). IsSpared t (place_of e)) is spared)
+    -- a fault of it is the machine's
+    fault_blames : (front : List Entry) (e : Entry) (rest : List Entry) → trace ≡ front ++ e ∷ rest → place_of e ≡ r → IsFault e → EntryBlames e
+    fault_blames front (Tested p tests.Yes) rest is of fault = absurd fault
+    fault_blames front (Tested p tests.No) rest is of fault = absurd fault
+    fault_blames front (Tested p (tests.Fault failure)) rest is of fault =
+        let (x, y, step, more) = step_at front (Tested p (tests.Fault failure)) rest is of in
+        test_blames failure (answer_known document x y p wanted (tests.Fault failure) (ap (wanted_at document) of ∙ asks) step)
+    fault_blames front (Tested p tests.Memory) rest is of fault = absurd fault
+    fault_blames front (Set p sets.Done) rest is of fault = absurd fault
+    fault_blames front (Set p sets.Reboot) rest is of fault = absurd fault
+    fault_blames front (Set p (sets.Fault failure)) rest is of fault =
+        let (x, y, step, more) = step_at front (Set p (sets.Fault failure)) rest is of in
+        set_blames x y wanted failure (set_known document x y p wanted (sets.Fault failure) (ap (wanted_at document) of ∙ asks) step).1
+    fault_blames front (Set p sets.Memory) rest is of fault = absurd fault
 
-    not_final : (e : Entry) → trace ≡ front ++ e ∷ rest → IsFinal e → ⊥
-    not_final e is final = run.finished e (final_ends document Repair order trace front e rest run.legal is final) final
+    -- after a Set that was done the resource holds, so its Test does not answer no
+    never_no : (front rest : List Entry) → trace ≡ front ++ Set r sets.Done ∷ Tested r tests.No ∷ rest → ⊥
+    never_no front rest is =
+        let (x, y, step, later) = step_at front (Set r sets.Done) (Tested r tests.No ∷ rest) is refl in
+        let after_set = subst (λ (t : List Entry). True document y t after) (kept_first (Tested r tests.No) rest (its (Tested r tests.No) refl)) later in
+        let set = set_known document x y r wanted sets.Done asks step in
+        let holds = subst (λ (h : HostState). Holds h wanted) (sym set.1.0.applied) (makes x wanted) in
+        answer_known document y after_set.0 r wanted tests.No asks after_set.1 holds
 
-    no_again : (p : ℕ) (wanted : Wanted) → wanted_at document p ≡ Some wanted → trace ≡ front ++ Tested p tests.No ∷ rest
-        → (HasEntry rest p → ⊥) → IsFirstTest order front p ⊎ EndsWith front (Set p sets.Done) → ⊥
-    no_again p wanted asks is last (inl first) =
-        last (set_has rest p (run.whole.repaired front p rest refl (reached p) is first.once))
-    no_again p wanted asks is last (inr ends) =
-        let split = is ∙ ap (λ (l : List Entry). l ++ Tested p tests.No ∷ rest) ends.1 ∙ append_assoc ends.0 (Set p sets.Done ∷ []) (Tested p tests.No ∷ rest) in
-        never_no document before after ends.0 p rest wanted makes asks (subst (λ (t : List Entry). True document before t after) split run.is_true)
+pub known_entries : SetMakesHold → KnownEntriesAnswerWell
+known_entries makes document is_of_host before after trace r is_true known its spared = record {
+  faultless = λ front e rest is of fault.
+      blameless r front e rest (subst (λ (t : List Entry). IsSpared t r) is spared) of
+      (fault_blames is_of_host makes document before after trace r is_true known.0 known.1 its front e rest is of fault);
+  lasts = λ front rest is. never_no is_of_host makes document before after trace r is_true known.0 known.1 its front rest is;
+}
 
-    -- the last entry of a resource without a fault of its own
-    answers_yes : (e : Entry) (wanted : Wanted) → wanted_at document (place_of e) ≡ Some wanted → IsSpared trace (place_of e) → trace ≡ front ++ e ∷ rest
-        → (HasEntry rest (place_of e) → ⊥) → entry_is_yes e ≡ true
-    answers_yes (Tested p tests.Yes) wanted asks spared is last = refl
-    answers_yes (Tested p tests.No) wanted asks spared is last =
-        absurd (no_again p wanted asks is last (run.legal front (Tested p tests.No) rest is).in_turn)
-    answers_yes (Tested p (tests.Fault failure)) wanted asks spared is last =
-        let (x, y, step, more) = step_at (Tested p (tests.Fault failure)) is in
-        absurd (innocent (Tested p (tests.Fault failure)) is spared (test_blames failure (answer_known document x y p wanted (tests.Fault failure) asks step)))
-    answers_yes (Tested p tests.Memory) wanted asks spared is last = absurd (not_final (Tested p tests.Memory) is refl)
-    answers_yes (Set p sets.Done) wanted asks spared is last =
-        absurd (last (test_has rest p (run.whole.again front p rest (reached p) is)))
-    answers_yes (Set p sets.Reboot) wanted asks spared is last = absurd (not_final (Set p sets.Reboot) is tt)
-    answers_yes (Set p (sets.Fault failure)) wanted asks spared is last =
-        let (x, y, step, more) = step_at (Set p (sets.Fault failure)) is in
-        let known = set_known document x y p wanted (sets.Fault failure) asks step in
-        absurd (innocent (Set p (sets.Fault failure)) is spared (set_blames x y wanted failure known.1))
-    answers_yes (Set p sets.Memory) wanted asks spared is last = absurd (not_final (Set p sets.Memory) is tt)
+-- ---- where all entries are true of a host
 
-  -- a resource whose dependencies succeeded
-  one_succeeds : (r : ℕ) → Contains order r → IsKnown document r → IsSpared trace r → ((q : ℕ) → IsDependency document r q → Succeeded trace q) → Succeeded trace r
-  one_succeeds r listed known spared met =
-      let has = run.whole.tested r listed (reached r) (λ same q depends. met q depends) in
-      elim (last_of trace r) [
-        | inl l ↦
-            ap is_yes (last_is trace r l)
-            ∙ answers_yes l.front l.rest l.entry known.0 (ap (wanted_at document) l.of ∙ known.1) (subst (IsSpared trace) (sym l.of) spared) l.is
-            (λ later. l.last (subst (HasEntry l.rest) l.of later))
-        | inr none ↦ absurd (none has)
-      ]
+abbrev any_entry : Entry → Bool
+any_entry e = true
 
-  -- ---- along the order
-
-  -- no fault touches the resource, or those that it comes to
-  abbrev IsUntouched : ℕ → Type 0
-  IsUntouched r = (q : ℕ) → ComesTo document r q → IsKnown document q × IsSpared trace q
-
-  below : (r q : ℕ) → IsDependency document r q → IsUntouched r → IsUntouched q
-  below r q depends untouched s comes = untouched s (through r q s depends comes)
-
-  -- what r depends on stands before it
-  along : (n : ℕ) (front : List ℕ) (r : ℕ) (rest : List ℕ) → length front < n → order ≡ front ++ r ∷ rest → IsUntouched r → Succeeded trace r
-  along zero front r rest lt is untouched = absurd (omega (arith, lt))
-  along (suc n) front r rest lt is untouched =
-      let (known, spared) = untouched r (itself r) in
-      let listed = subst (λ (l : List ℕ). Contains l r) (sym is) (contains_front r front rest) in
-      one_succeeds r listed known spared (λ s depends.
-      let (lead, more, at) = split_of front s ((run.ordered.earliest front r rest is).ready.met s depends) in
-      along n lead s (more ++ r ∷ rest) (omega (arith, lt, ap length at, length-append lead (s ∷ more)))
-      (is ∙ ap (λ (l : List ℕ). l ++ r ∷ rest) at ∙ append_assoc lead (s ∷ more) (r ∷ rest)) (below r s depends untouched))
+all_kept : (trace : List Entry) → filter any_entry trace ≡ trace
+all_kept [] = refl
+all_kept (e ∷ trace) = kept_first any_entry e trace refl ∙ ap (λ (t : List Entry). e ∷ t) (all_kept trace)
 
 pub faults_contained : SetMakesHold → FaultsAreContained
 faults_contained makes document order before after trace r run spared is_place sound =
-    let (front, rest, is) = split_of order r (run.ordered.all r is_place) in
-    along makes document order before after trace run (length front + 1) front r rest (omega arith) is (λ q comes. (sound q comes, spared q comes))
+    well_answered_succeed document order trace r
+    (record { ordered = run.ordered; legal = run.legal; whole = run.whole; finished = run.finished })
+    (λ q comes.
+    known_entries makes document any_entry before after trace q (subst (λ (t : List Entry). True document before t after) (sym (all_kept trace)) run.is_true)
+    (sound q comes) (λ e of. refl) (spared q comes))
+    is_place
 
 pub repair_succeeds : SetMakesHold → RepairSucceeds
 repair_succeeds makes document order before after trace r run blames_nothing is_place sound =

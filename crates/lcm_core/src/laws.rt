@@ -1,5 +1,7 @@
 //! Laws of runs. The calls do nothing; their clauses are the laws.
 ghost use Rattle.lcm_core.specs.Bounds.{LegalIsBounded};
+ghost use Rattle.lcm_core.specs.HostEntries.{HostEntriesLast, StaysClearBeside};
+ghost use Rattle.lcm_core.specs.LastingRuns.{KnownEntriesAnswerWell, LastingRepairsComply, RebootsAreFew, WellAnsweredSucceed};
 ghost use Rattle.lcm_core.specs.RebootLaws.{ClearRepairsComply, NothingIsInTheWay, RebootsComeNearer};
 ghost use Rattle.lcm_core.specs.RepairLaws.{FaultsAreContained, RepairSucceeds, RunsAreReportable, TracesAreReportable};
 ghost use Rattle.lcm_core.specs.RunLaws.{CompliantHold, LegalEndsAtYes, LegalKnowsPlaces};
@@ -16,6 +18,33 @@ pub fn repair_laws()
 {
     set_laws();
 }
+
+/// What the entries of a run say of a resource, over any machine: in a repair that came to its last resource, each resource succeeds that
+/// answers well, and whose dependencies, followed down, do. One without a fault of its own answers well where its entries, beside those of
+/// any others, are true of a host, and none of them has a fault of the machine.
+pub fn answer_laws()
+    ensures known { KnownEntriesAnswerWell }
+    ensures succeeds { WellAnsweredSucceed }
+{
+    set_laws();
+}
+
+/// In a repair of resources that are apart, in which the entries of some of them are true of a host that is clear for them, of which no call
+/// failed, what is in its state at the beginning or was set is so at the end, and no Test of it answers no after that; none of these entries
+/// is a fault where its resource has none of its own; and the host is clear still.
+pub fn host_entry_laws()
+    ensures clear { StaysClearBeside }
+    ensures last { HostEntriesLast }
+{
+    set_laws();
+}
+
+/// Over any machine, where no entry is a fault and after a Set of a resource no Test of it answers no: a repair that came to its last
+/// resource is compliant, and no more repairs in a row end with a reboot than there are resources.
+pub fn lasting_laws()
+    ensures comply { LastingRepairsComply }
+    ensures few { RebootsAreFew }
+{}
 
 /// In a repair of resources that are apart and without a fault of their own, on a host that shows what it holds, is clear for them and of
 /// which no call failed, nothing is in the way of any Set. Where it ends with a reboot, fewer resources are left that do not hold, and the

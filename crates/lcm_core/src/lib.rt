@@ -12,6 +12,9 @@
 //!   `specs/Ends.antt`; what a repair has done at each turn `proofs/Past.antt`
 //! - where a repair succeeds, which traces can be reported, how often a resource is called: `specs/RepairLaws.antt`,
 //!   `specs/Bounds.antt`, `src/laws.rt`; `proofs/Repaired.antt`
+//! - over any machine, what a resource's entries say of it, and how many repairs may end with a reboot where what
+//!   Sets make lasts: `specs/LastingRuns.antt`, `src/laws.rt`, `proofs/WellAnswered.antt`, `proofs/Lasting.antt`; of
+//!   a host's resources beside others: `specs/HostEntries.antt`, `proofs/HostEntries.antt`
 //! - how near a run that ends with a reboot comes to its end: `specs/RebootLaws.antt`, `src/laws.rt`;
 //!   `proofs/Rebooted.antt`
 //! - how many resources succeeded, and that all hold together where each did: `src/last_entries.rt`,
@@ -25,6 +28,8 @@ mod runs;
 mod turns;
 
 pub use last_entries::{count_succeeded, succeeded};
-pub use laws::{reboot_laws, repair_laws, report_laws, trace_laws};
+pub use laws::{
+    answer_laws, host_entry_laws, lasting_laws, reboot_laws, repair_laws, report_laws, trace_laws,
+};
 pub use modes::{RunEnd, RunMode};
 pub use runs::{run, run_ordered};

@@ -10,6 +10,7 @@ pub mod Inputs
 pub mod Monitoring
 pub mod FurtherRows
 pub mod RepairedBeside
+pub mod ConvergingCommands
 pub mod OnCommands
 pub mod OnHost
 pub mod OneRow

@@ -5,6 +5,7 @@ pub mod Checksum
 pub mod CommandLine
 pub mod Compile
 pub mod Complete
+pub mod ConvergingCommands
 pub mod Did
 pub mod DidWords
 pub mod Endings

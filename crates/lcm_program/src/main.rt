@@ -15,6 +15,8 @@
 //!   and what is more over a host (`specs/Further.antt`), and with commands (`specs/FurtherCommands.antt`), which
 //!   `proofs/FurtherRows.antt` carries into each row; `src/starts.rt`; that it is not refused where its input is
 //!   valid and nothing failed: `specs/Complete.antt`, `proofs/Completing.antt`
+//! - with programs on, within how many starts what is Pending becomes Current: `specs/ConvergingCommands.antt`,
+//!   `src/laws.rt`, `proofs/ConvergingCommands.antt`
 //! - the arguments of the command line: `src/words.rt`, `specs/Words.antt`; what stands before them
 //!   `src/command_line.rt`, `specs/CommandLine.antt`
 //! - which instances, document or meta-configuration an input is, and why it is refused: `src/input.rt`,
@@ -41,6 +43,7 @@ mod compile;
 mod compile_words;
 mod generate;
 mod input;
+mod laws;
 mod merge_words;
 mod meta_words;
 mod mof_words;
@@ -68,6 +71,7 @@ pub use generate::repair_generated;
 pub use input::{
     Unread, read_bytes, read_document, read_instances, read_meta, read_ordered, read_within,
 };
+pub use laws::starts_with_commands_converge;
 pub use order::read_order;
 use process_spawner::ProcessSpawner;
 pub use program::{node, node_over, node_words, node_words_on_host};
