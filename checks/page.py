@@ -432,7 +432,8 @@ def ages(browser, fleet, site):
         return browser.value("[document.getElementById('age').className, document.querySelector('#age [role=status]').textContent, document.querySelectorAll('#warnings li').length]")
 
     check("new data", written(2), ["age fresh", "Up to date", 0])
-    check("new data, where the clocks differ", written(2, 7200), ["age fresh", "Up to date", 0])
+    for late in (-7200, 7200):
+        check("new data, where the clocks differ", written(2, late), ["age fresh", "Up to date", 0])
     check("data of some minutes", written(400), ["age late", "Late", 0])
     check("its age in words", text_of(browser, "#age span:last-child"), "written 6 minutes ago")
     check("data of an hour", written(3700), ["age old", "Old", 1])
