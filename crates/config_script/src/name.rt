@@ -76,6 +76,9 @@ pub(crate) fn is_word(text: &str, word: &str) -> bool
 fn is_folded(text: &str, word: &str) -> bool
     ensures { IsTrue result ↔ SameName (chars text.now) word.now }
 {
+    if text.len() < word.len() {
+        return false;
+    }
     let (mut left, mut codes) = (text, word.as_bytes());
     while let Some((c, rest)) = first_char(left) {
         let [code, others @ ..] = codes else {
