@@ -18,4 +18,5 @@ pub mod Readings
 pub mod Rehearsing
 pub mod Results
 pub mod Standing
+pub mod StartsOrRests
 pub mod Tools

@@ -21,6 +21,7 @@ pub mod Printed
 pub mod Refusal
 pub mod Rehearse
 pub mod Started
+pub mod StartsOrRests
 pub mod Test
 pub mod Tool
 pub mod Words

@@ -1,11 +1,23 @@
-//! A law of starts with programs on. The call does nothing; its clause is the law.
+//! Laws of what a command does, and of starts with programs on. The calls do nothing; their clauses are the laws.
+ghost use Rattle.dsc_node.specs.HostHeadline.{kinds_of, machine_of};
 ghost use Rattle.lcm_program.specs.ConvergingCommands.{StartsWithCommandsConverge};
+ghost use Rattle.lcm_program.specs.Further.{further_of_host};
+ghost use Rattle.lcm_program.specs.Objects.{known};
+ghost use Rattle.lcm_program.specs.StartsOrRests.{WordsStartOrRest};
 
 use command_kind::{Commands, Spawner, command_laws, host_laws};
 use dsc_node::{lasting_starts_converge, valid_starts_complete};
-use dsc_outside::{Clock, Disk, Host};
+use dsc_outside::{Clock, Disk, Host, Link, Sink, Source};
 use lcm_core::{host_entry_laws, lasting_laws};
 use resource_kinds::Kinds;
+
+/// What `node_words_on_host` does is a start of the node, as `dsc_node` says it, or leaves the disk as it was. So it is with each start of a
+/// rehearsal.
+pub fn words_start_or_rest<S: Source, K: Sink, D: Disk, H: Host, L: Link, C: Clock>()
+    ensures { WordsStartOrRest
+        (known S.Ends K.Ends D.Disk (kinds_of H.Host) (machine_of H.Host) L.Link C.Clock)
+        (further_of_host D.Disk H.Host C.Clock) }
+{}
 
 /// With programs on, where after a Set of a command the program for its Test says that it holds, in these starts, and what the others ask of a
 /// host is apart and nobody else changes it: one more of undisturbed boots, or of consistencies that wait for no reboot, than there are

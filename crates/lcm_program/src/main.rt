@@ -29,7 +29,8 @@
 //!   `src/peer_words.rt`, `specs/PeerWords.antt`
 //! - the command `generate`: `src/generate.rt`, `specs/Generate.antt`
 //! - the command `rehearse`: `src/rehearse.rt`, `specs/Rehearse.antt`; a start in it is `node_words` of
-//!   `src/program.rt`, `specs/DidWords.antt`
+//!   `src/program.rt`, `specs/DidWords.antt`, and with it a start of `dsc_node`, or it leaves the disk:
+//!   `specs/StartsOrRests.antt`, `src/laws.rt`
 #![tactic(auto)]
 
 ghost use Rattle.std.specs.Prelude.{◌≡◌, [], IfOk};
@@ -71,7 +72,7 @@ pub use generate::repair_generated;
 pub use input::{
     Unread, read_bytes, read_document, read_instances, read_meta, read_ordered, read_within,
 };
-pub use laws::starts_with_commands_converge;
+pub use laws::{starts_with_commands_converge, words_start_or_rest};
 pub use order::read_order;
 use process_spawner::ProcessSpawner;
 pub use program::{node, node_over, node_words, node_words_on_host};
