@@ -1,6 +1,7 @@
 pub mod ByKind
 pub mod Fronts
 pub mod Heads
+pub mod HeldLists
 pub mod Lengths
 pub mod MetasRead
 pub mod OneBody

@@ -15,7 +15,7 @@ use Rattle.node_store.specs.Parts.{bytes_of_part}
 use Rattle.node_store.specs.declared.limits.TheConstants.{MAX_BODY}
 use Rattle.node_store.proofs.Sizes.{event_long}
 
-part_whole : (part : Part) → front_of_part part ++ part.bytes ≡ bytes_of_part part
+pub part_whole : (part : Part) → front_of_part part ++ part.bytes ≡ bytes_of_part part
 part_whole part =
     let name = bytes_of_text part.name in
     let digest = bytes_of_digest part.digest in

@@ -6,6 +6,7 @@ pub mod Reports
 pub mod Stands
 pub mod Store
 -- for private clauses alone
+pub mod Held
 pub mod Next
 pub mod Rewriting
 pub mod Split

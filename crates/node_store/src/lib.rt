@@ -14,7 +14,8 @@
 //!   `src/reading.rt`; the two pieces in which it is written `specs/Split.antt`, `proofs/Split.antt`
 //! - what an image of a node's store stands for, what a commit answers: `specs/Stands.antt`, `specs/Store.antt`
 //! - the opening of a node's store: `src/opening.rt` over `src/taking.rt`, which takes the bodies one by one;
-//!   `specs/Taking.antt`; that bodies lead to one node at most `proofs/Runs.antt`
+//!   `specs/Taking.antt`; a list that the node holds is not read again `src/held.rt`, `specs/Held.antt`; that bodies
+//!   lead to one node at most `proofs/Runs.antt`
 //! - a commit: `src/store.rt`, `specs/Store.antt`; a disk that no call was made of `proofs/AtRest.antt`
 //! - how an event is written, or the whole node after it: `src/writing.rt`, `src/appending.rt`, `src/rewriting.rt` over
 //!   `src/next.rt` (the node after an event, looked at before it is applied); `specs/Rewriting.antt`,
@@ -25,6 +26,7 @@ mod appending;
 mod body;
 mod digests;
 mod error;
+mod held;
 mod laws;
 mod limits;
 mod metas;

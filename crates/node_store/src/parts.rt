@@ -57,8 +57,8 @@ pub(crate) fn put_front_of_parts(into: &mut Vec<u8>, parts: &[Part]) -> Result<(
     Ok(())
 }
 
-// Appends a part, but for its document.
-fn put_front_of_part(into: &mut Vec<u8>, part: &Part) -> Result<(), Memory>
+/// Appends a part, but for its document.
+pub(crate) fn put_front_of_part(into: &mut Vec<u8>, part: &Part) -> Result<(), Memory>
     requires { FitsPart part.now }
     ensures writes { Writes (front_of_part part.now) into.old into.new result }
     ensures in_range { OnOk result (IsPart part.now) }

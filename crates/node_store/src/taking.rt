@@ -1,21 +1,25 @@
 //! The bodies of a store, taken one after the other while it is opened.
-ghost use Rattle.std.specs.Prelude.{[]};
+ghost use Rattle.std.specs.Prelude.{◌≡◌, [], true, Some};
+ghost use Rattle.node_state.specs.Sound.{Sound};
 ghost use Rattle.node_state.specs.Table.{IsWithin};
 ghost use Rattle.node_store.specs.declared.body.Body.TheVariants as bodies;
 ghost use Rattle.node_store.specs.Taking.{Reached, Took, TookBody};
 
 use crate::body::Body;
+use crate::held::staged_again;
 use crate::reading::read_body;
 use gate_log::{Replay, TakeError};
-use mof_values::Memory;
+use mof_values::{Items, Memory};
 use node_state::{Event, Node, Piece};
+use partial_merge::Part;
 use std::alloc::Global;
 use std::mem;
 use store_fields::FieldError;
 
 /// The node that the bodies of a store lead to.
 ///
-/// No document is copied: the parts of a body become those of the node. A step back alone copies the parts of Previous.
+/// The parts of a body become those of the node, and no document is copied; but a step back copies the parts of Previous, and
+/// a Stage of parts that the node holds those.
 #[derive(Drop)]
 pub struct Taking {
     alloc: Global,
@@ -37,6 +41,29 @@ impl Taking {
     }
 
     fn take_body(&mut self, body: &[u8]) -> Result<(), TakeError>
+        requires { Sound self.old.node }
+        ensures { TookBody self.old.node self.old.begun body.now self.new.node self.new.begun result }
+    {
+        match staged_again(self.alloc, &self.node, body) {
+            Ok(Some(parts)) => {
+                self.stage_again(parts);
+                Ok(())
+            }
+            Ok(None) => self.take_read(body),
+            Err(Memory) => Err(TakeError::Memory),
+        }
+    }
+
+    // A list that the node holds becomes Pending too.
+    fn stage_again(&mut self, parts: Items<Part>)
+        ensures node { self.new.node ≡ record self.old.node { pending = Some parts } }
+        ensures begun { self.new.begun ≡ true }
+    {
+        self.node.pending = Some(parts);
+        self.begun = true;
+    }
+
+    fn take_read(&mut self, body: &[u8]) -> Result<(), TakeError>
         ensures { TookBody self.old.node self.old.begun body.now self.new.node self.new.begun result }
     {
         match read_body(self.alloc, body) {

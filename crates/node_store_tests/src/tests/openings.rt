@@ -90,6 +90,16 @@ const KEPT: &[(&str, &str)] = &[
         "agent server registered current P s4 r5 job 6",
     ),
     ("init usual A", "agent pending A job 1"),
+    // Lists that the node holds.
+    ("init A A", "agent pending A job 1"),
+    (
+        "base slot-current A promote A",
+        "agent server registered pending A current A previous P r5 job 6",
+    ),
+    (
+        "base slot-current A promote P",
+        "agent server registered pending P current A previous P r5 job 6",
+    ),
 ];
 
 // The words of bodies, of which the last is the first that is refused.
@@ -119,6 +129,7 @@ const REFUSED: &[&str] = &[
     "init long-boot",
     "init fourth-stage",
     "init wrong-digest",
+    "init A wrong-digest",
     "init no-canonical",
     "init registered",
     "init sent",
