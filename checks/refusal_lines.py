@@ -7,6 +7,7 @@ import re
 NODE = ("crates/lcm_program/specs/Refusal.antt", "crates/lcm_program/specs/InputWords.antt", "crates/lcm_program/specs/PeerWords.antt",
         "crates/mof_syntax/specs/Forms.antt")
 SERVER = ("crates/pull_serving/specs/Printing.antt",)
+TEXTS = ("crates/staged_text/specs/Endings.antt",)
 FAULTS = ("crates/resource_kinds/specs/Names.antt",)
 # What a value is printed as; an instance of a list may be one of the first part or of another.
 VALUES = {"decimal": ["0"], "quoted": ['"x"'], "encode_utf8_all": ["x"], "checksum_of": ["0" * 64], "name_of": ["NodeStatus"],
@@ -67,7 +68,8 @@ class Definitions:
 
 def lines():
     """Each line that begins with `refused`, with the name of the program that prints it."""
-    for program, definition, paths in (("node", "reason_of", NODE), ("server", "refusal_line", SERVER)):
+    for program, definition, paths in (("node", "reason_of", NODE), ("server", "refusal_line", SERVER),
+                                       ("texts of stages", "line_of", TEXTS)):
         for text in Definitions(paths).texts(definition):
             reason = text.removeprefix("refused ")
             if not NEVER.search(reason):
