@@ -1,0 +1,197 @@
+//! The line of an agent.
+ghost use Rattle.std.specs.Prelude.{◌≡◌, ◌++◌, None, OnOk, codes, option_map};
+ghost use Rattle.std.specs.Fmt.{decimal};
+ghost use Rattle.agent_line.specs.Lines.{count_part, id_json, id_or_null, job_of, key, line_of, registered_of, run_of, said_of, standing_of, times_of, truth, unmet_of, who_of, word_json};
+
+use crate::json::{push_text, push_text_or_null, push_texts};
+use crate::number::count_of;
+use crate::unmet::push_unmet;
+use itoa::Buffer;
+use mof_values::Text;
+use pull_messages::ReportMessage;
+use pull_store::Row;
+use std::alloc::{AllocError, Global};
+use uuid::Uuid;
+
+/// Adds the line of the agent of a row: of the store at this path, with the name of its class, whether it is stale, and its last
+/// report, where that is one.
+#[tactic(auto, unfolding(crate::specs::Lines::line_of))]
+pub fn push_line(
+    out: &mut Vec<u8>,
+    alloc: Global,
+    store: &Text,
+    row: &Row,
+    class: &str,
+    stale: bool,
+    message: Option<&ReportMessage>,
+) -> Result<(), AllocError>
+    ensures { OnOk result (out.new.items
+        ≡ out.old.items ++ line_of store.now row.now class.now stale (option_map (λ m. m.now) message.entry)) }
+{
+    push_who(out, alloc, store, row)?;
+    push_registered(out, alloc, row)?;
+    push_standing(out, class, stale)?;
+    push_key(out, "job")?;
+    push_id_or_null(out, alloc, job_of(row))?;
+    push_run_of(out, alloc, message)?;
+    Ok(())
+}
+
+#[tactic(auto, unfolding(crate::specs::Lines::who_of))]
+fn push_who(out: &mut Vec<u8>, alloc: Global, store: &Text, row: &Row) -> Result<(), AllocError>
+    ensures { OnOk result (out.new.items ≡ out.old.items ++ who_of store.now row.now) }
+{
+    out.extend_from_slice(b"{\"store\":")?;
+    push_text(out, alloc, store)?;
+    push_key(out, "agent")?;
+    push_id(out, alloc, row.agent)?;
+    Ok(())
+}
+
+#[tactic(auto, unfolding(crate::specs::Lines::registered_of))]
+fn push_registered(out: &mut Vec<u8>, alloc: Global, row: &Row) -> Result<(), AllocError>
+    ensures { OnOk result (out.new.items ≡ out.old.items ++ registered_of row.now) }
+{
+    push_key(out, "node_name")?;
+    push_text_or_null(out, alloc, &row.registration.node_name)?;
+    push_key(out, "configurations")?;
+    push_texts(out, alloc, row.registration.names.as_slice())?;
+    Ok(())
+}
+
+#[tactic(auto, unfolding(crate::specs::Lines::standing_of))]
+fn push_standing(out: &mut Vec<u8>, class: &str, stale: bool) -> Result<(), AllocError>
+    ensures { OnOk result (out.new.items ≡ out.old.items ++ standing_of class.now stale) }
+{
+    push_key(out, "class")?;
+    push_word(out, class)?;
+    push_key(out, "stale")?;
+    out.extend_from_slice(truth(stale).as_bytes())?;
+    Ok(())
+}
+
+fn truth(is_so: bool) -> &'static str
+    ensures { result.now ≡ truth is_so }
+{
+    if is_so { "true" } else { "false" }
+}
+
+// The name of a further member of the object.
+#[tactic(auto, unfolding(crate::specs::Lines::key))]
+fn push_key(out: &mut Vec<u8>, name: &str) -> Result<(), AllocError>
+    ensures { OnOk result (out.new.items ≡ out.old.items ++ key name.now) }
+{
+    out.extend_from_slice(b",\"")?;
+    out.extend_from_slice(name.as_bytes())?;
+    out.extend_from_slice(b"\":")
+}
+
+// A word that needs no escape, as a JSON string.
+#[tactic(auto, unfolding(crate::specs::Lines::word_json))]
+fn push_word(out: &mut Vec<u8>, word: &str) -> Result<(), AllocError>
+    ensures { OnOk result (out.new.items ≡ out.old.items ++ word_json word.now) }
+{
+    out.extend_from_slice(b"\"")?;
+    out.extend_from_slice(word.as_bytes())?;
+    out.extend_from_slice(b"\"")
+}
+
+// The job of the newest report.
+fn job_of(row: &Row) -> Option<u128>
+    ensures { result ≡ job_of row.now }
+{
+    match row.reports.as_slice().last() {
+        Some(report) => Some(report.job),
+        None => None,
+    }
+}
+
+fn push_id_or_null(out: &mut Vec<u8>, alloc: Global, id: Option<u128>) -> Result<(), AllocError>
+    ensures { OnOk result (out.new.items ≡ out.old.items ++ id_or_null id) }
+{
+    match id {
+        Some(id) => push_id(out, alloc, id),
+        None => out.extend_from_slice(b"null"),
+    }
+}
+
+#[tactic(auto, unfolding(pull_messages::specs::Writing::id_text, crate::specs::Lines::id_json))]
+fn push_id(out: &mut Vec<u8>, alloc: Global, id: u128) -> Result<(), AllocError>
+    ensures { OnOk result (out.new.items ≡ out.old.items ++ id_json id) }
+{
+    let id = Uuid::from_u128(id);
+    let text = format!(in alloc; "{id}")?;
+    push_word(out, text.as_str())
+}
+
+fn push_run_of(
+    out: &mut Vec<u8>,
+    alloc: Global,
+    message: Option<&ReportMessage>,
+) -> Result<(), AllocError>
+    ensures { OnOk result (out.new.items ≡ out.old.items ++ run_of (option_map (λ m. m.now) message.entry)) }
+{
+    match message {
+        Some(message) => push_run(out, alloc, message),
+        None => push_no_run(out),
+    }
+}
+
+fn push_no_run(out: &mut Vec<u8>) -> Result<(), AllocError>
+    ensures { OnOk result (out.new.items ≡ out.old.items ++ run_of None) }
+{
+    out.extend_from_slice(
+        b",\"operation\":null,\"start\":null,\"end\":null,\"not_in_desired_state\":[],\"count\":0}\n",
+    )
+}
+
+#[tactic(auto, unfolding(crate::specs::Lines::said_of))]
+fn push_run(out: &mut Vec<u8>, alloc: Global, message: &ReportMessage) -> Result<(), AllocError>
+    ensures { OnOk result (out.new.items ≡ out.old.items ++ said_of message.now) }
+{
+    push_times(out, alloc, message)?;
+    push_unmet_of(out, alloc, message)?;
+    push_count(out, alloc, message)?;
+    Ok(())
+}
+
+#[tactic(auto, unfolding(crate::specs::Lines::times_of))]
+fn push_times(out: &mut Vec<u8>, alloc: Global, message: &ReportMessage) -> Result<(), AllocError>
+    ensures { OnOk result (out.new.items ≡ out.old.items ++ times_of message.now) }
+{
+    push_key(out, "operation")?;
+    push_text_or_null(out, alloc, &message.operation)?;
+    push_key(out, "start")?;
+    push_text_or_null(out, alloc, &message.start)?;
+    push_key(out, "end")?;
+    push_text_or_null(out, alloc, &message.end)?;
+    Ok(())
+}
+
+#[tactic(auto, unfolding(crate::specs::Lines::unmet_of))]
+fn push_unmet_of(
+    out: &mut Vec<u8>,
+    alloc: Global,
+    message: &ReportMessage,
+) -> Result<(), AllocError>
+    ensures { OnOk result (out.new.items ≡ out.old.items ++ unmet_of message.now) }
+{
+    push_key(out, "not_in_desired_state")?;
+    push_unmet(out, alloc, message.errors.as_slice())?;
+    Ok(())
+}
+
+#[tactic(auto, unfolding(crate::specs::Lines::count_part))]
+fn push_count(out: &mut Vec<u8>, alloc: Global, message: &ReportMessage) -> Result<(), AllocError>
+    ensures { OnOk result (out.new.items ≡ out.old.items ++ count_part message.now) }
+{
+    let count = count_of(
+        alloc,
+        message.errors.as_slice(),
+        message.status_data.as_slice(),
+    )?;
+    let mut digits = Buffer::new();
+    push_key(out, "count")?;
+    out.extend_from_slice(digits.format(count).as_bytes())?;
+    out.extend_from_slice(b"}\n")
+}
