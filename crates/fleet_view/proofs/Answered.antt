@@ -19,9 +19,9 @@ use Rattle.pull_server.specs.Own.{is_shared}
 use Rattle.pull_server.specs.Replies.{message_reply}
 use Rattle.pull_server.specs.Table.{is_known, is_version}
 use Rattle.pull_server.proofs.Served.{unserved, unserved_err}
-use Rattle.fleet_view.specs.declared.class.Class.{Class}
+use Rattle.agent_class.specs.declared.class.Class.{Class}
 use Rattle.fleet_view.specs.declared.member.Member.{Member}
-use Rattle.fleet_view.specs.Classes.{class_of_row}
+use Rattle.agent_class.specs.Classes.{class_of_row}
 use Rattle.fleet_view.specs.Counting.{counts_of, fleet_of, summary_text}
 use Rattle.fleet_view.specs.FleetReplies.{fleet_reply, kept_body, told, told_of}
 use Rattle.fleet_view.specs.Members.{classes_in, member_of, members_of}

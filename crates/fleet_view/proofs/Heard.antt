@@ -13,9 +13,9 @@ use Rattle.pull_store.specs.declared.row.Row.{Row}
 use Rattle.pull_store.specs.Rows.{after, row_of}
 use Rattle.pull_server.specs.Asked.{Asks, change_to}
 use Rattle.pull_server.specs.Messages.{registration_in, report_in}
-use Rattle.fleet_view.specs.declared.class.Class.{Class}
+use Rattle.agent_class.specs.declared.class.Class.{Class}
 use Rattle.fleet_view.specs.declared.news.News.TheVariants.{Nothing, Joins, Sends}
-use Rattle.fleet_view.specs.Classes.{class_of_body}
+use Rattle.agent_class.specs.Classes.{class_of_body}
 use Rattle.fleet_view.specs.Members.{members_of}
 use Rattle.fleet_view.specs.News.{IsNews, IsOfAgent, IsReportOf, joins_of}
 use Rattle.fleet_view.proofs.Reported.{kept_classes}

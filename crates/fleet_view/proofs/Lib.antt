@@ -1,6 +1,5 @@
 mod Answered
 mod Beside
-mod Classed
 mod Counted
 mod Heard
 mod Placed

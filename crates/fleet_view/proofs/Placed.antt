@@ -1,6 +1,6 @@
 -- Where the class of an agent is put.
 use Rattle.std.proofs.Common.{◌≡◌, ◌==◌, ℕ, suc, if◌then◌else◌, ◌<◌, ◌≤◌, Bool, true, false, List, [], ◌∷◌, ◌++◌, length, slice_set, ap, refl, arith}
-use Rattle.fleet_view.specs.declared.class.Class.{Class}
+use Rattle.agent_class.specs.declared.class.Class.{Class}
 use Rattle.fleet_view.specs.declared.member.Member.{Member}
 use Rattle.fleet_view.specs.Members.{place_of, with_class}
 

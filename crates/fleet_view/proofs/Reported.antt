@@ -9,10 +9,10 @@ use Rattle.pull_store.specs.declared.row.StoredReport.{StoredReport}
 use Rattle.pull_store.specs.Rows.{after_registration, after_report, has_job, newest, replaced, row_of, with_report}
 use Rattle.pull_store.proofs.Building.{tells}
 use Rattle.pull_store.proofs.Placing.{newest_push}
-use Rattle.fleet_view.specs.declared.class.Class.{Class}
-use Rattle.fleet_view.specs.declared.class.Class.TheVariants.{Silent}
+use Rattle.agent_class.specs.declared.class.Class.{Class}
+use Rattle.agent_class.specs.declared.class.Class.TheVariants.{Silent}
 use Rattle.fleet_view.specs.declared.member.Member.{Member}
-use Rattle.fleet_view.specs.Classes.{class_of_report, class_of_row, last_report}
+use Rattle.agent_class.specs.Classes.{class_of_report, class_of_row, last_report}
 use Rattle.fleet_view.specs.Members.{member_of, members_of, with_class}
 
 -- ---- the last report

@@ -14,12 +14,12 @@ use Rattle.pull_store.specs.Store.{StoreTerm}
 use Rattle.pull_store.proofs.Building.{tells}
 use Rattle.pull_server.specs.Answers.{LeavesRows, Makes}
 use Rattle.pull_server.specs.Asked.{Asks}
-use Rattle.fleet_view.specs.declared.class.Class.{Class}
-use Rattle.fleet_view.specs.declared.class.Class.TheVariants.{Silent}
+use Rattle.agent_class.specs.declared.class.Class.{Class}
+use Rattle.agent_class.specs.declared.class.Class.TheVariants.{Silent}
 use Rattle.fleet_view.specs.declared.member.Member.{Member}
 use Rattle.fleet_view.specs.declared.news.News.{News}
 use Rattle.fleet_view.specs.declared.news.News.TheVariants.{Nothing, Joins, Sends}
-use Rattle.fleet_view.specs.Classes.{class_of_body, class_of_report, class_of_row, last_report}
+use Rattle.agent_class.specs.Classes.{class_of_body, class_of_report, class_of_row, last_report}
 use Rattle.fleet_view.specs.Members.{members_of, with_class}
 use Rattle.fleet_view.specs.News.{IsNews, has_body, is_last_of, settled}
 use Rattle.fleet_view.proofs.Reported.{joined, joined_row, last_with, not_sent, same_class, sent_class, sent_row}

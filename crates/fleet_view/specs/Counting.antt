@@ -2,10 +2,10 @@
 use Rattle.std.specs.Prelude.{ℕ, ◌+◌, List, [], ◌∷◌, ◌++◌, map, codes}
 use Rattle.std.specs.Fmt.{decimal}
 use Rattle.pull_store.specs.declared.row.Row.{Row}
-use Rattle.fleet_view.specs.declared.class.Class.{Class}
-use Rattle.fleet_view.specs.declared.class.Class.TheVariants.{Silent, Compliant, Failed, Other}
+use Rattle.agent_class.specs.declared.class.Class.{Class}
+use Rattle.agent_class.specs.declared.class.Class.TheVariants.{Silent, Compliant, Failed, Other}
 use Rattle.fleet_view.specs.declared.counts.Counts.{Counts}
-use Rattle.fleet_view.specs.Classes.{class_of_row}
+use Rattle.agent_class.specs.Classes.{class_of_row}
 
 abbrev pub none_counted : Counts
 none_counted = record { compliant = 0; failed = 0; other = 0; silent = 0 }

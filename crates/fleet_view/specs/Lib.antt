@@ -1,5 +1,4 @@
 -- what the layer above cites
-pub mod Classes
 pub mod Counting
 pub mod FleetReplies
 pub mod Members

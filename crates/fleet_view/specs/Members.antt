@@ -1,11 +1,11 @@
 -- What a fleet remembers of each agent; for private clauses.
 use Rattle.std.specs.Prelude.{ℕ, suc, ◌==◌, if◌then◌else◌, List, [], ◌∷◌, map}
 use Rattle.pull_store.specs.declared.row.Row.{Row}
-use Rattle.fleet_view.specs.declared.class.Class.{Class}
-use Rattle.fleet_view.specs.declared.class.Class.TheVariants.{Silent, Compliant, Failed, Other}
+use Rattle.agent_class.specs.declared.class.Class.{Class}
+use Rattle.agent_class.specs.declared.class.Class.TheVariants.{Silent, Compliant, Failed, Other}
 use Rattle.fleet_view.specs.declared.counts.Counts.{Counts}
 use Rattle.fleet_view.specs.declared.member.Member.{Member}
-use Rattle.fleet_view.specs.Classes.{class_of_row}
+use Rattle.agent_class.specs.Classes.{class_of_row}
 
 abbrev pub member_of : Row → Member
 member_of row = record { agent = row.agent; class = class_of_row row }

@@ -8,12 +8,12 @@ use Rattle.pull_store.specs.declared.row.Row.{Row}
 use Rattle.pull_store.specs.declared.row.StoredReport.{StoredReport}
 use Rattle.pull_store.specs.Rows.{after, row_of}
 use Rattle.pull_server.specs.Asked.{Asks, on}
-use Rattle.fleet_view.specs.declared.class.Class.{Class}
-use Rattle.fleet_view.specs.declared.class.Class.TheVariants.{Silent}
+use Rattle.agent_class.specs.declared.class.Class.{Class}
+use Rattle.agent_class.specs.declared.class.Class.TheVariants.{Silent}
 use Rattle.fleet_view.specs.declared.member.Member.{Member}
 use Rattle.fleet_view.specs.declared.news.News.{News}
 use Rattle.fleet_view.specs.declared.news.News.TheVariants.{Nothing, Joins, Sends}
-use Rattle.fleet_view.specs.Classes.{class_of_body, last_report}
+use Rattle.agent_class.specs.Classes.{class_of_body, last_report}
 use Rattle.fleet_view.specs.Members.{members_of, with_class}
 
 -- it registers the agent

@@ -3,7 +3,7 @@ ghost use Rattle.std.specs.Prelude.{◌≡◌, ◌+◌, ◌<◌, ◌≤◌, ◌^
 ghost use Rattle.fleet_view.specs.Counting.{none_counted, one_more};
 ghost use Rattle.fleet_view.specs.Members.{number_in};
 
-use crate::class::Class;
+use agent_class::Class;
 
 /// How many agents are of each class.
 #[derive(Clone, Copy, Debug, PartialEq, Eq)]

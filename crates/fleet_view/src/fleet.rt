@@ -4,9 +4,9 @@ ghost use Rattle.std.specs.Fmt.{decimal};
 ghost use Rattle.fleet_view.specs.Counting.{counts_of, summary_text};
 ghost use Rattle.fleet_view.specs.Members.{classes_in, members_of, place_of, with_class};
 
-use crate::class::{Class, class_of_row};
 use crate::counts::Counts;
 use crate::member::Member;
+use agent_class::{Class, class_of_row};
 use itoa::Buffer;
 use mof_values::Memory;
 use pull_store::Row;

@@ -7,14 +7,13 @@
 //! `pull_serving` says of a service holds of this one.
 //!
 //! Where a thing is:
-//! - the class of an agent: `specs/Classes.antt`, `src/class.rt`; how many there are of each, and the text of the
-//!   summary: `specs/Counting.antt`, `src/counts.rt`, `src/fleet.rt`
+//! - how many agents there are of each class of `agent_class`, and the text of the summary: `specs/Counting.antt`,
+//!   `src/counts.rt`, `src/fleet.rt`
 //! - what the two targets are answered: `specs/FleetReplies.antt`, `src/replies.rt`
 //! - the store with its fleet, as a service: `src/fleet_store.rt`; what a request may change of the classes:
 //!   `specs/News.antt`, `src/news.rt`; a whole run `src/serving.rt`; what a run means `src/laws.rt`
 #![tactic(auto)]
 
-mod class;
 mod counts;
 mod fleet;
 mod fleet_store;
@@ -24,7 +23,7 @@ mod news;
 mod replies;
 mod serving;
 
-pub use class::{Class, class_of};
+pub use agent_class::{Class, class_of};
 pub use counts::Counts;
 pub use fleet::Fleet;
 pub use fleet_store::{FleetStore, answer_fleet, open_fleet};

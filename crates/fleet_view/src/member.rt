@@ -1,5 +1,5 @@
 //! What a fleet knows of an agent.
-use crate::class::Class;
+use agent_class::Class;
 
 /// An agent and its class.
 #[derive(Clone, Copy, Debug, PartialEq, Eq)]

@@ -2,8 +2,8 @@
 ghost use Rattle.std.specs.Prelude.{◌≡◌, ◌<◌, IfOk, length, bytes_eq};
 ghost use Rattle.fleet_view.specs.News.{IsNews, is_last_of, joins_of, settled};
 
-use crate::class::{Class, class_of};
 use crate::fleet::Fleet;
+use agent_class::{Class, class_of};
 use http_frames::Request;
 use mof_values::Memory;
 use pull_messages::{Target, TargetError, target};

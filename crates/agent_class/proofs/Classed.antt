@@ -3,8 +3,8 @@ use Rattle.std.proofs.Common.{◌≡◌, ℕ, List, Result, Ok, Err, ap}
 use Rattle.pull_messages.specs.declared.error.MessageError.{MessageError}
 use Rattle.pull_messages.specs.declared.report.ReportMessage.{ReportMessage}
 use Rattle.pull_server.specs.Messages.{report_in}
-use Rattle.fleet_view.specs.declared.class.Class.TheVariants.{Other}
-use Rattle.fleet_view.specs.Classes.{class_by, class_of_body, class_said}
+use Rattle.agent_class.specs.declared.class.Class.TheVariants.{Other}
+use Rattle.agent_class.specs.Classes.{class_by, class_of_body, class_said}
 
 pub said_class : (body : List ℕ) (report : ReportMessage) → report_in body ≡ Ok report → class_of_body body ≡ class_by report.status
 unfolding class_of_body

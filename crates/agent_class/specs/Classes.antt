@@ -6,8 +6,8 @@ use Rattle.pull_messages.specs.declared.report.ReportMessage.{ReportMessage}
 use Rattle.pull_store.specs.declared.row.Row.{Row}
 use Rattle.pull_store.specs.declared.row.StoredReport.{StoredReport}
 use Rattle.pull_server.specs.Messages.{report_in}
-use Rattle.fleet_view.specs.declared.class.Class.{Class}
-use Rattle.fleet_view.specs.declared.class.Class.TheVariants.{Silent, Compliant, Failed, Other}
+use Rattle.agent_class.specs.declared.class.Class.{Class}
+use Rattle.agent_class.specs.declared.class.Class.TheVariants.{Silent, Compliant, Failed, Other}
 
 -- by the Status of a report, whose names compare by fold
 abbrev pub class_by : List ℕ → Class

@@ -2,8 +2,8 @@ use Rattle.std.proofs.Common.{◌≡◌, refl, sym, ◌∙◌}
 use Rattle.pull_messages.specs.declared.error.MessageError.TheVariants as errors
 use Rattle.pull_messages.specs.Tables.{report_of}
 use Rattle.pull_server.proofs.Said.{read_as, refused_as}
-use Rattle.fleet_view.proofs.Classed.{no_report, said_class}
-use Rattle.fleet_view.proofs.class.class_of.Goals as goal
+use Rattle.agent_class.proofs.Classed.{no_report, said_class}
+use Rattle.agent_class.proofs.class.class_of.Goals as goal
 
 pub returns-in-Ok : goal.returns-in-Ok
 returns-in-Ok c =

@@ -1,6 +1,6 @@
 //! The class of an agent.
 ghost use Rattle.std.specs.Prelude.{◌≡◌, IfOk};
-ghost use Rattle.fleet_view.specs.Classes.{class_by, class_of_body, class_of_row as row_class};
+ghost use Rattle.agent_class.specs.Classes.{class_by, class_of_body, class_of_row as row_class};
 
 use mof_values::{Memory, Text, is_named};
 use pull_messages::{MessageError, read_report};

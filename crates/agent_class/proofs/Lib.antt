@@ -1,0 +1,2 @@
+mod Classed
+mod Told

@@ -1,0 +1,15 @@
+//! What the last report of an agent says: its message, where it is one, and the class of the agent.
+//!
+//! A layer above may rely on this: the message is what `pull_messages` reads of the bytes that were sent, and the class
+//! goes by its Status alone.
+//!
+//! Where a thing is:
+//! - the class of an agent: `specs/Classes.antt`, `src/class.rt`; the message of its last report:
+//!   `specs/LastMessage.antt`, `src/message.rt`
+#![tactic(auto)]
+
+mod class;
+mod message;
+
+pub use class::{Class, class_of, class_of_row};
+pub use message::last_message;

@@ -1,0 +1,30 @@
+//! The message of the last report of an agent.
+ghost use Rattle.std.specs.Prelude.{◌≡◌, IfOk};
+ghost use Rattle.agent_class.specs.LastMessage.{last_message as message_of_row, message_of_body};
+
+use mof_values::Memory;
+use pull_messages::{MessageError, ReportMessage, read_report};
+use pull_store::Row;
+use std::alloc::Global;
+
+/// The message of the last report of the agent of a row; none where it sent none, or what was sent is no report.
+pub fn last_message(alloc: Global, row: &Row) -> Result<Option<ReportMessage>, Memory>
+    ensures { IfOk result (λ message. message ≡ message_of_row row.now) }
+{
+    match row.reports.as_slice().last() {
+        Some(report) => message_of(alloc, report.body.as_slice()),
+        None => Ok(None),
+    }
+}
+
+fn message_of(alloc: Global, body: &[u8]) -> Result<Option<ReportMessage>, Memory>
+    ensures { IfOk result (λ message. message ≡ message_of_body body.now) }
+{
+    match read_report(alloc, body) {
+        Ok(report) => Ok(Some(report)),
+        Err(MessageError::Memory) => Err(Memory),
+        Err(MessageError::Json) => Ok(None),
+        Err(MessageError::Missing(_)) => Ok(None),
+        Err(MessageError::Wrong(_)) => Ok(None),
+    }
+}

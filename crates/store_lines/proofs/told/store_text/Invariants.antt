@@ -1,0 +1,8 @@
+use Rattle.std.proofs.Common.{◌≡◌, take}
+use Rattle.std.specs.List.{list_any}
+use Rattle.store_lines.specs.Told.{is_alarm, lines_of}
+use Rattle.store_lines.proofs.told.store_text.Given as goal
+
+abbrev pub invariant-loop-row : goal.invariant-loop-row
+invariant-loop-row l =
+    (l.text.items ≡ lines_of l.classes l.since l.store (take l.row-index l.rows)) × (l.alarm ≡ list_any (is_alarm l.since) (take l.row-index l.rows))
