@@ -9,7 +9,7 @@ import subprocess
 import tempfile
 import time
 
-WORDS = ["--headless=new", "--no-sandbox", "--disable-gpu", "--disable-dev-shm-usage", "--no-first-run", "--disable-background-networking", "--disable-component-update",
+WORDS = ["--headless=new", "--no-sandbox", "--disable-gpu", "--disable-ipc-flooding-protection", "--disable-dev-shm-usage", "--no-first-run", "--disable-background-networking", "--disable-component-update",
          "--disable-sync", "--disable-extensions", "--hide-scrollbars", "--host-resolver-rules=MAP * ~NOTFOUND, EXCLUDE 127.0.0.1", "--remote-debugging-pipe", "about:blank"]
 KEYS = {"Tab": 9, "Enter": 13, "Escape": 27, " ": 32}
 

@@ -272,6 +272,8 @@ class Site:
                 if site.broken and self.path.startswith("/data/"):
                     self.send_error(502)
                 else:
+                    # Moments of files have seconds, and a check writes one more than once in a second.
+                    del self.headers["If-Modified-Since"]
                     super().do_GET()
 
         self.server = http.server.ThreadingHTTPServer(("127.0.0.1", 0), functools.partial(Handler, directory=folder))
