@@ -1,4 +1,4 @@
-//! The tests of `dsc_node`: starts, one after another, over a disk, a host and a clock in memory.
+//! The tests of `dsc_node`: starts, one after another, over a disk, a host, a link and a clock in memory.
 #![tactic(auto)]
 
 #[cfg(test)]
@@ -7,4 +7,4 @@ mod starting;
 mod tests;
 
 #[cfg(test)]
-pub use starting::{Left, Outcome, Trouble, started, started_by};
+pub use starting::{Left, Outcome, Trouble, answered, declared, started, started_by};

@@ -1,10 +1,12 @@
 //! One start over what earlier ones left.
 ghost use Rattle.std.specs.Prelude.{IfOk};
+ghost use Rattle.meta_config.specs.Parts.{IsMeta};
 ghost use Rattle.dsc_node.specs.Commands.{IsTaken};
 
 use dsc_node::{Command, StartEnd, Status, start};
 use memory_outside::{DiskStop, HostContents, MemoryClock, MemoryDisk, MemoryHost, MemoryLink};
-use mof_values::{Bytes, Memory};
+use meta_config::{Meta, parts_order, read_meta};
+use mof_values::{Bytes, Memory, Text};
 use resource_kinds::Kinds;
 use std::alloc::Global;
 
@@ -22,6 +24,12 @@ pub struct Trouble<'a> {
     pub disk: &'a [u64],
 
     pub stop: Option<DiskStop>,
+
+    /// The calls of the host that fail, counted from 0.
+    pub host: &'a [u64],
+
+    /// The calls of the link that fail, counted from 0.
+    pub link: &'a [u64],
 
     /// The calls of the clock that fail, counted from 0.
     pub clock: &'a [u64],
@@ -44,18 +52,23 @@ impl Trouble<'static> {
         Trouble {
             disk: &[],
             stop: None,
+            host: &[],
+            link: &[],
             clock: &[],
             is_set_back: false,
         }
     }
 }
 
-/// The command that the word is, with this document.
-pub fn command_of(alloc: Global, word: &str, document: &str) -> Result<Command, Memory>
+/// The command that the word is, with this text.
+fn command_of(alloc: Global, word: &str, document: &str) -> Result<Command, Memory>
     ensures { IfOk result IsTaken }
 {
     Ok(match word {
         "init" => Command::Init(16),
+        "meta" => return declared(alloc, document),
+        "register" => Command::Register(Text::from_utf8(alloc, document)?),
+        "pull" => Command::Pull,
         "push" => Command::Push(None, Bytes::of(document.as_bytes().to_vec(alloc)?)),
         "boot" => Command::Boot,
         "restore" => Command::Restore,
@@ -63,11 +76,32 @@ pub fn command_of(alloc: Global, word: &str, document: &str) -> Result<Command, 
     })
 }
 
+/// The command that gives the node this meta-configuration.
+pub fn declared(alloc: Global, text: &str) -> Result<Command, Memory>
+    ensures { IfOk result IsTaken }
+{
+    let meta = meta_of(alloc, text)?;
+    match parts_order(alloc, &meta) {
+        Ok(_) => Ok(Command::Meta(meta)),
+        Err(_) => Err(Memory),
+    }
+}
+
+fn meta_of(alloc: Global, text: &str) -> Result<Meta, Memory>
+    ensures { IfOk result IsMeta }
+{
+    match read_meta(alloc, text.as_bytes()) {
+        Ok(meta) => Ok(meta),
+        Err(_) => Err(Memory),
+    }
+}
+
 /// What a start runs over.
 #[derive(Drop)]
 struct Machine {
     disk: MemoryDisk,
     host: MemoryHost,
+    link: MemoryLink,
     clock: MemoryClock,
 }
 
@@ -79,7 +113,7 @@ struct Ran {
     host: HostContents,
 }
 
-/// One start by the command that the word is, with this document.
+/// One start by the command that the word is, with this text, over a link without an answer.
 pub fn started(
     alloc: Global,
     left: Left,
@@ -87,11 +121,23 @@ pub fn started(
     document: &str,
     trouble: &Trouble<'_>,
 ) -> Result<(Outcome, Left), Memory> {
-    let command = command_of(alloc, word, document)?;
-    started_by(alloc, left, command, trouble)
+    answered(alloc, left, word, document, &[], trouble)
 }
 
-/// One start by the command.
+/// The same over a link with these answers.
+pub fn answered(
+    alloc: Global,
+    left: Left,
+    word: &str,
+    document: &str,
+    answers: &[&str],
+    trouble: &Trouble<'_>,
+) -> Result<(Outcome, Left), Memory> {
+    let command = command_of(alloc, word, document)?;
+    started_over(alloc, left, command, answers, trouble)
+}
+
+/// One start by the command, over a link without an answer.
 pub fn started_by(
     alloc: Global,
     left: Left,
@@ -100,13 +146,36 @@ pub fn started_by(
 ) -> Result<(Outcome, Left), Memory>
     requires { IsTaken command }
 {
+    started_over(alloc, left, command, &[], trouble)
+}
+
+fn started_over(
+    alloc: Global,
+    left: Left,
+    command: Command,
+    answers: &[&str],
+    trouble: &Trouble<'_>,
+) -> Result<(Outcome, Left), Memory>
+    requires { IsTaken command }
+{
+    let link = link_of(alloc, answers, trouble)?;
     let clock = clock_of(alloc, trouble)?;
+    let failing = trouble.host.to_vec(alloc)?;
     let machine = Machine {
         disk: disk_of(alloc, left.store, trouble)?,
-        host: MemoryHost::of(left.host, Vec::new(alloc), None),
+        host: MemoryHost::of(left.host, failing, None),
+        link,
         clock,
     };
     outcome_of(ended(alloc, command, machine))
+}
+
+fn link_of(alloc: Global, texts: &[&str], trouble: &Trouble<'_>) -> Result<MemoryLink, Memory> {
+    let mut answers = Vec::new(alloc);
+    for text in texts {
+        answers.push(Bytes::of(text.as_bytes().to_vec(alloc)?))?;
+    }
+    Ok(MemoryLink::new(answers, trouble.link.to_vec(alloc)?))
 }
 
 fn disk_of(alloc: Global, store: Vec<u8>, trouble: &Trouble<'_>) -> Result<MemoryDisk, Memory> {
@@ -124,8 +193,8 @@ fn ended(alloc: Global, command: Command, machine: Machine) -> Ran
 {
     let mut disk = machine.disk;
     let mut clock = machine.clock;
+    let mut link = machine.link;
     let mut kinds = Kinds::new(alloc, machine.host);
-    let mut link = MemoryLink::new(Vec::new(alloc), Vec::new(alloc));
     let end = start(alloc, command, &mut disk, &mut kinds, &mut link, &mut clock);
     Ran {
         end,

@@ -1,4 +1,5 @@
 mod clock;
+mod failures;
 mod partials;
 mod reboots;
 mod stops;

@@ -17,6 +17,8 @@ fn number_of(alloc: Global, clock: &[u64], is_set_back: bool) -> Result<u8, Memo
     let trouble = Trouble {
         disk: &[],
         stop: None,
+        host: &[],
+        link: &[],
         clock,
         is_set_back,
     };

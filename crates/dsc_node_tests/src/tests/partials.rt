@@ -1,12 +1,10 @@
 //! Pushes to a node of several partial configurations, one after another.
 ghost use Rattle.std.specs.Prelude.{IfOk};
-ghost use Rattle.meta_config.specs.Parts.{IsMeta};
 ghost use Rattle.dsc_node.specs.Commands.{IsTaken};
 
-use crate::{Left, Trouble, started, started_by};
+use crate::{Left, Trouble, declared, started, started_by};
 use dsc_node::{Command, Status};
 use memory_outside::HostContents;
-use meta_config::{Meta, parts_order, read_meta};
 use mof_values::{Bytes, Memory, Text};
 use std::alloc::Global;
 use std::test::Fail;
@@ -61,25 +59,6 @@ const PUSHES: &[Row] = &[
     ),
 ];
 
-fn meta(alloc: Global) -> Result<Meta, Memory>
-    ensures { IfOk result IsMeta }
-{
-    match read_meta(alloc, DECLARED.as_bytes()) {
-        Ok(meta) => Ok(meta),
-        Err(_) => Err(Memory),
-    }
-}
-
-fn declared(alloc: Global) -> Result<Command, Memory>
-    ensures { IfOk result IsTaken }
-{
-    let meta = meta(alloc)?;
-    match parts_order(alloc, &meta) {
-        Ok(_) => Ok(Command::Meta(meta)),
-        Err(_) => Err(Memory),
-    }
-}
-
 fn pushed(alloc: Global, name: Option<&str>, document: &str) -> Result<Command, Memory>
     ensures { IfOk result IsTaken }
 {
@@ -98,7 +77,7 @@ fn configured(alloc: Global) -> Result<Left, Memory> {
         host: HostContents::empty(alloc),
     };
     let (_, left) = started(alloc, left, "init", "", &Trouble::none())?;
-    Ok(started_by(alloc, left, declared(alloc)?, &Trouble::none())?.1)
+    Ok(started_by(alloc, left, declared(alloc, DECLARED)?, &Trouble::none())?.1)
 }
 
 // The first push that comes to something else.

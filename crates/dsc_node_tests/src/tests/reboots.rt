@@ -67,6 +67,8 @@ fn boots_after_stop(alloc: Global, call: u64) -> Result<Option<u32>, Memory> {
     let trouble = Trouble {
         disk: &[],
         stop: Some(DiskStop { call, part }),
+        host: &[],
+        link: &[],
         clock: &[],
         is_set_back: false,
     };

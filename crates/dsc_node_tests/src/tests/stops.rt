@@ -49,6 +49,8 @@ fn troubled(disk: &[u64], stop: Option<DiskStop>) -> Trouble<'_> {
     Trouble {
         disk,
         stop,
+        host: &[],
+        link: &[],
         clock: &[],
         is_set_back: false,
     }
