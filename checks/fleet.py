@@ -1,12 +1,12 @@
 """The program that reads the stores of servers, for checks/fleet, which says what is run. The arguments are the program and the server."""
 import datetime, fcntl, json, os, random, shutil, socket, subprocess, sys, tempfile, threading, time
 
-from protocol import agent, free_port, register, report_body, request, node
+from fleet_reader import BANK, forgotten, gauges, rows_of, table, uuid
+from protocol import agent, free_port, query, register, report_body, request, node
 
 program, server = sys.argv[1:]
 passed = failed = 0
 scratch = tempfile.mkdtemp()
-BANK = 335544320  # the bytes of each half of a store
 HEAD = b'DSCSTOR'
 
 def check(name, got, wanted):
@@ -120,6 +120,131 @@ def statuses():
         check('words %r' % (words,), run(*words)[:2], (2, b''))
     return fine, said + last(fine, 1)
 
+# ---- the other forms, compared with what the reader computes of the same stores
+
+def seconds(text):
+    try:
+        return int(datetime.datetime.fromisoformat(text.replace('Z', '+00:00')).timestamp()) if text else None
+    except ValueError:
+        return None
+
+def since(hours):
+    return int(time.time()) - hours * 3600
+
+def many_kinds(name):
+    end, old = moment(1), moment(30)
+    counts = json.dumps({'NumberNotInDesiredState': 70})
+    return store(name, registered(1, 'web1', ('Web', 'Base')), registered(2, ''), registered(3, 'a"\\\n\u00fc\U0001f600', ()),
+        registered(4, '\x1b[31mred\x07\x9b2J'), registered(5, 'a\u202eb\u200bc\u2066d\ufeffe\u061cf'), registered(6, 'x' * 60), registered(7, 'late'),
+        registered(0xfedcba9876543210fedcba9876543210, ''),
+        reported(1, 11, body(11, Status='Failure', EndTime=end)), reported(1, 12, body(12, Status='success', EndTime=end, Errors=[])),
+        reported(3, 31, body(31, Status='FAILURE', EndTime='', Errors=['[File]a: b: NotInDesiredState', '[Log]\u00e9\x1b]0;: Skipped', 'none', ': '],
+                             StatusData=[counts])),
+        reported(4, 41, b'no json'), reported(5, 51, body(51, Status='InProgress', EndTime='\u2028soon\n')),
+        reported(6, 61, body(61, Status='Failure', EndTime=end, Errors=['[File]' + 'y' * 300 + ': InTheWay'])),
+        reported(7, 71, body(71, Status='Failure', EndTime=end)), reported(7, 72, body(72, Status='Success', EndTime=old, Errors=[])))
+
+def forms(fine):
+    path, other = many_kinds('kinds'), store('odd "name"\\ of\na store\x1b[1m', registered(1), reported(1, 1, body(1, Status='Success', EndTime=moment(3))))
+    missing, empty = os.path.join(scratch, 'missing'), store('nobody')
+    check('a table', run('--table', path), (1, table(path), b''))
+    check('a table of all that is well', run('--table', fine), (0, table(fine), b''))
+    check('a table of nobody', run(empty, '--table'), (0, table(empty), b''))
+    check('a table, Failed', run('--table', '--class', 'Failed', path), (1, table(path, ('Failed',)), b''))
+    check('a table of two classes', run('--class', 'Silent', path, '--class=Compliant', '--table'), (1, table(path, ('Silent', 'Compliant')), b''))
+    check('a table, older', run('--older', '2', '--table', path), (1, table(path, (), since(2), seconds), b''))
+    check('tables', run('--table', fine, path, other), (1, table(fine) + table(path) + table(other), b''))
+    status, out, err = run('--table', path, missing, fine)
+    check('tables beside a store that is missing', (status, out), (4, table(path) + table(fine)))
+    drawn = out.decode().replace('\n', '')
+    check('no control character', [it for it in drawn if ord(it) < 32 or 127 <= ord(it) < 160], [])
+    check('gauges', run('--prometheus', path), (1, gauges([(path, True)]), b''))
+    check('gauges of all that is well', run(fine, '--prometheus'), (0, gauges([(fine, True)]), b''))
+    check('gauges, older', run('--prometheus', '--older', '2', path, fine), (1, gauges([(path, True), (fine, True)], (), since(2), seconds), b''))
+    check('gauges, older than 4 hours', run('--prometheus', '--older', '4', fine), (0, gauges([(fine, True)], (), since(4), seconds), b''))
+    check('gauges of two classes', run('--prometheus', path, '--class', 'Failed', other, '--class', 'Other'),
+          (1, gauges([(path, True), (other, True)], ('Failed', 'Other')), b''))
+    check('gauges of odd names', run('--prometheus', other, empty), (0, gauges([(other, True), (empty, True)]), b''))
+    status, out, err = run('--prometheus', path, missing, fine)
+    check('gauges beside a store that is missing', (status, out), (4, gauges([(path, True), (missing, False), (fine, True)])))
+    full = store('full', *(registered(number) for number in range(1, 513)))
+    check('a store without a free place', run('--prometheus', full), (1, gauges([(full, True)]), b''))
+    with open('/dev/full', 'wb') as out:
+        for form in ('--table', '--prometheus'):
+            check('an output that is full, ' + form, subprocess.run([program, form, fine], stdin=subprocess.DEVNULL, stdout=out, stderr=subprocess.PIPE).returncode, 4)
+    for words in (('--table', '--prometheus', fine), ('--table', '--table', fine), ('--prometheus', '--prometheus', fine), ('--table=x', fine), ('--table',),
+                  ('--prometheus',), ('--table', '--class', 'Good', fine), ('--prometheus', '--older', 'x', fine)):
+        check('words %r' % (words,), run(*words)[:2], (2, b''))
+
+# ---- agents that are forgotten
+
+def contents(path):
+    with open(path, 'rb') as file:
+        return file.read()
+
+def refused(name, words, status, err, path):
+    before = contents(path)
+    check(name, run(*words, path), (status, b'', err and ('nimchout-fleet: %s: %s\n' % (path, err)).encode()))
+    check(name + ': the store stays', contents(path) == before, True)
+
+# A store that forgets as it is asked has the rows without these agents, which the program printed.
+def leave(name, words, agents, path=None):
+    path = path or many_kinds('leaving')
+    os.chmod(path, 0o640)
+    rows, before = rows_of(path), os.stat(path)
+    check(name, run(*words, path), (0, forgotten(path, rows, agents), b''))
+    check(name + ': the rows', list(rows_of(path).items()), [(number, row) for number, row in rows.items() if number not in agents])
+    after = os.stat(path)
+    check(name + ': mode and owner', (before.st_mode, before.st_uid, before.st_gid, before.st_ino), (after.st_mode, after.st_uid, after.st_gid, after.st_ino))
+    return path
+
+def forgetting(fine):
+    big = 0xfedcba9876543210fedcba9876543210
+    leave('one is forgotten', ('--forget', agent(3)), {3})
+    leave('an id in upper case', ('--forget', uuid(big).upper()), {big})
+    leave('three are forgotten', ('--forget', agent(7), '--forget=' + agent(1), '--forget', agent(2)), {1, 2, 7})
+    leave('one that is named twice', ('--forget', agent(4), '--forget', agent(4)), {4})
+    leave('those that never reported', ('--forget-never-reported',), {2, big})
+    leave('those that were silent for a day', ('--forget-silent', '1'), {7})
+    leave('all that ever ended', ('--forget-silent', '0'), {1, 6, 7})
+    leave('those that were silent or never reported, and one more', ('--forget-never-reported', '--forget-silent=1', '--forget', agent(5)), {2, 5, 7, big})
+    leave('all', [word for number in (1, 2, 3, 4, 5, 6, 7, big) for word in ('--forget', uuid(number))], {1, 2, 3, 4, 5, 6, 7, big})
+    second = store('second bank', registered(1), registered(2), reported(2, 1, body(1)), registered(3), second=True)
+    leave('of a second bank', ('--forget', agent(1)), {1}, second)
+    leave('and once more', ('--forget', agent(3)), {3}, second)
+    path = many_kinds('staying')
+    before = contents(path)
+    leave('nobody was silent for two days', ('--forget-silent', '2'), set(), path)
+    leave('nobody was silent for years', ('--forget-silent', '4294967295'), set(), path)
+    leave('nobody never reported', ('--forget-never-reported',), set(), fine)
+    check('where nobody is forgotten the store stays', contents(path) == before, True)
+    refused('an agent without a row', ('--forget', agent(99)), 3, 'no such agent: ' + agent(99), path)
+    refused('one that has a row, and one that has none', ('--forget', agent(1), '--forget', agent(0xabc)), 3, 'no such agent: ' + agent(0xabc), path)
+    with open(path, 'rb+') as held:
+        fcntl.flock(held, fcntl.LOCK_EX)
+        refused('a store that is locked', ('--forget', agent(1)), 6, 'its server runs', path)
+    text = os.path.join(scratch, 'no store')
+    with open(text, 'wb') as file:
+        file.write(b'no store at all')
+    refused('no store', ('--forget', agent(1)), 5, 'no store: byte 0 is wrong or missing', text)
+    missing, link = os.path.join(scratch, 'missing'), os.path.join(scratch, 'a link')
+    os.symlink(path, link)
+    refused('a link', ('--forget', agent(1)), 4, 'the disk failed', link)
+    check('a store that is missing', run('--forget', agent(1), missing), (4, b'', ('nimchout-fleet: %s: the disk failed\n' % missing).encode()))
+    check('a store that is missing is not made', os.path.exists(missing), False)
+    with open('/dev/full', 'wb') as full:
+        ended = subprocess.run([program, '--forget', agent(1), path], stdin=subprocess.DEVNULL, stdout=full, stderr=subprocess.PIPE)
+    check('an output that is full', (ended.returncode, 1 in rows_of(path)), (4, False))
+    for words in (('--forget', fine), ('--forget', 'x', fine), ('--forget', agent(1)[:-1], fine), ('--forget', agent(1).replace('-', ''), fine),
+                  ('--forget', '{%s}' % agent(1), fine), ('--forget', agent(1)), ('--forget', agent(1), fine, path), ('--forget', agent(1), '--table', fine),
+                  ('--forget', agent(1), '--prometheus', fine), ('--forget', agent(1), '--class', 'Failed', fine), ('--forget', agent(1), '--older', '1', fine),
+                  ('--forget-silent', fine), ('--forget-silent', 'x', fine), ('--forget-silent', '-1', fine), ('--forget-silent', '4294967296', fine),
+                  ('--forget-silent', '1', '--forget-silent', '2', fine), ('--forget-silent', '1', fine, path), ('--forget-silent', '1', '--table', fine),
+                  ('--forget-never-reported',), ('--forget-never-reported', fine, path), ('--forget-never-reported', '--class', 'Silent', fine),
+                  ('--forget-never-reported', '--forget-never-reported', fine), ('--forget-never-reported=yes', fine)):
+        before = contents(fine)
+        check('words %r' % (words,), run(*words)[:2] + (contents(fine) == before,), (2, b'', True))
+
 def no_stores(fine, said):
     text = os.path.join(scratch, 'text')
     open(text, 'wb').write(b'no store at all')
@@ -151,20 +276,27 @@ def ask(port, sent):
             answer += piece
         return answer
 
-def beside_a_server():
-    folder = tempfile.mkdtemp(dir=scratch)
-    shelf, path, port = os.path.join(folder, 'shelf'), os.path.join(folder, 'store'), free_port()
-    os.makedirs(os.path.join(shelf, 'configurations'))
-    open(os.path.join(shelf, 'keys'), 'wb').write(b'k0\n')
+# A server of the store of this folder, once it listens, and its port.
+def serve(folder, path):
+    shelf, port = os.path.join(folder, 'shelf'), free_port()
+    os.makedirs(os.path.join(shelf, 'configurations'), exist_ok=True)
+    with open(os.path.join(shelf, 'keys'), 'wb') as keys:
+        keys.write(b'k0\n')
     running = subprocess.Popen([server, '--store', path, '--shelf', shelf, '--listen', '127.0.0.1:%d' % port, '--connections', '1000000'],
                                stdin=subprocess.DEVNULL, stdout=subprocess.DEVNULL)
+    for _ in range(1200):
+        try:
+            socket.create_connection(('127.0.0.1', port), timeout=1).close()
+            break
+        except OSError:
+            time.sleep(0.1)
+    return running, port
+
+def beside_a_server():
+    folder = tempfile.mkdtemp(dir=scratch)
+    path = os.path.join(folder, 'store')
+    running, port = serve(folder, path)
     try:
-        for _ in range(1200):
-            try:
-                socket.create_connection(('127.0.0.1', port), timeout=1).close()
-                break
-            except OSError:
-                time.sleep(0.1)
         for number in range(AGENTS):
             if b' 204 ' not in ask(port, register(number + 1))[:20]:
                 return check('registered', 'refused', 'taken')
@@ -198,6 +330,80 @@ def beside_a_server():
     finally:
         running.kill()
         running.wait()
+
+# ---- a store forgets while its server is stopped: it is refused beside a server that runs, and the server opens it again, answers those that
+# stayed, refuses those that left, and takes new ones
+
+def code(port, sent):
+    return ask(port, sent)[9:12]
+
+def served_again():
+    folder = tempfile.mkdtemp(dir=scratch)
+    path = os.path.join(folder, 'store')
+    running, port = serve(folder, path)
+    try:
+        for number in range(1, 513):
+            if code(port, register(number)) != b'204':
+                return check('registered', number, 'taken')
+        check('a 513th agent has no place', code(port, register(513)), b'503')
+        for number in (1, 2, 3):
+            told = json.dumps({'JobId': agent(number), 'Status': 'Success', 'EndTime': moment(40 * number)}).encode()
+            check('a report of %d' % number, code(port, request('POST', node(number, '/SendReport'), told)), b'200')
+        before = contents(path)
+        for words in (('--forget', agent(1)), ('--forget-silent', '1'), ('--forget-never-reported',)):
+            check('beside its server %r' % (words,), run(*words, path), (6, b'', ('nimchout-fleet: %s: its server runs\n' % path).encode()))
+        check('beside its server the store stays', contents(path) == before, True)
+    finally:
+        running.kill()
+        running.wait()
+    rows = rows_of(path)
+    check('all but two leave', run('--forget-never-reported', '--forget', agent(2), path), (0, forgotten(path, rows, set(rows) - {1, 3}), b''))
+    running, port = serve(folder, path)
+    try:
+        check('one that stayed', code(port, query(1, ('Web', ''))), b'200')
+        for number, wanted in ((1, b'200'), (2, b'404'), (3, b'200'), (4, b'404')):
+            check('a report of %d then' % number, code(port, request('POST', node(number, '/SendReport'), report_body(7000 + number))), wanted)
+        for number in (513, 2):
+            check('%d is taken' % number, code(port, register(number)), b'204')
+        check('the rows then', [(number, len(row['reports'])) for number, row in rows_of(path).items()], [(1, 2), (3, 2), (513, 0), (2, 0)])
+    finally:
+        running.kill()
+        running.wait()
+
+# ---- killed at the system calls by which it writes the store anew: the rows are those before or those after, and it can be asked again. Each call
+# where the second bank is live; where the first one is, whose rewrite begins with zeros up to the second, the first calls and the last ones.
+
+def laid(path, bank, second):
+    with open(path, 'wb') as file:
+        file.write(HEAD + (b'2' if second else b'1'))
+        file.seek(8 + BANK if second else 8)
+        file.write(bank)
+
+def killed():
+    if not shutil.which('strace'):
+        return print('skipped: a program that is killed while it forgets: strace is not there')
+    path, words = many_kinds('killed'), ('--forget', agent(3), '--forget-silent', '1')
+    old, bank = rows_of(path), contents(path)[8:]
+    new = {number: row for number, row in old.items() if number not in (3, 7)}
+    trace, states = os.path.join(scratch, 'trace'), set()
+    for second in (True, False):
+        for call in ('pwrite64', 'ftruncate', 'fsync'):
+            def run_traced(*more):
+                laid(path, bank, second)
+                return subprocess.run(['strace', '-f', '-qq', '-o', trace, '-e', 'trace=' + call, *more, program, *words, path], stdin=subprocess.DEVNULL,
+                                      capture_output=True)
+            check('it ends %s' % call, run_traced().returncode, 0)
+            with open(trace, encoding='utf-8') as file:
+                count = len(file.readlines())
+            for at in sorted({*range(1, count + 1)} if count < 20 else {1, count // 2, *range(count - 2, count + 1)}):
+                run_traced('-e', 'inject=%s:signal=SIGKILL:when=%d' % (call, at))
+                rows = rows_of(path)
+                states.add('before' if rows == old else 'after' if rows == new else 'else at %s %d' % (call, at))
+                gone = {3, 7} & set(rows)
+                check('asked again after %s %d' % (call, at), run('--forget-silent', '1', *(('--forget', agent(3)) if gone else ()), path),
+                      (0, forgotten(path, rows, gone), b''))
+                check('the rows then', rows_of(path), new)
+    check('it was killed before and after', states, {'before', 'after'})
 
 # ---- beside a writer that rewrites the store into its other bank again and again, as a server does where its bank is full: each image is of
 # one generation. By strace the program is made so slow that the store is rewritten more than once while it is read.
@@ -247,8 +453,13 @@ def beside_rewrites():
 
 try:
     one_store()
-    no_stores(*statuses())
+    fine = statuses()
+    no_stores(*fine)
+    forms(fine[0])
+    forgetting(fine[0])
     beside_a_server()
+    served_again()
+    killed()
     beside_rewrites()
 finally:
     shutil.rmtree(scratch)

@@ -15,7 +15,7 @@ WORDS = [b'instance', b' of ', b'as', b'$a', b'{', b'}', b';', b'=', b'"', b'\\'
          b'ProtocolVersion: 2.0\r\n', b'Checksum: ', b'ChecksumAlgorithm: SHA-256\r\n', b'Expect: 100-continue\r\n', b'Content-Encoding: gzip\r\n',
          b'Authorization: Shared ', b'x-ms-date: ', b'%2e%2e', b'%', b"'", b"''", b'(', b')', b'/', b'../', b'[', b']', b'null', b'true', b'1e999', b'"\\ud800"',
          b'{"', b'":', b',', b'ClientStatus', b'NodeStatus', b'Details', b'GetConfiguration', b'RETRY', b'Ok', b'100', b'204', b'401', b'404', b'500']
-NUMBERS = [b'0', b'1', b'7', b'65535', b'65536', b'131072', b'131073', b'2097152', b'62914561', b'67108864', b'4294967295', b'4294967296', b'18446744073709551615']
+NUMBERS = [b'0', b'1', b'7', b'65535', b'65536', b'131072', b'131073', b'8388608', b'62914561', b'67108864', b'4294967295', b'4294967296', b'18446744073709551615']
 
 def unescaped(text):
     """The bytes of a text with the escapes of a row."""

@@ -14,7 +14,8 @@ import os
 import sys
 
 HEADER = 'instance of OMI_ConfigurationDocument{Version="2.0.0";};'
-LIMIT = 2_097_152  # the most bytes of a text
+LIMIT = 8_388_608  # the most bytes of a text
+LONG = 2_097_152  # the bytes of a long one
 SLOW = 3  # seconds that a text may take
 PUSHED = 10  # and a push, which writes and syncs a file for each resource
 
@@ -186,7 +187,7 @@ def long_values():
 
 def good_texts():
     """Good texts that leave room for 2 KB: of one literal, of many instances, of comments, and of separators."""
-    room = LIMIT - 2048
+    room = LONG - 2048
     frame = 'instance of A\n{\n X = "%s";\n};\n'
     yield "a literal", frame % ("x" * (room - len(frame) + 2))
     one = 'instance of A\n{\n X = "' + "y" * 490 + '";\n};\n'
@@ -248,7 +249,7 @@ def refusals():
     many = "instance of A{};" * 4097
     for tail, line in (("i", "TooMany"), ("Ix", "TooMany"), ("class", "OutOfProfile"), ("x", "Syntax")):
         case(f"4097 instances and {tail}", "canon", many + tail, 3, f"refused {line} {len(many)}{' class' if line == 'OutOfProfile' else ''}\n")
-    case("2,097,153 bytes of no character", "canon", b"\xff" * (LIMIT + 1), 3, "refused TooLong\n")
+    case("8,388,609 bytes of no character", "canon", b"\xff" * (LIMIT + 1), 3, "refused TooLong\n")
     long = "\n" * (LIMIT - 40) + 'instance of A { X = 1.5; };'
     case("257 properties", "canon", "instance of A{" + "".join(f"P{n}=1;" for n in range(257)) + "};", 3,
          f"refused TooMany {14 + sum(len(f'P{n}=1;') for n in range(256))}\n")
@@ -268,40 +269,40 @@ def utf16():
         text = f'instance of A\n{{\n X = "{value}";\n}};\n'
         whole = mark + text.encode(encoding)
         utf8 = text.encode()
-        case(f"{encoding} of 2 MB", "canon", whole, 0, utf8)
-        case(f"{encoding} of 2 MB, a byte more", "canon", whole + b"\n", 3, f"refused Text {len(whole)}\n")
-        case(f"{encoding} of 2 MB, torn in its last character", "canon", whole[:-1], 3, f"refused Text {len(whole) - 2}\n")
+        case(f"{encoding} of 8 MB", "canon", whole, 0, utf8)
+        case(f"{encoding} of 8 MB, a byte more", "canon", whole + b"\n", 3, f"refused Text {len(whole)}\n")
+        case(f"{encoding} of 8 MB, torn in its last character", "canon", whole[:-1], 3, f"refused Text {len(whole) - 2}\n")
         half = "\ud800".encode(encoding, "surrogatepass")
-        case(f"{encoding} of 2 MB, half a pair at its end", "canon", whole + half, 3, f"refused Text {len(whole)}\n")
+        case(f"{encoding} of 8 MB, half a pair at its end", "canon", whole + half, 3, f"refused Text {len(whole)}\n")
         document_ = mark + (f'instance of MSFT_LogResource{{ResourceID="[L]A";Message="{value}";}};' + HEADER).encode(encoding)
-        case(f"{encoding} document of 2 MB", "test", document_, 1, 'test "[L]A" no\nresources 1 succeeded 0\nnot compliant 1\n')
-        case(f"{encoding} document of 2 MB, a byte more", "check", document_ + b"\n", 3, f"refused Part 0 Text {len(document_)}\n")
+        case(f"{encoding} document of 8 MB", "test", document_, 1, 'test "[L]A" no\nresources 1 succeeded 0\nnot compliant 1\n')
+        case(f"{encoding} document of 8 MB, a byte more", "check", document_ + b"\n", 3, f"refused Part 0 Text {len(document_)}\n")
 
 
 def hostile():
-    """Texts of 2 MB that must not take long."""
+    """Texts of 8 MB that must not take long."""
     head = "instance of A { X = "
     room = LIMIT - 1024
-    case("an identifier of 2 MB", "canon", "instance of " + "n" * room + " {};", 3, "refused TooMany 12\n")
-    case("an alias of 2 MB", "canon", "instance of A as $" + "n" * room + " {};", 3, "refused TooMany 18\n")
-    case("a keyword that goes on for 2 MB", "canon", "instance" + "n" * room, 3, "refused Syntax 8\n")
-    case("a number of 2 MB", "canon", head + "9" * room + "; };", 3, f"refused NumberRange {len(head)}\n")
-    case("a binary number of 2 MB", "canon", head + "1" * room + "b; };", 3, f"refused NumberRange {len(head)}\n")
-    case("a hexadecimal number of 2 MB", "canon", head + "0x" + "f" * room + "; };", 3, f"refused NumberRange {len(head)}\n")
-    case("an open literal of 2 MB", "canon", head + '"' + "x" * room, 3, f"refused Syntax {len(head) + 1 + room}\n")
-    case("an open literal of 1 MB of escapes", "canon", head + '"' + "\\n" * (room // 2), 3, f"refused Syntax {len(head) + 1 + room // 2 * 2}\n")
-    case("700,000 literals", "canon", head + '"" ' * (room // 3), 3, f"refused Syntax {len(head) + room // 3 * 3}\n")
-    case("an open comment of 2 MB", "canon", "/*" + "*" * room, 3, f"refused Syntax {2 + room}\n")
-    case("a line comment of 2 MB", "canon", "//" + "/" * room, 0, "")
-    case("500,000 comments", "canon", "/**/" * (room // 4) + "x", 3, f"refused Syntax {room // 4 * 4}\n")
-    case("an id of 2 MB", "check", log("[L]" + "x" * (room // 1)) + HEADER, 3, "refused Part 0 BadResourceId 0\n")
-    case("a dependency of 2 MB", "check", log("[L]A", 'DependsOn="' + "x" * (room - 512) + '";') + HEADER, 3, f'refused DependsUnknown 0.0 "{"x" * (room - 512)}"\n')
+    case("an identifier of 8 MB", "canon", "instance of " + "n" * room + " {};", 3, "refused TooMany 12\n")
+    case("an alias of 8 MB", "canon", "instance of A as $" + "n" * room + " {};", 3, "refused TooMany 18\n")
+    case("a keyword that goes on for 8 MB", "canon", "instance" + "n" * room, 3, "refused Syntax 8\n")
+    case("a number of 8 MB", "canon", head + "9" * room + "; };", 3, f"refused NumberRange {len(head)}\n")
+    case("a binary number of 8 MB", "canon", head + "1" * room + "b; };", 3, f"refused NumberRange {len(head)}\n")
+    case("a hexadecimal number of 8 MB", "canon", head + "0x" + "f" * room + "; };", 3, f"refused NumberRange {len(head)}\n")
+    case("an open literal of 8 MB", "canon", head + '"' + "x" * room, 3, f"refused Syntax {len(head) + 1 + room}\n")
+    case("an open literal of 4 MB of escapes", "canon", head + '"' + "\\n" * (room // 2), 3, f"refused Syntax {len(head) + 1 + room // 2 * 2}\n")
+    case("2,800,000 literals", "canon", head + '"" ' * (room // 3), 3, f"refused Syntax {len(head) + room // 3 * 3}\n")
+    case("an open comment of 8 MB", "canon", "/*" + "*" * room, 3, f"refused Syntax {2 + room}\n")
+    case("a line comment of 8 MB", "canon", "//" + "/" * room, 0, "")
+    case("2,000,000 comments", "canon", "/**/" * (room // 4) + "x", 3, f"refused Syntax {room // 4 * 4}\n")
+    case("an id of 8 MB", "check", log("[L]" + "x" * (room // 1)) + HEADER, 3, "refused Part 0 BadResourceId 0\n")
+    case("a dependency of 8 MB", "check", log("[L]A", 'DependsOn="' + "x" * (room - 512) + '";') + HEADER, 3, f'refused DependsUnknown 0.0 "{"x" * (room - 512)}"\n')
     segments = (room - 512) // 2
     deep = lambda id_, n, end="": f'instance of MSFT_FileDirectoryConfiguration{{ResourceID="[F]{id_}";DestinationPath="{"/a" * n}{end}";}};'
     tested = lambda ids, answer: "".join(f'test "[F]{id_}" {answer}\n' for id_ in ids) + f"resources {len(ids)} succeeded 0\nnot compliant {len(ids)}\n"
-    case("a path of a million segments", "test", deep("A", segments) + HEADER, 1, tested("A", "no"))
-    case("two paths of 500,000 segments", "test", deep("A", segments // 2) + deep("B", segments // 2, "/b") + HEADER, 1, tested("AB", "no") + "overlapping\n")
-    case("a path of a million segments that leads up", "test", deep("A", segments - 2, "/..") + HEADER, 1, tested("A", "fault BadPath"))
+    case("a path of four million segments", "test", deep("A", segments) + HEADER, 1, tested("A", "no"))
+    case("two paths of two million segments", "test", deep("A", segments // 2) + deep("B", segments // 2, "/b") + HEADER, 1, tested("AB", "no") + "overlapping\n")
+    case("a path of four million segments that leads up", "test", deep("A", segments - 2, "/..") + HEADER, 1, tested("A", "fault BadPath"))
     entries = lambda id_, name, value: f'instance of MSFT_EnvironmentResource{{ResourceID="[E]{id_}";Name="{name}";Path=TRUE;Value="{value}";}};'
     answer = 'test "[E]A" no\nresources 1 succeeded 0\nnot compliant 1\n'
     numbers, size = [], 0
@@ -309,8 +310,8 @@ def hostile():
         numbers.append(str(len(numbers)))
         size += len(numbers[-1]) + 1
     case("a Path value of different entries", "test", entries("A", "V", ";".join(numbers)) + HEADER, 1, answer)
-    case("a Path value of 500,000 entries", "test", entries("A", "V", "abc;" * 500_000) + HEADER, 1, answer)
-    case("a Path value of a million entries", "test", entries("A", "V", "a;" * 1_000_000) + HEADER, 1, answer)
+    case("a Path value of two million entries", "test", entries("A", "V", "abc;" * 2_000_000) + HEADER, 1, answer)
+    case("a Path value of four million entries", "test", entries("A", "V", "a;" * 4_000_000) + HEADER, 1, answer)
 
 
 def generated():
@@ -464,7 +465,7 @@ def scripts():
     digits = "9" * 1_000_000
     place = written([("Log", "MSFT_LogResource", "A", " X = 9;\n")]).index("9;")
     compiled("an integer of a million digits", node + f"Log A {{ X = {digits} }} }} }}", 3, f"refused Compile Part 0 NumberRange {place}\n")
-    compiled("an integer of 8 MB", node + f"Log A {{ X = {'9' * room} }} }} }}", 3, "refused Compile Part 0 TooLong\n")
+    compiled("an integer of 8 MB", node + f"Log A {{ X = {'9' * room} }} }} }}", 3, f"refused Compile Part 0 NumberRange {place}\n")
     place = written([("Log", "MSFT_LogResource", "A", " X = 9;\n")]).index("X = 9")
     compiled("a name of 256 characters", node + f"Log A {{ {'n' * 256} = 9 }} }} }}", 3, f"refused Compile Part 0 TooMany {place}\n")
     quotes = 500_000

@@ -9,6 +9,7 @@ scratch = tempfile.mkdtemp()
 KILLS = int(os.environ.get('KILLS', '40'))
 AGENT = '00000000-0000-0000-0000-000000000010'
 HEADER = 'instance of OMI_ConfigurationDocument{Version="2.0.0";};'
+LONGEST = 8_388_608  # the most bytes of a configuration
 
 def check(name, got, wanted):
     global passed, failed
@@ -491,9 +492,9 @@ def sizes():
         out, status = node.does('pull')
         check('%d resources' % count, (status, out.splitlines()[-3:]), (0, ['resources %d succeeded %d' % (count, count), 'compliant', 'end promoted']))
     filling = HEADER + '//'
-    server.configure(name, filling + 'x' * (2097152 - len(filling)))
+    server.configure(name, filling + 'x' * (LONGEST - len(filling)))
     check('the longest content', node.does('pull'), ('resources 0 succeeded 0\ncompliant\nend promoted\n', 0))
-    server.configure(name, filling + 'x' * (2097153 - len(filling)))
+    server.configure(name, filling + 'x' * (LONGEST + 1 - len(filling)))
     check('a byte more', node.does('pull'), ('refused PeerRefused TooLong\n', 6))
     modules = ['m%d' % it * 50 for it in range(40)]
     for it in modules:
@@ -730,7 +731,7 @@ def silent_servers():
 
 def long_lists():
     server = Server()
-    for count, rounds in ((3, 12), (8, 6)):
+    for count, size, rounds in ((3, LONGEST // 4, 12), (8, LONGEST // 4, 6), (2, LONGEST, 5)):
         names = ['p%d' % it for it in range(count)]
         node = new_node(meta(server.url(), names=(), partials=[(it, ()) for it in names], reports=False))
         check('a registration of %d long partials' % count, node.does('register', 'n'), ('ok\n', 0))
@@ -738,7 +739,7 @@ def long_lists():
         for number in range(rounds):
             for it in names:
                 text = variable(it, str(number)) + HEADER + '//'
-                server.configure(it, text + 'x' * (2097152 - len(text)))
+                server.configure(it, text + 'x' * (size - len(text)))
             got = node.does('pull')
             check('%d long partials, round %d' % (count, number), got, (said_no(*names) + 'resources %d succeeded %d\ncompliant\nend promoted\n' % (count, count), 0))
             with open(node.store, 'rb') as file:
@@ -746,6 +747,14 @@ def long_lists():
         check('%d long partials, the banks' % count, sorted(set(banks)), [b'1', b'2'])
         check('%d long partials, a drift' % count, (node.variable('p0', 'x'), node.does('consistency')[1], node.variable('p0')), ('x', 0, str(rounds - 1)))
         check('%d long partials, restored' % count, (node.does('restore')[1], node.variable('p0')), (0, str(rounds - 2)))
+    names = ['p0', 'p1', 'p2']
+    node = new_node(meta(server.url(), names=(), partials=[(it, ()) for it in names], reports=False))
+    check('a registration of three partials', node.does('register', 'n'), ('ok\n', 0))
+    server.configure('p2', HEADER)
+    whole = 2 * LONGEST + len(HEADER)
+    check('a list above 16 MiB', (node.does('pull'), node.variable('p0')), (('refused PeerRefused ListTooLong %d\n' % whole, 6), None))
+    server.configure('p1', HEADER)
+    check('a part made shorter', (node.does('pull')[1], node.variable('p0')), (0, '4'))
     server.kill()
 
 # ---- kills

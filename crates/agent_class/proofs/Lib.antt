@@ -1,2 +1,2 @@
-mod Classed
+pub mod Classed
 mod Told

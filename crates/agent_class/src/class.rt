@@ -1,9 +1,11 @@
 //! The class of an agent.
 ghost use Rattle.std.specs.Prelude.{◌≡◌, IfOk};
 ghost use Rattle.agent_class.specs.Classes.{class_by, class_of_body, class_of_row as row_class};
+ghost use Rattle.agent_class.specs.LastMessage.{class_told};
 
+use crate::message::message_of;
 use mof_values::{Memory, Text, is_named};
-use pull_messages::{MessageError, read_report};
+use pull_messages::ReportMessage;
 use pull_store::Row;
 use std::alloc::Global;
 
@@ -24,15 +26,21 @@ pub enum Class {
 }
 
 /// The class of an agent whose last report has this body.
+#[tactic(auto, using(crate::proofs::Classed::told_class))]
 pub fn class_of(alloc: Global, body: &[u8]) -> Result<Class, Memory>
     ensures { IfOk result (λ class. class ≡ class_of_body body.now) }
 {
-    match read_report(alloc, body) {
-        Ok(report) => Ok(class_by(&report.status)),
-        Err(MessageError::Memory) => Err(Memory),
-        Err(MessageError::Json) => Ok(Class::Other),
-        Err(MessageError::Missing(_)) => Ok(Class::Other),
-        Err(MessageError::Wrong(_)) => Ok(Class::Other),
+    let message = message_of(alloc, body)?;
+    Ok(class_told(&message))
+}
+
+/// The class that a message gives; what was sent is no report where there is none.
+pub(crate) fn class_told(message: &Option<ReportMessage>) -> Class
+    ensures { result ≡ class_told message.now }
+{
+    match message {
+        Some(message) => class_by(&message.status),
+        None => Class::Other,
     }
 }
 

@@ -5,11 +5,11 @@
 //!
 //! Where a thing is:
 //! - the class of an agent: `specs/Classes.antt`, `src/class.rt`; the message of its last report:
-//!   `specs/LastMessage.antt`, `src/message.rt`
+//!   `specs/LastMessage.antt`, `src/message.rt`, and both by one reading of it
 #![tactic(auto)]
 
 mod class;
 mod message;
 
 pub use class::{Class, class_of, class_of_row};
-pub use message::last_message;
+pub use message::{class_and_message, last_message};

@@ -1,4 +1,5 @@
 pub mod Lines
 pub mod Moments
 pub mod Numbers
+pub mod Table
 pub mod Unmet

@@ -81,3 +81,10 @@ run_of (Some message) = said_of message
 unfoldable pub line_of : List ℕ → Row → List ℕ → Bool → Option ReportMessage → List ℕ
 line_of store row class stale message =
     who_of store row ++ registered_of row ++ standing_of class stale ++ key (codes "job") ++ id_or_null (job_of row) ++ run_of message
+
+-- ---- the line of an agent that is forgotten
+
+unfoldable pub forgotten_line : List ℕ → Row → List ℕ
+forgotten_line store row =
+    codes "{\"store\":" ++ json_text store ++ key (codes "forgotten") ++ id_json row.agent ++ key (codes "node_name")
+    ++ text_or_null row.registration.node_name ++ codes "}\n"

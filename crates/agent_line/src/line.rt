@@ -1,7 +1,7 @@
 //! The line of an agent.
 ghost use Rattle.std.specs.Prelude.{◌≡◌, ◌++◌, None, OnOk, codes, option_map};
 ghost use Rattle.std.specs.Fmt.{decimal};
-ghost use Rattle.agent_line.specs.Lines.{count_part, id_json, id_or_null, job_of, key, line_of, registered_of, run_of, said_of, standing_of, times_of, truth, unmet_of, who_of, word_json};
+ghost use Rattle.agent_line.specs.Lines.{count_part, forgotten_line, id_json, id_or_null, job_of, key, line_of, registered_of, run_of, said_of, standing_of, times_of, truth, unmet_of, who_of, word_json};
 
 use crate::json::{push_text, push_text_or_null, push_texts};
 use crate::number::count_of;
@@ -35,6 +35,25 @@ pub fn push_line(
     push_id_or_null(out, alloc, job_of(row))?;
     push_run_of(out, alloc, message)?;
     Ok(())
+}
+
+/// Adds the line of an agent that the store at this path forgets.
+#[tactic(auto, unfolding(crate::specs::Lines::forgotten_line))]
+pub fn push_forgotten(
+    out: &mut Vec<u8>,
+    alloc: Global,
+    store: &Text,
+    row: &Row,
+) -> Result<(), AllocError>
+    ensures { OnOk result (out.new.items ≡ out.old.items ++ forgotten_line store.now row.now) }
+{
+    out.extend_from_slice(b"{\"store\":")?;
+    push_text(out, alloc, store)?;
+    push_key(out, "forgotten")?;
+    push_id(out, alloc, row.agent)?;
+    push_key(out, "node_name")?;
+    push_text_or_null(out, alloc, &row.registration.node_name)?;
+    out.extend_from_slice(b"}\n")
 }
 
 #[tactic(auto, unfolding(crate::specs::Lines::who_of))]

@@ -52,8 +52,8 @@ fn in_utf8(alloc: Global, chars: &[char]) -> Result<String, AllocError>
     chars.iter().copied().collect(alloc)
 }
 
-// What stands before the last mark, and what stands after it.
-fn divided(error: &[char]) -> (&[char], &[char])
+/// What stands before the last mark, and what stands after it.
+pub(crate) fn divided(error: &[char]) -> (&[char], &[char])
     ensures id { result.0.now ≡ id_in error.now }
     ensures reason { result.1.now ≡ reason_in error.now }
 {

@@ -24,6 +24,7 @@ pub mod Starts
 pub mod StartsOfTwo
 pub mod Status
 pub mod Work
+pub mod WorkDone
 -- for private clauses alone
 pub mod Documents
 pub mod Plans

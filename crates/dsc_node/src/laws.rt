@@ -6,6 +6,7 @@ ghost use Rattle.dsc_node.specs.LineLaws.{LinesSpellOneTrace};
 ghost use Rattle.dsc_node.specs.SendingLaws.{ReportsAreMarkedInOrder, ReportsAreSentInOrder};
 ghost use Rattle.dsc_node.specs.Starts.{FindsWhatIsRead, PartsAreBrought, StartsGoOn, StartsJoin};
 ghost use Rattle.dsc_node.specs.Work.{known};
+ghost use Rattle.dsc_node.specs.WorkDone.{StartsDoAllWork, StartsDoPrefixes};
 
 use dsc_outside::{Clock, Disk, Host};
 use lcm_core::{lasting_laws, reboot_laws, trace_laws};
@@ -19,6 +20,13 @@ pub fn starts_join<D: Disk, M: Machine, C: Clock>()
     ensures go_on { StartsGoOn (known D.Disk M.Resources M.Machine.own C.Clock) }
     ensures join { StartsJoin (known D.Disk M.Resources M.Machine.own C.Clock) }
     ensures read { FindsWhatIsRead (known D.Disk M.Resources M.Machine.own C.Clock) }
+{}
+
+/// At its end a start in which the disk's count of faults did not rise leaves the node after all events of its table, and any start, at its
+/// end and wherever it is stopped, the node after a prefix of them.
+pub fn starts_do_their_work<D: Disk, M: Machine, C: Clock>()
+    ensures all { StartsDoAllWork (known D.Disk M.Resources M.Machine.own C.Clock) }
+    ensures prefix { StartsDoPrefixes (known D.Disk M.Resources M.Machine.own C.Clock) }
 {}
 
 /// Over a list of starts each part that a node holds was in a slot of a node that the first start found, or one of the starts brought

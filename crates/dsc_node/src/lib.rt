@@ -26,8 +26,9 @@
 //!   host `specs/HostHeadline.antt`; one call after another `proofs/Commits.antt`; the headline row by row
 //!   `proofs/Headline.antt`, of its nodes `proofs/Nodes.antt`, of its run `proofs/HeadlineRuns.antt`
 //! - starts in a row: `specs/Starts.antt`, `src/laws.rt`, `proofs/Joining.antt`; over objects of two kinds
-//!   `specs/StartsOfTwo.antt`, `src/starts_of_two.rt`, `proofs/JoiningTwo.antt`; which input is valid, and that a start
-//!   of it is not refused: `specs/Complete.antt`, `proofs/Completing.antt`
+//!   `specs/StartsOfTwo.antt`, `src/starts_of_two.rt`, `proofs/JoiningTwo.antt`; the node that a start leaves after
+//!   all its events, or after a prefix of them: `specs/WorkDone.antt`, `proofs/WorkDone.antt`; which input is valid,
+//!   and that a start of it is not refused: `specs/Complete.antt`, `proofs/Completing.antt`
 //! - within how many starts what is Pending becomes Current, and how often a run calls a resource:
 //!   `specs/Converging.antt`, `proofs/Converging.antt`; over any machine, where what Sets make lasts,
 //!   `specs/LastingStarts.antt`, `proofs/LastingStarts.antt`; what such a start does `specs/RepairStarts.antt`,
@@ -61,7 +62,7 @@ pub use answer::StartEnd;
 pub use command::Command;
 pub use laws::{
     lasting_starts_converge, lines_spell_one_trace, parts_are_brought, reports_are_sent_in_order,
-    runs_are_bounded, starts_converge, starts_join, valid_starts_complete,
+    runs_are_bounded, starts_converge, starts_do_their_work, starts_join, valid_starts_complete,
 };
 pub use lines::{id, lines_of, push_resources};
 pub use order::ordered_of_merged;

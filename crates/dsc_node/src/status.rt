@@ -13,8 +13,8 @@ use partial_merge::MergeError;
 /// Why the input was refused.
 #[derive(Debug, Drop, PartialEq)]
 pub enum InputError {
-    /// It is longer than the command takes: 2,097,152 bytes of a document, 262,144 bytes of a meta-configuration, 8,388,608
-    /// bytes of a configuration script, 4,194,304 bytes of a rehearsal, 67,108,864 bytes for a checksum.
+    /// It is longer than the command takes: 8,388,608 bytes of a document or of a configuration script, 262,144 bytes of a
+    /// meta-configuration, 4,194,304 bytes of a rehearsal, 67,108,864 bytes for a checksum.
     TooLong,
 
     /// It spells no instances. `MofError::TooLong` and `MofError::Memory` are never reported so.

@@ -1,25 +1,33 @@
-//! The program that reads the stores of pull servers while these run.
+//! The program that reads the stores of pull servers while these run, and has a store forget agents.
 //!
-//! It prints a line of JSON for each agent of each store, and one for the store, and ends with a number that says
-//! whether some machine failed, is silent or is stale. A store's rows are those that `open_pull` reads of one image of
-//! its file; the text that is printed of them, and whether there is an alarm, are `store_text` of `store_lines`, whose
-//! contract says both. The file is opened to be read alone, and is not locked; `main` makes the real objects.
+//! It prints a line of JSON for each agent of each store, and one for the store; or a table; or gauges for Prometheus;
+//! and ends with a number that says whether some machine failed, is silent or is stale. A store's rows are those that
+//! `open_pull` reads of one image of its file, which is opened to be read alone and not locked. What is printed of them
+//! has a definition in `store_lines`. Agents are forgotten by `PullStore::forget`, of a store that is opened and locked
+//! as its server does, while that does not run; which ones is a definition of `store_lines` too. `main` makes the real
+//! objects.
 //!
 //! Where a thing is:
+//! - lines and tables: `src/looking.rt`; gauges: `src/gauging.rt`; agents that are forgotten: `src/forgetting.rt`
 //! - one image of a file that a server writes: `src/reading.rt`, over `image_file`
 #![tactic(auto)]
 
+mod forgetting;
+mod gauging;
+mod looking;
+mod moments;
 mod reading;
 
-use dsc_outside::{Clock, Failed, write_all};
+use forgetting::forget_agents;
+use gauging::print_gauges;
+use looking::print_stores;
 use mof_values::Text;
 use pull_store::PullError;
-use reading::open_image;
-use real_outside::{OutSink, SystemClock, arguments, hold_standard_descriptors};
+use real_outside::{arguments, hold_standard_descriptors};
 use std::alloc::AllocError;
 use std::io::Print;
 use std::process::ExitCode;
-use store_lines::{FleetStatus, FleetWords, WordsError, fleet_words, status_of, store_text};
+use store_lines::{FleetStatus, Task, WordsError, fleet_words, status_of};
 
 fn main(rt: HostRuntime) -> ExitCode {
     let Ok(_held) = hold_standard_descriptors(&rt) else {
@@ -27,7 +35,7 @@ fn main(rt: HostRuntime) -> ExitCode {
     };
     let status = match arguments(&rt) {
         Ok(arguments) => match arguments.as_slice() {
-            [_program, words @ ..] => look_at_stores(&rt, words),
+            [_program, words @ ..] => run(&rt, words),
             [] => wrong_words(&rt),
         },
         Err(AllocError) => FleetStatus::Memory,
@@ -35,41 +43,17 @@ fn main(rt: HostRuntime) -> ExitCode {
     ExitCode::from(status.number())
 }
 
-// One store after the other. What is read of one is let go before the next is opened.
-fn look_at_stores(rt: &HostRuntime, arguments: &[String]) -> FleetStatus {
-    let asked = match fleet_words(rt.alloc(), arguments) {
-        Ok(asked) => asked,
+fn run(rt: &HostRuntime, arguments: &[String]) -> FleetStatus {
+    let words = match fleet_words(rt.alloc(), arguments) {
+        Ok(words) => words,
         Err(WordsError::Usage) => return wrong_words(rt),
         Err(WordsError::Memory) => return FleetStatus::Memory,
     };
-    let since = match asked.older {
-        Some(hours) => match SystemClock::new(rt).now() {
-            Ok(now) => Some(now.saturating_sub(u64::from(hours) * 3_600)),
-            Err(Failed) => return FleetStatus::Fault,
-        },
-        None => None,
-    };
-    let mut worst = FleetStatus::Healthy;
-    for store in asked.stores.as_slice() {
-        worst = worst.or(look_at(rt, &asked, since, store));
-    }
-    worst
-}
-
-fn look_at(rt: &HostRuntime, asked: &FleetWords, since: Option<u64>, store: &Text) -> FleetStatus {
-    let opened = match open_image(rt, store) {
-        Ok(opened) => opened,
-        Err(error) => return refused(rt, store, error),
-    };
-    let classes = asked.classes.as_slice();
-    let told = match store_text(rt.alloc(), classes, since, store, opened.rows()) {
-        Ok(told) => told,
-        Err(mof_values::Memory) => return refused(rt, store, PullError::Memory),
-    };
-    match write_all(&mut OutSink::new(rt), told.text.as_slice()) {
-        Ok(()) if told.alarm => FleetStatus::Alarm,
-        Ok(()) => FleetStatus::Healthy,
-        Err(Failed) => FleetStatus::Fault,
+    match words.task {
+        Task::Lines => print_stores(rt, &words.options, false),
+        Task::Table => print_stores(rt, &words.options, true),
+        Task::Gauges => print_gauges(rt, &words.options),
+        Task::Forget => forget_agents(rt, &words.options),
     }
 }
 
@@ -79,8 +63,8 @@ fn wrong_words(rt: &HostRuntime) -> FleetStatus {
     FleetStatus::Usage
 }
 
-// Says on standard error why a store's rows are not printed; where that cannot be written the number alone says it.
-fn refused(rt: &HostRuntime, store: &Text, error: PullError) -> FleetStatus {
+// Says on standard error why a store is not read, or does not forget; where that cannot be written the number alone says it.
+pub(crate) fn refused(rt: &HostRuntime, store: &Text, error: PullError) -> FleetStatus {
     let _written = eprintln!(rt; "nimchout-fleet: {store}: {error}");
     status_of(error)
 }

@@ -13,3 +13,5 @@ pub mod Failing
 pub mod Both
 pub mod Answer
 pub mod Ready
+pub mod OneByOne
+pub mod Leading

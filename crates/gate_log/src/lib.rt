@@ -6,8 +6,8 @@
 //!
 //! A layer above may rely on this: every image that a crash at any moment of a call may leave gives the bodies before
 //! or after it, and after `Ok` the bodies after it; an opening hands over each body once, in order, or names the first
-//! failure. No call but `replay_log`, which opens, takes memory. A log keeps no disk: each call takes the disk that it
-//! is of.
+//! failure. No call but those that open takes memory. A log keeps no disk: each call takes the disk that it is of.
+//! Where that layer says which bodies lead to which state, the same is said of states.
 //!
 //! Where a thing is:
 //! - which bytes of a file give which bodies, and where a file is no store: `specs/Text.antt`; what a log is of and
@@ -17,6 +17,11 @@
 //!   meaning is never refused: `never_refused` of `proofs/Both.antt`
 //! - the bytes that the calls leave: `specs/Bytes.antt`
 //! - what the images of a disk stand for, over any value: `specs/Standing.antt`
+//! - a state that is kept as bodies, and what spells these: the traits `Kept` in `src/kept.rt`, `Spelling` in
+//!   `src/spelling.rt`; what an image stands for then, what a change makes of the bodies, and the laws of both
+//!   `specs/Kept.antt`, proved in `proofs/Leading.antt`
+//! - a change that is added, and a whole state that is written anew: `src/keeping.rt`; several bodies, one after the
+//!   other, `src/several.rt`, `specs/Several.antt`, `proofs/OneByOne.antt`
 //! - how a cell is appended, how the other bank is written and made live, how a store is opened: `src/appending.rt`,
 //!   `src/rewriting.rt`, `src/opening.rt` with `src/reading.rt`; what a torn write leaves `proofs/Cells.antt`,
 //!   `proofs/Switch.antt`
@@ -25,19 +30,26 @@
 mod appending;
 mod bodies;
 mod error;
+mod keeping;
+mod kept;
 mod laws;
 mod log;
 mod opening;
 mod reading;
 mod replay;
 mod rewriting;
+mod several;
 mod shape;
+mod spelling;
 mod through;
 
 pub use bodies::Bodies;
 pub use error::LogError;
-pub use laws::image_laws;
+pub use keeping::{add, add_all, add_in_place, rewrite};
+pub use kept::Kept;
+pub use laws::{image_laws, kept_laws};
 pub use log::Log;
-pub use opening::replay_log;
+pub use opening::{open_kept, replay_log};
 pub use replay::{Replay, TakeError};
 pub use shape::{CELL_HEAD, Shape};
+pub use spelling::Spelling;

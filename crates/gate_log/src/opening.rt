@@ -5,12 +5,14 @@ ghost use Rattle.dsc_outside.specs.Causes.{HasCause};
 ghost use Rattle.dsc_outside.specs.Disk.{Each, From, Only, AnyMoment, Still};
 ghost use Rattle.gate_log.specs.Bytes.{Leaves, new_store};
 ghost use Rattle.gate_log.specs.Text.{IsLive, magic};
+ghost use Rattle.gate_log.specs.Kept.{IsOpenedBy, KeepsValues, ReadsTo, RefusesOnly, StandsBy, UnopenedBy};
 ghost use Rattle.gate_log.specs.Log.{AtAnyMoment, Keeps};
 ghost use Rattle.gate_log.specs.Replay.{FailsFirst, Opened, Unopened};
 ghost use Rattle.gate_log.specs.Opening.{FailsInHead, Replayed, StillWhereRefused};
 ghost use Rattle.gate_log.specs.Steps.{Unread};
 
 use crate::error::LogError;
+use crate::kept::Kept;
 use crate::log::Log;
 use crate::reading::read_cells;
 use crate::replay::Replay;
@@ -140,4 +142,30 @@ pub fn replay_log<D: Disk, R: Replay>(
     }
     let (second, closed) = replay_old(disk, shape, end, &mut buffer, replay)?;
     Ok(Log::of(shape, second, closed, buffer))
+}
+
+/// Opens the store of a disk, of a state that is kept as bodies, as `replay_log` does.
+///
+/// After `Ok` the store is of the disk, with the state that the disk read as; `NotAStore` comes where it stands for none. A crash at
+/// any moment leaves an image that stands for what one stood for before.
+pub fn open_kept<K: Kept, D: Disk, R: Replay>(
+    alloc: Global,
+    disk: &mut D,
+    shape: Shape,
+    replay: &mut R,
+) -> Result<Log, LogError>
+    requires shape { K.shape ≡ shape }
+    requires some { 1 ≤ shape.bank }
+    requires bank { shape.bank ≤ 2 ^ 62 }
+    requires first { R.took replay.old [] }
+    ensures opened { IfOk result (λ log. (state : K.State) → ReadsTo K.leads (R.took replay.new) state
+        → IsOpenedBy D.Disk disk.old disk.new K.shape K.leads log state) }
+    ensures cause { IfErr result (λ error. (state : K.State)
+        → ReadsTo K.leads (R.took replay.new) state → RefusesOnly K.leads (R.refused replay.new)
+        → UnopenedBy D.Disk disk.old disk.new K.shape K.leads error) }
+    ensures any_moment { AtAnyMoment D.Disk disk.old disk.new
+        (From (KeepsValues (StandsBy K.shape K.leads)) (D.images disk.old)) }
+    ensures count { D.faults disk.old ≤ D.faults disk.new }
+{
+    replay_log(alloc, disk, shape, replay)
 }

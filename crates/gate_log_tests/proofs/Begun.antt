@@ -1,5 +1,5 @@
 -- A log whose rewrite is begun, as gate_log has it.
-use Rattle.std.proofs.Common.{◌≡◌, ℕ, ◌≤◌, List, [], Option}
+use Rattle.std.proofs.Common.{ℕ, ◌≤◌, List, [], Option}
 use Rattle.gate_log.specs.Log.{LogTerm, IsOf, HasPut, begun}
 use Rattle.gate_log.proofs.Rewrites as rewrites
 

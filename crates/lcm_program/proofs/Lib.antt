@@ -16,7 +16,9 @@ pub mod OnHost
 pub mod OneRow
 pub mod Readings
 pub mod Rehearsing
+pub mod RehearsedStarts
 pub mod Results
 pub mod Standing
 pub mod StartsOrRests
 pub mod Tools
+pub mod TrueTraces

@@ -1,81 +1,112 @@
 -- A command starts the node, or leaves the disk as it was.
-use Rattle.std.proofs.Common.{◌≡◌, ◌⊎◌, inl, inr, ℕ, List, Some, None, refl, ap}
+use Rattle.std.proofs.Common.{◌≡◌, ◌⊎◌, inl, inr, ℕ, List, Option, Some, None, Ok, refl, sym, ap, subst}
+use Rattle.std.specs.Prelude.{IfSome}
+use Rattle.std.specs.Str.{chars}
 use Rattle.dsc_node.specs.declared.command.Command.{Command as StartCommand}
+use Rattle.dsc_node.specs.declared.command.Command.TheVariants as commands
 use Rattle.dsc_node.specs.declared.status.Status.{Status}
 use Rattle.dsc_node.specs.Start.{Outside}
 use Rattle.lcm_program.specs.declared.words.Command.{Command}
 use Rattle.lcm_program.specs.declared.words.Command.TheVariants.{Test, Check, Order, Canon, Checksum, Compile, Generate, Init, Meta, Register, Pull, Push, Consistency, Boot, Get, Restore, Remove, Reports}
+use Rattle.lcm_program.specs.Complete.{StartsBy}
 use Rattle.lcm_program.specs.Did.{Did}
 use Rattle.lcm_program.specs.Further.{Further}
-use Rattle.lcm_program.specs.Input.{Reading}
+use Rattle.lcm_program.specs.Input.{Reading, ReadsBytes, input_limit}
 use Rattle.lcm_program.specs.Objects.{IsOffline, Known, Objects}
 use Rattle.lcm_program.specs.Started.{InputEnds, IsStart, PartEnds, RegisterEnds, outside_of, started, unread}
-use Rattle.lcm_program.specs.StartsOrRests.{IsNodeStart, WordsStartOrRest}
+use Rattle.lcm_program.specs.StartsOrRests.{IsNodeStart, IsStartBy, WordsStartOrRest}
+
+-- what is read of an input is so where that is shown
+read_as : (left : Option (List ℕ)) (P : List ℕ → Type 0) (all : List ℕ) → IfSome left (λ shown. shown ≡ all) → P all → IfSome left P
+read_as None P all is p = tt
+read_as (Some shown) P all is p = subst P (sym is) p
+
+unread_as : (left : Option (List ℕ)) (P : List ℕ → Type 0) → ((all : List ℕ) → P all) → IfSome left P
+unread_as None P p = tt
+unread_as (Some shown) P p = p shown
 
 module _ {S K D M L C : Type 0} (o : Known S K D M L C) (further : Further D M C) (status : Status) (before after : Objects S K D M L C) where
-  abbrev Goes : Type 0
-  Goes = IsNodeStart o before after ⊎ (after.disk ≡ before.disk)
+  abbrev Goes : Command → Type 0
+  Goes command = IsStartBy o command status before after ⊎ (after.disk ≡ before.disk)
 
-  by_start : (command : StartCommand) → IsStart o.sink o.outside further command status before.output after.output (outside_of o before) (outside_of o after) → Goes
-  by_start command is = inl (record {
-    one = record {
-      command = command;
-      before = outside_of o before;
-      after = outside_of o after;
-      status = is.ended;
-      lines = is.lines;
-      start = is.start;
-      headline = is.headline;
+  abbrev By : Command → StartCommand → List ℕ → Type 0
+  By command start all = StartsBy (Some all) command start
+
+  by_start : (command : Command) (start : StartCommand) → IfSome (o.source.left before.input) (By command start)
+      → IsStart o.sink o.outside further start status before.output after.output (outside_of o before) (outside_of o after) → Goes command
+  by_start command start by is = inl (record {
+    start = record {
+      one = record {
+        command = start;
+        before = outside_of o before;
+        after = outside_of o after;
+        status = is.ended;
+        lines = is.lines;
+        start = is.start;
+        headline = is.headline;
+      };
+      begins = refl;
+      ends = refl;
     };
-    begins = refl;
-    ends = refl;
+    by = by;
+    prints = is.prints;
   })
 
-  rests : IsOffline before after → Goes
-  rests same = inr same.disk
+  -- by a command without an input
+  by_words : (command : Command) (start : StartCommand) → ((all : List ℕ) → By command start all)
+      → IsStart o.sink o.outside further start status before.output after.output (outside_of o before) (outside_of o after) → Goes command
+  by_words command start by is = by_start command start (unread_as (o.source.left before.input) (By command start) by) is
 
-  unchanged : outside_of o after ≡ outside_of o before → Goes
-  unchanged same = inr (ap (λ (x : Outside D M C). x.disk) same)
+  rests : (command : Command) → IsOffline before after → Goes command
+  rests command same = inr same.disk
 
-  by_input : {A : Type 0} (reads : Reading A) (command_of : A → StartCommand)
+  unchanged : (command : Command) → outside_of o after ≡ outside_of o before → Goes command
+  unchanged command same = inr (ap (λ (x : Outside D M C). x.disk) same)
+
+  by_input : (command : Command) {A : Type 0} (reads : Reading A) (command_of : A → StartCommand) → ((value : A) (all : List ℕ) → reads all (Ok value) → By command (command_of value) all)
       → InputEnds reads command_of o.source o.sink o.outside further status before.input after.input before.output after.output (outside_of o before) (outside_of o after)
-      → Goes
-  by_input reads command_of (started value is start) = by_start (command_of value) start
-  by_input reads command_of (unread cause is ends same) = unchanged same
+      → Goes command
+  by_input command reads command_of by (started value is start) =
+      by_start command (command_of value) (read_as (o.source.left before.input) (By command (command_of value)) is.all is.input_is (by value is.all is.is_answer)) start
+  by_input command reads command_of by (unread cause is ends same) = unchanged command same
 
-  by_register : (name : List ℕ)
-      → RegisterEnds o.sink o.outside further name status before.output after.output (outside_of o before) (outside_of o after) → Goes
-  by_register name (inl start) = by_start _ start
-  by_register name (inr silent) = unchanged silent.1
+  by_register : (command : Command) (name : List ℕ) → ((all : List ℕ) → By command (commands.Register (chars name)) all)
+      → RegisterEnds o.sink o.outside further name status before.output after.output (outside_of o before) (outside_of o after) → Goes command
+  by_register command name by (inl start) = by_words command (commands.Register (chars name)) by start
+  by_register command name by (inr silent) = unchanged command silent.1
 
-  by_part : (name : List ℕ)
-      → PartEnds o.source o.sink o.outside further name status before.input after.input before.output after.output (outside_of o before) (outside_of o after) → Goes
-  by_part name (inl ends) = by_input _ _ ends
-  by_part name (inr silent) = unchanged silent.1
+  by_part : (command : Command) (name : List ℕ) → ((bytes all : List ℕ) → ReadsBytes input_limit all (Ok bytes) → By command (commands.Push (Some (chars name)) bytes) all)
+      → PartEnds o.source o.sink o.outside further name status before.input after.input before.output after.output (outside_of o before) (outside_of o after) → Goes command
+  by_part command name by (inl ends) = by_input command _ _ by ends
+  by_part command name by (inr silent) = unchanged command silent.1
 
-  goes : (command : Command) → Did o further command status before after → Goes
-  goes Test row = rests row.offline
-  goes Check row = rests row.untouched.offline
-  goes Order row = rests row.untouched.offline
-  goes Canon row = rests row.untouched.offline
-  goes Checksum row = rests row.tool.untouched.offline
-  goes (Compile node) row = rests row.untouched.offline
-  goes (Generate count) row = rests row.untouched.offline
-  goes (Init agent) row = by_start _ row.start
-  goes Meta row = by_input _ _ row
-  goes (Register name) row = by_register name.now row.ends
-  goes Pull row = by_start _ row.start
-  goes (Push None) row = by_input _ _ row
-  goes (Push (Some name)) row = by_part name.now row
-  goes Consistency row = by_start _ row.start
-  goes Boot row = by_start _ row.start
-  goes Get row = by_start _ row.start
-  goes Restore row = by_start _ row.start
-  goes (Remove stage) row = by_start _ row.start
-  goes Reports row = by_start _ row.start
+  pub goes : (command : Command) → Did o further command status before after → Goes command
+  goes Test row = rests Test row.offline
+  goes Check row = rests Check row.untouched.offline
+  goes Order row = rests Order row.untouched.offline
+  goes Canon row = rests Canon row.untouched.offline
+  goes Checksum row = rests Checksum row.tool.untouched.offline
+  goes (Compile node) row = rests (Compile node) row.untouched.offline
+  goes (Generate count) row = rests (Generate count) row.untouched.offline
+  goes (Init agent) row = by_words (Init agent) _ (λ all. refl) row.start
+  goes Meta row = by_input Meta _ _ (λ meta all reads. (meta, reads, refl)) row
+  goes (Register name) row = by_register (Register name) name.now (λ all. refl) row.ends
+  goes Pull row = by_words Pull _ (λ all. refl) row.start
+  goes (Push None) row = by_input (Push None) _ _ (λ bytes all reads. (bytes, reads, refl)) row
+  goes (Push (Some name)) row = by_part (Push (Some name)) name.now (λ bytes all reads. (bytes, reads, refl)) row
+  goes Consistency row = by_words Consistency _ (λ all. refl) row.start
+  goes Boot row = by_words Boot _ (λ all. refl) row.start
+  goes Get row = by_words Get _ (λ all. refl) row.start
+  goes Restore row = by_words Restore _ (λ all. refl) row.start
+  goes (Remove stage) row = by_words (Remove stage) _ (λ all. refl) row.start
+  goes Reports row = by_words Reports _ (λ all. refl) row.start
+
+  started_or_rests : (command : Command) → Goes command → IsNodeStart o before after ⊎ (after.disk ≡ before.disk)
+  started_or_rests command (inl is) = inl is.start
+  started_or_rests command (inr same) = inr same
 
 pub words_start_or_rest : {S K D M L C : Type 0} (o : Known S K D M L C) (further : Further D M C) → WordsStartOrRest o further
 words_start_or_rest o further arguments status before after words = record {
-  form = λ command is. goes o further status before after command (words.did command is);
+  form = λ command is. started_or_rests o further status before after command (goes o further status before after command (words.did command is));
   none = λ no. (words.nothing no).untouched.offline.disk;
 }

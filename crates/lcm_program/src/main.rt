@@ -30,7 +30,9 @@
 //! - the command `generate`: `src/generate.rt`, `specs/Generate.antt`
 //! - the command `rehearse`: `src/rehearse.rt`, `specs/Rehearse.antt`; a start in it is `node_words` of
 //!   `src/program.rt`, `specs/DidWords.antt`, and with it a start of `dsc_node`, or it leaves the disk:
-//!   `specs/StartsOrRests.antt`, `src/laws.rt`
+//!   `specs/StartsOrRests.antt`, `src/laws.rt`; to which node it leads, and that its trace is true of the machine that
+//!   the start before it left: `specs/RehearsedStarts.antt`, `src/laws.rt`, `proofs/RehearsedStarts.antt`,
+//!   `proofs/TrueTraces.antt`
 #![tactic(auto)]
 
 ghost use Rattle.std.specs.Prelude.{◌≡◌, [], IfOk};
@@ -72,7 +74,9 @@ pub use generate::repair_generated;
 pub use input::{
     Unread, read_bytes, read_document, read_instances, read_meta, read_ordered, read_within,
 };
-pub use laws::{starts_with_commands_converge, words_start_or_rest};
+pub use laws::{
+    rehearsed_starts_do_their_work, starts_with_commands_converge, words_start_or_rest,
+};
 pub use order::read_order;
 use process_spawner::ProcessSpawner;
 pub use program::{node, node_over, node_words, node_words_on_host};

@@ -9,7 +9,7 @@ ghost use Rattle.dsc_node.specs.HostHeadline.{kinds_of, machine_of};
 ghost use Rattle.lcm_program.specs.declared.words.Command.{Command};
 ghost use Rattle.lcm_program.specs.Complete.{Completes};
 ghost use Rattle.lcm_program.specs.Did.{Did, DidNothing};
-ghost use Rattle.lcm_program.specs.DidWords.{DidWords};
+ghost use Rattle.lcm_program.specs.DidWords.{AskOrNot, DidWords};
 ghost use Rattle.lcm_program.specs.Objects.{known, objects};
 ghost use Rattle.lcm_program.specs.Further.{nothing_further, further_of_host};
 ghost use Rattle.lcm_program.specs.Rehearse.{Rehearsed};
@@ -190,6 +190,9 @@ pub fn node_words<S: Source, K: Sink, D: Disk, M: Machine, L: Link, C: Clock>(
     clock: &mut C,
 ) -> Status
     requires fresh { M.trace machine.old ≡ [] }
+
+    // The arguments ask for a command, or for none.
+    ensures asked { AskOrNot (map string_bytes arguments.now) }
 
     // What the arguments ask for was done, by the table of commands.
     ensures did { (command : Command) → IsForm command (map string_bytes arguments.now)

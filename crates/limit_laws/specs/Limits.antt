@@ -21,7 +21,7 @@ use Rattle.rehearsal.specs.declared.limits.TheConstants as rehearsals
 
 -- a text in bytes, its instances, properties and elements; identifiers in characters, names of files in bytes; resources, ids and versions
 pub record DocumentLimits : Type 0 where
-  pub document : MAX_DOCUMENT ≡ 2097152
+  pub document : MAX_DOCUMENT ≡ 8388608
   pub instances : MAX_INSTANCES ≡ 4097
   pub properties : MAX_PROPERTIES ≡ 256
   pub elements : MAX_ELEMENTS ≡ 4096

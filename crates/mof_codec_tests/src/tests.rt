@@ -98,7 +98,7 @@ fn prints(rt: &impl AllocGlobal, error: &impl Display, words: &str) -> Result<bo
 
 #[test]
 fn errors_are_printed(rt: HostRuntime) -> Result<(), Fail> {
-    let words = "the document is longer than 2097152 bytes";
+    let words = "the document is longer than 8388608 bytes";
     holds(prints(&rt, &FeedError::TooLong, words)?, words)?;
     holds(prints(&rt, &FeedError::Memory, "out of memory")?, "memory")
 }

@@ -85,7 +85,7 @@ pub record SyntaxExamples : Type 0 where
 
 -- of bytes
 pub record ByteExamples : Type 0 where
-  pub too_long : (bytes : List ℕ) → length bytes ≡ 2097153 → Refuses bytes TooLong
-  pub longest : (bytes : List ℕ) → length bytes ≡ 2097152 → Refuses bytes TooLong → ⊥
+  pub too_long : (bytes : List ℕ) → length bytes ≡ 8388609 → Refuses bytes TooLong
+  pub longest : (bytes : List ℕ) → length bytes ≡ 8388608 → Refuses bytes TooLong → ⊥
   pub after_a_mark : Refuses (0xEF ∷ 0xBB ∷ 0xBF ∷ given (codes "1.5")) (OutOfProfile 20 forms.Real)
   pub no_character : Refuses (codes "instance" ++ 0xFF ∷ []) (Text 8)

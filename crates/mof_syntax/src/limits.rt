@@ -1,7 +1,7 @@
 //! Limits of a document. They are those of this profile.
 
 /// The most bytes of a document.
-pub const MAX_DOCUMENT: usize = 2_097_152;
+pub const MAX_DOCUMENT: usize = 8_388_608;
 
 /// The most instances of a text.
 pub const MAX_INSTANCES: usize = 4_097;

@@ -1,6 +1,8 @@
 -- The front of the node after an event.
 use Rattle.std.proofs.Common.{◌≡◌, zero, suc, subst, arith, All, List, ℕ, Option, Some, None, [], ◌∷◌, ◌++◌, map, refl, sym, ap, ◌∙◌}
 use Rattle.std.specs.Prelude.{IfSome}
+use Rattle.std.specs.List.{AllByRecursion}
+use Rattle.std.proofs.lemmas.List.Elements.{recursion_from_All}
 use Rattle.std.proofs.lemmas.Option.{same_Some}
 use Rattle.node_store.specs.Store.{IsTextOf}
 use Rattle.std.proofs.lemmas.List.{append-nil, map-append}
@@ -10,6 +12,7 @@ use Rattle.node_state.specs.declared.node.Kept.{Kept}
 use Rattle.node_state.specs.declared.node.Node.{Node}
 use Rattle.node_state.specs.declared.event.Event.{Event}
 use Rattle.node_state.specs.declared.event.Event.TheVariants as events
+use Rattle.node_state.specs.declared.piece.Piece.{Piece}
 use Rattle.node_state.specs.declared.event.Stage.TheVariants.{Pending, Current, Previous}
 use Rattle.node_state.specs.Table.{after, marked, newest, unsent}
 use Rattle.node_state.specs.declared.limits.TheConstants.{OLDER_REPORTS}
@@ -18,7 +21,7 @@ use Rattle.node_state.specs.Pieces.{base_of, front, report_of, slot_of}
 use Rattle.meta_config.specs.Writing.{text_of_meta}
 use Rattle.node_store.specs.Bodies.{BringsText, body_of_piece}
 use Rattle.node_store.specs.Next.{added, at_end, kept_before, reports_after, sent_in, with_mark}
-use Rattle.node_store.specs.Rewriting.{bodies_from_current, bodies_from_pending, bodies_from_previous, bodies_of_reports, front_bodies}
+use Rattle.node_store.specs.Whole.{bodies_after_base, marked_body}
 
 -- no mark changes nothing
 unmarked : (reports : List Kept) → map (with_mark None) reports ≡ reports
@@ -51,27 +54,28 @@ map_map : {X Y Z : Type 0} (f : Y → Z) (g : X → Y) (xs : List X) → map f (
 map_map f g [] = refl
 map_map f g (x ∷ xs) = ap (λ l. f (g x) ∷ l) (map_map f g xs)
 
--- the bodies of the pieces of a front, part by part
-pub front_is : (agent : ℕ) (node : Node) (event : Event) → front_bodies agent node event ≡ map body_of_piece (front agent (after node event))
+-- pieces in four parts
+in_parts : (first second third rest : List Piece) → map body_of_piece first ++ (map body_of_piece second ++ (map body_of_piece third ++ map body_of_piece rest)) ≡ map body_of_piece (first ++ (second ++ (third ++ rest)))
+in_parts first second third rest =
+    ap (λ (l : List (List ℕ)). map body_of_piece first ++ (map body_of_piece second ++ l)) (sym (map-append body_of_piece third rest))
+    ∙ ap (λ (l : List (List ℕ)). map body_of_piece first ++ l) (sym (map-append body_of_piece second (third ++ rest)))
+    ∙ sym (map-append body_of_piece first (second ++ (third ++ rest)))
+
+-- the bodies of the pieces of the node after an event, part by part
+pub front_is : (agent : ℕ) (node : Node) (event : Event)
+    → body_of_piece (base_of agent (after node event)) ∷ bodies_after_base (after node event).pending (after node event).current (after node event).previous (sent_in event) (kept_before node event) (added event)
+    ≡ map body_of_piece (front agent (after node event))
 front_is agent node event =
     let next = after node event in
-    let body = body_of_piece in
-    let of_report : Kept → List ℕ = λ kept. body (report_of kept) in
+    let of_report : Kept → List ℕ = λ kept. body_of_piece (report_of kept) in
     let mark = with_mark (sent_in event) in
-    let reports : bodies_of_reports node event ≡ map body (map report_of next.reports) =
+    let reports : map (marked_body (sent_in event)) (kept_before node event) ++ map of_report (at_end (added event)) ≡ map body_of_piece (map report_of next.reports) =
     ap (λ (l : List (List ℕ)). l ++ map of_report (at_end (added event))) (sym (map_map of_report mark (kept_before node event)))
     ∙ sym (map-append of_report (map mark (kept_before node event)) (at_end (added event)))
     ∙ ap (λ (l : List Kept). map of_report l) (reports_are node event)
-    ∙ sym (map_map body report_of next.reports) in
-    let previous : bodies_from_previous node event ≡ map body (slot_of Previous next.previous ++ map report_of next.reports) =
-    ap (λ (l : List (List ℕ)). map body (slot_of Previous next.previous) ++ l) reports ∙ sym (map-append body (slot_of Previous next.previous) (map report_of next.reports)) in
-    let current : bodies_from_current node event ≡ map body (slot_of Current next.current ++ (slot_of Previous next.previous ++ map report_of next.reports)) =
-    ap (λ (l : List (List ℕ)). map body (slot_of Current next.current) ++ l) previous
-    ∙ sym (map-append body (slot_of Current next.current) (slot_of Previous next.previous ++ map report_of next.reports)) in
-    let pending : bodies_from_pending node event ≡ map body (slot_of Pending next.pending ++ (slot_of Current next.current ++ (slot_of Previous next.previous ++ map report_of next.reports))) =
-    ap (λ (l : List (List ℕ)). map body (slot_of Pending next.pending) ++ l) current
-    ∙ sym (map-append body (slot_of Pending next.pending) (slot_of Current next.current ++ (slot_of Previous next.previous ++ map report_of next.reports))) in
-    ap (λ (l : List (List ℕ)). body (base_of agent next) ∷ l) pending
+    ∙ sym (map_map body_of_piece report_of next.reports) in
+    ap (λ (l : List (List ℕ)). body_of_piece (base_of agent next) ∷ (map body_of_piece (slot_of Pending next.pending) ++ (map body_of_piece (slot_of Current next.current) ++ (map body_of_piece (slot_of Previous next.previous) ++ l)))) reports
+    ∙ ap (λ (l : List (List ℕ)). body_of_piece (base_of agent next) ∷ l) (in_parts (slot_of Pending next.pending) (slot_of Current next.current) (slot_of Previous next.previous) (map report_of next.reports))
 
 -- ---- reports in size
 
@@ -91,8 +95,9 @@ back_size (x ∷ xs) report all = back_size xs report (λ n e less. all (suc n) 
 all_in_size : (node : Node) (event : Event) → Sound (after node event) → All InSize (reports_after node event)
 all_in_size node event sound = subst (λ (l : List Kept). All InSize l) (sym (reports_are node event)) sound.reports.sizes
 
-pub kept_in_size : (node : Node) (event : Event) → Sound (after node event) → All (λ kept. ReportInSize kept.report) (kept_before node event)
-kept_in_size node event sound = front_sizes (sent_in event) (kept_before node event) (at_end (added event)) (all_in_size node event sound)
+pub kept_in_size : (node : Node) (event : Event) → Sound (after node event) → AllByRecursion (λ kept. ReportInSize kept.report) (kept_before node event)
+kept_in_size node event sound =
+    recursion_from_All InSize (kept_before node event) (front_sizes (sent_in event) (kept_before node event) (at_end (added event)) (all_in_size node event sound))
 
 pub added_in_size : (node : Node) (event : Event) → Sound (after node event) → IfSome (added event) ReportInSize
 added_in_size node event sound = back_size (map (with_mark (sent_in event)) (kept_before node event)) (added event) (all_in_size node event sound)

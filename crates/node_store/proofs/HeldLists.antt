@@ -1,8 +1,8 @@
 -- Lists of parts that a node holds already, and bytes that are theirs.
-use Rattle.std.proofs.Common.{◌≡◌, ◌∙◌, inl, inr, ℕ, Bool, true, List, [], ◌∷◌, ◌++◌, Bor, Option, Some, None, is_some, refl, sym, ap, subst, append_assoc}
+use Rattle.std.proofs.Common.{◌≡◌, ◌∙◌, ◌≤◌, ◌-◌, inl, inr, ℕ, Bool, true, List, [], ◌∷◌, ◌++◌, take, drop, get_or, length, arith, Bor, Option, Some, None, is_some, refl, sym, ap, subst, append_assoc}
 use Rattle.std.specs.Prelude.{◌≢◌, ◌↔◌, IfSome, MatchOption}
 use Rattle.std.specs.List.{flat_map}
-use Rattle.std.proofs.lemmas.List.{append_cancel_left}
+use Rattle.std.proofs.lemmas.List.{append_cancel_left, take_all}
 use Rattle.std.proofs.lemmas.List.Concat.{flat_map-cons}
 use Rattle.std.proofs.lemmas.Option.{none-some}
 use Rattle.partial_merge.specs.declared.part.Part.{Part}
@@ -19,6 +19,11 @@ use Rattle.node_store.specs.Parts.{bytes_of_part, IsPart}
 use Rattle.node_store.specs.Split.{front_of_part}
 use Rattle.node_store.specs.Taking.{Moves}
 use Rattle.node_store.proofs.Split.{part_whole}
+
+-- what is left begins with its first, and goes on with the others
+pub left_is : {X : Type 0} (xs : List X) (x : X) → 1 ≤ length xs → x ≡ get_or xs 0 x → xs ≡ x ∷ take (length xs - 1) (drop 1 xs)
+left_is [] x some is = absurd (omega (arith, some))
+left_is (y ∷ ys) x some is = λ i. sym is i ∷ sym (take_all (length (y ∷ ys) - 1) ys (omega arith)) i
 
 -- ---- a part in front
 

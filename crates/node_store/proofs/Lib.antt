@@ -9,7 +9,6 @@ pub mod PartsRead
 pub mod Ranges
 pub mod Replay
 pub mod Reported
-pub mod RewriteSteps
 pub mod Sizes
 pub mod Split
 pub mod Wholes

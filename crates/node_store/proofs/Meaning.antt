@@ -1,28 +1,19 @@
 -- An image of a store stands for one sound node, or it fails and stands for none.
-use Rattle.std.proofs.Common.{◌≡◌, ℕ, Bool, false, List, [], ◌∷◌, ◌++◌, refl, sym, ◌∙◌, subst, arith, append_assoc}
+use Rattle.std.proofs.Common.{ℕ, Bool, false, List, [], ◌∷◌, ◌++◌, refl, sym, subst, arith, append_assoc}
 use Rattle.std.proofs.lemmas.List.{append-nil}
-use Rattle.gate_log.proofs.Both.{never_refused, one_list}
+use Rattle.gate_log.specs.Kept.{LeadFromFront, LeadToOne}
+use Rattle.gate_log.proofs.Leading.{none_by, one_by}
 use Rattle.node_state.specs.declared.node.Node.{Node}
 use Rattle.node_state.specs.Table.{new_node}
 use Rattle.node_store.specs.Laws.{FailingStandForNone, NodesAreOne, NodesAreSound}
-use Rattle.node_store.specs.Stands.{EndsAt, LeadSomewhere, Leads, node_shape}
+use Rattle.node_store.specs.Stands.{Leads, node_shape}
 use Rattle.node_store.specs.Taking.{Reached, has_events}
 use Rattle.node_store.proofs.Ranges.{leads_sound}
 use Rattle.node_store.proofs.Runs.{Runs, leads_run, nothing_reached, reached_by, runs_one}
 
-pub one_led : (bodies : List (List ℕ)) (one other : Node) → Leads bodies one → Leads bodies other → one ≡ other
-one_led bodies one other first second =
+pub lead_to_one : LeadToOne Leads
+lead_to_one bodies one other first second =
     (runs_one new_node false bodies one other (has_events first.events) (has_events second.events) (leads_run bodies one first) (leads_run bodies other second)).0
-
-pub one_node : NodesAreOne
-one_node image one other first second =
-    let same = one_list node_shape image first.bodies second.bodies (omega arith) first.gives second.gives in
-    one_led second.bodies one other (subst (λ (bodies : List (List ℕ)). Leads bodies one) same first.leads) second.leads
-
-pub sound_node : NodesAreSound
-sound_node image node stands = leads_sound stands.bodies node stands.leads
-
--- ---- an image that fails
 
 -- the first of bodies that make of the node another one
 runs_front : (old new : Node) (begun after : Bool) (front rest : List (List ℕ)) → Runs old begun (front ++ rest) new after → (mid : Node) × (flag : Bool) × Runs old begun front mid flag
@@ -40,16 +31,19 @@ runs_reach old new begun after reached (body ∷ bodies) so_far (m, f, move, mor
     subst (λ (l : List (List ℕ)). Reached new after l) (append_assoc reached (body ∷ []) bodies)
     (runs_reach m new f after (reached ++ body ∷ []) bodies (reached_by old m begun f reached body move.of so_far move.is move.goes) more)
 
--- what leads to a node does not end before
-leads_on : (front rest bodies : List (List ℕ)) (body : List ℕ) (node : Node) → Leads bodies node → bodies ≡ front ++ body ∷ rest → EndsAt front body → ⊥
-leads_on front rest bodies body node leads is ends =
-    let whole = is ∙ sym (append_assoc front (body ∷ []) rest) in
-    let runs = subst (λ (l : List (List ℕ)). Runs new_node false l node (has_events leads.events)) whole (leads_run bodies node leads) in
-    let first = runs_front new_node node false (has_events leads.events) (front ++ body ∷ []) rest runs in
-    let reached = runs_reach new_node first.0 false first.1 [] (front ++ body ∷ []) nothing_reached first.2 in
-    ends.ends first.0 reached.leads
+-- the first of bodies that lead to a node lead to one too
+pub lead_from_front : LeadFromFront Leads
+lead_from_front front rest node leads =
+    let first = runs_front new_node node false (has_events leads.events) front rest (leads_run (front ++ rest) node leads) in
+    (first.0, (runs_reach new_node first.0 false first.1 [] front nothing_reached first.2).leads)
+
+-- ---- images
+
+pub one_node : NodesAreOne
+one_node = one_by node_shape Leads (omega arith) lead_to_one
+
+pub sound_node : NodesAreSound
+sound_node image node stands = leads_sound stands.bodies node stands.leads
 
 pub failing_for_none : FailingStandForNone
-failing_for_none image at node fails stands =
-    never_refused node_shape LeadSomewhere (λ front body. EndsAt front body) image stands.bodies at (omega arith) stands.gives
-    (λ front rest body is ends. leads_on front rest stands.bodies body node stands.leads is ends) fails
+failing_for_none = none_by node_shape Leads (omega arith) lead_from_front

@@ -38,9 +38,9 @@ use Rattle.node_store.specs.declared.limits.TheConstants.{BANK, MAX_BODY}
 use Rattle.node_state.specs.declared.limits.TheConstants.{MAX_BYTES, MAX_REPORTS}
 use Rattle.report_log.specs.declared.limits.TheConstants.{LISTED_LIMIT, MAX_PARTS}
 use Rattle.gate_log.proofs.Cells.{length-after_gate}
+use Rattle.gate_log.proofs.OneByOne.{cells_both}
 use Rattle.node_store.proofs.Lengths.{utf8_most}
 use Rattle.node_store.proofs.Reported.{job_of, run_of, result_of, lists_of, spelled}
-use Rattle.node_store.proofs.RewriteSteps.{length-cells-append}
 
 -- ---- fields
 
@@ -263,7 +263,7 @@ small_none = (omega arith, tt)
 small_one : (piece : Piece) (rest : List Piece) (n m : ℕ) → length (body_of_piece piece) ≤ n → n ≤ MAX_BODY → Small m rest → Small (5 + n + m) (piece ∷ rest)
 unfolding Small
 small_one piece rest n m long most small =
-    (omega (arith, long, small.0, length-cells-append (body_of_piece piece ∷ []) (map body_of_piece rest), one_cell (body_of_piece piece)), (omega (arith, long, most), small.1))
+    (omega (arith, long, small.0, cells_both (body_of_piece piece ∷ []) (map body_of_piece rest), one_cell (body_of_piece piece)), (omega (arith, long, most), small.1))
   where
     one_cell : (body : List ℕ) → length (cells (body ∷ [])) ≡ 5 + length body
     one_cell body = omega (arith, length-append (after_gate body) [], length-after_gate body)

@@ -1,5 +1,6 @@
 -- What holds of the bodies of events and pieces.
 use Rattle.std.specs.Prelude.{◌≡◌, ℕ, ◌≤◌, ◌<◌, All, List, length, map}
+use Rattle.gate_log.specs.Kept.{FailingStandForNone as NoneWhereFailing, StandForOne, StandForSound}
 use Rattle.gate_log.specs.Text.{AllFit, cells}
 use Rattle.node_state.specs.declared.event.Event.{Event}
 use Rattle.node_state.specs.declared.node.Node.{Node}
@@ -7,7 +8,7 @@ use Rattle.node_state.specs.Pieces.{front}
 use Rattle.node_state.specs.Sound.{Sound}
 use Rattle.node_store.specs.declared.body.Body.{Body}
 use Rattle.node_store.specs.Bodies.{body_of_event, body_of_piece, HasDigests, IsBody, IsEventInRange}
-use Rattle.node_store.specs.Stands.{FailsAt, Stands, node_shape}
+use Rattle.node_store.specs.Stands.{Leads, node_shape}
 
 -- a body is of one event or piece at most
 abbrev pub BodiesAreOfOne : Type 0
@@ -28,12 +29,12 @@ FrontsFit = (agent : ℕ) (node : Node) → Sound node → All (λ kept. HasDige
 
 -- an image stands for one node at most
 abbrev pub NodesAreOne : Type 0
-NodesAreOne = (image : List ℕ) (one other : Node) → Stands image one → Stands image other → one ≡ other
+NodesAreOne = StandForOne node_shape Leads
 
 -- the node that an image stands for is sound
 abbrev pub NodesAreSound : Type 0
-NodesAreSound = (image : List ℕ) (node : Node) → Stands image node → Sound node
+NodesAreSound = StandForSound node_shape Leads Sound
 
 -- an image that fails stands for no node
 abbrev pub FailingStandForNone : Type 0
-FailingStandForNone = (image : List ℕ) (at : ℕ) (node : Node) → FailsAt image at → Stands image node → ⊥
+FailingStandForNone = NoneWhereFailing node_shape Leads

@@ -8,6 +8,6 @@ pub mod Store
 -- for private clauses alone
 pub mod Held
 pub mod Next
-pub mod Rewriting
 pub mod Split
 pub mod Taking
+pub mod Whole

@@ -1,9 +1,8 @@
 -- What an image of a node's store stands for.
-use Rattle.std.specs.Prelude.{◌≡◌, ◌⊎◌, ℕ, List, [], ◌∷◌, ◌++◌, map}
+use Rattle.std.specs.Prelude.{◌≡◌, ◌⊎◌, ℕ, List, ◌++◌, map}
 use Rattle.std.specs.List.{AllByRecursion}
 use Rattle.gate_log.specs.declared.shape.Shape.{Shape}
-use Rattle.gate_log.specs.Text.{Gives}
-use Rattle.gate_log.specs.Replay.{IsRefused}
+use Rattle.gate_log.specs.Kept.{EndsBy, FailsBy, StandsBy}
 use Rattle.node_state.specs.declared.node.Node.{Node}
 use Rattle.node_state.specs.declared.event.Event.{Event}
 use Rattle.node_state.specs.declared.piece.Piece.{Piece}
@@ -28,28 +27,18 @@ pub record Leads (bodies : List (List ℕ)) (node : Node) : Type 0 where
   pub ranges : AllByRecursion IsEventInRange events
 
 -- the image gives bodies that lead to the node
-pub record Stands (image : List ℕ) (node : Node) : Type 0 where
-  pub bodies : List (List ℕ)
-  pub gives : Gives node_shape image bodies
-  pub leads : Leads bodies node
-
--- these bodies lead to some node
-abbrev pub LeadSomewhere : List (List ℕ) → Type 0
-LeadSomewhere bodies = (node : Node) × Leads bodies node
+abbrev pub Stands : List ℕ → Node → Type 0
+Stands = StandsBy node_shape Leads
 
 -- these bodies lead to a node, and with this one after them to none
-pub record EndsAt (bodies : List (List ℕ)) (body : List ℕ) : Type 0 where
-  pub lead : LeadSomewhere bodies
-  pub ends : (node : Node) → Leads (bodies ++ body ∷ []) node → ⊥
+abbrev pub EndsAt : List (List ℕ) → List ℕ → Type 0
+EndsAt = EndsBy Leads
 
 -- An image of more than nine bytes stands for no node. The place is the byte at which the text of a store fails, or the first
 -- byte of the first body with which the bodies lead to no node, whichever comes first.
 abbrev pub FailsAt : List ℕ → ℕ → Type 0
-FailsAt image at = IsRefused node_shape LeadSomewhere EndsAt image at
+FailsAt = FailsBy node_shape Leads
 
 -- the node before the event, or the one after it
 abbrev pub BeforeOrAfter : Node → Event → Node → Type 0
 BeforeOrAfter old event node = (node ≡ old) ⊎ Step old event node
-
-abbrev pub IsEither : Node → Node → Node → Type 0
-IsEither old new node = (node ≡ old) ⊎ (node ≡ new)

@@ -1,9 +1,9 @@
 -- A store, its disk, and what its calls answer.
-use Rattle.std.specs.Prelude.{◌≡◌, ◌⊎◌, ℕ, Bool, true, false, List, Some, None, IfSome, Option, Result, Ok, Err, ⊤}
+use Rattle.std.specs.Prelude.{◌≡◌, ℕ, Bool, true, false, List, Some, None, Option, Result, Ok, Err, ⊤}
 use Rattle.dsc_outside.specs.declared.disk.Disk.{Ghosts}
-use Rattle.dsc_outside.specs.Disk.{Still}
 use Rattle.dsc_terms.specs.Counts.{Rose}
-use Rattle.gate_log.specs.Log.{LogTerm, IsLogOf}
+use Rattle.gate_log.specs.Log.{LogTerm}
+use Rattle.gate_log.specs.Kept.{IsKeptBy, IsReadyBy, NotOpenedBy}
 use Rattle.node_state.specs.declared.node.Node.{Node}
 use Rattle.node_state.specs.declared.event.Event.{Event}
 use Rattle.node_state.specs.declared.event.Event.TheVariants as events
@@ -12,7 +12,7 @@ use Rattle.node_store.specs.declared.error.StoreError.{StoreError}
 use Rattle.node_store.specs.declared.error.StoreError.TheVariants.{Spent, NotAllowed, Disk, NotAStore, Memory}
 use Rattle.mof_values.specs.declared.memory.Memory.{Memory as NoMemory}
 use Rattle.meta_config.specs.Writing.{text_of_meta}
-use Rattle.node_store.specs.Stands.{Leads, FailsAt, node_shape}
+use Rattle.node_store.specs.Stands.{Leads, node_shape}
 
 -- what contracts see of a store
 pub record StoreTerm : Type 0 where
@@ -24,21 +24,13 @@ pub record StoreTerm : Type 0 where
 abbrev pub is_spent : StoreTerm → Bool
 is_spent store = store.log.spent
 
--- the log is of the disk, and its bodies lead to the node
-pub record IsKeptBy {D : Type 0} (d : Ghosts D) (disk : D) (log : LogTerm) (node : Node) : Type 0 where
-  pub bodies : List (List ℕ)
-  pub of : IsLogOf d disk log bodies
-  pub leads : Leads bodies node
-  pub shape : log.shape ≡ node_shape
-  pub unspent : log.spent ≡ false
-
--- the store is of the disk
+-- the store is of the disk: its log is, and the log's bodies lead to its node
 abbrev pub IsKept : {D : Type 0} → Ghosts D → D → StoreTerm → Type 0
-IsKept d disk store = IsKeptBy d disk store.log store.node
+IsKept d disk store = IsKeptBy d disk node_shape Leads store.log store.node
 
 -- it is, or a commit of it answered Disk
 abbrev pub IsReady : {D : Type 0} → Ghosts D → D → StoreTerm → Type 0
-IsReady d disk store = (is_spent store ≡ true) ⊎ IsKept d disk store
+IsReady d disk store = IsReadyBy d disk node_shape Leads store.log store.node
 
 -- the store could commit, and its node allowed the event
 pub record WasTried (old : StoreTerm) (event : Event) : Type 0 where
@@ -79,9 +71,8 @@ Committed d old event before now (Err Memory) new = WasTried old event × TakesM
 Committed d old event before now (Err (NotAStore at)) new = ⊥
 
 -- the file fails at that byte, and it is as it was
-pub record IsNoStore {D : Type 0} (d : Ghosts D) (old new : D) (at : ℕ) : Type 0 where
-  pub fails : IfSome (d.shown old) (λ held. FailsAt held at)
-  pub still : Still d.shown d.images d.moment d.left_since old new
+abbrev pub IsNoStore : {D : Type 0} → Ghosts D → D → D → ℕ → Type 0
+IsNoStore d old new at = NotOpenedBy d old new node_shape Leads at
 
 -- the cause of an opening's error
 abbrev pub Unopened : {D : Type 0} → Ghosts D → D → D → StoreError → Type 0
@@ -90,15 +81,6 @@ Unopened d old new (NotAStore at) = IsNoStore d old new at
 Unopened d old new Memory = ⊤
 Unopened d old new (NotAllowed why) = ⊥
 Unopened d old new Spent = ⊥
-
--- what writing the node after an event answers: the log's bodies lead to it, or the disk failed
-abbrev pub Wrote : {T D : Type 0} → Ghosts D → D → D → Node → LogTerm → Result T StoreError → Type 0
-Wrote d old new node log (Ok v) = IsKeptBy d new log node
-Wrote d old new node log (Err Disk) = Rose (d.faults old) (d.faults new) × (log.spent ≡ true)
-Wrote d old new node log (Err Spent) = ⊥
-Wrote d old new node log (Err (NotAllowed why)) = ⊥
-Wrote d old new node log (Err (NotAStore at)) = ⊥
-Wrote d old new node log (Err Memory) = ⊥
 
 -- the canonical text of the meta-configuration that the event brings, if it brings one
 abbrev pub IsTextOf : Event → Option (List ℕ) → Type 0

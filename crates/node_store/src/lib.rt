@@ -12,21 +12,22 @@
 //! - the body of an event or a piece of a node, and how it is read: `specs/Bodies.antt`; of a report
 //!   `specs/Reports.antt`, `src/reports.rt`; of parts `specs/Parts.antt`, `src/parts.rt`; `src/spelling.rt`,
 //!   `src/reading.rt`; the two pieces in which it is written `specs/Split.antt`, `proofs/Split.antt`
-//! - what an image of a node's store stands for, what a commit answers: `specs/Stands.antt`, `specs/Store.antt`
+//! - what an image of a node's store stands for, what a commit answers: `specs/Stands.antt`, `specs/Store.antt`; that a
+//!   node is a state that `gate_log` keeps: `src/kept_node.rt`
 //! - the opening of a node's store: `src/opening.rt` over `src/taking.rt`, which takes the bodies one by one;
 //!   `specs/Taking.antt`; a list that the node holds is not read again `src/held.rt`, `specs/Held.antt`; that bodies
 //!   lead to one node at most `proofs/Runs.antt`
 //! - a commit: `src/store.rt`, `specs/Store.antt`; a disk that no call was made of `proofs/AtRest.antt`
-//! - how an event is written, or the whole node after it: `src/writing.rt`, `src/appending.rt`, `src/rewriting.rt` over
-//!   `src/next.rt` (the node after an event, looked at before it is applied); `specs/Rewriting.antt`,
-//!   `proofs/RewriteSteps.antt`, `proofs/Rewritten.antt`
+//! - how an event is written, or the whole node after it: `src/writing.rt`; the bodies of that node's pieces, one after
+//!   the other: `src/whole.rt` over `src/next.rt` (the node after an event, looked at before it is applied),
+//!   `specs/Whole.antt`, `specs/Next.antt`; that they fit a bank and lead to it `proofs/Rewritten.antt`
 #![tactic(auto)]
 
-mod appending;
 mod body;
 mod digests;
 mod error;
 mod held;
+mod kept_node;
 mod laws;
 mod limits;
 mod metas;
@@ -35,10 +36,10 @@ mod opening;
 mod parts;
 mod reading;
 mod reports;
-mod rewriting;
 mod spelling;
 mod store;
 mod taking;
+mod whole;
 mod writing;
 
 pub use body::Body;

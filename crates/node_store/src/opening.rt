@@ -5,18 +5,12 @@ ghost use Rattle.node_store.specs.Stands.{Stands};
 ghost use Rattle.node_store.specs.Store.{IsKept, Unopened};
 
 use crate::error::StoreError;
-use crate::limits::{BANK, MAX_BODY};
+use crate::kept_node::{KeptNode, NODE_SHAPE};
 use crate::store::NodeStore;
 use crate::taking::Taking;
 use dsc_outside::Disk;
-use gate_log::{LogError, Shape, replay_log};
+use gate_log::{LogError, open_kept};
 use std::alloc::Global;
-
-/// The sizes of a node's store.
-const NODE_SHAPE: Shape = Shape {
-    bank: BANK,
-    largest: MAX_BODY as u32,
-};
 
 /// Opens the store of a disk; a file of at most nine bytes becomes a new store, of a node that nothing has happened to.
 ///
@@ -36,7 +30,7 @@ pub fn open_store<D: Disk>(alloc: Global, disk: &mut D) -> Result<NodeStore, Sto
     ensures count { D.faults disk.old ≤ D.faults disk.new }
 {
     let mut taking = Taking::new(alloc);
-    match replay_log(alloc, disk, NODE_SHAPE, &mut taking) {
+    match open_kept::<KeptNode, D, Taking>(alloc, disk, NODE_SHAPE, &mut taking) {
         Ok(log) => Ok(NodeStore::of(alloc, log, taking.node)?),
         Err(LogError::Disk) => Err(StoreError::Disk),
         Err(LogError::NotAStore { at }) => Err(StoreError::NotAStore { at }),

@@ -1,5 +1,6 @@
 //! The store of a node.
 ghost use Rattle.std.specs.Prelude.{◌≡◌, ◌≤◌, Bool, false, true, IfErr, IfOk, OnErr, OnOk, None, option_map, vec_capacity};
+ghost use Rattle.gate_log.specs.Kept.{WroteBy};
 ghost use Rattle.gate_log.specs.Text.{IsLive, need_of};
 ghost use Rattle.gate_log.specs.Log.{AtAnyMoment, capacity_in};
 ghost use Rattle.gate_log.specs.Standing.{StandsAtAnyMoment};
@@ -7,13 +8,13 @@ ghost use Rattle.meta_config.specs.Writing.{text_of_meta};
 ghost use Rattle.node_state.specs.Supply.{Supplies};
 ghost use Rattle.node_state.specs.Table.{IsWithin, after, refusal};
 ghost use Rattle.node_store.specs.Bodies.{body_of_event};
-ghost use Rattle.node_store.specs.Stands.{BeforeOrAfter, Stands};
-ghost use Rattle.node_store.specs.Store.{Committed, IsKept, IsReady, IsTextOf, StoreTerm, Supplied, TakesMemory, Wrote};
+ghost use Rattle.node_store.specs.Stands.{BeforeOrAfter, Leads, Stands, node_shape};
+ghost use Rattle.node_store.specs.Store.{Committed, IsKept, IsReady, IsTextOf, StoreTerm, Supplied, TakesMemory};
 
 use crate::error::StoreError;
 use crate::limits::MAX_BODY;
 use crate::writing::write;
-use dsc_outside::Disk;
+use dsc_outside::{Disk, Failed};
 use gate_log::Log;
 use meta_config::write_meta;
 use mof_values::Memory;
@@ -129,8 +130,8 @@ impl NodeStore {
             Ok(supply) => supply,
             Err(Memory) => return Err(StoreError::Memory),
         };
-        if let Err(error) = self.write(disk, &event, &text) {
-            return Err(error);
+        if let Err(Failed) = self.write(disk, &event, &text) {
+            return Err(StoreError::Disk);
         }
         let node = mem::replace(&mut self.node, Node::new(self.alloc));
         self.node = node.apply(event, supply);
@@ -164,12 +165,12 @@ impl NodeStore {
         disk: &mut D,
         event: &Event,
         text: &Option<Vec<u8>>,
-    ) -> Result<(), StoreError>
+    ) -> Result<(), Failed>
         requires allowed { refusal self.old.node event.now ≡ None }
         requires within { IsWithin event.now }
         requires kept { IsKept D.Disk disk.old self.old }
         requires text { IsTextOf event.now (option_map (λ text. text.items) text.now) }
-        ensures answer { Wrote D.Disk disk.old disk.new (after self.old.node event.now) self.new.log result }
+        ensures answer { WroteBy D.Disk disk.old disk.new node_shape Leads (after self.old.node event.now) self.new.log result }
         ensures any_moment { StandsAtAnyMoment D.Disk disk.old disk.new Stands (BeforeOrAfter self.old.node event.now) }
         ensures same_bank { need_of (body_of_event event.now) ≤ capacity_in self.old.log → AtAnyMoment D.Disk disk.old disk.new (IsLive self.old.log.second) }
         ensures count { D.faults disk.old ≤ D.faults disk.new }

@@ -1,5 +1,6 @@
 //! An event is written, or the node after it.
 ghost use Rattle.std.specs.Prelude.{◌≡◌, ◌+◌, ◌≤◌, None, length, vec_capacity};
+ghost use Rattle.gate_log.specs.Kept.{IsKeptBy, WroteBy};
 ghost use Rattle.gate_log.specs.Text.{IsLive, need_of};
 ghost use Rattle.gate_log.specs.Log.{AtAnyMoment, capacity_in};
 ghost use Rattle.gate_log.specs.Standing.{StandsAtAnyMoment};
@@ -7,17 +8,16 @@ ghost use Rattle.meta_config.specs.Writing.{text_of_meta};
 ghost use Rattle.node_state.specs.Table.{IsWithin, after, refusal};
 ghost use Rattle.node_store.specs.Bodies.{BringsText, IsEventInRange, body_of_event};
 ghost use Rattle.node_store.specs.Split.{after_length, head_of, tail_of};
-ghost use Rattle.node_store.specs.Stands.{BeforeOrAfter, Stands};
-ghost use Rattle.node_store.specs.Store.{IsKeptBy, Wrote};
+ghost use Rattle.node_store.specs.Stands.{BeforeOrAfter, Leads, Stands, node_shape};
 ghost use Rattle.node_store.specs.declared.limits.TheConstants.{MAX_BODY};
 
-use crate::appending::append;
 use crate::digests::look_at_digests;
-use crate::error::StoreError;
-use crate::rewriting::rewrite;
+use crate::kept_node::KeptNode;
+use crate::next::agent_after;
 use crate::spelling::{put_head_after_length, tail_of};
-use dsc_outside::Disk;
-use gate_log::Log;
+use crate::whole::Whole;
+use dsc_outside::{Disk, Failed};
+use gate_log::{Log, add_in_place, rewrite};
 use node_state::{Event, Node};
 
 /// Writes the event, or where the live bank has no capacity for it the node after it; `text` is the canonical text of the
@@ -29,13 +29,13 @@ pub fn write<D: Disk>(
     node: &Node,
     event: &Event,
     text: &[u8],
-) -> Result<(), StoreError>
+) -> Result<(), Failed>
     requires allowed { refusal node.now event.now ≡ None }
     requires within { IsWithin event.now }
-    requires kept { IsKeptBy D.Disk disk.old log.old node.now }
+    requires kept { IsKeptBy D.Disk disk.old node_shape Leads log.old node.now }
     requires text { text.now ≡ text_of_meta (after node.now event.now).meta }
     requires capacity { MAX_BODY ≤ vec_capacity buffer.old }
-    ensures answer { Wrote D.Disk disk.old disk.new (after node.now event.now) log.new result }
+    ensures answer { WroteBy D.Disk disk.old disk.new node_shape Leads (after node.now event.now) log.new result }
     ensures any_moment { StandsAtAnyMoment D.Disk disk.old disk.new Stands (BeforeOrAfter node.now event.now) }
     ensures same_bank { need_of (body_of_event event.now) ≤ capacity_in log.old → AtAnyMoment D.Disk disk.old disk.new (IsLive log.old.second) }
     ensures count { D.faults disk.old ≤ D.faults disk.new }
@@ -44,9 +44,36 @@ pub fn write<D: Disk>(
     spell(buffer, event, text);
     let tail = tail_of(event);
     if log.has_room((buffer.len() - 4 + tail.len()) as u32) {
-        return append(log, disk, buffer, tail);
+        return add_in_place::<KeptNode, D>(log, disk, buffer, tail);
     }
-    rewrite(log, disk, buffer, node, event, text)
+    write_whole(log, disk, buffer, node, event, text)
+}
+
+// Writes the node after the event into the other bank.
+fn write_whole<D: Disk>(
+    log: &mut Log,
+    disk: &mut D,
+    buffer: &mut Vec<u8>,
+    node: &Node,
+    event: &Event,
+    text: &[u8],
+) -> Result<(), Failed>
+    requires allowed { refusal node.now event.now ≡ None }
+    requires within { IsWithin event.now }
+    requires range { IsEventInRange event.now }
+    requires kept { IsKeptBy D.Disk disk.old node_shape Leads log.old node.now }
+    requires text { text.now ≡ text_of_meta (after node.now event.now).meta }
+    requires capacity { MAX_BODY ≤ vec_capacity buffer.old }
+    ensures answer { WroteBy D.Disk disk.old disk.new node_shape Leads (after node.now event.now) log.new result }
+    ensures any_moment { StandsAtAnyMoment D.Disk disk.old disk.new Stands (BeforeOrAfter node.now event.now) }
+    ensures count { D.faults disk.old ≤ D.faults disk.new }
+    ensures capacity { MAX_BODY ≤ vec_capacity buffer.new }
+{
+    let Some(agent) = agent_after(node, event) else {
+        unreachable!()
+    };
+    let mut whole = Whole::after(node, event, agent, text);
+    rewrite::<KeptNode, D, Whole<'_>>(log, disk, buffer, &mut whole)
 }
 
 // Leaves in the buffer four bytes, which the log fills, and the head of the event's body.

@@ -25,7 +25,7 @@ use std::rt::Files;
 ///
 /// Nothing is touched before the first call, and each look reads its file anew: what an administrator puts in place counts from
 /// the next call on. Put a file in place by a rename, so that none is seen that is half written. All that is kept from one call
-/// to the next is the digest that was computed last of an item of at most 2,097,152 bytes, and of a larger one, each with a copy
+/// to the next is the digest that was computed last of an item of at most 8,388,608 bytes, and of a larger one, each with a copy
 /// of the item; it is given again for equal bytes alone. A clause sees a shelf as the number of its calls that failed.
 #[derive(Drop)]
 pub struct FolderShelf<R: Files> {

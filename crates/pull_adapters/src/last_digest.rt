@@ -6,7 +6,7 @@ use sha2::{Digest, Sha256};
 use std::alloc::Global;
 
 /// The most bytes of a small item. It is a measure of this crate's own: what a reader takes as a document is no matter here.
-pub const MOST_SMALL_BYTES: usize = 2_097_152;
+pub const MOST_SMALL_BYTES: usize = 8_388_608;
 
 /// The digests that were computed last of a small item and of a larger one, each kept with a copy of the item, so that packages
 /// do not push out the configuration that a fleet asks for beside them.

@@ -41,7 +41,7 @@ under_digest (Some digest) body = if bytes_eq digest (sha256 body) then Ok body 
 abbrev pub checked_body : Reply → Result (List ℕ) PeerError
 checked_body reply = if is_sha256 reply.headers then under_digest (announced reply.headers) reply.body else Err NoChecksum
 
--- a document has at most 2,097,152 bytes
+-- a document has at most 8,388,608 bytes
 abbrev pub within_document : Result (List ℕ) PeerError → Result (List ℕ) PeerError
 within_document (Ok body) = if nat_le (length body) MAX_DOCUMENT then Ok body else Err TooLong
 within_document (Err e) = Err e

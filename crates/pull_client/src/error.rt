@@ -16,7 +16,7 @@ pub enum PeerError {
     /// The link failed.
     Link,
 
-    /// The answer reached 67,108,864 bytes; or, once its code was accepted, a content has more than 2,097,152, or the
+    /// The answer reached 67,108,864 bytes; or, once its code was accepted, a content has more than 8,388,608, or the
     /// answer to a query more than 131,072.
     TooLong,
 

@@ -1,4 +1,5 @@
 pub mod Alone
+pub mod Checksums
 pub mod Judged
 pub mod Kept
 pub mod Keys
@@ -6,5 +7,7 @@ pub mod Looks
 pub mod Own
 pub mod Rows
 pub mod Said
+pub mod SendableReplies
+pub mod SentReplies
 pub mod Served
 pub mod Shelves

@@ -8,7 +8,7 @@ use Rattle.pull_server.specs.Asked.{Asked, on}
 use Rattle.pull_server.specs.Own.{IsFirst, is_shared, own_outcome}
 use Rattle.pull_server.specs.Table.{Outcome, Rule, bad_message, bad_target, first, is_node, no_name, no_place, no_capacity, no_row, not_signed, not_there, or_else, outcome_of, says, spent, table, target, unknown_method, where_, wrong_method, wrong_version}
 
-chosen : (x y : Option Outcome) (o : Outcome) → or_else x y ≡ Some o → (x ≡ Some o) ⊎ ((x ≡ None) × (y ≡ Some o))
+pub chosen : (x y : Option Outcome) (o : Outcome) → or_else x y ≡ Some o → (x ≡ Some o) ⊎ ((x ≡ None) × (y ≡ Some o))
 chosen None y o is = inr (refl, is)
 chosen (Some p) y o is = inl is
 

@@ -7,6 +7,7 @@ pub mod Contents
 pub mod Messages
 pub mod Own
 pub mod Replies
+pub mod SentReplies
 pub mod Signed
 pub mod Table
 -- for private clauses alone

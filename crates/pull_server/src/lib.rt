@@ -11,6 +11,7 @@
 //!   answer says `specs/Answers.antt`; the rows in code `src/judging.rt`, what is kept `src/keeping.rt`
 //! - what a query is answered, and what is seen of contents meanwhile: `specs/Actions.antt`, `src/acting.rt`;
 //!   `specs/SeenContents.antt`, `src/seen.rt`
+//! - that replies read back, and that a checksum is announced only of what the shelf has: `specs/SentReplies.antt`
 #![tactic(auto)]
 
 mod acting;
@@ -26,5 +27,7 @@ mod verdict;
 
 pub use answers::answer;
 pub use judging::{is_known, is_of_version};
-pub use laws::{agents_are_alone, replies_are_of_own_rows, the_first_row_decides};
+pub use laws::{
+    agents_are_alone, replies_are_of_own_rows, replies_are_of_the_shelf, the_first_row_decides,
+};
 pub use replies::{message_reply, plain};

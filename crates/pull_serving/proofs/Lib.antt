@@ -2,6 +2,7 @@ pub mod Alone
 mod Complete
 mod CompleteRuns
 pub mod Ends
+pub mod Heard
 pub mod Opened
 mod Parting
 pub mod Pushed

@@ -2,6 +2,7 @@
 pub mod Alone
 pub mod Complete
 pub mod CompleteRuns
+pub mod Heard
 pub mod Parting
 pub mod Printing
 pub mod ServerLink

@@ -12,8 +12,8 @@
 //!   which connections end at once `src/connection.rt`, `specs/Parting.antt`
 //! - that a connection which nothing disturbs is answered: `specs/Complete.antt`; that so a run serves all its
 //!   connections: `specs/CompleteRuns.antt`
-//! - a service over a store: `src/answerer.rt`; the server as a link: `src/server_link.rt`, `specs/ServerLink.antt`; a
-//!   run in which each agent is alone: `specs/Alone.antt`
+//! - a service over a store: `src/answerer.rt`; the server as a link: `src/server_link.rt`, `specs/ServerLink.antt`,
+//!   what is heard over it: `specs/Heard.antt`; a run in which each agent is alone: `specs/Alone.antt`
 //! - a line of the server, a status: `specs/Printing.antt`, `src/printing.rt`; `specs/Status.antt`, `src/status.rt`
 #![tactic(auto)]
 
@@ -29,8 +29,8 @@ mod turns;
 pub use answerer::Answerer;
 pub use connection::{ConnectionEnd, serve_connection};
 pub use laws::{
-    only_done_requests_end_at_once, runs_leave_agents_alone, undisturbed_connections_are_answered,
-    valid_runs_complete,
+    links_are_heard, only_done_requests_end_at_once, runs_leave_agents_alone,
+    sendable_requests_are_replied, undisturbed_connections_are_answered, valid_runs_complete,
 };
 pub use server_link::ServerLink;
 pub use serving::{serve, serve_over};

@@ -3,10 +3,9 @@ pub mod Building
 pub mod Committed
 pub mod Failing
 pub mod InPlace
+pub mod Leaving
 pub mod Others
 pub mod Placing
-pub mod Putting
 pub mod Replaying
-pub mod Rewriting
 pub mod Sizes
 pub mod SoundSteps

@@ -38,7 +38,7 @@ others_stay old new change agent isnt changes =
     ap (row_of agent) is ∙ row_other agent made.0 old away
 
 pub stands_sound : (image : List ℕ) (rows : List Row) → Stands image rows → AreRows rows
-stands_sound image rows stands = sound_replayed stands.bodies [] rows no_rows stands.replays
+stands_sound image rows stands = sound_replayed stands.bodies [] rows no_rows stands.leads
 
 body_put : (job : ℕ) (body : List ℕ) (reports : List StoredReport) → has_job job reports ≡ true → body_under job (replaced job body reports) ≡ Some body
 body_put job body [] is = absurd (cc is)

@@ -1,20 +1,10 @@
 -- The rows to which bodies lead.
-use Rattle.std.proofs.Common.{◌≡◌, ℕ, List, [], ◌∷◌, ◌++◌, Option, Some, None, IfSome, refl, sym, ◌∙◌, ap, subst, arith}
-use Rattle.dsc_outside.specs.declared.disk.Disk.{Ghosts}
-use Rattle.dsc_outside.specs.Disk.{From}
-use Rattle.dsc_outside.proofs.Moments.{weaker}
-use Rattle.gate_log.specs.declared.error.LogError.{LogError}
-use Rattle.gate_log.specs.declared.error.LogError.TheVariants as errors
-use Rattle.gate_log.specs.Text.{Gives}
-use Rattle.gate_log.specs.Log.{LogTerm, AtAnyMoment, Keeps}
-use Rattle.gate_log.specs.Replay.{FailsFirst, IsRefused, Opened, Unopened, no_text, no_meaning}
-use Rattle.gate_log.proofs.Both.{one_list}
+use Rattle.std.proofs.Common.{◌≡◌, ℕ, List, [], ◌∷◌, ◌++◌, None, refl, sym, ◌∙◌, ap, subst}
+use Rattle.gate_log.specs.Kept.{LeadFromFront, LeadToOne}
 use Rattle.pull_store.specs.declared.row.Row.{Row}
 use Rattle.pull_store.specs.declared.change.Change.{Change}
 use Rattle.pull_store.specs.Rows.{after, refusal}
-use Rattle.pull_store.specs.Laws.{RowsAreOne}
-use Rattle.pull_store.specs.Stands.{IsBody, Takes, Replays, Stands, KeepsRows, LeadSomewhere, EndsAt, pull_shape}
-use Rattle.pull_store.specs.Store.{IsOpened, NotOpened}
+use Rattle.pull_store.specs.Stands.{IsBody, Takes, Replays, Leads, EndsAt}
 use Rattle.pull_store.proofs.Building.{replays_push}
 use Rattle.pull_store.proofs.BodiesRead.{one_body}
 
@@ -39,10 +29,18 @@ replays_last (first ∷ bodies) body old new replays =
     let last = replays_last bodies body replays.0 new replays.2 in
     (last.0, ((replays.0, replays.1, last.1.0), last.1.1))
 
-pub one_meaning : RowsAreOne
-one_meaning image one other first second =
-    let same = one_list pull_shape image first.bodies second.bodies (omega arith) first.gives second.gives in
-    one_replayed second.bodies [] one other (subst (λ (bodies : List (List ℕ)). Replays [] bodies one) same first.replays) second.replays
+-- the first of some bodies lead to rows too
+pub fronts_lead : LeadFromFront Leads
+fronts_lead front rest rows leads = from [] front leads
+  where
+    from : (old : List Row) (front : List (List ℕ)) → Replays old (front ++ rest) rows → (mid : List Row) × Replays old front mid
+    from old [] replays = (old, refl)
+    from old (body ∷ front) (mid, takes, more) =
+        let first = from mid front more in
+        (first.0, (mid, takes, first.1))
+
+pub lead_to_one : LeadToOne Leads
+lead_to_one bodies one other first second = one_replayed bodies [] one other first second
 
 -- ---- one body more
 
@@ -66,38 +64,3 @@ no_body rows bodies body replays none = ended rows bodies body replays (λ chang
 pub not_accepted : (rows : List Row) (bodies : List (List ℕ)) (body : List ℕ) (change : Change) → Replays [] bodies rows → IsBody body change → (refusal change rows ≡ None → ⊥) → EndsAt bodies body
 not_accepted rows bodies body change replays is refused = ended rows bodies body replays (λ other body_of_other accepted.
     refused (subst (λ (c : Change). refusal c rows ≡ None) (one_body body other change body_of_other is) accepted))
-
--- ---- an opening
-
-led : (rows : List Row) (image : List ℕ) (at : ℕ) → IsRefused pull_shape (λ bodies. Replays [] bodies rows) EndsAt image at → IsRefused pull_shape LeadSomewhere EndsAt image at
-led rows image at is = record { long = is.long; fails = by at is.fails }
-  where
-    by : (place : ℕ) → FailsFirst pull_shape (λ bodies. Replays [] bodies rows) EndsAt image place → FailsFirst pull_shape LeadSomewhere EndsAt image place
-    by place (no_text place' fails took) = no_text place' fails (rows, took)
-    by place (no_meaning second front body live cells refused) = no_meaning second front body live cells refused
-
-if_told : (shown : Option (List ℕ)) (P Q : List ℕ → Type 0) → ((held : List ℕ) → P held → Q held) → IfSome shown P → IfSome shown Q
-if_told None P Q to is = tt
-if_told (Some held) P Q to is = to held is
-
-module _ {D : Type 0} (d : Ghosts D) (old new : D) (rows : List Row) where
-  pub is_opened : (log : LogTerm) → Opened d old new pull_shape (λ bodies. Replays [] bodies rows) log → IsOpened d old new (record { log = log; rows = rows })
-  is_opened log opened = record {
-    kept = record { bodies = opened.found; of = opened.of; replays = opened.took; shape = opened.same_shape; unspent = opened.spent };
-    found = if_told (d.shown old) (λ held. Gives pull_shape held opened.found) (λ held. Stands held rows) (λ held gives. record { bodies = opened.found; gives = gives; replays = opened.took }) opened.gave;
-  }
-
-  pub not_opened : (at : ℕ) → Unopened d old new pull_shape (λ bodies. Replays [] bodies rows) (λ bodies body. EndsAt bodies body) (errors.NotAStore at) → NotOpened d old new at
-  not_opened at unopened = record {
-    fails = if_told (d.shown old) (λ held. IsRefused pull_shape (λ bodies. Replays [] bodies rows) EndsAt held at) (λ held. IsRefused pull_shape LeadSomewhere EndsAt held at) (λ held is. led rows held at is) unopened.refused;
-    still = unopened.still;
-  }
-
-  pub not_opened_of : (e : LogError) (at : ℕ) → e ≡ errors.NotAStore at → Unopened d old new pull_shape (λ bodies. Replays [] bodies rows) (λ bodies body. EndsAt bodies body) e → NotOpened d old new at
-  not_opened_of e at is unopened =
-      not_opened at (subst (λ (error : LogError). Unopened d old new pull_shape (λ bodies. Replays [] bodies rows) (λ bodies body. EndsAt bodies body) error) is unopened)
-
-module _ {D : Type 0} (d : Ghosts D) (old new : D) where
-  pub keeps_rows : AtAnyMoment d old new (From (Keeps pull_shape) (d.images old)) → AtAnyMoment d old new (From KeepsRows (d.images old))
-  keeps_rows any = weaker d.moment d.left_since old new (From (Keeps pull_shape) (d.images old)) (From KeepsRows (d.images old)) any
-      (λ c from. (from.0, from.1, λ rows stands. record { bodies = stands.bodies; gives = from.2 stands.bodies stands.gives; replays = stands.replays }))

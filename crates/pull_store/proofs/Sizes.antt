@@ -1,5 +1,5 @@
 -- How long bodies are.
-use Rattle.std.proofs.Common.{◌≡◌, ℕ, ◌+◌, ◌-◌, ◌*◌, ◌≤◌, get_or, take, drop, subst, ap₂, List, [], ◌∷◌, ◌++◌, length, sym, ap, arith, length-append}
+use Rattle.std.proofs.Common.{◌≡◌, ℕ, ◌+◌, ◌-◌, ◌*◌, ◌≤◌, get_or, take, drop, List, [], ◌∷◌, ◌++◌, length, ap, arith, length-append}
 use Rattle.std.specs.Prelude.{encode_utf8_all, sum_by}
 use Rattle.std.specs.Int.{w16, w128}
 use Rattle.std.specs.List.{flat_map, AllByRecursion}
@@ -15,7 +15,6 @@ use Rattle.pull_store.specs.declared.row.Row.{Row}
 use Rattle.pull_store.specs.declared.row.StoredReport.{StoredReport}
 use Rattle.pull_store.specs.declared.change.Change.TheVariants.{Register, Report}
 use Rattle.pull_store.specs.Bodies.{body_of, bytes_of_texts, bytes_of_registration, bodies_of_reports, bodies_of_row, bodies_of_rows}
-use Rattle.pull_store.proofs.Putting.{cells_both}
 use Rattle.pull_store.specs.Sound.{IsKeepable, IsNameText, IsRegistration, IsReport, IsRow}
 use Rattle.pull_store.specs.declared.limits.TheConstants.{MAX_BODY, MAX_BYTES}
 
@@ -81,31 +80,6 @@ reports_need agent (r ∷ rs) first some is =
     let whole : take (length (r ∷ rs) - 1) rs ≡ rs = take_all (length (r ∷ rs) - 1) rs (omega arith) in
     omega (arith, report_cell agent r.job r.body (bodies_of_reports agent rs), ap (λ (l : List StoredReport). length (cells (bodies_of_reports agent l))) whole, ap (λ (x : StoredReport). length x.body) is)
 
-pub rows_need : (rows : List Row) (first : Row) → 1 ≤ length rows → first ≡ get_or rows 0 first
-    → length (cells (bodies_of_row first)) + length (cells (bodies_of_rows (take (length rows - 1) (drop 1 rows)))) ≡ length (cells (bodies_of_rows rows))
-rows_need [] first some is = absurd (omega (arith, some))
-rows_need (r ∷ rs) first some is =
-    let whole : take (length (r ∷ rs) - 1) rs ≡ rs = take_all (length (r ∷ rs) - 1) rs (omega arith) in
-    omega (arith, cells_both (bodies_of_row r) (bodies_of_rows rs), ap (λ (l : List Row). length (cells (bodies_of_rows l))) whole, ap (λ (x : Row). length (cells (bodies_of_row x))) is)
-
--- the bodies of the first, and those of the rest
-pub reports_split : (agent : ℕ) (reports : List StoredReport) (first : StoredReport) → 1 ≤ length reports → first ≡ get_or reports 0 first
-    → bodies_of_reports agent reports ≡ body_of (Report agent first.job first.body) ∷ bodies_of_reports agent (take (length reports - 1) (drop 1 reports))
-reports_split agent [] first some is = absurd (omega (arith, some))
-reports_split agent (r ∷ rs) first some is =
-    ap₂ (λ (x : StoredReport) (l : List StoredReport). body_of (Report agent x.job x.body) ∷ bodies_of_reports agent l) (sym is) (sym (take_all (length (r ∷ rs) - 1) rs (omega arith)))
-
-pub rows_split : (rows : List Row) (first : Row) → 1 ≤ length rows → first ≡ get_or rows 0 first
-    → bodies_of_rows rows ≡ bodies_of_row first ++ bodies_of_rows (take (length rows - 1) (drop 1 rows))
-rows_split [] first some is = absurd (omega (arith, some))
-rows_split (r ∷ rs) first some is =
-    ap₂ (λ (x : Row) (l : List Row). bodies_of_row x ++ bodies_of_rows l) (sym is) (sym (take_all (length (r ∷ rs) - 1) rs (omega arith)))
-
-pub all_split : {X : Type 0} (P : X → Type 0) (xs : List X) (first : X) → 1 ≤ length xs → first ≡ get_or xs 0 first → AllByRecursion P xs → P first × AllByRecursion P (take (length xs - 1) (drop 1 xs))
-all_split P [] first some is all = absurd (omega (arith, some))
-all_split P (x ∷ xs) first some is all =
-    (subst P (sym is) all.0, subst (λ l. AllByRecursion P l) (sym (take_all (length (x ∷ xs) - 1) xs (omega arith))) all.1)
-
 -- ---- what is kept is in size
 
 names_kept : (names : List (List ℕ)) → AllByRecursion IsNameText names → AllByRecursion IsName names
@@ -132,8 +106,3 @@ fit_both largest (body ∷ one) other first second = (first.0, fit_both largest 
 pub rows_fit : (rows : List Row) → AllByRecursion IsRow rows → AllFit MAX_BODY (bodies_of_rows rows)
 rows_fit [] all = tt
 rows_fit (row ∷ rows) all = fit_both MAX_BODY (bodies_of_row row) (bodies_of_rows rows) (row_fits row all.0) (rows_fit rows all.1)
-
-pub parts_fit : (front : List Row) (row : Row) (after_gate : List Row) → AllByRecursion IsRow front → IsRow row → AllByRecursion IsRow after_gate
-    → AllFit MAX_BODY (bodies_of_rows front ++ (bodies_of_row row ++ bodies_of_rows after_gate))
-parts_fit front row after_gate one two three =
-    fit_both MAX_BODY (bodies_of_rows front) (bodies_of_row row ++ bodies_of_rows after_gate) (rows_fit front one) (fit_both MAX_BODY (bodies_of_row row) (bodies_of_rows after_gate) (row_fits row two) (rows_fit after_gate three))

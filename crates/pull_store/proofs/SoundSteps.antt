@@ -44,7 +44,7 @@ length_replaced job body (r ∷ reports) = elim (tells (r.job == job)) [
   | inr other ↦ rw other (omega (arith, length_replaced job body reports))
 ]
 
-times_more : (b : Bool) (n : ℕ) → n ≤ (if b then suc n else n)
+pub times_more : (b : Bool) (n : ℕ) → n ≤ (if b then suc n else n)
 times_more true n = omega arith
 times_more false n = omega arith
 

@@ -1,12 +1,14 @@
 -- Laws of rows.
-use Rattle.std.specs.Prelude.{◌≡◌, ◌≢◌, ◌==◌, ℕ, if◌then◌else◌, List, [], ◌∷◌, Option, Some, None}
+use Rattle.std.specs.Prelude.{◌≡◌, ◌≢◌, ◌==◌, ℕ, ◌≤◌, if◌then◌else◌, List, [], ◌∷◌, Contains, Option, Some, None}
 use Rattle.pull_store.specs.declared.row.Row.{Row}
 use Rattle.pull_store.specs.declared.row.StoredReport.{StoredReport}
 use Rattle.pull_store.specs.declared.change.Change.{Change}
-use Rattle.pull_store.specs.Rows.{row_of, with_report}
+use Rattle.gate_log.specs.Kept.{FailingStandForNone as NoneWhereFailing, StandForOne}
+use Rattle.pull_store.specs.Rows.{row_of, rows_without, with_report}
 use Rattle.pull_store.specs.Sound.{AreRows, AreOnce}
-use Rattle.pull_store.specs.Stands.{Changes, FailsAt, IsBody, Stands}
+use Rattle.pull_store.specs.Stands.{Changes, IsBody, Leads, Stands, pull_shape}
 use Rattle.pull_store.specs.Steps.{agent_of}
+use Rattle.pull_store.specs.Store.{whole_need, bank_capacity}
 
 -- the rows that an image stands for: at most 512 of different agents, each with at most four reports of different jobs
 abbrev pub RowsAreSound : Type 0
@@ -37,8 +39,19 @@ BodiesAreOfOne = (bytes : List ℕ) (one other : Change) → IsBody bytes one �
 
 -- an image stands for one list of rows at most
 abbrev pub RowsAreOne : Type 0
-RowsAreOne = (image : List ℕ) (one other : List Row) → Stands image one → Stands image other → one ≡ other
+RowsAreOne = StandForOne pull_shape Leads
 
 -- an image that fails stands for no rows
 abbrev pub FailingStandForNone : Type 0
-FailingStandForNone = (image : List ℕ) (at : ℕ) (rows : List Row) → FailsAt image at → Stands image rows → ⊥
+FailingStandForNone = NoneWhereFailing pull_shape Leads
+
+-- agents that are forgotten have no row, and each other agent has the row that it had
+abbrev pub NamedLeave : Type 0
+NamedLeave = (agents : List ℕ) (rows : List Row) (agent : ℕ) → Contains agents agent → row_of agent (rows_without agents rows) ≡ None
+
+abbrev pub UnnamedStay : Type 0
+UnnamedStay = (agents : List ℕ) (rows : List Row) (agent : ℕ) → (Contains agents agent → ⊥) → row_of agent (rows_without agents rows) ≡ row_of agent rows
+
+-- the rows that an image stands for fit a bank, written anew, and so do these without those of some agents
+abbrev pub LeftFit : Type 0
+LeftFit = (image : List ℕ) (rows : List Row) (agents : List ℕ) → Stands image rows → whole_need (rows_without agents rows) ≤ bank_capacity

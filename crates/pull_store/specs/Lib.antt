@@ -7,4 +7,4 @@ pub mod Stands
 pub mod Steps
 pub mod Store
 -- for private clauses alone
-pub mod Puts
+pub mod Whole

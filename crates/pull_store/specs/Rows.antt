@@ -1,5 +1,6 @@
 -- The rows of a pull server, and what a registration and a report make of them.
-use Rattle.std.specs.Prelude.{◌==◌, ℕ, ◌-◌, Bool, ◌&&◌, if◌then◌else◌, nat_le, true, false, List, [], ◌∷◌, ◌++◌, length, drop, Option, Some, None, is_none}
+use Rattle.std.specs.Prelude.{◌==◌, ℕ, ◌-◌, Bool, ◌&&◌, not, if◌then◌else◌, nat_le, true, false, List, [], ◌∷◌, ◌++◌, length, drop, filter, Option, Some, None, is_none}
+use Rattle.std.specs.List.{list_any}
 use Rattle.pull_messages.specs.declared.registration.Registration.{Registration}
 use Rattle.pull_store.specs.declared.limits.TheConstants.{MAX_REPORTS, MAX_ROWS}
 use Rattle.pull_store.specs.declared.row.Row.{Row}
@@ -50,6 +51,16 @@ after_report agent job body (row ∷ rows) = if row.agent == agent then record r
 abbrev pub after : Change → List Row → List Row
 after (Register agent registration) rows = after_registration agent registration rows
 after (Report agent job body) rows = after_report agent job body rows
+
+-- ---- agents that leave
+
+-- the row is of one of these agents
+abbrev pub is_of : List ℕ → Row → Bool
+is_of agents row = list_any (λ agent. agent == row.agent) agents
+
+-- the rows of all other agents, in their order
+abbrev pub rows_without : List ℕ → List Row → List Row
+rows_without agents rows = filter (λ row. not (is_of agents row)) rows
 
 -- ---- what is accepted
 

@@ -1,14 +1,13 @@
 -- The rows that an image stands for.
-use Rattle.std.specs.Prelude.{◌≡◌, ◌⊎◌, ℕ, List, [], ◌∷◌, ◌++◌, None}
+use Rattle.std.specs.Prelude.{◌≡◌, ℕ, List, [], ◌∷◌, None}
 use Rattle.gate_log.specs.declared.shape.Shape.{Shape}
-use Rattle.gate_log.specs.Text.{Gives}
-use Rattle.gate_log.specs.Replay.{IsRefused}
+use Rattle.gate_log.specs.Kept.{EndsBy, FailsBy, IsEither, KeepsValues, StandsBy}
 use Rattle.pull_store.specs.declared.limits.TheConstants.{BANK, MAX_BODY}
 use Rattle.pull_store.specs.declared.row.Row.{Row}
 use Rattle.pull_store.specs.declared.change.Change.{Change}
 use Rattle.pull_store.specs.declared.change.Change.TheVariants.{Register, Report}
 use Rattle.pull_messages.specs.declared.registration.Registration.{Registration}
-use Rattle.pull_store.specs.Rows.{after, refusal}
+use Rattle.pull_store.specs.Rows.{after, refusal, rows_without}
 use Rattle.pull_store.specs.Bodies.{body_of}
 use Rattle.pull_store.specs.Sound.{IsInSize}
 
@@ -45,31 +44,32 @@ abbrev pub Replays : List Row → List (List ℕ) → List Row → Type 0
 Replays old [] new = new ≡ old
 Replays old (body ∷ bodies) new = (mid : List Row) × Takes old body mid × Replays mid bodies new
 
+-- these bodies lead to the rows
+abbrev pub Leads : List (List ℕ) → List Row → Type 0
+Leads bodies rows = Replays [] bodies rows
+
 -- An image of at most nine bytes gives no bodies, and stands for no rows; a longer one stands for the rows after each body of
 -- its live bank in order.
-pub record Stands (image : List ℕ) (rows : List Row) : Type 0 where
-  pub bodies : List (List ℕ)
-  pub gives : Gives pull_shape image bodies
-  pub replays : Replays [] bodies rows
+abbrev pub Stands : List ℕ → List Row → Type 0
+Stands = StandsBy pull_shape Leads
 
 -- the rows before a change or after it
 abbrev pub BeforeOrAfter : List Row → Change → List Row → Type 0
-BeforeOrAfter old change rows = (rows ≡ old) ⊎ (rows ≡ after change old)
+BeforeOrAfter old change = IsEither old (after change old)
+
+-- the rows before, or those of all other agents
+abbrev pub BeforeOrWithout : List Row → List ℕ → List Row → Type 0
+BeforeOrWithout old agents = IsEither old (rows_without agents old)
 
 -- what an image stood for another one still stands for
 abbrev pub KeepsRows : List ℕ → List ℕ → Type 0
-KeepsRows old new = (rows : List Row) → Stands old rows → Stands new rows
-
--- these bodies lead to some rows
-abbrev pub LeadSomewhere : List (List ℕ) → Type 0
-LeadSomewhere bodies = (rows : List Row) × Replays [] bodies rows
+KeepsRows = KeepsValues Stands
 
 -- these bodies lead to rows, and with this one after them to none
-pub record EndsAt (bodies : List (List ℕ)) (body : List ℕ) : Type 0 where
-  pub lead : LeadSomewhere bodies
-  pub ends : (rows : List Row) → Replays [] (bodies ++ body ∷ []) rows → ⊥
+abbrev pub EndsAt : List (List ℕ) → List ℕ → Type 0
+EndsAt = EndsBy Leads
 
 -- An image of more than nine bytes stands for no rows. The place is the byte at which the text of a store fails, or the first
 -- byte of the first body with which the bodies lead to no rows, whichever comes first.
 abbrev pub FailsAt : List ℕ → ℕ → Type 0
-FailsAt image at = IsRefused pull_shape LeadSomewhere EndsAt image at
+FailsAt = FailsBy pull_shape Leads

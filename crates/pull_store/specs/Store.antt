@@ -1,20 +1,19 @@
 -- A store, the disk that it is of, and what its calls answer.
-use Rattle.std.specs.Prelude.{◌≡◌, ◌⊎◌, ℕ, ◌+◌, ◌<◌, ◌≤◌, Bool, true, false, List, [], length, Some, None, Result, Ok, Err, IfSome, OnOk, ⊤}
+use Rattle.std.specs.Prelude.{◌≡◌, ◌⊎◌, ℕ, ◌+◌, ◌<◌, ◌≤◌, Bool, true, false, List, length, Some, None, Result, Ok, Err, OnOk, ⊤}
 use Rattle.dsc_outside.specs.declared.disk.Disk.{Ghosts}
-use Rattle.dsc_outside.specs.Disk.{Still}
 use Rattle.dsc_terms.specs.Counts.{Rose}
 use Rattle.gate_log.specs.Text.{cells, need_of}
 use Rattle.gate_log.specs.Calls.{StaysInBank}
-use Rattle.gate_log.specs.Log.{LogTerm, IsLogOf, grown, capacity_in}
-use Rattle.gate_log.specs.Standing.{ReadsAs}
+use Rattle.gate_log.specs.Log.{LogTerm, grown, capacity_in}
+use Rattle.gate_log.specs.Kept.{IsKeptBy, IsOpenedBy, NotOpenedBy}
 use Rattle.pull_store.specs.declared.row.Row.{Row}
 use Rattle.pull_store.specs.declared.change.Change.{Change}
 use Rattle.pull_store.specs.declared.change.Refusal.TheVariants as refusals
 use Rattle.pull_store.specs.declared.error.PullError.{PullError}
 use Rattle.pull_store.specs.declared.error.PullError.TheVariants.{Spent, Agents, NoAgent, Full, Disk, NotAStore, Memory}
-use Rattle.pull_store.specs.Rows.{after, refusal}
+use Rattle.pull_store.specs.Rows.{after, refusal, rows_without}
 use Rattle.pull_store.specs.Bodies.{body_of, bodies_of_rows}
-use Rattle.pull_store.specs.Stands.{Replays, Stands, FailsAt, pull_shape}
+use Rattle.pull_store.specs.Stands.{Leads, pull_shape}
 
 -- what contracts see of a store
 pub record StoreTerm : Type 0 where
@@ -25,12 +24,8 @@ abbrev pub is_spent : StoreTerm → Bool
 is_spent store = store.log.spent
 
 -- the store is of the disk: its log is, and the log's bodies lead to its rows
-pub record IsKept {D : Type 0} (d : Ghosts D) (disk : D) (store : StoreTerm) : Type 0 where
-  pub bodies : List (List ℕ)
-  pub of : IsLogOf d disk store.log bodies
-  pub replays : Replays [] bodies store.rows
-  pub shape : store.log.shape ≡ pull_shape
-  pub unspent : store.log.spent ≡ false
+abbrev pub IsKept : {D : Type 0} → Ghosts D → D → StoreTerm → Type 0
+IsKept d disk store = IsKeptBy d disk pull_shape Leads store.log store.rows
 
 -- it is so, or a call answered Disk
 abbrev pub IsReady : {D : Type 0} → Ghosts D → D → StoreTerm → Type 0
@@ -99,17 +94,47 @@ pub record AddsCell {T D : Type 0} (d : Ghosts D) (before now : D) (old : LogTer
   pub log : OnOk result (new ≡ grown old (need_of (body_of change)))
   pub same_bank : StaysInBank d before now old
 
+-- ---- agents that leave
+
+-- The rows of all other agents do not fit a bank. Rows that an image stands for fit one, so this is only over a disk that shows
+-- nothing.
+pub record IsFullWithout {D : Type 0} (d : Ghosts D) (disk : D) (store : StoreTerm) (agents : List ℕ) (need capacity : ℕ) : Type 0 where
+  pub needs : need ≡ whole_need (rows_without agents store.rows)
+  pub bank : capacity ≡ bank_capacity
+  pub rows : capacity < need
+  pub hidden : d.shown disk ≡ None
+
+-- what an answer to agents being forgotten says, of the store and of the disk with its count
+abbrev pub Forgot : {T D : Type 0} → Ghosts D → StoreTerm → List ℕ → D → D → Result T PullError → StoreTerm → Type 0
+Forgot d old agents before now (Ok v) new = (is_spent old ≡ false) × (new.rows ≡ rows_without agents old.rows) × (is_spent new ≡ false)
+Forgot d old agents before now (Err Spent) new = (is_spent old ≡ true) × Untouched old new before now
+Forgot d old agents before now (Err (Full need capacity)) new = (is_spent old ≡ false) × IsFullWithout d before old agents need capacity × Untouched old new before now
+Forgot d old agents before now (Err Disk) new = (is_spent old ≡ false) × Rose (d.faults before) (d.faults now) × (new.rows ≡ old.rows) × (is_spent new ≡ true)
+Forgot d old agents before now (Err Agents) new = ⊥
+Forgot d old agents before now (Err NoAgent) new = ⊥
+Forgot d old agents before now (Err (NotAStore at)) new = ⊥
+Forgot d old agents before now (Err Memory) new = ⊥
+
+-- what the steps that write say
+abbrev pub WrittenWithout : {T D : Type 0} → Ghosts D → LogTerm → List Row → List ℕ → D → D → Result T PullError → LogTerm → Type 0
+WrittenWithout d log rows agents before now (Ok v) new = Unit {0}
+WrittenWithout d log rows agents before now (Err Disk) new = Rose (d.faults before) (d.faults now) × (new.spent ≡ true)
+WrittenWithout d log rows agents before now (Err (Full need capacity)) new = IsFullWithout d before (record { log = log; rows = rows }) agents need capacity × (new ≡ log) × (now ≡ before)
+WrittenWithout d log rows agents before now (Err Spent) new = ⊥
+WrittenWithout d log rows agents before now (Err Agents) new = ⊥
+WrittenWithout d log rows agents before now (Err NoAgent) new = ⊥
+WrittenWithout d log rows agents before now (Err (NotAStore at)) new = ⊥
+WrittenWithout d log rows agents before now (Err Memory) new = ⊥
+
 -- ---- an opening
 
 -- the store is of the disk, with the rows that the disk read as
-pub record IsOpened {D : Type 0} (d : Ghosts D) (old new : D) (store : StoreTerm) : Type 0 where
-  pub kept : IsKept d new store
-  pub found : ReadsAs d old Stands store.rows
+abbrev pub IsOpened : {D : Type 0} → Ghosts D → D → D → StoreTerm → Type 0
+IsOpened d old new store = IsOpenedBy d old new pull_shape Leads store.log store.rows
 
 -- the disk read as an image that stands for no rows, failing first at this place, and was left as it was
-pub record NotOpened {D : Type 0} (d : Ghosts D) (old new : D) (at : ℕ) : Type 0 where
-  pub fails : IfSome (d.shown old) (λ held. FailsAt held at)
-  pub still : Still d.shown d.images d.moment d.left_since old new
+abbrev pub NotOpened : {D : Type 0} → Ghosts D → D → D → ℕ → Type 0
+NotOpened d old new at = NotOpenedBy d old new pull_shape Leads at
 
 -- the cause of an opening's error
 abbrev pub Unopened : {D : Type 0} → Ghosts D → D → D → PullError → Type 0

@@ -11,13 +11,14 @@ ghost use Rattle.pull_store.specs.declared.limits.TheConstants.{BODY_CAPACITY};
 
 use crate::change::Change;
 use crate::error::PullError;
+use crate::kept_rows::KeptRows;
 use crate::limits::BANK;
 use crate::need::{need_of_row, need_of_rows};
 use crate::row::Row;
 use crate::rows::{around, row_after};
-use crate::writing::{append_body, rewrite};
+use crate::whole::Whole;
 use dsc_outside::Disk;
-use gate_log::Log;
+use gate_log::{Log, add, rewrite};
 use std::alloc::{AllocError, Global};
 
 /// What an accepted change makes of its agent's row, and capacity for one more row.
@@ -57,15 +58,18 @@ pub fn write<D: Disk>(
     ensures capacity { vec_capacity buffer.old ≤ vec_capacity buffer.new }
 {
     if log.has_room(buffer.len() as u32) {
-        return append_body(log, disk, buffer);
+        add::<KeptRows, D>(log, disk, buffer)?;
+        return Ok(());
     }
     let (front, rest) = around(rows, row.agent);
-    let need = need_of_rows(buffer, front)
+    let need = need_of_rows(buffer, front, &[])
         + need_of_row(buffer, row)
-        + need_of_rows(buffer, rest)
+        + need_of_rows(buffer, rest, &[])
         + 1;
     if need > BANK {
         return Err(PullError::Full { need, room: BANK });
     }
-    rewrite(log, disk, buffer, front, row, rest)
+    let mut whole = Whole::of(front, Some(row), rest, &[]);
+    rewrite::<KeptRows, D, Whole<'_>>(log, disk, buffer, &mut whole)?;
+    Ok(())
 }

@@ -1,4 +1,5 @@
 //! Why a call of a store failed.
+use dsc_outside::Failed;
 use std::alloc::{AllocError, AllocFailed};
 use std::fmt;
 
@@ -25,6 +26,17 @@ pub enum PullError {
     NotAStore { at: u64 },
 
     Memory,
+}
+
+impl From<Failed> for PullError {
+    ghost use Rattle.pull_store.specs.declared.error.PullError.TheVariants.{Disk};
+    ghost use Rattle.std.specs.Prelude.{◌≡◌};
+
+    ghost from_gives = { λ _ e. e ≡ Disk };
+
+    fn from(_: Failed) -> Self {
+        PullError::Disk
+    }
 }
 
 impl From<AllocError> for PullError {

@@ -1,5 +1,5 @@
 //! What holds of the rows of a store.
-ghost use Rattle.pull_store.specs.Laws.{RowsAreSound, ChangesKeep, OthersStay, JobsStandOnce, LastIsKept, BodiesAreOfOne, RowsAreOne, FailingStandForNone};
+ghost use Rattle.pull_store.specs.Laws.{RowsAreSound, ChangesKeep, OthersStay, JobsStandOnce, LastIsKept, NamedLeave, UnnamedStay, LeftFit, BodiesAreOfOne, RowsAreOne, FailingStandForNone};
 
 /// Rows are at most 512, of different agents, and a change leaves every other agent's row.
 pub fn rows_are_apart()
@@ -12,6 +12,13 @@ pub fn rows_are_apart()
 pub fn jobs_stand_once()
     ensures once { JobsStandOnce }
     ensures last { LastIsKept }
+{}
+
+/// Agents that are forgotten have no row, each other agent has the row that it had, and the rows that are left fit a bank.
+pub fn named_agents_leave()
+    ensures gone { NamedLeave }
+    ensures others { UnnamedStay }
+    ensures fit { LeftFit }
 {}
 
 /// A body is of one change at most, an image stands for one list of rows at most, and an image that fails stands for none.

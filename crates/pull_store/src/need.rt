@@ -3,6 +3,7 @@ ghost use Rattle.std.specs.Prelude.{◌≡◌, ◌≤◌, ◌*◌, length, vec_c
 ghost use Rattle.std.specs.List.{AllByRecursion};
 ghost use Rattle.gate_log.specs.Text.{cells};
 ghost use Rattle.pull_store.specs.Bodies.{bodies_of_reports, bodies_of_row, bodies_of_rows};
+ghost use Rattle.pull_store.specs.Rows.{rows_without};
 ghost use Rattle.pull_store.specs.Sound.{IsReport, IsRow};
 ghost use Rattle.pull_store.specs.declared.limits.TheConstants.{MAX_ROWS};
 
@@ -20,19 +21,24 @@ const REPORT_CELL: u64 = CELL_HEAD + REPORT_HEAD + MAX_BYTES as u64;
 // The cells of a row have at most that many bytes: that of its registration and those of its reports.
 const ROW_CELLS: u64 = (1 + MAX_REPORTS as u64) * (CELL_HEAD + BODY_CAPACITY as u64);
 
-/// The bytes of the cells of rows; the buffer has capacity for a body.
-#[tactic(auto, using(crate::proofs::Putting::cells_both))]
-pub fn need_of_rows(buffer: &mut Vec<u8>, rows: &[Row]) -> u64
+/// The bytes of the cells of rows, without those of some agents; the buffer has capacity for a body.
+pub fn need_of_rows(buffer: &mut Vec<u8>, rows: &[Row], without: &[u128]) -> u64
     requires capacity { BODY_CAPACITY ≤ vec_capacity buffer.old }
     requires few { length rows.now ≤ MAX_ROWS }
     requires rows { AllByRecursion IsRow rows.now }
-    ensures need { result ≡ length (cells (bodies_of_rows rows.now)) }
+    ensures need { result ≡ length (cells (bodies_of_rows (rows_without without.now rows.now))) }
     ensures bound { result ≤ ROW_CELLS * length rows.now }
     ensures capacity { vec_capacity buffer.old ≤ vec_capacity buffer.new }
 {
     match rows {
         [] => 0,
-        [first, rest @ ..] => need_of_row(buffer, first) + need_of_rows(buffer, rest),
+        [first, rest @ ..] => {
+            if without.contains(&first.agent) {
+                need_of_rows(buffer, rest, without)
+            } else {
+                need_of_row(buffer, first) + need_of_rows(buffer, rest, without)
+            }
+        }
     }
 }
 

@@ -8,18 +8,14 @@ ghost use Rattle.pull_store.specs.Store.{IsOpened, Unopened};
 use crate::applying::GrowingRows;
 use crate::change::Change;
 use crate::error::PullError;
-use crate::limits::{BANK, BODY_CAPACITY, MAX_BODY};
+use crate::kept_rows::{KeptRows, SHAPE};
+use crate::limits::BODY_CAPACITY;
 use crate::reading::read_change;
 use crate::store::PullStore;
 use dsc_outside::Disk;
-use gate_log::{LogError, Replay, Shape, TakeError, replay_log};
+use gate_log::{LogError, Replay, TakeError, open_kept};
 use std::alloc::Global;
 use store_fields::FieldError;
-
-const SHAPE: Shape = Shape {
-    bank: BANK,
-    largest: MAX_BODY,
-};
 
 /// The rows after the bodies that were read.
 #[derive(Drop)]
@@ -29,10 +25,9 @@ struct Reader {
 }
 
 impl Replay for Reader {
-    ghost use Rattle.std.specs.Prelude.{[]};
-    ghost use Rattle.pull_store.specs.Stands.{EndsAt, Replays};
+    ghost use Rattle.pull_store.specs.Stands.{EndsAt, Leads};
 
-    ghost took = { λ reader bodies. Replays [] bodies reader.grown.rows.items };
+    ghost took = { λ reader bodies. Leads bodies reader.grown.rows.items };
 
     ghost refused = { λ reader bodies body. EndsAt bodies body };
 
@@ -70,7 +65,7 @@ pub fn open_pull<D: Disk>(alloc: Global, disk: &mut D) -> Result<PullStore, Pull
         alloc,
         grown: GrowingRows::new(alloc),
     };
-    match replay_log(alloc, disk, SHAPE, &mut reader) {
+    match open_kept::<KeptRows, D, Reader>(alloc, disk, SHAPE, &mut reader) {
         Ok(log) => Ok(PullStore::of(alloc, log, reader.grown.rows, buffer)),
         Err(LogError::Disk) => Err(PullError::Disk),
         Err(LogError::NotAStore { at }) => Err(PullError::NotAStore { at }),

@@ -2,15 +2,16 @@
 ghost use Rattle.std.specs.Prelude.{◌≡◌, ◌≤◌, length, option_map, vec_capacity};
 ghost use Rattle.gate_log.specs.Standing.{StandsAtAnyMoment};
 ghost use Rattle.pull_store.specs.declared.change.Change.TheVariants as changes;
-ghost use Rattle.pull_store.specs.Rows.{row_of};
+ghost use Rattle.pull_store.specs.Rows.{row_of, rows_without};
 ghost use Rattle.pull_store.specs.Sound.{AreApart, IsKeepable, IsKeepableChange, most_bytes};
-ghost use Rattle.pull_store.specs.Stands.{BeforeOrAfter, Stands};
-ghost use Rattle.pull_store.specs.Store.{AddsCell, Changed, HasCapacity, IsKept, IsReady, is_spent};
+ghost use Rattle.pull_store.specs.Stands.{BeforeOrAfter, BeforeOrWithout, Stands};
+ghost use Rattle.pull_store.specs.Store.{AddsCell, Changed, Forgot, HasCapacity, IsKept, IsReady, Untouched, is_spent};
 ghost use Rattle.pull_store.specs.declared.limits.TheConstants.{BODY_CAPACITY};
 
 use crate::change::{Change, Refusal};
 use crate::committing::{prepare, write};
 use crate::error::PullError;
+use crate::forgetting::{has_any_of, leave_out, write_without};
 use crate::row::{Row, StoredReport};
 use crate::rows::{find, place, refusal};
 use crate::spelling::spell;
@@ -164,6 +165,47 @@ impl PullStore {
             body: Bytes::of(body),
         };
         self.commit(disk, &change)
+    }
+
+    /// Forgets agents: the rows of all others, with all that they hold and in their order, are written into the other bank.
+    ///
+    /// An agent may be named that has no row, or twice. Where none of these has a row, the disk is not touched. A crash at any
+    /// moment leaves the rows before or after the call, after `Ok` those after it. Takes no memory; a file that ends before the
+    /// second bank is first filled with zeros up to it, to 335,544,328 bytes.
+    ///
+    /// # Errors
+    ///
+    /// `Spent`, exactly where an earlier call of this store answered `Disk`; `Disk`, which leaves the rows as they were in memory.
+    /// `Full` comes only over a disk that shows nothing, where the rows of all others do not fit a bank. All of these but `Disk`
+    /// leave store and disk untouched.
+    pub fn forget<D: Disk>(&mut self, disk: &mut D, agents: &[u128]) -> Result<(), PullError>
+        requires { IsReady D.Disk disk.old self.old }
+        ensures answer { Forgot D.Disk self.old agents.now disk.old disk.new result self.new }
+        ensures untouched { rows_without agents.now self.old.rows ≡ self.old.rows
+            → Untouched self.old self.new disk.old disk.new }
+        ensures ready { IsReady D.Disk disk.new self.new }
+        ensures any_moment { IsKept D.Disk disk.old self.old
+            → StandsAtAnyMoment D.Disk disk.old disk.new Stands
+            (BeforeOrWithout self.old.rows agents.now) }
+        ensures count { D.faults disk.old ≤ D.faults disk.new }
+    {
+        if self.is_spent() {
+            return Err(PullError::Spent);
+        }
+        if !has_any_of(&self.rows, agents) {
+            return Ok(());
+        }
+        if let Err(error) = write_without(
+            &mut self.log,
+            disk,
+            &self.rows,
+            &mut self.buffer,
+            agents,
+        ) {
+            return Err(error);
+        }
+        leave_out(&mut self.rows, agents);
+        Ok(())
     }
 
     fn commit<D: Disk>(&mut self, disk: &mut D, change: &Change) -> Result<(), PullError>

@@ -5,7 +5,7 @@ use crate::stores::said;
 use dsc_outside::Disk;
 use pull_messages::{MessageError, read_registration};
 use pull_store::{PullError, PullStore};
-use std::alloc::Global;
+use std::alloc::{AllocError, Global};
 
 /// Registers an agent by a message in JSON, which is no longer than the texts of a registration may be.
 pub fn register<D: Disk>(
@@ -65,8 +65,31 @@ fn register_name<D: Disk>(
     }
 }
 
+fn forget_named<D: Disk>(
+    alloc: Global,
+    store: &mut PullStore,
+    disk: &mut D,
+    names: &[u8],
+) -> Result<(), PullError>
+    requires { IsReady D.Disk disk.old store.old }
+    ensures { IsReady D.Disk disk.new store.new }
+{
+    match agents_of(alloc, names) {
+        Ok(agents) => store.forget(disk, &agents),
+        Err(_) => Err(PullError::Memory),
+    }
+}
+
+fn agents_of(alloc: Global, names: &[u8]) -> Result<Vec<u128>, AllocError> {
+    let mut agents = Vec::new(alloc);
+    for name in names {
+        agents.push(u128::from(*name))?;
+    }
+    Ok(agents)
+}
+
 /// Makes the call of a word: `RAn` registers the agent A, whose node has the name n; `PAjb` puts the body b as the report of its
-/// job j.
+/// job j; `FAB` forgets the agents A and B.
 pub fn call<D: Disk>(
     alloc: Global,
     store: &mut PullStore,
@@ -86,6 +109,7 @@ pub fn call<D: Disk>(
             u128::from(*job),
             body,
         ),
+        [b'F', names @ ..] => forget_named(alloc, store, disk, names),
         _ => Err(PullError::NotAStore { at: 0 }),
     }
 }

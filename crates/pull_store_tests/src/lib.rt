@@ -9,6 +9,8 @@ mod files;
 mod stores;
 #[cfg(test)]
 mod tests;
+#[cfg(test)]
+mod two_banks;
 
 #[cfg(test)]
 pub use calling::{call, call_all, put, register};
@@ -16,3 +18,5 @@ pub use calling::{call, call_all, put, register};
 pub use files::{HEAD, file_of, place_of, push_cell};
 #[cfg(test)]
 pub use stores::{new_disk, run, said, shown, shown_in};
+#[cfg(test)]
+pub use two_banks::TwoBanks;

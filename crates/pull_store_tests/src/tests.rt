@@ -2,6 +2,7 @@
 mod agents;
 mod calls;
 mod damaged;
+mod forgotten;
 mod full_bank;
 mod openings;
 mod rewrites;

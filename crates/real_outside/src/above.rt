@@ -7,12 +7,13 @@ ghost use Rattle.dsc_outside.specs.declared.host.HostError.TheVariants as errors
 use crate::held_folder::{HeldFolder, sync_folder};
 use crate::identity::Identity;
 use crate::machine_folder::MachineFolder;
+use crate::names_below::{DELETED, real_path};
 use crate::spot::{Kind, Spot};
 use dsc_outside::HostError;
 use std::alloc::AllocError;
 use std::fs;
 use std::io::ErrorKind;
-use std::os::fd::AsFd;
+use std::os::fd::{AsFd, AsRawFd};
 use std::path::PathBuf;
 use std::rt::Files;
 
@@ -55,8 +56,7 @@ impl<R: Files> MachineFolder<R>
 where
     R::File: AsFd,
 {
-    /// Walks to the folders of that path. Those that are held and stand as they were found before stay so, and each is looked
-    /// at again.
+    /// Walks to the folders of that path. Those that are held and stand as they were found before stay so.
     pub(super) fn walk(&mut self, folders: &str) -> Result<Above, HostError> {
         let kept = self.count_kept(folders)?;
         self.ancestors.keep(kept);
@@ -69,8 +69,55 @@ where
         Ok(Above::There)
     }
 
-    // How many of the folders are held, and stand as they were found before.
-    fn count_kept(&self, folders: &str) -> Result<usize, HostError> {
+    // How many of the folders are held, and stand as they were found before. Where the path leads to the last of those that it
+    // shares with the path before, and the system has that one at this path, no link is in it, and each of them stands.
+    fn count_kept(&mut self, folders: &str) -> Result<usize, HostError> {
+        let (count, end) = self.ancestors.shared(folders);
+        let shared = folders.get(..end).unwrap_or("");
+        self.is_found = count > 1 && self.leads_to(shared, count)? && self.stands(shared, count)?;
+        if self.is_found || count == 0 {
+            Ok(count)
+        } else {
+            self.count_each(shared)
+        }
+    }
+
+    // Answers whether that path leads to the last of that many folders, which is held.
+    fn leads_to(&self, folders: &str, count: usize) -> Result<bool, HostError> {
+        let Some(folder) = self.ancestors.held(count) else {
+            return Ok(false);
+        };
+        let place = self.place_in_host(folders)?;
+        match fs::symlink_metadata(&self.rt, place.as_str()) {
+            Ok(seen) => Ok(seen.is_dir() && Identity::of(&seen) == folder.identity()),
+            Err(_) => Ok(false),
+        }
+    }
+
+    /// Answers whether the system has the last of that many folders, which is held, at that path.
+    pub(super) fn stands(&self, folders: &str, count: usize) -> Result<bool, HostError> {
+        match self.ancestors.held(count) {
+            Some(folder) => self.is_at(folder.descriptor().as_raw_fd(), folders),
+            None => Ok(false),
+        }
+    }
+
+    /// Answers whether the system has what is open under that number at that path, with no link in it.
+    pub(super) fn is_at(&self, number: i32, path: &str) -> Result<bool, HostError> {
+        if path.ends_with(DELETED) {
+            return Ok(false);
+        }
+        let Some(wanted) = self.ancestors.real_path_of(self.alloc(), path)? else {
+            return Ok(false);
+        };
+        match real_path(&self.rt, self.alloc(), number) {
+            Ok(found) => Ok(found.as_str() == wanted.as_str()),
+            Err(_) => Ok(false),
+        }
+    }
+
+    // How many of the folders are held, and stand as they were found before: each is looked at in turn.
+    fn count_each(&self, folders: &str) -> Result<usize, HostError> {
         let mut place = self.host_place(folders)?;
         let mut count = 0usize;
         for (name, ancestor) in folders.split('/').zip(self.ancestors.as_slice()) {
@@ -102,12 +149,19 @@ where
     fn hold(&mut self, name: &str, spot: &Spot) -> Result<(), HostError> {
         let alloc = self.alloc();
         let folder = HeldFolder::open(&self.rt, alloc, spot)?;
-        Ok(self.ancestors.push(alloc, name, folder)?)
+        let base = if self.ancestors.len() == 0 {
+            real_path(&self.rt, alloc, folder.descriptor().as_raw_fd()).ok()
+        } else {
+            None
+        };
+        let base = base.map(|path| path.into_string());
+        Ok(self.ancestors.push(alloc, name, folder, base)?)
     }
 
     // Looks at a name in the last folder, or in the host's.
     fn look_below(&self, name: &str) -> Result<Spot, HostError> {
         match self.ancestors.last()? {
+            Some(folder) if self.is_found => folder.look_inside(&self.rt, self.alloc(), name),
             Some(folder) => folder.look(&self.rt, self.alloc(), name),
             None => Spot::look(&self.rt, self.place_in_host(name)?),
         }
@@ -120,7 +174,7 @@ where
     }
 
     // The place of the host's folder, with capacity for that path in it.
-    fn host_place(&self, path: &str) -> Result<PathBuf, AllocError> {
+    pub(super) fn host_place(&self, path: &str) -> Result<PathBuf, AllocError> {
         let size = self.host.len().saturating_add(path.len());
         let mut place = PathBuf::with_capacity(self.alloc(), size.saturating_add(1))?;
         place.push(self.host.as_str())?;

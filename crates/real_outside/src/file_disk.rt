@@ -6,7 +6,7 @@ use crate::held_folder::sync_folder;
 use crate::identity::Identity;
 use crate::spot::{folder_of, look_at};
 use dsc_outside::{Disk, Failed};
-use std::fs::{File, Metadata, OpenOptions};
+use std::fs::{File, Metadata, OpenOptions, TryLockError};
 use std::io::ErrorKind;
 use std::marker::Model;
 use std::os::unix::fs::{FileExt, OpenOptionsExt};
@@ -41,9 +41,25 @@ impl<R: Files<File = File>> FileDisk<R> {
                 rt,
                 path,
                 file: None,
+                may_make: true,
+                is_locked: false,
             },
             faults: 0,
         }
+    }
+
+    /// The same of a file that is there: where it is missing, it is not made, and the call fails.
+    pub fn of_existing(rt: R, path: String) -> FileDisk<R>
+        ensures { result ≡ 0 }
+    {
+        let mut disk = FileDisk::new(rt, path);
+        disk.place.may_make = false;
+        disk
+    }
+
+    /// Whether a call failed because another program has locked the file.
+    pub fn is_locked_elsewhere(&self) -> bool {
+        self.place.is_locked
     }
 
     // Counts the call where it failed.
@@ -59,18 +75,21 @@ impl<R: Files<File = File>> FileDisk<R> {
     }
 }
 
-// The path, and the file once it is open.
+// The path, the file once it is open, whether it may be made, and whether another program had locked it.
 #[derive(Drop)]
 struct Place<R: Files<File = File>> {
     rt: R,
     path: String,
     file: Option<File>,
+    may_make: bool,
+    is_locked: bool,
 }
 
 impl<R: Files<File = File>> Place<R> {
     fn opened(&mut self) -> Result<&File, Failed> {
         if self.file.is_none() {
-            self.file = Some(open_locked(&self.rt, self.path.as_str())?);
+            self.file = open_locked(&self.rt, self.path.as_str(), self.may_make)?;
+            self.is_locked = self.file.is_none();
         }
         match &self.file {
             Some(file) => Ok(file),
@@ -120,16 +139,19 @@ fn fill<F: FileExt>(file: &F, at: u64, into: &mut [u8]) -> Result<usize, Failed>
     Err(Failed)
 }
 
-// Opens the file that was seen at the path, or makes one where nothing was. What has come there since then is a failure.
+// Opens the file that was seen at the path, or makes one where nothing was and one may be made. What has come there since then is
+// a failure.
 fn open_seen<R: Files<File = File>>(
     rt: &R,
     path: &str,
     seen: &Option<Metadata>,
+    may_make: bool,
 ) -> Result<File, Failed> {
     let mut options = OpenOptions::new();
     options.read(true).write(true).mode(PRIVATE);
     match seen {
-        None => Ok(options.create_new(true).open(rt, path)?),
+        None if may_make => Ok(options.create_new(true).open(rt, path)?),
+        None => Err(Failed),
         Some(seen) if seen.is_file() => {
             let file = options.open(rt, path)?;
             if Identity::of(&file.metadata()?) != Identity::of(seen) {
@@ -141,18 +163,25 @@ fn open_seen<R: Files<File = File>>(
     }
 }
 
-// Opens the file of the path, which is made where nothing is there, and locks it.
-fn open_locked<R: Files<File = File>>(rt: &R, path: &str) -> Result<File, Failed> {
+// Opens the file of the path, which is made where nothing is there and it may be, and locks it; none where another program has
+// locked it.
+fn open_locked<R: Files<File = File>>(
+    rt: &R,
+    path: &str,
+    may_make: bool,
+) -> Result<Option<File>, Failed> {
     let Ok(seen) = look_at(rt, path) else {
         return Err(Failed);
     };
-    let file = open_seen(rt, path, &seen)?;
-    if file.try_lock().is_err() {
-        return Err(Failed);
+    let file = open_seen(rt, path, &seen, may_make)?;
+    match file.try_lock() {
+        Ok(()) => {}
+        Err(TryLockError::WouldBlock) => return Ok(None),
+        Err(TryLockError::Error(_)) => return Err(Failed),
     }
     // Until then a crash may take a new file away, also one that an earlier program made.
     sync_folder(rt, folder_of(path))?;
-    Ok(file)
+    Ok(Some(file))
 }
 
 impl<R: Files<File = File>> Disk for FileDisk<R> {

@@ -22,7 +22,8 @@ use std::rt::Files;
 /// HOST/root may be the machine itself, bound there, with other file systems mounted below it: a mount is no link, and
 /// other users may change what is there meanwhile. So each folder above a path is looked at, opened without following a
 /// link, and compared, and what is in it is reached through its descriptor; where /proc is missing, calls fail. The folders
-/// above the last path stay open, and are compared again.
+/// above the last path stay open: at the next call the path must lead to the last of them, and the system must have it at that
+/// path, where no link is; or else each is compared again.
 ///
 /// No link is followed. A path with a link above it fails in every call, since what stands there is not known; below a
 /// file, or a pipe, there is nothing. HOST itself may be a link. A removal fails before anything is removed where
@@ -31,8 +32,9 @@ use std::rt::Files;
 /// failure, since their file would be that of another pair.
 ///
 /// A file that is read is the plain file that was seen: what comes in its place between the look and the opening, by a link
-/// too, there or above, is opened and not read. A file that was changed in the ten seconds before the host was begun, or later, is looked at
-/// again while it is open. A pipe that comes there is waited for until somebody writes to it: what calls
+/// too, there or above, is opened and not read. A file in the folders of the last path is looked at and opened by its whole path, and is
+/// read where the system has what was opened at that path. Any other that was changed in the ten seconds before the host was begun,
+/// or later, is looked at again while it is open. A pipe that comes there is waited for until somebody writes to it: what calls
 /// the host has a limit of its own.
 ///
 /// A removal takes away what the last look at that path found and nothing else, and a folder that was found empty only

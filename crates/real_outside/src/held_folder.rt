@@ -5,7 +5,7 @@ ghost use Rattle.real_outside.specs.Folders.{held_place};
 ghost use Rattle.dsc_outside.specs.declared.host.HostError.TheVariants as errors;
 
 use crate::identity::Identity;
-use crate::names_below::open_folder;
+use crate::names_below::{descriptor_path, open_folder};
 use crate::spot::Spot;
 use dsc_outside::{Failed, HostError};
 use host_layout::is_single_name;
@@ -32,8 +32,7 @@ impl HeldFolder {
     /// is not followed.
     pub fn open<R: Files>(rt: &R, alloc: Global, spot: &Spot) -> Result<HeldFolder, HostError> {
         let folder = open_folder(spot.place.as_str())?;
-        let number = folder.as_raw_fd();
-        let path = format!(in alloc; "/proc/self/fd/{number}")?;
+        let path = descriptor_path(alloc, folder.as_raw_fd())?;
         let found = fs::metadata(rt, path.as_str())?;
         if !spot.is(&found) {
             return Err(HostError::Failed);
@@ -77,9 +76,19 @@ impl HeldFolder {
         Ok(place)
     }
 
+    /// Looks at a name in the folder, where the folder was just found at its path.
+    pub fn look_inside<R: Files>(
+        &self,
+        rt: &R,
+        alloc: Global,
+        name: &str,
+    ) -> Result<Spot, HostError> {
+        Spot::look(rt, self.place_of(alloc, name)?)
+    }
+
     /// Looks at a name in the folder.
     pub fn look<R: Files>(&self, rt: &R, alloc: Global, name: &str) -> Result<Spot, HostError> {
-        let spot = Spot::look(rt, self.place_of(alloc, name)?)?;
+        let spot = self.look_inside(rt, alloc, name)?;
         if spot.seen.is_none() {
             self.confirm(rt)?;
         }
@@ -96,6 +105,11 @@ impl HeldFolder {
         }
     }
 
+    /// Opens the folder once more, as a file that can be synced.
+    pub fn reopen<R: Files>(&self, rt: &R) -> io::Result<R::File> {
+        fs::open(rt, self.path.as_str())
+    }
+
     /// Puts on the disk which names the folder has. A file system that knows no sync of folders has nothing to do.
     pub fn sync<R: Files>(&self, rt: &R) -> io::Result<()> {
         sync_folder(rt, self.path.as_str())
@@ -104,7 +118,12 @@ impl HeldFolder {
 
 /// The same of the folder at that place.
 pub fn sync_folder<R: Files>(rt: &R, place: &str) -> io::Result<()> {
-    match fs::open(rt, place)?.sync_all() {
+    sync_opened(&fs::open(rt, place)?)
+}
+
+/// The same of the folder that is open.
+pub fn sync_opened<F: OpenFile>(folder: &F) -> io::Result<()> {
+    match folder.sync_all() {
         Err(e) if e.kind() == ErrorKind::InvalidInput => Ok(()),
         outcome => outcome,
     }

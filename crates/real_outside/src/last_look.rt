@@ -14,11 +14,11 @@ pub struct LastLook {
 }
 
 impl LastLook {
-    pub fn new(place: PathBuf, state: PathState, spot: &Option<Spot>) -> LastLook {
+    pub fn new(place: PathBuf, state: PathState, identity: Option<Identity>) -> LastLook {
         LastLook {
             place,
             state,
-            identity: identity_of(spot),
+            identity,
         }
     }
 
@@ -34,12 +34,5 @@ impl LastLook {
     /// Answers whether it found what is at the spot now.
     pub fn found(&self, spot: &Spot) -> bool {
         self.identity == spot.identity()
-    }
-}
-
-fn identity_of(spot: &Option<Spot>) -> Option<Identity> {
-    match spot {
-        Some(spot) => spot.identity(),
-        None => None,
     }
 }

@@ -8,7 +8,7 @@ ghost use Rattle.dsc_outside.specs.declared.host.HostError.TheVariants as errors
 use crate::held_folder::HeldFolder;
 use crate::machine_folder::MachineFolder;
 use crate::plain_files::{append_file, file_holds, is_plain_file, take_away};
-use crate::spot::Spot;
+use crate::spot::{Kind, Spot};
 use dsc_outside::HostError;
 use host_layout::{REBOOT, entry_path, join_lines, package_path, variable_path};
 use std::os::fd::AsFd;
@@ -99,12 +99,20 @@ where
 
     pub fn reboot_wanted(&self, id: &str) -> Result<bool, HostError> {
         let mut text = Vec::new(self.alloc());
-        if let Some(host) = self.hold_host()? {
+        if let Some(host) = self.hold_host_of_reboots()? {
             let spot = host.look(&self.rt, self.alloc(), REBOOT)?;
             let path = self.place_in_host(REBOOT)?;
             append_file(&self.rt, &host, &spot, path.as_str(), self.begun, &mut text)?;
         }
         Ok(has_line(&text, id.as_bytes()))
+    }
+
+    // The host's folder, where something is there under the name of the text of reboots.
+    fn hold_host_of_reboots(&self) -> Result<Option<HeldFolder>, HostError> {
+        match Spot::look(&self.rt, self.place_in_host(REBOOT)?)?.kind() {
+            Kind::Nothing => Ok(None),
+            _ => self.hold_host(),
+        }
     }
 
     // The host's folder, where it is there. It may be a link.

@@ -1,17 +1,18 @@
 //! A folder that stands for a machine.
 use crate::above::split_path;
 use crate::ancestors::Ancestors;
-use crate::held_folder::sync_folder;
+use crate::held_folder::{sync_folder, sync_opened};
 use crate::identity::Identity;
 use crate::last_look::LastLook;
-use crate::placing::place_file;
+use crate::placing::{Staged, stage_file};
 use crate::spot::folder_of;
-use crate::staging::clear_staged;
+use crate::staging::{Mark, Marks, clear_staged};
 use dsc_outside::HostError;
 use std::alloc::Global;
 use std::fs;
+use std::fs::OpenFile;
 use std::io::ErrorKind;
-use std::os::fd::AsFd;
+use std::os::fd::{AsFd, AsRawFd};
 use std::rt::Files;
 
 /// The folder of that path, where it is there.
@@ -29,13 +30,34 @@ where
     // The file of the node's store. Nothing in its folder is changed.
     pub(super) store: Option<String>,
 
+    // That folder, from the first change on at which it was there.
+    own: Option<OpenFolder<R::File>>,
+
     // The folders above the path of the last call.
     pub(super) ancestors: Ancestors,
 
+    // Whether the last walk found the last of them at its path below /proc.
+    pub(super) is_found: bool,
+
     pub(super) last_look: Option<LastLook>,
+
+    // A name that a file was given in the folder of that identity.
+    pub(super) placed: Option<(Identity, String)>,
+
+    // The folder in which a file was placed last.
+    synced: Option<OpenFolder<R::File>>,
+
+    marks: Marks,
 
     // The folders in which nothing is left of an earlier run that was stopped.
     cleared: Vec<Identity>,
+}
+
+/// A folder that is open, so that no other has its identity.
+#[derive(Drop)]
+struct OpenFolder<F: Drop> {
+    identity: Identity,
+    folder: F,
 }
 
 impl<R: Files> MachineFolder<R>
@@ -49,8 +71,13 @@ where
             host,
             begun,
             store,
+            own: None,
             ancestors: Ancestors::new(alloc),
+            is_found: false,
             last_look: None,
+            placed: None,
+            synced: None,
+            marks: Marks::new(),
             cleared: Vec::new(alloc),
         }
     }
@@ -59,13 +86,27 @@ where
         *self.host.allocator()
     }
 
-    /// The folder of the node's store, where it is there.
-    pub(super) fn own_folder(&self) -> Result<Option<Identity>, HostError> {
+    /// The folder of the node's store, where it is there. Once it was found it stays open, so it is this folder alone that has its
+    /// identity.
+    pub(super) fn own_folder(&mut self) -> Result<Option<Identity>, HostError> {
+        if self.own.is_none() {
+            self.own = self.open_own_folder()?;
+        }
+        match &self.own {
+            Some(own) => Ok(Some(own.identity)),
+            None => Ok(None),
+        }
+    }
+
+    fn open_own_folder(&self) -> Result<Option<OpenFolder<R::File>>, HostError> {
         let Some(store) = &self.store else {
             return Ok(None);
         };
-        match fs::metadata(&self.rt, folder_of(store.as_str())) {
-            Ok(found) => Ok(Some(Identity::of(&found))),
+        match fs::open(&self.rt, folder_of(store.as_str())) {
+            Ok(folder) => Ok(Some(OpenFolder {
+                identity: Identity::of(&folder.metadata()?),
+                folder,
+            })),
             Err(e) if e.kind() == ErrorKind::NotFound => Ok(None),
             Err(e) => Err(HostError::from(e)),
         }
@@ -84,7 +125,62 @@ where
         };
         self.walk_to_change(folders, own)?;
         self.clear_last_folder()?;
-        place_file(&self.rt, self.alloc(), self.last_folder()?, name, bytes)
+        let mark = self.marks.next()?;
+        let staged = self.stage(name, &mark, bytes)?;
+        let outcome = self.put_in_place(path, &staged);
+        if outcome.is_err() {
+            let _ = fs::remove_file(&self.rt, staged.place.as_str());
+        }
+        outcome?;
+        drop(staged);
+        self.remember_placed(name)?;
+        self.sync_last_folder()
+    }
+
+    // Writes a file for that name beside it in the last folder, under a name with that mark.
+    fn stage(&self, name: &str, mark: &Mark, bytes: &[u8]) -> Result<Staged<R::File>, HostError> {
+        let folder = self.last_folder()?;
+        let spot = folder.look_inside(&self.rt, self.alloc(), name)?;
+        stage_file(&self.rt, self.alloc(), spot, mark, bytes)
+    }
+
+    // Has the staged file take its name. It is a failure where anything else than that file stands there then.
+    fn put_in_place(&self, path: &str, staged: &Staged<R::File>) -> Result<(), HostError> {
+        fs::rename(&self.rt, staged.place.as_str(), staged.spot.place.as_str())?;
+        if self.is_at(staged.file.as_fd().as_raw_fd(), path)? {
+            return Ok(());
+        }
+        staged.expect_placed(&self.rt)
+    }
+
+    // Puts on the disk which names the last folder has.
+    fn sync_last_folder(&mut self) -> Result<(), HostError> {
+        let folder = self.last_folder()?;
+        let identity = folder.identity();
+        let is_open = match &self.synced {
+            Some(synced) => synced.identity == identity,
+            None => false,
+        };
+        if !is_open {
+            self.synced = Some(OpenFolder {
+                identity,
+                folder: folder.reopen(&self.rt)?,
+            });
+        }
+        match &self.synced {
+            Some(synced) => Ok(sync_opened(&synced.folder)?),
+            None => Err(HostError::Failed),
+        }
+    }
+
+    // Without memory for the name none is known.
+    fn remember_placed(&mut self, name: &str) -> Result<(), HostError> {
+        let identity = self.last_folder()?.identity();
+        self.placed = match String::from_str(self.alloc(), name) {
+            Ok(name) => Some((identity, name)),
+            Err(_) => None,
+        };
+        Ok(())
     }
 
     // Takes away what a stop left in the last folder, before the first file that is placed there.

@@ -5,9 +5,10 @@ use crate::identity::Identity;
 use crate::reading::read_rest;
 use dsc_outside::HostError;
 use os::FromRawFd;
-use std::alloc::Global;
+use std::alloc::{AllocError, Global};
 use std::io::{Error, ErrorKind};
 use std::os::fd::{AsRawFd, OwnedFd};
+use std::path::PathBuf;
 use std::rt::Files;
 use std::{fs, io};
 
@@ -23,6 +24,19 @@ pub enum Taken {
 /// What made the last call of the system fail.
 pub fn last_error() -> Error {
     Error::from_raw_os_error(os::errno())
+}
+
+/// The path at which the system shows what is open under that number.
+pub fn descriptor_path(alloc: Global, number: i32) -> Result<String, AllocError> {
+    format!(in alloc; "/proc/self/fd/{number}")
+}
+
+/// What ends the path that the system has for what is at none any more.
+pub const DELETED: &str = " (deleted)";
+
+/// The path at which what is open under that number stands now: it has no link in it.
+pub fn real_path<R: Files>(rt: &R, alloc: Global, number: i32) -> io::Result<PathBuf> {
+    rt.read_link(alloc, descriptor_path(alloc, number)?.as_str())
 }
 
 /// Opens the folder at that place. A link in its place is none.
@@ -90,8 +104,7 @@ pub fn identity_of<R: Files>(
     alloc: Global,
     folder: &OwnedFd,
 ) -> Result<Identity, HostError> {
-    let number = folder.as_raw_fd();
-    let place = format!(in alloc; "/proc/self/fd/{number}")?;
+    let place = descriptor_path(alloc, folder.as_raw_fd())?;
     Ok(Identity::of(&fs::metadata(rt, place.as_str())?))
 }
 

@@ -1,8 +1,7 @@
 //! Placing files whole.
-use crate::held_folder::HeldFolder;
 use crate::identity::Identity;
 use crate::spot::{Kind, Spot};
-use crate::staging::new_mark;
+use crate::staging::Mark;
 use dsc_outside::HostError;
 use host_layout::staging_path;
 use std::alloc::Global;
@@ -10,6 +9,7 @@ use std::fs::{Metadata, OpenFile, OpenOptions, Permissions};
 use std::io::{ErrorKind, Write};
 use std::os::fd::AsFd;
 use std::os::unix::fs::{MetadataExt, OpenOptionsExt, PermissionsExt, fchown};
+use std::path::PathBuf;
 use std::rt::Files;
 use std::{fs, io};
 
@@ -22,38 +22,62 @@ const MODE_BITS: u32 = 0o7777;
 /// Nobody but the writer reads a file before it has the mode of the one that it replaces.
 const PRIVATE: u32 = 0o600;
 
-/// Places a file with these bytes under that name in the folder: it is written and synced beside it, under a name that
-/// nobody else knows before, and takes its own in one step, also that of a file or a link. It has the mode of a file that
-/// was there, and its owner and group where they may be set. A folder in its place is a failure, and so is anything else
-/// than the file that was written: another user of the folder may have put that at the staging place.
-pub fn place_file<R: Files>(
+/// A file that is written and synced, and open, beside the spot where it is to stand.
+#[derive(Drop)]
+pub struct Staged<F: Drop> {
+    pub place: PathBuf,
+    pub spot: Spot,
+    pub file: F,
+}
+
+impl<F: OpenFile + Drop> Staged<F> {
+    /// Fails where anything else than this file stands at the spot: another user of the folder may have put that at the staging
+    /// place.
+    pub fn expect_placed<R: Files>(&self, rt: &R) -> Result<(), HostError> {
+        let placed = fs::symlink_metadata(rt, self.spot.place.as_str())?;
+        if Identity::of(&placed) == Identity::of(&self.file.metadata()?) {
+            Ok(())
+        } else {
+            Err(HostError::Failed)
+        }
+    }
+}
+
+/// Writes a file with these bytes beside the spot, under a name with that mark, and syncs it. Its name there is one that
+/// nobody else knows before. It has the mode of a file that stands at the spot, and its owner and group where they may be
+/// set. A folder at the spot is a failure. Where it fails nothing is left.
+pub fn stage_file<R: Files>(
     rt: &R,
     alloc: Global,
-    folder: &HeldFolder,
-    name: &str,
+    spot: Spot,
+    mark: &Mark,
     bytes: &[u8],
-) -> Result<(), HostError>
+) -> Result<Staged<R::File>, HostError>
 where
     R::File: AsFd,
 {
-    let spot = folder.look(rt, alloc, name)?;
     if spot.kind() == Kind::Folder {
         return Err(HostError::Failed);
     }
-    let staged = staging_path(alloc, spot.place.as_str(), &new_mark()?)?;
-    let outcome = write_then_move(rt, staged.as_str(), &spot, bytes);
-    if outcome.is_err() {
-        let _ = fs::remove_file(rt, staged.as_str());
+    let place = staging_path(alloc, spot.place.as_str(), mark)?;
+    match write_file(rt, place.as_str(), replaced_file(&spot), bytes) {
+        Ok(file) => Ok(Staged { place, spot, file }),
+        Err(e) => {
+            let _ = fs::remove_file(rt, place.as_str());
+            Err(HostError::from(e))
+        }
     }
-    outcome?;
-    Ok(folder.sync(rt)?)
 }
 
-fn write_then_move<R: Files>(rt: &R, staged: &str, spot: &Spot, bytes: &[u8]) -> io::Result<()>
+fn write_file<R: Files>(
+    rt: &R,
+    staged: &str,
+    replaced: Option<&Metadata>,
+    bytes: &[u8],
+) -> io::Result<R::File>
 where
     R::File: AsFd,
 {
-    let replaced = replaced_file(spot);
     let mut options = OpenOptions::new();
     options.write(true).create_new(true);
     if replaced.is_some() {
@@ -66,13 +90,7 @@ where
         let mode = kept_mode(&file, replaced)?;
         file.set_permissions(Permissions::from_mode(mode))?;
     }
-    let written = file.metadata()?;
-    fs::rename(rt, staged, spot.place.as_str())?;
-    let placed = fs::symlink_metadata(rt, spot.place.as_str())?;
-    if Identity::of(&placed) != Identity::of(&written) {
-        return Err(io::Error::from(ErrorKind::Other));
-    }
-    Ok(())
+    Ok(file)
 }
 
 // The file that was seen there. There is none where anything else was.

@@ -5,7 +5,6 @@ use crate::reading::read_some;
 use dsc_outside::HostError;
 use host_layout::is_staging_name;
 use std::alloc::Global;
-use std::io;
 use std::os::fd::OwnedFd;
 use std::rt::Files;
 
@@ -14,13 +13,38 @@ const BUFFER_SIZE: usize = 4096;
 /// What sets one staged file apart from each other one.
 pub type Mark = [u8; 8];
 
-/// A mark of random bytes: nobody else knows it before the file is there, so nobody keeps its name.
-pub fn new_mark() -> io::Result<Mark> {
-    let mut mark = [0; 8];
-    if libc::getentropy(&mut mark) == 0 {
-        Ok(mark)
-    } else {
-        Err(last_error())
+/// How many random bytes the system is asked for at once, which is all that it gives at once.
+const RANDOM_SIZE: usize = 256;
+
+/// Marks of random bytes: nobody else knows one before its file is there, so nobody keeps its name.
+#[derive(Drop)]
+pub struct Marks {
+    random: [u8; RANDOM_SIZE],
+    used: usize,
+}
+
+impl Marks {
+    pub fn new() -> Marks {
+        Marks {
+            random: [0; RANDOM_SIZE],
+            used: RANDOM_SIZE,
+        }
+    }
+
+    /// A mark that was not given before.
+    pub fn next(&mut self) -> Result<Mark, HostError> {
+        if self.used >= RANDOM_SIZE {
+            if libc::getentropy(&mut self.random) != 0 {
+                return Err(HostError::from(last_error()));
+            }
+            self.used = 0;
+        }
+        let begin = self.used;
+        self.used = begin.saturating_add(size_of::<Mark>());
+        match self.random.get(begin..self.used) {
+            Some(bytes) => Mark::try_from(bytes).map_err(|_| HostError::Failed),
+            None => Err(HostError::Failed),
+        }
     }
 }
 

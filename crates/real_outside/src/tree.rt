@@ -4,6 +4,7 @@ ghost use Rattle.host_layout.specs.Layout.{is_plain_path};
 ghost use Rattle.dsc_outside.specs.declared.host.HostError.TheVariants as errors;
 
 use crate::above::{Above, split_path};
+use crate::comparing::gives_exactly;
 use crate::emptiness::is_inhabited;
 use crate::identity::Identity;
 use crate::last_look::LastLook;
@@ -14,8 +15,9 @@ use crate::spot::{Kind, Spot};
 use dsc_outside::{HostError, PathState};
 use host_layout::root_path;
 use std::fs;
+use std::fs::OpenFile;
 use std::io::ErrorKind;
-use std::os::fd::AsFd;
+use std::os::fd::{AsFd, AsRawFd};
 use std::rt::Files;
 
 impl<R: Files> MachineFolder<R>
@@ -27,13 +29,45 @@ where
     {
         let place = root_path(self.alloc(), path)?;
         self.last_look = None;
+        if let Some(identity) = self.held_with_a_name(place.as_str())? {
+            self.last_look = Some(LastLook::new(place, PathState::Folder, Some(identity)));
+            return Ok(PathState::Folder);
+        }
         let spot = self.look_for(place.as_str())?;
-        let state = match &spot {
-            Some(spot) => self.state_of(spot)?,
-            None => PathState::Nothing,
+        let (state, identity) = match &spot {
+            Some(spot) => (self.state_of(spot)?, spot.identity()),
+            None => (PathState::Nothing, None),
         };
-        self.last_look = Some(LastLook::new(place, state, &spot));
+        self.last_look = Some(LastLook::new(place, state, identity));
         Ok(state)
+    }
+
+    // Which folder stands at that place, where it is one that is held, and has a name in it that it had before.
+    fn held_with_a_name(&self, place: &str) -> Result<Option<Identity>, HostError> {
+        let (count, end) = self.ancestors.shared(place);
+        let (Some(folder), true) = (self.ancestors.held(count), end == place.len()) else {
+            return Ok(None);
+        };
+        let Some(name) = self.name_known_in(count, folder.identity()) else {
+            return Ok(None);
+        };
+        let mut known = self.host_place(place)?;
+        known.push(place)?;
+        known.push(name)?;
+        let is_there = fs::symlink_metadata(&self.rt, known.as_str()).is_ok();
+        if is_there && self.stands(place, count)? {
+            Ok(Some(folder.identity()))
+        } else {
+            Ok(None)
+        }
+    }
+
+    // A name that the last of that many folders had: that of the next one, or of the file that was placed last.
+    fn name_known_in(&self, count: usize, folder: Identity) -> Option<&str> {
+        match &self.placed {
+            Some((identity, name)) if *identity == folder => Some(name.as_str()),
+            _ => self.ancestors.name_below(count),
+        }
     }
 
     fn state_of(&self, spot: &Spot) -> Result<PathState, HostError> {
@@ -50,6 +84,9 @@ where
         ensures { is_plain_path path.now ≡ false → result ≡ Err errors.Failed }
     {
         let place = root_path(self.alloc(), path)?;
+        if let Some(answer) = self.equals_in_last(place.as_str(), bytes)? {
+            return Ok(answer);
+        }
         match self.look_for(place.as_str())? {
             Some(spot) if spot.kind() == Kind::File => {
                 let path = self.place_in_host(place.as_str())?;
@@ -64,6 +101,41 @@ where
             }
             _ => Ok(false),
         }
+    }
+
+    // The same of a file in the folders above the last path: what is found is opened by its whole path, and is the file that stands
+    // there where the system has it at that path. There is no answer where that does not tell.
+    fn equals_in_last(&self, place: &str, bytes: &[u8]) -> Result<Option<bool>, HostError> {
+        let Some((folders, _)) = split_path(place) else {
+            return Ok(None);
+        };
+        if !self.ancestors.are(folders) {
+            return Ok(None);
+        }
+        let path = self.place_in_host(place)?;
+        match Spot::look(&self.rt, path) {
+            Ok(spot) if spot.kind() == Kind::File => self.standing_equals(place, &spot, bytes),
+            Ok(spot) if spot.kind() == Kind::Nothing => {
+                let is_standing = self.stands(folders, self.ancestors.len())?;
+                Ok(is_standing.then_some(false))
+            }
+            _ => Ok(None),
+        }
+    }
+
+    fn standing_equals(
+        &self,
+        place: &str,
+        spot: &Spot,
+        bytes: &[u8],
+    ) -> Result<Option<bool>, HostError> {
+        let Ok(mut file) = fs::open(&self.rt, spot.place.as_str()) else {
+            return Ok(None);
+        };
+        if !file.metadata()?.is_file() || !self.is_at(file.as_fd().as_raw_fd(), place)? {
+            return Ok(None);
+        }
+        Ok(Some(gives_exactly(&mut file, bytes)?))
     }
 
     pub fn put_file(&mut self, path: &str, bytes: &[u8]) -> Result<(), HostError>

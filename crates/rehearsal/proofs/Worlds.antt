@@ -53,7 +53,7 @@ rows_of_none image bodies after none (text second closed given long is) replays 
 
 -- a server's disk of no bytes reads as no rows
 pub no_rows : (disk : DiskInMemory) (bytes : List ℕ) (after : List Row) → disk ≡ fresh_disk bytes → bytes ≡ [] → ReadsAs disk_ghosts disk rows.Stands after → after ≡ []
-no_rows disk bytes after is none stands = rows_of_none (held_by disk) stands.bodies after (ap held_by is ∙ none) stands.gives stands.replays
+no_rows disk bytes after is none stands = rows_of_none (held_by disk) stands.bodies after (ap held_by is ∙ none) stands.gives stands.leads
 
 -- a disk that has lasted, and that stands for a node, is opened but for memory
 module _ (none : FailingStandForNone) (disk now : DiskInMemory) (bytes image : List ℕ) (is : disk ≡ fresh_disk bytes) (copied : bytes ≡ image) (lasted : HasLasted now) (known : (node : Node) × Stands image node) where

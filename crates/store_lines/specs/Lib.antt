@@ -1,3 +1,6 @@
+pub mod Choice
+pub mod Gauges
 pub mod Status
+pub mod Tabled
 pub mod Told
 pub mod Words

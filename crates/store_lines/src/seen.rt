@@ -1,8 +1,8 @@
 //! What is seen of an agent: its class, its last report, and whether it is stale.
 ghost use Rattle.std.specs.Prelude.{◌≡◌, IfOk};
-ghost use Rattle.store_lines.specs.Told.{is_alarm_seen, is_since, is_stale, seen_of};
+ghost use Rattle.store_lines.specs.Told.{is_alarm_by, is_alarm_seen, is_since, is_stale, seen_of};
 
-use agent_class::{Class, class_of_row, last_message};
+use agent_class::{Class, class_and_message};
 use agent_line::moment_in;
 use mof_values::Memory;
 use pull_messages::ReportMessage;
@@ -28,8 +28,7 @@ pub struct Seen {
 pub fn seen_of(alloc: Global, since: Option<u64>, row: &Row) -> Result<Seen, Memory>
     ensures { IfOk result (λ seen. seen ≡ seen_of since row.now) }
 {
-    let class = class_of_row(alloc, row)?;
-    let message = last_message(alloc, row)?;
+    let (class, message) = class_and_message(alloc, row)?;
     let stale = is_stale(since, &message)?;
     Ok(Seen {
         class,
@@ -43,9 +42,16 @@ pub fn seen_of(alloc: Global, since: Option<u64>, row: &Row) -> Result<Seen, Mem
 pub fn is_alarm(seen: &Seen) -> bool
     ensures { result ≡ is_alarm_seen seen.now }
 {
-    match seen.class {
+    is_alarm_by(seen.class, seen.stale)
+}
+
+/// Whether an agent of that class is an alarm.
+pub(crate) fn is_alarm_by(class: Class, stale: bool) -> bool
+    ensures { result ≡ is_alarm_by class stale }
+{
+    match class {
         Class::Failed | Class::Silent => true,
-        Class::Compliant | Class::Other => seen.stale,
+        Class::Compliant | Class::Other => stale,
     }
 }
 
@@ -61,6 +67,7 @@ fn is_stale(since: Option<u64>, message: &Option<ReportMessage>) -> Result<bool,
     }
 }
 
+// Whether there is a moment, and it is this one or later.
 fn is_since(since: u64, moment: Option<u64>) -> bool
     ensures { result ≡ is_since since moment }
 {

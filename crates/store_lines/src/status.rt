@@ -16,11 +16,17 @@ pub enum FleetStatus {
     /// The arguments are not those of the program.
     Usage,
 
+    /// An agent that is to be forgotten has no row.
+    UnknownAgent,
+
     /// A file, the clock or the output failed.
     Fault,
 
     /// A file is no store of a server.
     NotAStore,
+
+    /// The server of a store that is to forget agents runs.
+    Running,
 
     Memory,
 }
@@ -34,8 +40,10 @@ impl FleetStatus {
             FleetStatus::Healthy => 0,
             FleetStatus::Alarm => 1,
             FleetStatus::Usage => 2,
+            FleetStatus::UnknownAgent => 3,
             FleetStatus::Fault => 4,
             FleetStatus::NotAStore => 5,
+            FleetStatus::Running => 6,
             FleetStatus::Memory => 8,
         }
     }
@@ -52,7 +60,8 @@ impl FleetStatus {
     }
 }
 
-/// The status of a store that does not open; an opening answers `NotAStore`, `Memory` and `Disk` alone.
+/// The status of a store that does not open or does not forget; these answer `NotAStore`, `Memory` and `Disk` alone, and `Full` of
+/// no real file.
 pub fn status_of(error: PullError) -> FleetStatus
     ensures { result ≡ status_of error }
 {

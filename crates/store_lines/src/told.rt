@@ -73,8 +73,8 @@ fn push_seen(
     )
 }
 
-// Whether the class is one of these, or none is given.
-fn is_shown(classes: &[Class], class: Class) -> bool
+/// Whether the class is one of these, or none is given.
+pub(crate) fn is_shown(classes: &[Class], class: Class) -> bool
     ensures { result ≡ is_shown classes.now class }
 {
     match classes {
@@ -95,7 +95,8 @@ fn has_class(classes: &[Class], class: Class) -> bool
     false
 }
 
-fn same_class(one: Class, other: Class) -> bool
+/// Whether both are one class.
+pub(crate) fn same_class(one: Class, other: Class) -> bool
     ensures { result ≡ same_class one other }
 {
     match one {
@@ -107,7 +108,7 @@ fn same_class(one: Class, other: Class) -> bool
 }
 
 /// The name of a class.
-fn class_word(class: Class) -> &'static str
+pub(crate) fn class_word(class: Class) -> &'static str
     ensures { result.now ≡ class_word class }
 {
     match class {
@@ -118,8 +119,9 @@ fn class_word(class: Class) -> &'static str
     }
 }
 
+/// Adds the line of a store that has so many agents.
 #[tactic(auto, unfolding(crate::specs::Told::last_line))]
-fn push_last(
+pub(crate) fn push_last(
     text: &mut Vec<u8>,
     alloc: Global,
     store: &Text,

@@ -1,34 +1,26 @@
 //! The arguments, and their values.
-ghost use Rattle.std.specs.Prelude.{◌≡◌, ℕ, [], IfOk, IfNone, IfSome, IsErrOf, codes, encode_utf8_all, map, string_bytes};
-ghost use Rattle.clap.specs.Words.{fault_of, first_value, found_of, matches_of, rows_of};
-ghost use Rattle.agent_class.specs.declared.class.Class.{Class as ClassTerm};
-ghost use Rattle.store_lines.specs.Told.{class_word};
-ghost use Rattle.store_lines.specs.Words.{AreNoClasses, AreValues, IsHours, IsRefused, IsUnread, SpellsHours, fleet_app, texts_of};
+ghost use Rattle.std.specs.Prelude.{◌≡◌, [], IfOk, IsErrOf, map, string_bytes};
+ghost use Rattle.clap.specs.Words.{fault_of, found_of, matches_of, rows_of};
+ghost use Rattle.store_lines.specs.Words.{AreValues, IsRefused, fleet_app};
 
 use crate::command::command;
-use agent_class::Class;
+use crate::task::{FleetOptions, Task, task_of};
+use crate::values::options_in;
 use clap::ArgMatches;
 use clap::error::ErrorKind;
-use mof_values::{Items, Text};
 use std::alloc::{AllocError, AllocFailed, Global};
 
 /// What the program is asked to do.
 #[derive(Drop)]
 pub struct FleetWords {
-    /// The files of stores, in order.
-    pub stores: Items<Text>,
-
-    /// The classes of which agents are printed; all where none is given.
-    pub classes: Items<Class>,
-
-    /// A machine is stale where its last report did not end within so many hours.
-    pub older: Option<u32>,
+    pub task: Task,
+    pub options: FleetOptions,
 }
 
 /// Why arguments give no values.
 #[derive(Clone, Copy, Debug, PartialEq, Eq)]
 pub enum WordsError {
-    /// The arguments are not those of the command, or a class or a number is none.
+    /// The arguments are not those of the command, a class, a number or an id is none, or the options do not go together.
     Usage,
 
     /// It ran out of memory.
@@ -57,22 +49,21 @@ impl<T: Drop> From<AllocFailed<T>> for WordsError {
     }
 }
 
-/// The values of `STORE.. --class NAME --older HOURS`; `--class` may stand more than once, and the options in any order.
+/// The values of `STORE..`, with the options `--class NAME` and `--forget AGENT`, which may stand more than once, `--older HOURS`,
+/// `--table`, `--prometheus`, `--forget-silent DAYS` and `--forget-never-reported`, in any order.
 pub fn fleet_words(alloc: Global, arguments: &[String]) -> Result<FleetWords, WordsError>
     ensures usage { IsErrOf result WordsError.Usage → IsRefused (map string_bytes arguments.now) }
-    ensures taken { IfOk result (λ values. AreValues (map string_bytes arguments.now) values) }
+    ensures taken { IfOk result (λ words. AreValues (map string_bytes arguments.now) words) }
 {
     let matches = parse(alloc, arguments)?;
-    let stores = texts_in(alloc, &matches, "store")?;
-    let classes = classes_in(alloc, &matches)?;
-    let older = hours_in(&matches)?;
-    Ok(FleetWords {
-        stores: Items::of(stores),
-        classes: Items::of(classes),
-        older,
-    })
+    let options = options_in(alloc, &matches)?;
+    match task_of(&options) {
+        Some(task) => Ok(FleetWords { task, options }),
+        None => Err(WordsError::Usage),
+    }
 }
 
+#[tactic(auto, using(crate::proofs::Simple::is_simple_fleet, crate::proofs::Simple::is_free_fleet))]
 fn parse<'a>(alloc: Global, arguments: &'a [String]) -> Result<ArgMatches<'a>, WordsError>
     ensures usage { IsErrOf result WordsError.Usage → (fault_of fleet_app (map string_bytes arguments.now) ≡ [] → ⊥) }
     ensures taken { IfOk result (λ _. fault_of fleet_app (map string_bytes arguments.now) ≡ []) }
@@ -89,95 +80,5 @@ fn parse<'a>(alloc: Global, arguments: &'a [String]) -> Result<ArgMatches<'a>, W
                 Err(WordsError::Usage)
             }
         }
-    }
-}
-
-// The values of the argument with this name.
-fn texts_in(alloc: Global, matches: &ArgMatches<'_>, name: &str) -> Result<Vec<Text>, AllocError>
-    ensures { IfOk result (λ texts. map encode_utf8_all texts.items
-        ≡ texts_of name.now (rows_of (found_of matches.now))) }
-{
-    match matches.get_strs(name) {
-        Some(values) => texts_from(alloc, values),
-        None => Ok(Vec::new(alloc)),
-    }
-}
-
-fn texts_from(alloc: Global, values: &[&str]) -> Result<Vec<Text>, AllocError>
-    ensures { IfOk result (λ texts. map encode_utf8_all texts.items ≡ map (λ v. v.now) values.now) }
-{
-    let mut texts = Vec::new(alloc);
-    for value in values {
-        texts.push(text_from(alloc, value)?)?;
-    }
-    Ok(texts)
-}
-
-fn text_from(alloc: Global, value: &str) -> Result<Text, AllocError>
-    ensures { IfOk result (λ text. encode_utf8_all text ≡ value.now) }
-{
-    Ok(Text::of(value.chars().collect(alloc)?))
-}
-
-fn classes_in(alloc: Global, matches: &ArgMatches<'_>) -> Result<Vec<Class>, WordsError>
-    ensures ok { IfOk result (λ classes. map class_word classes.items
-        ≡ texts_of (codes "class") (rows_of (found_of matches.now))) }
-    ensures usage { IsErrOf result WordsError.Usage
-        → AreNoClasses (texts_of (codes "class") (rows_of (found_of matches.now))) }
-{
-    match matches.get_strs("class") {
-        Some(names) => classes_named(alloc, names),
-        None => Ok(Vec::new(alloc)),
-    }
-}
-
-fn classes_named(alloc: Global, names: &[&str]) -> Result<Vec<Class>, WordsError>
-    ensures ok { IfOk result (λ classes. map class_word classes.items ≡ map (λ v. v.now) names.now) }
-    ensures usage { IsErrOf result WordsError.Usage → AreNoClasses (map (λ v. v.now) names.now) }
-{
-    let mut classes = Vec::new(alloc);
-    for name in names {
-        match class_named(name) {
-            Some(class) => classes.push(class)?,
-            None => return Err(WordsError::Usage),
-        }
-    }
-    Ok(classes)
-}
-
-fn class_named(name: &str) -> Option<Class>
-    ensures some { IfSome result (λ class. class_word class ≡ name.now) }
-    ensures none { IfNone result ((class : ClassTerm) → class_word class ≡ name.now → ⊥) }
-{
-    match name {
-        "Compliant" => Some(Class::Compliant),
-        "Failed" => Some(Class::Failed),
-        "Silent" => Some(Class::Silent),
-        "Other" => Some(Class::Other),
-        _ => None,
-    }
-}
-
-fn hours_in(matches: &ArgMatches<'_>) -> Result<Option<u32>, WordsError>
-    ensures ok { IfOk result (IsHours (first_value (found_of matches.now) (codes "older"))) }
-    ensures usage { IsErrOf result WordsError.Usage
-        → IsUnread (first_value (found_of matches.now) (codes "older")) }
-{
-    match matches.get_str("older") {
-        Some(text) => match hours_of(text) {
-            Some(hours) => Ok(Some(hours)),
-            None => Err(WordsError::Usage),
-        },
-        None => Ok(None),
-    }
-}
-
-fn hours_of(text: &str) -> Option<u32>
-    ensures some { IfSome result (SpellsHours text.now) }
-    ensures none { IfNone result ((hours : ℕ) → SpellsHours text.now hours → ⊥) }
-{
-    match text.parse::<u32>() {
-        Ok(hours) => Some(hours),
-        Err(_) => None,
     }
 }

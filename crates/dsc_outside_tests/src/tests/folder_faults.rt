@@ -6,8 +6,8 @@ use super::host_calls::Call::{
 use super::host_calls::{Row, expect_of, expect_one_of};
 use super::scratch::make_folder;
 use super::watched_files::SystemCall::{
-    Compare, Create, Find, List, Look, MakeFolder, Mode, Mounts, Open, Read, RemoveFolder, Rename,
-    Sync, SyncFolder, Unlink, Write,
+    Compare, Create, Find, List, Locate, Look, MakeFolder, Mode, Mounts, Open, Read, RemoveFolder,
+    Rename, Sync, SyncFolder, Unlink, Write,
 };
 use super::watched_files::{SystemCall, Watch, WatchedFiles};
 use real_outside::FolderHost;
@@ -32,8 +32,8 @@ const CASES: &[Case<'_>] = &[
     (
         (Put("a/file", b"new"), Done),
         &[
-            Look, Find, Look, Find, List, Look, Create, Write, Write, Sync, Compare, Mode, Compare,
-            Rename, Look, Open, SyncFolder,
+            Look, Find, Locate, Look, Find, List, Look, Create, Write, Write, Sync, Compare, Mode,
+            Rename, Locate, Open, SyncFolder,
         ],
         &[(Same("a/file", b"old"), Yes)],
         &[(Same("a/file", b"new"), Yes)],
@@ -41,8 +41,8 @@ const CASES: &[Case<'_>] = &[
     (
         (Put("a/other", b"new"), Done),
         &[
-            Look, Find, Look, Find, List, Look, Find, Create, Write, Write, Sync, Compare, Rename,
-            Look, Open, SyncFolder,
+            Look, Find, Locate, Look, Find, List, Look, Create, Write, Write, Sync, Rename, Locate,
+            Open, SyncFolder,
         ],
         &[(State("a/other"), Nothing)],
         &[(Same("a/other", b"new"), Yes)],
@@ -50,14 +50,17 @@ const CASES: &[Case<'_>] = &[
     (
         (Make("d"), Done),
         &[
-            Look, Find, Look, Find, MakeFolder, Open, SyncFolder, Look, Find, Open, SyncFolder,
+            Look, Find, Locate, Look, Find, MakeFolder, Open, SyncFolder, Look, Find, Open,
+            SyncFolder,
         ],
         &[(State("d"), Nothing)],
         &[(State("d"), Empty)],
     ),
     (
         (Remove("a/file"), Done),
-        &[Look, Find, Look, Find, Look, Unlink, Open, SyncFolder],
+        &[
+            Look, Find, Locate, Look, Find, Look, Unlink, Open, SyncFolder,
+        ],
         &[(Same("a/file", b"old"), Yes)],
         &[(State("a"), Empty)],
     ),
@@ -66,6 +69,7 @@ const CASES: &[Case<'_>] = &[
         &[
             Look,
             Find,
+            Locate,
             Look,
             Find,
             Look,
@@ -97,6 +101,7 @@ const CASES: &[Case<'_>] = &[
         &[
             Look,
             Find,
+            Locate,
             Look,
             Find,
             Mounts,
@@ -133,45 +138,50 @@ const CASES: &[Case<'_>] = &[
     ),
     (
         (State("a/file"), File),
-        &[Look, Find, Look, Find, Look],
+        &[Look, Find, Locate, Look, Find, Look],
         &[],
         &[],
     ),
-    ((State("b"), Folder), &[Look, Find, Look, List], &[], &[]),
+    (
+        (State("b"), Folder),
+        &[Look, Find, Locate, Look, List],
+        &[],
+        &[],
+    ),
     (
         (Same("a/file", b"old"), Yes),
         &[
-            Look, Find, Look, Find, Look, Open, Compare, Look, Read, Read,
+            Look, Find, Locate, Look, Find, Look, Open, Compare, Look, Read, Read,
         ],
         &[],
         &[],
     ),
     (
         (Value("path", b"old"), Yes),
-        &[Look, Find, Look, Open, Compare, Look, Read, Read],
+        &[Look, Find, Locate, Look, Open, Compare, Look, Read, Read],
         &[],
         &[],
     ),
     (
         (Set("path", b"new"), Done),
         &[
-            Look, Find, List, Look, Create, Write, Write, Sync, Compare, Mode, Compare, Rename,
-            Look, Open, SyncFolder,
+            Look, Find, Locate, List, Look, Create, Write, Write, Sync, Compare, Mode, Rename,
+            Locate, Open, SyncFolder,
         ],
         &[(Value("path", b"old"), Yes)],
         &[(Value("path", b"new"), Yes)],
     ),
     (
         (Unset("path"), Done),
-        &[Look, Find, Look, Unlink, Open, SyncFolder],
+        &[Look, Find, Locate, Look, Unlink, Open, SyncFolder],
         &[(Value("path", b"old"), Yes)],
         &[(Value("path", b""), No)],
     ),
     (
         (AddEntry("i", "m"), Done),
         &[
-            Look, MakeFolder, MakeFolder, Open, SyncFolder, Look, Find, Open, SyncFolder, List,
-            Look, Find, Create, Write, Write, Sync, Compare, Rename, Look, Open, SyncFolder,
+            Look, MakeFolder, MakeFolder, Open, SyncFolder, Look, Find, Locate, Open, SyncFolder,
+            List, Look, Create, Write, Write, Sync, Rename, Locate, Open, SyncFolder,
         ],
         &[(HasEntry("i", "m"), No)],
         &[(HasEntry("i", "m"), Yes)],
@@ -179,8 +189,8 @@ const CASES: &[Case<'_>] = &[
     (
         (AddPackage("name", "1", b"new"), Done),
         &[
-            Look, MakeFolder, MakeFolder, Open, SyncFolder, Look, Find, Open, SyncFolder, List,
-            Look, Find, Create, Write, Write, Sync, Compare, Rename, Look, Open, SyncFolder,
+            Look, MakeFolder, MakeFolder, Open, SyncFolder, Look, Find, Locate, Open, SyncFolder,
+            List, Look, Create, Write, Write, Sync, Rename, Locate, Open, SyncFolder,
         ],
         &[(HasPackage("name", "1"), No)],
         &[(HasPackage("name", "1"), Yes)],
@@ -298,10 +308,13 @@ fn expect_done(rt: &HostRuntime, case: &Case<'_>) -> Result<(), Fail> {
     watch.expect_all()
 }
 
-// Makes the call where that call of the system fails.
+// Makes the call where that call of the system fails. It does without an answer to where the system has something.
 fn expect_failing(rt: &HostRuntime, case: &Case<'_>, failing: usize) -> Result<(), Fail> {
-    let ((call, _), _, undone, done) = case;
+    let ((call, answer), calls, undone, done) = case;
     let watch = Watch::new(&[], failing, ErrorKind::StorageFull);
+    if matches!(calls.get(failing), Some(Locate)) {
+        return play(rt, &watch, (*call, *answer), done, done);
+    }
     play(rt, &watch, (*call, Failed), undone, done)
 }
 
@@ -323,26 +336,26 @@ fn each_call_takes_its_steps_and_one_that_fails_leaves_the_old_or_the_new(
 const DENIED: &[(Row<'_>, ErrorKind, usize)] = &[
     ((State("a/file"), Failed), ErrorKind::PermissionDenied, 0),
     ((State("a/file"), Failed), ErrorKind::PermissionDenied, 1),
-    ((State("a/file"), Failed), ErrorKind::PermissionDenied, 2),
-    ((State("a/file"), Failed), ErrorKind::PermissionDenied, 4),
+    ((State("a/file"), Failed), ErrorKind::PermissionDenied, 3),
+    ((State("a/file"), Failed), ErrorKind::PermissionDenied, 5),
     (
         (Same("a/file", b"old"), Failed),
         ErrorKind::PermissionDenied,
-        5,
+        6,
     ),
-    ((State("b/c"), Folder), ErrorKind::PermissionDenied, 5),
+    ((State("b/c"), Folder), ErrorKind::PermissionDenied, 6),
     ((Value("path", b""), Failed), ErrorKind::PermissionDenied, 0),
-    ((Value("path", b""), Failed), ErrorKind::PermissionDenied, 3),
+    ((Value("path", b""), Failed), ErrorKind::PermissionDenied, 4),
     ((HasEntry("i", "m"), Failed), ErrorKind::PermissionDenied, 0),
     // What is not found by its path, or whose path is too long, may still be in the folder that is held.
-    ((Same("a/file", b"old"), Yes), ErrorKind::InvalidFilename, 5),
-    ((Same("a/file", b"old"), Yes), ErrorKind::NotFound, 5),
-    ((Value("path", b"old"), Yes), ErrorKind::NotFound, 3),
+    ((Same("a/file", b"old"), Yes), ErrorKind::InvalidFilename, 6),
+    ((Same("a/file", b"old"), Yes), ErrorKind::NotFound, 6),
+    ((Value("path", b"old"), Yes), ErrorKind::NotFound, 4),
     // As where /proc is missing: what is not found there may still be in the folder.
     ((State("a/file"), Failed), ErrorKind::NotFound, 1),
-    ((State("a/none"), Failed), ErrorKind::NotFound, 5),
-    ((Value("none", b""), Failed), ErrorKind::NotFound, 3),
-    ((Remove("b/c"), Failed), ErrorKind::NotFound, 6),
+    ((State("a/none"), Failed), ErrorKind::NotFound, 6),
+    ((Value("none", b""), Failed), ErrorKind::NotFound, 4),
+    ((Remove("b/c"), Failed), ErrorKind::NotFound, 7),
 ];
 
 // What stands where nothing was changed.
@@ -356,27 +369,27 @@ const UNCHANGED: &[Row<'_>] = &[
 // Calls of which some calls of the system in a row find nothing: the numbers of the first and the last of these.
 const NOT_FOUND: &[(Row<'_>, usize, usize)] = &[
     // What goes after it was seen is not there.
-    ((Same("a/file", b"old"), No), 5, 6),
-    ((Value("path", b""), No), 3, 4),
+    ((Same("a/file", b"old"), No), 6, 7),
+    ((Value("path", b""), No), 4, 5),
     // As where /proc goes meanwhile.
     ((State("a/file"), Failed), 1, usize::MAX),
-    ((State("a/file"), Failed), 2, usize::MAX),
     ((State("a/file"), Failed), 3, usize::MAX),
     ((State("a/file"), Failed), 4, usize::MAX),
-    ((Same("a/file", b"old"), Failed), 5, usize::MAX),
-    ((Put("a/file", b"new"), Failed), 4, usize::MAX),
+    ((State("a/file"), Failed), 5, usize::MAX),
+    ((Same("a/file", b"old"), Failed), 6, usize::MAX),
     ((Put("a/file", b"new"), Failed), 5, usize::MAX),
     ((Put("a/file", b"new"), Failed), 6, usize::MAX),
-    ((Make("d"), Failed), 2, usize::MAX),
-    ((Make("d"), Failed), 4, usize::MAX),
-    ((Remove("a/file"), Failed), 4, usize::MAX),
+    ((Put("a/file", b"new"), Failed), 7, usize::MAX),
+    ((Make("d"), Failed), 3, usize::MAX),
+    ((Make("d"), Failed), 5, usize::MAX),
     ((Remove("a/file"), Failed), 5, usize::MAX),
-    ((Remove("b/c"), Failed), 4, usize::MAX),
+    ((Remove("a/file"), Failed), 6, usize::MAX),
     ((Remove("b/c"), Failed), 5, usize::MAX),
-    ((Value("path", b""), Failed), 2, usize::MAX),
+    ((Remove("b/c"), Failed), 6, usize::MAX),
     ((Value("path", b""), Failed), 3, usize::MAX),
-    ((Unset("path"), Failed), 2, usize::MAX),
+    ((Value("path", b""), Failed), 4, usize::MAX),
     ((Unset("path"), Failed), 3, usize::MAX),
+    ((Unset("path"), Failed), 4, usize::MAX),
 ];
 
 #[test]
@@ -397,27 +410,50 @@ const ROWS: &[Row<'_>] = &[
     (State("a/file"), File),
     (Same("a/file", b"old"), Yes),
     (State("b"), Folder),
+    (Put("a/other", b"new"), Done),
+    (State("a"), Folder),
+    (Same("a/none", b""), No),
+    (State("a/none"), Nothing),
+    (Put("a/other", b"2"), Done),
+    (Same("a/other", b"2"), Yes),
+    (State("b/c"), Empty),
+    (Make("b/c"), Done),
+    (State("b"), Folder),
 ];
 
 const HELD: &[SystemCall] = &[
-    Look, Find, Look, Find, Look, // The folders are held, and looked at again.
-    Look, Look, Look, Open, Compare, Look, Read, Read, // The first of them is held.
-    Look, Look, List,
+    Look, Find, Locate, Look, Find, Look, // The folders are held: what is opened by the whole path is where the file is to be.
+    Look, Open, Compare, Locate, Read, Read, // The first of them is held, and looked at again.
+    Look, Look, List, // Both stand: the path leads to the last one, and no link is in it.
+    Look, Locate, List, Look, Create, Write, Write, Sync, Rename, Locate, Open, SyncFolder,
+    // A name that the folder had is there, and the folder is where it was.
+    Look, Locate, // Nothing is there.
+    Look, Locate, Look, Locate, Look, // The folder is open, and is synced as it is.
+    Look, Locate, Look, Create, Write, Sync, Compare, Mode, Rename, Locate, SyncFolder, Look, Open,
+    Compare, Locate, Read, Read, // Another folder takes the place of the second one.
+    Look, Look, Find, Look, List, Look, Locate, Look, Find, Look, Locate,
 ];
+
+fn expect_rows(rt: &HostRuntime, watch: &Watch<'_>) -> Result<(), Fail> {
+    let scratch = make_folder(rt)?;
+    make_before(rt, &scratch)?;
+    let folder = folder_in(rt.alloc(), &scratch)?;
+    expect_in(rt.alloc(), WatchedFiles { rt, watch }, folder, ROWS)?;
+    Ok(fs::remove_dir_all(rt, scratch)?)
+}
 
 #[test]
 fn folders_stay_held_from_one_call_to_the_next(rt: HostRuntime) -> Result<(), Fail> {
-    let scratch = make_folder(&rt)?;
-    make_before(&rt, &scratch)?;
     let watch = Watch::new(HELD, usize::MAX, ErrorKind::Other);
-    let folder = folder_in(rt.alloc(), &scratch)?;
-    let files = WatchedFiles {
-        rt: &rt,
-        watch: &watch,
-    };
-    expect_in(rt.alloc(), files, folder, ROWS)?;
-    fs::remove_dir_all(&rt, scratch)?;
+    expect_rows(&rt, &watch)?;
     watch.expect_all()
+}
+
+#[test]
+fn the_answers_are_the_same_where_the_system_does_not_say_where_folders_are(
+    rt: HostRuntime,
+) -> Result<(), Fail> {
+    expect_rows(&rt, &Watch::lost())
 }
 
 // The file is taken away between its look and its opening, another one is made at that place outside, which may be given the number of the

@@ -18,6 +18,9 @@ pub enum SystemCall {
 
     /// Looks at what a descriptor's path below `/proc` leads to.
     Find,
+
+    /// Asks where the system has what a descriptor is open on.
+    Locate,
     Open,
 
     /// Looks at what was opened.
@@ -49,6 +52,7 @@ pub struct Watch<'a> {
     differs: Cell<bool>,
     other: Option<&'a str>,
     swapped: Cell<bool>,
+    is_lost: bool,
 }
 
 impl<'a> Watch<'a> {
@@ -62,6 +66,7 @@ impl<'a> Watch<'a> {
             differs: Cell::new(false),
             other: None,
             swapped: Cell::new(false),
+            is_lost: false,
         }
     }
 
@@ -69,6 +74,14 @@ impl<'a> Watch<'a> {
     pub fn swapping(other: &'a str) -> Watch<'a> {
         Watch {
             other: Some(other),
+            ..Watch::new(&[], usize::MAX, ErrorKind::Other)
+        }
+    }
+
+    /// Each question of where the system has something fails, and no other call.
+    pub fn lost() -> Watch<'a> {
+        Watch {
+            is_lost: true,
             ..Watch::new(&[], usize::MAX, ErrorKind::Other)
         }
     }
@@ -89,6 +102,7 @@ impl<'a> Watch<'a> {
             differs: Cell::new(false),
             other: None,
             swapped: Cell::new(false),
+            is_lost: false,
         }
     }
 
@@ -276,10 +290,15 @@ impl<'a, R: Files> Files for WatchedFiles<'a, R> {
         self.rt.lchown(path, user, group)
     }
 
-    // The host makes none of the calls below. Handed on, they are proved sooner than the bodies that the trait has for them.
     fn read_link<B: Allocator>(&self, alloc: B, path: &str) -> io::Result<PathBuf<B>> {
+        self.watch.begin(SystemCall::Locate)?;
+        if self.watch.is_lost {
+            return Err(io::Error::from(ErrorKind::InvalidData));
+        }
         self.rt.read_link(alloc, path)
     }
+
+    // The host makes none of the calls below. Handed on, they are proved sooner than the bodies that the trait has for them.
 
     fn hard_link(&self, original: &str, link: &str) -> io::Result<()> {
         self.rt.hard_link(original, link)

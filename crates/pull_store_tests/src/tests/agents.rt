@@ -2,7 +2,7 @@
 ghost use Rattle.std.specs.Prelude.{IfOk};
 ghost use Rattle.pull_store.specs.Store.{IsReady};
 
-use crate::{new_disk, put, register, said};
+use crate::{TwoBanks, new_disk, put, register, said};
 use dsc_outside::Disk;
 use memory_outside::MemoryDisk;
 use pull_store::{PullError, PullStore, open_pull};
@@ -115,5 +115,69 @@ fn a_store_takes_512_agents(rt: HostRuntime) -> Result<(), Fail> {
     for (count, new_agent, after) in COUNTS {
         assert!(rt; is_so(rt.alloc(), *count, *new_agent, *after)?, "{count}");
     }
+    Ok(())
+}
+
+// The place of an agent that is forgotten among 512, and of one that comes in its place.
+const LEAVING: u128 = 300;
+
+const COMING: u128 = 1_000;
+
+/// What came of calls around an agent that is forgotten, and how many agents have a row then.
+#[derive(Clone, Copy, Debug, Drop, PartialEq)]
+struct Replaced {
+    before: Result<(), PullError>,
+    forgotten: Result<(), PullError>,
+    report_of_forgotten: Result<(), PullError>,
+    coming: Result<(), PullError>,
+    again: Result<(), PullError>,
+    count: usize,
+}
+
+fn replace<D: Disk>(alloc: Global, store: &mut PullStore, disk: &mut D, message: &[u8]) -> Replaced
+    requires { IsReady D.Disk disk.old store.old }
+    ensures { IsReady D.Disk disk.new store.new }
+{
+    Replaced {
+        before: register(alloc, store, disk, COMING, message),
+        forgotten: store.forget(disk, &[LEAVING]),
+        report_of_forgotten: put(alloc, store, disk, LEAVING, 1, b"r"),
+        coming: register(alloc, store, disk, COMING, message),
+        again: register(alloc, store, disk, LEAVING, message),
+        count: store.rows().len(),
+    }
+}
+
+// What came of it among 512 agents, and the agents that the next opening finds.
+fn replaced_among(alloc: Global) -> Result<(Replaced, u32), PullError> {
+    let message = said(alloc, b"n")?;
+    let mut disk = TwoBanks::of(Vec::new(alloc), Vec::new(alloc), None)?;
+    let mut store = match open_pull(alloc, &mut disk) {
+        Ok(store) => store,
+        Err(error) => return Err(error),
+    };
+    if let Err(error) = register_below(alloc, &mut store, &mut disk, 512, &message) {
+        return Err(error);
+    }
+    let answers = replace(alloc, &mut store, &mut disk, &message);
+    let mut disk = TwoBanks::of(disk.after_stop()?, Vec::new(alloc), None)?;
+    match open_pull(alloc, &mut disk) {
+        Ok(store) if store.agent(LEAVING).is_none() => Ok((answers, known(&store, 2_500))),
+        Ok(_) => Ok((answers, 0)),
+        Err(error) => Err(error),
+    }
+}
+
+#[test]
+fn a_forgotten_agent_leaves_its_place(rt: HostRuntime) -> Result<(), Fail> {
+    let wanted = Replaced {
+        before: Err(PullError::Agents),
+        forgotten: Ok(()),
+        report_of_forgotten: Err(PullError::NoAgent),
+        coming: Ok(()),
+        again: Err(PullError::Agents),
+        count: 512,
+    };
+    assert!(rt; replaced_among(rt.alloc())? == (wanted, 512));
     Ok(())
 }

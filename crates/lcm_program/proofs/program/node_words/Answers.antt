@@ -1,4 +1,4 @@
-use Rattle.std.proofs.Common.{refl}
+use Rattle.std.proofs.Common.{inl, inr, refl}
 use Rattle.node_pull.proofs.GoingOn.{stays}
 use Rattle.lcm_program.specs.Objects.{known, objects}
 use Rattle.lcm_program.specs.Further.{nothing_further}
@@ -14,6 +14,9 @@ use Rattle.lcm_program.proofs.program.node_words.Goals as goal
 
 pub do_command-requires-clause-range : goal.do_command-requires-clause-range
 do_command-requires-clause-range g c = in_range c.in-Ok.command _ c.in-Ok.ensures.ok
+
+pub returns-in-Ok-clause-asked : goal.returns-in-Ok-clause-asked
+returns-in-Ok-clause-asked g c = inl (c.in-Ok.command, c.in-Ok.ensures.ok)
 
 pub returns-in-Ok-clause-did : goal.returns-in-Ok-clause-did
 returns-in-Ok-clause-did g c = λ command form.
@@ -40,6 +43,9 @@ pub returns-in-Ok-clause-nothing : goal.returns-in-Ok-clause-nothing
 returns-in-Ok-clause-nothing g c = λ none. absurd (none c.in-Ok.command c.in-Ok.ensures.ok)
 
 -- arguments that are in no form ask for none
+
+pub returns-in-Err-clause-asked : goal.returns-in-Err-clause-asked
+returns-in-Err-clause-asked g c = inr c.in-Err.ensures.usage.no_form
 
 pub returns-in-Err-clause-did : goal.returns-in-Err-clause-did
 returns-in-Err-clause-did g c = λ command form. absurd (c.in-Err.ensures.usage.no_form command form)

@@ -4,6 +4,7 @@ use Rattle.lcm_program.proofs.program.node_words_on_host.Goals as goal
 
 pub returns-clause-did : goal.returns-clause-did
 returns-clause-did g c = record {
+  asked = c.node_words.ensures.asked;
   did = λ command form.
       did_on_host g.S.Ends g.K.Ends g.D.Disk g.H.Host g.L.Link g.C.Clock c.repair_laws.ensures.succeeds c.repair_laws.ensures.contained c.trace_laws.ensures.together
       (objects c.args.input.now c.args.output.now c.args.disk.now c.args.kinds.now c.args.link.now c.args.clock.now)

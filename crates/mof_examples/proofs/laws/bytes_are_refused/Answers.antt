@@ -12,10 +12,10 @@ use lib.Utf8.{encode}
 use Rattle.mof_examples.specs.Placed.{given}
 use Rattle.mof_examples.proofs.laws.bytes_are_refused.Goals as goal
 
-longer : (bytes : List ℕ) → length bytes ≡ 2097153 → Refuses bytes TooLong
+longer : (bytes : List ℕ) → length bytes ≡ 8388609 → Refuses bytes TooLong
 longer bytes e = omega (arith, e)
 
-longest : (bytes : List ℕ) → length bytes ≡ 2097152 → Refuses bytes TooLong → ⊥
+longest : (bytes : List ℕ) → length bytes ≡ 8388608 → Refuses bytes TooLong → ⊥
 longest bytes e h = omega (arith, e, h)
 
 -- the byte is no character alone

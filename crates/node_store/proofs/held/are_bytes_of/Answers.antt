@@ -4,8 +4,7 @@ use Rattle.std.proofs.lemmas.Option.{MatchOption-at_some}
 use Rattle.partial_merge.specs.declared.part.Part.{Part}
 use Rattle.node_store.specs.Held.{AreBytesOf}
 use Rattle.node_store.specs.Parts.{bytes_of_part, FitsPart, IsPart}
-use Rattle.node_store.proofs.HeldLists.{more_bytes}
-use Rattle.node_store.proofs.RewriteSteps.{left_is}
+use Rattle.node_store.proofs.HeldLists.{left_is, more_bytes}
 use Rattle.node_store.proofs.held.are_bytes_of.Goals as goal
 
 pub loop-left-preserved : goal.loop-left-preserved

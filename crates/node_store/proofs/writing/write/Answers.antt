@@ -1,11 +1,14 @@
 use Rattle.std.proofs.Common.{◌≡◌, ◌++◌, ◌∙◌, List, ℕ, [], ◌∷◌, ap, refl}
 use Rattle.gate_log.specs.Text.{body_in}
 use Rattle.gate_log.proofs.InPlace.{body_after}
+use Rattle.gate_log.proofs.Leading.{wrote_added}
 use Rattle.node_state.specs.declared.event.Event.{Event}
 use Rattle.node_state.specs.Table.{after}
 use Rattle.node_store.specs.Bodies.{body_of_event}
 use Rattle.node_store.specs.Split.{after_length, head_of, tail_of}
+use Rattle.node_store.specs.Stands.{Leads, node_shape}
 use Rattle.node_store.proofs.Fronts.{brings}
+use Rattle.node_store.proofs.Replay.{counted, stepped}
 use Rattle.node_store.proofs.Split.{body_whole}
 use Rattle.node_store.proofs.writing.write.Goals as goal
 
@@ -19,11 +22,17 @@ spell-requires-clause-text g c = brings c.args.node.now c.args.event.now c.args.
 
 pub returns-then-has_room-clause-answer : goal.returns-then-has_room-clause-answer
 returns-then-has_room-clause-answer g c =
-    c.append.ensures.answer c.args.node.now (after c.args.node.now c.args.event.now) c.args.event.now c.requires.kept
-    (body_found _ _ c.args.event.now (c.deref_mut.ensures.value ∙ c.spell.ensures.head) c.tail_of-tail.ensures) c.spell.ensures.range
-    (record { within = c.requires.within; allowed = c.requires.allowed; is = refl })
+    let node = c.args.node.now in
+    let event = c.args.event.now in
+    let counts = counted node (after node event) _ event (body_found _ _ event (c.deref_mut.ensures.value ∙ c.spell.ensures.head) c.tail_of-tail.ensures) c.spell.ensures.range
+    (record { within = c.requires.within; allowed = c.requires.allowed; is = refl }) in
+    wrote_added node_shape Leads g.D.Disk c.args.disk.now c.add_in_place.new.disk c.args.log.now c.add_in_place.new.log (body_in c.deref_mut.result.now c.tail_of-tail.result.now ∷ []) (after node event) c.add_in_place.result c.add_in_place.ensures.answer
+    (c.add_in_place.ensures.kept node (after node event) c.requires.kept counts)
 
 pub returns-then-has_room-clause-any_moment : goal.returns-then-has_room-clause-any_moment
 returns-then-has_room-clause-any_moment g c =
-    c.append.ensures.any_moment c.args.node.now c.args.event.now c.requires.kept
-    (body_found _ _ c.args.event.now (c.deref_mut.ensures.value ∙ c.spell.ensures.head) c.tail_of-tail.ensures) c.spell.ensures.range c.requires.within c.requires.allowed
+    let node = c.args.node.now in
+    let event = c.args.event.now in
+    let counts = counted node (after node event) _ event (body_found _ _ event (c.deref_mut.ensures.value ∙ c.spell.ensures.head) c.tail_of-tail.ensures) c.spell.ensures.range
+    (record { within = c.requires.within; allowed = c.requires.allowed; is = refl }) in
+    stepped g.D.Disk c.args.disk.now c.add_in_place.new.disk node event c.requires.within c.requires.allowed (c.add_in_place.ensures.any_moment node (after node event) c.requires.kept counts)

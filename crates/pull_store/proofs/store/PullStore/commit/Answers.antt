@@ -13,20 +13,20 @@ use Rattle.pull_store.proofs.SoundSteps.{apart_placed, no_rows, placed_after, so
 use Rattle.pull_store.proofs.store.PullStore.commit.Goals as goal
 
 pub returns-in-Some-TooMany-clause-any_moment : goal.returns-in-Some-TooMany-clause-any_moment
-returns-in-Some-TooMany-clause-any_moment g c = λ kept. still_moment g.D.Disk c.args.disk.now c.args.self.now c.args.change.now (g.met.D.Disk.only_now c.args.disk.now) kept
+returns-in-Some-TooMany-clause-any_moment g c = λ kept. still_moment g.D.Disk c.args.disk.now c.args.self.now (after c.args.change.now c.args.self.now.rows) (g.met.D.Disk.only_now c.args.disk.now) kept
 
 pub returns-in-Some-Unknown-clause-any_moment : goal.returns-in-Some-Unknown-clause-any_moment
-returns-in-Some-Unknown-clause-any_moment g c = λ kept. still_moment g.D.Disk c.args.disk.now c.args.self.now c.args.change.now (g.met.D.Disk.only_now c.args.disk.now) kept
+returns-in-Some-Unknown-clause-any_moment g c = λ kept. still_moment g.D.Disk c.args.disk.now c.args.self.now (after c.args.change.now c.args.self.now.rows) (g.met.D.Disk.only_now c.args.disk.now) kept
 
 pub returns-in-Err-clause-any_moment : goal.returns-in-Err-clause-any_moment
-returns-in-Err-clause-any_moment g c = λ kept. still_moment g.D.Disk c.args.disk.now c.args.self.now c.args.change.now (g.met.D.Disk.only_now c.args.disk.now) kept
+returns-in-Err-clause-any_moment g c = λ kept. still_moment g.D.Disk c.args.disk.now c.args.self.now (after c.args.change.now c.args.self.now.rows) (g.met.D.Disk.only_now c.args.disk.now) kept
 
 pub write-requires-clause-sound : goal.write-requires-clause-sound
 write-requires-clause-sound g c =
     let unspent : is_spent c.args.self.now ≡ false = ap (λ (s : StoreTerm). s.log.spent) (sym c.self.view_is) ∙ sym c.is_spent.ensures ∙ c.if-is_spent.false in
     let kept = is_kept g.D.Disk c.args.disk.now c.args.self.now c.requires.ready unspent in
     let same : c.deref-2.result.now ≡ c.args.self.now.rows = c.deref-2.ensures.value ∙ c.in-Ok.ensures.rows ∙ ap (λ (s : StoreTerm). s.rows) c.self.view_is in
-    subst AreRows (sym same) (sound_replayed kept.bodies [] c.args.self.now.rows no_rows kept.replays)
+    subst AreRows (sym same) (sound_replayed kept.bodies [] c.args.self.now.rows no_rows kept.leads)
 
 pub invariant_of-self-2 : goal.invariant_of-self-2
 invariant_of-self-2 g c =

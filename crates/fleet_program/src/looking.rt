@@ -1,0 +1,57 @@
+//! Lines and tables of stores.
+use crate::moments::{moment_before, seconds_of_hours};
+use crate::reading::open_image;
+use crate::refused;
+use dsc_outside::{Failed, write_all};
+use mof_values::{Memory, Text};
+use pull_store::{PullError, PullStore};
+use real_outside::OutSink;
+use store_lines::{FleetOptions, FleetStatus, Told, store_table, store_text};
+
+/// Prints the lines of each store, or its table, one store after the other. What is read of one is let go before the next is opened.
+pub fn print_stores(rt: &HostRuntime, options: &FleetOptions, as_table: bool) -> FleetStatus {
+    let Ok(since) = moment_before(rt, seconds_of_hours(options.older)) else {
+        return FleetStatus::Fault;
+    };
+    let mut worst = FleetStatus::Healthy;
+    for path in options.stores.as_slice() {
+        let status = match open_image(rt, path) {
+            Ok(store) => print(
+                rt,
+                path,
+                text_of(rt, options, as_table, since, path, &store),
+            ),
+            Err(error) => refused(rt, path, error),
+        };
+        worst = worst.or(status);
+    }
+    worst
+}
+
+fn text_of(
+    rt: &HostRuntime,
+    options: &FleetOptions,
+    as_table: bool,
+    since: Option<u64>,
+    path: &Text,
+    store: &PullStore,
+) -> Result<Told, Memory> {
+    let classes = options.classes.as_slice();
+    if as_table {
+        store_table(rt.alloc(), classes, since, path, store.rows())
+    } else {
+        store_text(rt.alloc(), classes, since, path, store.rows())
+    }
+}
+
+fn print(rt: &HostRuntime, path: &Text, told: Result<Told, Memory>) -> FleetStatus {
+    let told = match told {
+        Ok(told) => told,
+        Err(Memory) => return refused(rt, path, PullError::Memory),
+    };
+    match write_all(&mut OutSink::new(rt), told.text.as_slice()) {
+        Ok(()) if told.alarm => FleetStatus::Alarm,
+        Ok(()) => FleetStatus::Healthy,
+        Err(Failed) => FleetStatus::Fault,
+    }
+}

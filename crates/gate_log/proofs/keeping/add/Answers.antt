@@ -1,0 +1,22 @@
+use Rattle.std.proofs.Common.{[], ◌∷◌}
+use Rattle.gate_log.proofs.Leading.{kept_grown, moment_one_by}
+use Rattle.gate_log.proofs.keeping.add.Goals as goal
+
+pub returns-in-Ok-clause-kept : goal.returns-in-Ok-clause-kept
+returns-in-Ok-clause-kept g c = λ old new kept counts.
+    kept_grown g.K.Kept.shape g.K.Kept.leads g.D.Disk c.args.disk.now c.append.new.disk c.args.log.now c.append.new.self (c.args.body.now ∷ []) old new kept counts c.in-Ok.ensures.answer
+    (c.in-Ok.ensures.ok kept.bodies kept.of)
+
+pub returns-in-Ok-clause-any_moment : goal.returns-in-Ok-clause-any_moment
+returns-in-Ok-clause-any_moment g c = λ old new kept counts.
+    moment_one_by g.K.Kept.shape g.K.Kept.leads g.D.Disk c.args.disk.now c.append.new.disk c.args.log.now (c.args.body.now) old new kept counts (c.append.ensures.any_moment kept.bodies kept.of)
+
+pub returns-in-Err-Disk-clause-any_moment : goal.returns-in-Err-Disk-clause-any_moment
+returns-in-Err-Disk-clause-any_moment g c = λ old new kept counts.
+    moment_one_by g.K.Kept.shape g.K.Kept.leads g.D.Disk c.args.disk.now c.append.new.disk c.args.log.now (c.args.body.now) old new kept counts (c.append.ensures.any_moment kept.bodies kept.of)
+
+pub returns-in-Ok-clause-same_bank : goal.returns-in-Ok-clause-same_bank
+returns-in-Ok-clause-same_bank g c = c.append.ensures.same_bank c.requires.kept.1.bodies c.requires.kept.1.of
+
+pub returns-in-Err-Disk-clause-same_bank : goal.returns-in-Err-Disk-clause-same_bank
+returns-in-Err-Disk-clause-same_bank g c = c.append.ensures.same_bank c.requires.kept.1.bodies c.requires.kept.1.of

@@ -1,0 +1,3 @@
+pub mod HeardContents
+pub mod SendableContents
+pub mod SentContents
