@@ -7,4 +7,4 @@ mod starting;
 mod tests;
 
 #[cfg(test)]
-pub use starting::{Left, Outcome, Trouble, answered, declared, started, started_by};
+pub use starting::{Left, Outcome, Trouble, answered, started};

@@ -4,7 +4,7 @@ ghost use Rattle.meta_config.specs.Parts.{IsMeta};
 ghost use Rattle.dsc_node.specs.Commands.{IsTaken};
 
 use dsc_node::{Command, StartEnd, Status, start};
-use memory_outside::{DiskStop, HostContents, MemoryClock, MemoryDisk, MemoryHost, MemoryLink};
+use memory_outside::{HostContents, MemoryClock, MemoryDisk, MemoryHost, MemoryLink};
 use meta_config::{Meta, parts_order, read_meta};
 use mof_values::{Bytes, Memory, Text};
 use resource_kinds::Kinds;
@@ -22,8 +22,6 @@ pub struct Left {
 pub struct Trouble<'a> {
     /// The calls of the disk that fail, counted from 0.
     pub disk: &'a [u64],
-
-    pub stop: Option<DiskStop>,
 
     /// The calls of the host that fail, counted from 0.
     pub host: &'a [u64],
@@ -51,7 +49,6 @@ impl Trouble<'static> {
     pub fn none() -> Trouble<'static> {
         Trouble {
             disk: &[],
-            stop: None,
             host: &[],
             link: &[],
             clock: &[],
@@ -70,14 +67,12 @@ fn command_of(alloc: Global, word: &str, document: &str) -> Result<Command, Memo
         "register" => Command::Register(Text::from_utf8(alloc, document)?),
         "pull" => Command::Pull,
         "push" => Command::Push(None, Bytes::of(document.as_bytes().to_vec(alloc)?)),
-        "boot" => Command::Boot,
-        "restore" => Command::Restore,
         _ => Command::Consistency,
     })
 }
 
-/// The command that gives the node this meta-configuration.
-pub fn declared(alloc: Global, text: &str) -> Result<Command, Memory>
+// The command that gives the node this meta-configuration.
+fn declared(alloc: Global, text: &str) -> Result<Command, Memory>
     ensures { IfOk result IsTaken }
 {
     let meta = meta_of(alloc, text)?;
@@ -134,30 +129,6 @@ pub fn answered(
     trouble: &Trouble<'_>,
 ) -> Result<(Outcome, Left), Memory> {
     let command = command_of(alloc, word, document)?;
-    started_over(alloc, left, command, answers, trouble)
-}
-
-/// One start by the command, over a link without an answer.
-pub fn started_by(
-    alloc: Global,
-    left: Left,
-    command: Command,
-    trouble: &Trouble<'_>,
-) -> Result<(Outcome, Left), Memory>
-    requires { IsTaken command }
-{
-    started_over(alloc, left, command, &[], trouble)
-}
-
-fn started_over(
-    alloc: Global,
-    left: Left,
-    command: Command,
-    answers: &[&str],
-    trouble: &Trouble<'_>,
-) -> Result<(Outcome, Left), Memory>
-    requires { IsTaken command }
-{
     let link = link_of(alloc, answers, trouble)?;
     let clock = clock_of(alloc, trouble)?;
     let failing = trouble.host.to_vec(alloc)?;
@@ -179,7 +150,7 @@ fn link_of(alloc: Global, texts: &[&str], trouble: &Trouble<'_>) -> Result<Memor
 }
 
 fn disk_of(alloc: Global, store: Vec<u8>, trouble: &Trouble<'_>) -> Result<MemoryDisk, Memory> {
-    MemoryDisk::of(store, trouble.disk.to_vec(alloc)?, trouble.stop)
+    MemoryDisk::of(store, trouble.disk.to_vec(alloc)?, None)
 }
 
 fn clock_of(alloc: Global, trouble: &Trouble<'_>) -> Result<MemoryClock, Memory> {

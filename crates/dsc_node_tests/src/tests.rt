@@ -1,5 +1,2 @@
 mod clock;
 mod failures;
-mod partials;
-mod reboots;
-mod stops;

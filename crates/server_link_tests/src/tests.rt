@@ -1,5 +1,4 @@
 mod connections;
-mod stops;
 
 use crate::calls::{Call, new_link, outcome, shelf};
 use dsc_outside::Link;

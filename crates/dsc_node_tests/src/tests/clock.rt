@@ -16,7 +16,6 @@ fn number_of(alloc: Global, clock: &[u64], is_set_back: bool) -> Result<u8, Memo
     let (_, left) = started(alloc, left, "init", "", &Trouble::none())?;
     let trouble = Trouble {
         disk: &[],
-        stop: None,
         host: &[],
         link: &[],
         clock,

@@ -324,7 +324,6 @@ fn failing(object: Object, call: &[u64]) -> Trouble<'_> {
     };
     Trouble {
         disk,
-        stop: None,
         host,
         link,
         clock,
