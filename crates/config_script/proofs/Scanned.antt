@@ -1,5 +1,5 @@
 -- What code reads of a token, as far as it has come.
-use Rattle.std.proofs.Common.{◌≡◌, ◌<◌, ◌+◌, ◌*◌, ℕ, Bool, true, false, ◌||◌, List, [], ◌∷◌, ◌++◌, refl, sym, ap, ap₂, subst, ◌∙◌, append_assoc, append-nil, Option, Some, None, cond, arith}
+use Rattle.std.proofs.Common.{◌≡◌, ◌<◌, ◌≤◌, ◌+◌, ◌*◌, ℕ, Bool, true, false, ◌||◌, List, [], ◌∷◌, ◌++◌, refl, sym, ap, ap₂, subst, ◌∙◌, append_assoc, append-nil, Option, Some, None, cond, arith, length}
 use Rattle.std.specs.Prelude.{◌==◌}
 use Rattle.std.specs.Char.{digit_value}
 use Rattle.std.specs.Str.Parse.{digits_value_after}
@@ -13,7 +13,7 @@ use Rattle.mof_syntax.proofs.Numerals.{numeral_digit, numeral_step}
 use Rattle.config_script.specs.Digits.{IsPlain}
 use Rattle.config_script.specs.Named.{undoubled}
 use Rattle.config_script.specs.Tokens.{Text}
-use Rattle.config_script.specs.Lexing.{lexed, Split, split, as_token, onto, taken, identifier_in, digits_rest, with_rest, digits_in, apostrophe_rest, verbatim_in, quoted_in}
+use Rattle.config_script.specs.Lexing.{lexed, Split, split, as_token, onto, taken, identifier_in, digits_rest, with_rest, digits_in, apostrophe_rest, from_apostrophe, verbatim_in, quoted_in}
 use Rattle.config_script.proofs.Lexed.{runs, split_run, split_same}
 
 -- ---- digits
@@ -144,14 +144,14 @@ pub record VerbatimSoFar (text left : List ℕ) : Type 0 where
   pub whole : (cs : List ℕ) → undoubled false (front ++ cs) ≡ undoubled false front ++ undoubled false cs
   pub found : verbatim_in text ≡ onto (undoubled false front) (verbatim_in left)
 
-pub verbatim_start : (text : List ℕ) → VerbatimSoFar text text
+verbatim_start : (text : List ℕ) → VerbatimSoFar text text
 verbatim_start text = record { front = []; split = refl; whole = λ cs. refl; found = sym (onto_nothing (verbatim_in text)) }
 
 verbatim_plain : (c : ℕ) (rest : List ℕ) → (c == 39) ≡ false → verbatim_in (c ∷ rest) ≡ onto (c ∷ []) (verbatim_in rest)
 verbatim_plain c [] e = ap (λ (b : Bool). cond b (split [] []) None) e
 verbatim_plain c (d ∷ rest) e = ap (λ (b : Bool). cond b (cond (d == 39) (onto (39 ∷ []) (verbatim_in rest)) (split [] (d ∷ rest))) (onto (c ∷ []) (verbatim_in (d ∷ rest)))) e
 
-pub verbatim_on : (text left rest : List ℕ) (c : ℕ) → VerbatimSoFar text left → left ≡ c ∷ rest → (c == 39) ≡ false → VerbatimSoFar text rest
+verbatim_on : (text left rest : List ℕ) (c : ℕ) → VerbatimSoFar text left → left ≡ c ∷ rest → (c == 39) ≡ false → VerbatimSoFar text rest
 verbatim_on text left rest c s is e =
     let one : (cs : List ℕ) → undoubled false (c ∷ cs) ≡ c ∷ undoubled false cs = λ cs. ap (λ (b : Bool). c ∷ undoubled b cs) e in
     record {
@@ -165,7 +165,7 @@ verbatim_on text left rest c s is e =
           ∙ ap (λ (xs : List ℕ). onto xs (verbatim_in rest)) (sym (s.whole (c ∷ []) ∙ ap (λ (xs : List ℕ). undoubled false s.front ++ xs) (one [])));
     }
 
-pub verbatim_twice : (text left rest : List ℕ) → VerbatimSoFar text left → left ≡ 39 ∷ 39 ∷ rest → VerbatimSoFar text rest
+verbatim_twice : (text left rest : List ℕ) → VerbatimSoFar text left → left ≡ 39 ∷ 39 ∷ rest → VerbatimSoFar text rest
 verbatim_twice text left rest s is = record {
   front = s.front ++ 39 ∷ 39 ∷ [];
   split = s.split ∙ ap (λ (xs : List ℕ). s.front ++ xs) is ∙ sym (append_assoc s.front (39 ∷ 39 ∷ []) rest);
@@ -196,25 +196,65 @@ second_missing (d ∷ rest) e = by (d == 39) e
     by true e = cc
     by false e = refl
 
-pub verbatim_doubled : (text left rest others : List ℕ) (c : ℕ) → VerbatimSoFar text left → left ≡ c ∷ rest → c ≡ 39 → Some others ≡ apostrophe_rest rest → VerbatimSoFar text others
-verbatim_doubled text left rest others c s is quote e =
-    verbatim_twice text left others s (is ∙ ap₂ (λ (x : ℕ) (xs : List ℕ). x ∷ xs) quote (second_there rest others e))
+-- read up to an apostrophe, or to the end
+abbrev pub AtApostrophe : List ℕ → Type 0
+AtApostrophe [] = Unit {0}
+AtApostrophe (c ∷ cs) = c ≡ 39
+
+pub record VerbatimUpTo (text left : List ℕ) : Type 0 where
+  pub so_far : VerbatimSoFar text left
+  pub at : AtApostrophe left
+
+quote_there : (left rest : List ℕ) (c : ℕ) → AtApostrophe left → left ≡ c ∷ rest → left ≡ 39 ∷ rest
+quote_there [] rest c a is = cc
+quote_there (d ∷ ds) rest c a is = cc
+
+verbatim_onward : (text left : List ℕ) → VerbatimSoFar text left → VerbatimUpTo text (from_apostrophe left)
+verbatim_onward text [] s = record { so_far = s; at = tt }
+verbatim_onward text (c ∷ cs) s = by (c == 39) refl (λ e. verbatim_onward text cs (verbatim_on text (c ∷ cs) cs c s refl e))
+  where
+    by : (b : Bool) → (c == 39) ≡ b → ((c == 39) ≡ false → VerbatimUpTo text (from_apostrophe cs)) → VerbatimUpTo text (cond b (c ∷ cs) (from_apostrophe cs))
+    by true e onward = record { so_far = s; at = grind (arith, nat_tests) }
+    by false e onward = onward e
+
+pub verbatim_begins : (text left : List ℕ) → left ≡ from_apostrophe text → VerbatimUpTo text left
+verbatim_begins text left e = subst (VerbatimUpTo text) (sym e) (verbatim_onward text text (verbatim_start text))
+
+pub verbatim_doubled : (text left rest others next : List ℕ) (c : ℕ) → VerbatimUpTo text left → left ≡ c ∷ rest → Some others ≡ apostrophe_rest rest
+    → next ≡ from_apostrophe others → VerbatimUpTo text next
+verbatim_doubled text left rest others next c s is second e =
+    let twice : left ≡ 39 ∷ 39 ∷ others = quote_there left rest c s.at is ∙ ap (λ (xs : List ℕ). 39 ∷ xs) (second_there rest others second) in
+    subst (VerbatimUpTo text) (sym e) (verbatim_onward text others (verbatim_twice text left others s.so_far twice))
+
+onward_short : (cs : List ℕ) → length (from_apostrophe cs) ≤ length cs
+onward_short [] = omega arith
+onward_short (c ∷ cs) = by (c == 39) (onward_short cs)
+  where
+    by : (b : Bool) → length (from_apostrophe cs) ≤ length cs → length (cond b (c ∷ cs) (from_apostrophe cs)) ≤ length (c ∷ cs)
+    by true h = omega arith
+    by false h = omega arith
+
+pub verbatim_shorter : (left rest others next : List ℕ) (c : ℕ) → left ≡ c ∷ rest → Some others ≡ apostrophe_rest rest → next ≡ from_apostrophe others → length next < length left
+verbatim_shorter left rest others next c is second e =
+    omega (arith, ap length is, ap length (second_there rest others second), ap length e, onward_short others)
 
 -- the text up to its end is the front
-pub verbatim_found : (text left rest raw : List ℕ) (c : ℕ) → VerbatimSoFar text left → left ≡ c ∷ rest → c ≡ 39 → None ≡ apostrophe_rest rest → text ≡ raw ++ left
+pub verbatim_found : (text left rest raw : List ℕ) (c : ℕ) → VerbatimUpTo text left → left ≡ c ∷ rest → None ≡ apostrophe_rest rest → text ≡ raw ++ left
     → lexed (Text (undoubled false raw)) rest ≡ as_token Text (verbatim_in text)
-verbatim_found text left rest raw c s is quote none e =
-    let same : raw ≡ s.front = append_cancel_right raw s.front left (sym e ∙ s.split) in
+verbatim_found text left rest raw c s is none e =
+    let front = s.so_far.front in
+    let same : raw ≡ front = append_cancel_right raw front left (sym e ∙ s.so_far.split) in
     ap (λ (xs : List ℕ). lexed (Text (undoubled false xs)) rest) same
-    ∙ ap (λ (xs : List ℕ). lexed (Text xs) rest) (sym (append-nil (undoubled false s.front)))
-    ∙ sym (ap (as_token Text) (s.found ∙ ap (λ (xs : List ℕ). onto (undoubled false s.front) (verbatim_in xs)) (is ∙ ap (λ (x : ℕ). x ∷ rest) quote)
-    ∙ ap (onto (undoubled false s.front)) (second_missing rest none)))
+    ∙ ap (λ (xs : List ℕ). lexed (Text xs) rest) (sym (append-nil (undoubled false front)))
+    ∙ sym (ap (as_token Text) (s.so_far.found ∙ ap (λ (xs : List ℕ). onto (undoubled false front) (verbatim_in xs)) (quote_there left rest c s.at is)
+    ∙ ap (onto (undoubled false front)) (second_missing rest none)))
 
-pub verbatim_ends : (text left : List ℕ) → VerbatimSoFar text left → EndsWith text left
-verbatim_ends text left s = (s.front, s.split)
+pub verbatim_ends : (text left : List ℕ) → VerbatimUpTo text left → EndsWith text left
+verbatim_ends text left s = (s.so_far.front, s.so_far.split)
 
-pub verbatim_none : (text left : List ℕ) → VerbatimSoFar text left → left ≡ [] → None ≡ as_token Text (verbatim_in text)
-verbatim_none text left s is = sym (ap (as_token Text) (s.found ∙ ap (λ (xs : List ℕ). onto (undoubled false s.front) (verbatim_in xs)) is))
+pub verbatim_none : (text left : List ℕ) → VerbatimUpTo text left → left ≡ [] → None ≡ as_token Text (verbatim_in text)
+verbatim_none text left s is =
+    sym (ap (as_token Text) (s.so_far.found ∙ ap (λ (xs : List ℕ). onto (undoubled false s.so_far.front) (verbatim_in xs)) is))
 
 -- between quotes
 pub record QuotedSoFar (text left : List ℕ) : Type 0 where

@@ -89,6 +89,11 @@ verbatim_in (c ∷ d ∷ cs) =
     if c == 39 then (if d == 39 then onto (39 ∷ []) (verbatim_in cs) else Some ([], d ∷ cs))
     else onto (c ∷ []) (verbatim_in (d ∷ cs))
 
+-- from the first apostrophe on
+abbrev pub from_apostrophe : List ℕ → List ℕ
+from_apostrophe [] = []
+from_apostrophe (c ∷ cs) = if c == 39 then c ∷ cs else from_apostrophe cs
+
 -- after an apostrophe that comes first
 abbrev pub apostrophe_rest : List ℕ → Option (List ℕ)
 apostrophe_rest [] = None

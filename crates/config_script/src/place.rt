@@ -52,6 +52,7 @@ pub(crate) struct Step<'a> {
 
 impl Place {
     /// After a token that stands where `from` begins; `fed` says whether a line feed stands before it.
+    #[inline(always)]
     pub(crate) fn after<'a>(self, fed: bool, token: Token<'a>, from: &'a str) -> Option<Step<'a>>
         ensures { step_of result ≡ step self fed (chars from.now) (token_of token.entry) }
     {

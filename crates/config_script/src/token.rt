@@ -3,7 +3,7 @@ ghost use Rattle.std.specs.Prelude.{◌≡◌, false, IfSome};
 ghost use Rattle.std.specs.Str.{chars};
 ghost use Rattle.mof_syntax.specs.Scanning.{left_of, stopped};
 ghost use Rattle.config_script.specs.Digits.{IsPlain};
-ghost use Rattle.config_script.specs.Lexing.{lexed_of, split_of, as_token, identifier_in, digits_rest, digits_in, verbatim_in, quoted_in, constant_named, constant_in, apostrophe_rest, array_begin_in, integer_in, first_token, separated};
+ghost use Rattle.config_script.specs.Lexing.{lexed_of, split_of, as_token, identifier_in, digits_rest, digits_in, from_apostrophe, verbatim_in, quoted_in, constant_named, constant_in, apostrophe_rest, array_begin_in, integer_in, first_token, separated};
 ghost use Rattle.config_script.specs.Tokens.{Text, Word};
 
 use crate::name::{Name, is_word};
@@ -31,6 +31,7 @@ pub(crate) enum Token<'a> {
 }
 
 /// After the separators that come first, and whether a line feed is among them.
+#[inline(always)]
 pub(crate) fn separators_rest(text: &str) -> (bool, &str)
     ensures fed { result.0 ≡ (separated false false (chars text.now)).0 }
     ensures rest { chars result.1.now ≡ (separated false false (chars text.now)).1 }
@@ -52,6 +53,7 @@ pub(crate) fn separators_rest(text: &str) -> (bool, &str)
 }
 
 /// The token that comes first, and what is after it.
+#[inline(always)]
 pub(crate) fn first_token(text: &str) -> Option<(Token<'_>, &str)>
     ensures { lexed_of result ≡ first_token (chars text.now) }
 {
@@ -102,18 +104,24 @@ fn array_begin(text: &str) -> Option<(Token<'_>, &str)>
 fn verbatim(text: &str) -> Option<(Token<'_>, &str)>
     ensures { lexed_of result ≡ as_token Text (verbatim_in (chars text.now)) }
 {
-    let mut left = text;
-    while let Some((c, rest)) = first_char(left) {
-        if c != '\'' {
-            left = rest;
-            continue;
-        }
+    let mut left = from_apostrophe(text);
+    while let Some((_, rest)) = first_char(left) {
         let Some(others) = apostrophe_rest(rest) else {
             return Some((Token::Text(Name::Doubled(before(text, left))), rest));
         };
-        left = others;
+        left = from_apostrophe(others);
     }
     None
+}
+
+// From the first apostrophe on; nothing where there is none.
+fn from_apostrophe(text: &str) -> &str
+    ensures { chars result.now ≡ from_apostrophe (chars text.now) }
+{
+    match text.find('\'') {
+        Some(at) => &text[at..],
+        None => "",
+    }
 }
 
 fn apostrophe_rest(text: &str) -> Option<&str>

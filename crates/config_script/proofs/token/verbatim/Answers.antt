@@ -1,23 +1,18 @@
-use Rattle.std.proofs.Common.{◌≡◌, false, arith, rules}
-use Rattle.std.specs.Prelude.{◌==◌}
-use Rattle.std.specs.Str.{chars}
-use Rattle.std.proofs.lemmas.Bool.Decides.{nat_tests}
-use Rattle.config_script.proofs.Scanned.{verbatim_start, verbatim_on, verbatim_doubled, verbatim_found}
+use Rattle.std.proofs.Common.{rules}
+use Rattle.config_script.proofs.Scanned.{verbatim_begins, verbatim_doubled, verbatim_ends, verbatim_found, verbatim_none, verbatim_shorter}
 use Rattle.config_script.proofs.token.verbatim.Goals as goal
 
-pub loop-c-init : goal.loop-c-init
-loop-c-init c = (c.utf8.text, verbatim_start (chars c.args.text.now))
+pub loop-rest-init : goal.loop-rest-init
+loop-rest-init c = (search rules, verbatim_begins _ _ c.from_apostrophe-left.ensures)
 
-pub loop-c-preserved-then-c-ne39 : goal.loop-c-preserved-then-c-ne39
-loop-c-preserved-then-c-ne39 c =
-    let other : (c.in-Some.c == 39) ≡ false = grind (arith, nat_tests) in
-    (search rules, verbatim_on _ _ _ _ c.loop-c.invariant.1 c.in-Some.ensures.some other)
+pub loop-rest-preserved : goal.loop-rest-preserved
+loop-rest-preserved c =
+    (search rules, verbatim_doubled _ _ _ _ _ _ c.loop-rest.invariant.1 c.in-Some.ensures.some c.in-Some-apostrophe_rest.ensures c.from_apostrophe-left-in-Some.ensures)
 
-pub loop-c-preserved : goal.loop-c-preserved
-loop-c-preserved c =
-    (search rules, verbatim_doubled _ _ _ _ _ c.loop-c.invariant.1 c.in-Some.ensures.some c.if-c-ne39.false c.in-Some-apostrophe_rest.ensures)
+pub loop-rest-smaller : goal.loop-rest-smaller
+loop-rest-smaller c = verbatim_shorter _ _ _ _ _ c.in-Some.ensures.some c.in-Some-apostrophe_rest.ensures c.from_apostrophe-left-in-Some.ensures
 
 pub returns-in_default-apostrophe_rest : goal.returns-in_default-apostrophe_rest
 returns-in_default-apostrophe_rest c =
-    verbatim_found _ _ _ _ _ c.loop-c.invariant.1 c.in-Some.ensures.some c.if-c-ne39.false c.in_default-apostrophe_rest.ensures
+    verbatim_found _ _ _ _ _ c.loop-rest.invariant.1 c.in-Some.ensures.some c.in_default-apostrophe_rest.ensures
     c.before-in_default-apostrophe_rest.ensures
