@@ -152,8 +152,10 @@ class Node:
         self.store, self.host = self.folder + '/store', self.folder + '/host'
         os.mkdir(self.host)
 
-    def start(self, *words, text='', output=subprocess.PIPE):
-        return subprocess.Popen([program, self.store, self.host, *words], stdin=self.input(text), stdout=output, stderr=subprocess.PIPE)
+    # With a limit it has no more addresses than that many KB.
+    def start(self, *words, text='', output=subprocess.PIPE, limit=None):
+        limited = ['sh', '-c', 'ulimit -v "$0" && exec "$@"', str(limit)] if limit else []
+        return subprocess.Popen([*limited, program, self.store, self.host, *words], stdin=self.input(text), stdout=output, stderr=subprocess.PIPE)
 
     def input(self, text):
         with open(self.folder + '/input', 'w', encoding='utf-8') as file:
@@ -161,8 +163,8 @@ class Node:
         return open(self.folder + '/input', 'rb')
 
     # What it printed, and its status.
-    def does(self, *words, text=''):
-        return self.ended(self.start(*words, text=text))
+    def does(self, *words, text='', limit=None):
+        return self.ended(self.start(*words, text=text, limit=limit))
 
     @staticmethod
     def ended(process):
@@ -474,6 +476,9 @@ def packages():
     check('once it is there', node.does('pull')[1], 0)
     check('it was fetched', relay.asked(), ['POST NODE/GetDscAction', fetch, module % '1.1'])
     check('both are kept', len(node.packages()), 2)
+    server.put('modules/xWeb_2.0.zip', 'x' * 62_914_560)
+    server.configure('Web', variable('A', '4', named % '2.0') + HEADER)
+    check('the longest package, where two have no room', (node.does('pull', limit=120_000)[1], len(node.packages())), (0, 3))
     server.kill()
 
 # ---- sizes: whatever they are, no pull is short of memory

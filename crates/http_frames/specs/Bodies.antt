@@ -5,7 +5,7 @@ use Rattle.http_frames.specs.declared.framing.Framing.TheVariants.{Sized, Chunke
 use Rattle.http_frames.specs.declared.limits.Limits.{Limits}
 use Rattle.http_frames.specs.declared.chunks.Walk.{Walk}
 use Rattle.http_frames.specs.declared.body.Progress.{Progress}
-use Rattle.http_frames.specs.declared.body.Progress.TheVariants.{More, Whole}
+use Rattle.http_frames.specs.declared.body.Progress.TheVariants.{More, Front, Joined}
 use Rattle.http_frames.specs.declared.frame_error.FrameError.{FrameError}
 use Rattle.http_frames.specs.declared.frame_error.FrameError.TheVariants.{BodyTooLong, Memory}
 use Rattle.http_frames.specs.Phases.{is_done}
@@ -34,6 +34,8 @@ pub record HasWalked (limits : Limits) (front : ℕ) (bytes : List ℕ) (walk : 
 abbrev pub IsProgress : Limits → ℕ → Framing → List ℕ → Result Progress FrameError → Type 0
 IsProgress limits front framing bytes (Ok (More walk)) =
     (body_reading limits front framing bytes ≡ Ok None) × HasWalked limits front bytes walk
-IsProgress limits front framing bytes (Ok (Whole content)) =
+IsProgress limits front framing bytes (Ok (Front n)) =
+    (n ≤ length bytes) × (body_reading limits front framing bytes ≡ Ok (Some (take n bytes)))
+IsProgress limits front framing bytes (Ok (Joined content)) =
     body_reading limits front framing bytes ≡ Ok (Some content.items)
 IsProgress limits front framing bytes (Err e) = (e ≡ Memory) ⊎ (body_reading limits front framing bytes ≡ Err e)

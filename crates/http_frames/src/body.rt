@@ -15,8 +15,11 @@ pub(crate) enum Progress {
     /// More bytes are needed; so far was walked over the chunks.
     More(Walk),
 
-    /// The content.
-    Whole(Vec<u8>),
+    /// The content is that many of the first bytes.
+    Front(usize),
+
+    /// The content, out of its chunks.
+    Joined(Vec<u8>),
 }
 
 /// Reads the body at the front of the bytes, of which those of the walk were walked over before, in a message of
@@ -37,20 +40,21 @@ pub(crate) fn read_body(
     ensures { IsProgress limits.now front framing body.now result }
 {
     match framing {
-        Framing::Sized(length) => read_sized(alloc, length, walk, body),
+        Framing::Sized(length) => Ok(read_sized(length, walk, body)),
         Framing::Chunked => read_chunked(alloc, limits, front, walk, body),
-        Framing::ToEnd => read_to_end(alloc, limits, body),
+        Framing::ToEnd => read_to_end(limits, body),
     }
 }
 
 #[tactic(auto, unfolding(crate::specs::Bodies::body_reading))]
-fn read_sized(alloc: Global, length: u64, walk: Walk, body: &[u8]) -> Result<Progress, FrameError>
-    ensures { (limits : Limits) (front : ℕ) → HasWalked limits front body.now walk → IsProgress limits front (Framing.Sized length) body.now result }
+fn read_sized(length: u64, walk: Walk, body: &[u8]) -> Progress
+    ensures { (limits : Limits) (front : ℕ) → HasWalked limits front body.now walk → IsProgress limits front (Framing.Sized length) body.now (Ok result) }
 {
     if (body.len() as u64) < length {
-        return Ok(Progress::More(walk));
+        Progress::More(walk)
+    } else {
+        Progress::Front(length as usize)
     }
-    Ok(Progress::Whole(Vec::from_slice(alloc, body.split_at(length as usize).0)?))
 }
 
 #[tactic(auto, unfolding(crate::specs::Bodies::body_reading))]
@@ -69,7 +73,7 @@ fn read_chunked(
 {
     match walk_over(limits, front, walk, body.split_at(walk.length as usize).1) {
         Ok(reached) if is_done(reached.phase) => {
-            Ok(Progress::Whole(content(alloc, limits, front, body)?))
+            Ok(Progress::Joined(content(alloc, limits, front, body)?))
         }
         Ok(reached) => Ok(Progress::More(reached)),
         Err(error) => Err(error),
@@ -77,11 +81,11 @@ fn read_chunked(
 }
 
 #[tactic(auto, unfolding(crate::specs::Bodies::body_reading))]
-fn read_to_end(alloc: Global, limits: &Limits, body: &[u8]) -> Result<Progress, FrameError>
+fn read_to_end(limits: &Limits, body: &[u8]) -> Result<Progress, FrameError>
     ensures { (front : ℕ) → IsProgress limits.now front Framing.ToEnd body.now result }
 {
     if body.len() as u64 > limits.content {
         return Err(FrameError::BodyTooLong);
     }
-    Ok(Progress::Whole(Vec::from_slice(alloc, body)?))
+    Ok(Progress::Front(body.len()))
 }

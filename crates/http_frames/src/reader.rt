@@ -14,7 +14,7 @@ use crate::head_walk::{HeadRead, HeadWalk, read_head};
 use crate::limits::REQUEST_LIMITS;
 use crate::{FrameError, Request};
 use mof_values::Bytes;
-use std::alloc::Global;
+use std::alloc::{AllocError, Global};
 use std::marker::Model;
 use std::mem;
 
@@ -213,7 +213,15 @@ impl Started {
                 framing,
                 walk,
             })),
-            Ok(Progress::Whole(content)) => Advance::Whole(request(head, content)),
+            Ok(Progress::Front(length)) => match Vec::from_slice(alloc, body.split_at(length).0) {
+                Ok(content) => Advance::Whole(request(head, content)),
+                Err(AllocError) => Advance::OutOfMemory(Stage::Body(Started {
+                    head,
+                    framing,
+                    walk,
+                })),
+            },
+            Ok(Progress::Joined(content)) => Advance::Whole(request(head, content)),
             Err(FrameError::Memory) => Advance::OutOfMemory(Stage::Body(Started {
                 head,
                 framing,

@@ -26,7 +26,7 @@ pub fn exchange<L: Link>(
 {
     let mut answer = Vec::new(alloc);
     match link.exchange(&server.peer, request, &mut answer) {
-        Ok(()) => accepted(alloc, &answer),
+        Ok(()) => accepted(alloc, answer),
         Err(LinkError::Failed) => Err(PeerError::Link),
         Err(LinkError::TooLong) => Err(PeerError::TooLong),
         Err(LinkError::Memory) => Err(PeerError::Memory),
@@ -34,8 +34,8 @@ pub fn exchange<L: Link>(
 }
 
 // The reply that the bytes are, if its code is one that is accepted.
-fn accepted(alloc: Global, bytes: &[u8]) -> Result<Reply, PeerError>
-    ensures heard { Heard IsReply (Answered bytes.now) result }
+fn accepted(alloc: Global, bytes: Vec<u8>) -> Result<Reply, PeerError>
+    ensures heard { Heard IsReply (Answered bytes.items) result }
     ensures answered { IsAnswered result }
 {
     match read_answer(alloc, bytes) {

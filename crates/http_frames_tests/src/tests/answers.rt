@@ -1,4 +1,5 @@
 use http_frames::{FrameError, Reply, read_answer};
+use std::alloc::Global;
 
 // An answer, and its body.
 fn whole_answers() -> &'static [(&'static [u8], &'static [u8])] {
@@ -91,15 +92,19 @@ fn no_answers() -> &'static [(&'static [u8], FrameError)] {
 #[test]
 fn answers_are_read(rt: HostRuntime) {
     for (bytes, body) in whole_answers() {
-        assert!(rt; gives(&read_answer(rt.alloc(), bytes), body));
+        assert!(rt; gives(&read(rt.alloc(), bytes), body));
     }
 }
 
 #[test]
 fn what_is_no_answer_is_refused(rt: HostRuntime) {
     for (bytes, error) in no_answers() {
-        assert!(rt; fails(&read_answer(rt.alloc(), bytes), *error));
+        assert!(rt; fails(&read(rt.alloc(), bytes), *error));
     }
+}
+
+fn read(alloc: Global, bytes: &[u8]) -> Result<Reply, FrameError> {
+    read_answer(alloc, bytes.to_vec(alloc)?)
 }
 
 fn gives(read: &Result<Reply, FrameError>, body: &[u8]) -> bool {

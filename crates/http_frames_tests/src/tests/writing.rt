@@ -65,7 +65,7 @@ fn answers_are_written(rt: HostRuntime) -> Result<(), Fail> {
     for (code, body, text) in answer_rows() {
         let written = written_answer(rt.alloc(), *code, body)?;
         assert!(rt; written.as_slice() == *text);
-        assert!(rt; has_code(rt.alloc(), &written, *code));
+        assert!(rt; has_code(rt.alloc(), written, *code));
     }
     Ok(())
 }
@@ -97,7 +97,7 @@ fn is_read_back(alloc: Global, bytes: &[u8], body: &[u8], headers: usize) -> boo
     }
 }
 
-fn has_code(alloc: Global, bytes: &[u8], code: u16) -> bool {
+fn has_code(alloc: Global, bytes: Vec<u8>, code: u16) -> bool {
     match read_answer(alloc, bytes) {
         Ok(reply) => reply.code == code,
         Err(_) => false,
