@@ -16,6 +16,7 @@ pub mod OnHost
 pub mod OneRow
 pub mod Readings
 pub mod Rehearsing
+pub mod RehearsedParts
 pub mod RehearsedStarts
 pub mod Results
 pub mod Standing

@@ -73,21 +73,21 @@ module _ {S K D M L C : Type 0} (o : Known S K D M L C) (before after : Objects 
     same_after : is.one.after.disk ≡ after.disk
     same_after = ap (λ (x : Outside D M C). x.disk) is.ends
 
-    exposed : IsExposed o.outside is.one
+    pub exposed : IsExposed o.outside is.one
     exposed = (world.image, subst (λ (disk : D). d.shown disk ≡ Some world.image) (sym same_before) crosses.reads)
 
     -- the one image at its beginning is the world's
     one_image : (image : List ℕ) → d.images is.one.before.disk image → image ≡ world.image
     one_image image there = crosses.begins image (subst (λ (disk : D). d.images disk image) same_before there)
 
-    whole : BeginsWhole o.outside is.one
+    pub whole : BeginsWhole o.outside is.one
     whole image there = record { value = node; stands = subst (λ (i : List ℕ). Stands i node) (sym (one_image image there)) begins; has = tt }
 
-    left : d.images is.one.after.disk next.image
+    pub left : d.images is.one.after.disk next.image
     left = subst (λ (disk : D). d.images disk next.image) (sym same_after) crosses.leaves
 
     -- what it finds is the node
-    found_is : (from : Node) → StoodFor d is.one.before.disk Stands from → from ≡ node
+    pub found_is : (from : Node) → StoodFor d is.one.before.disk Stands from → from ≡ node
     found_is from found = meaning world.image from node (subst (λ (i : List ℕ). Stands i from) (one_image found.image found.there) found.stands) begins
 
     pub does_all : StartsDoAllWork o.outside → (Rose (d.faults before.disk) (d.faults after.disk) → ⊥) → Steps node (work_of o.outside is.one) later

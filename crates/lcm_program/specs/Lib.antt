@@ -20,6 +20,7 @@ pub mod PeerWords
 pub mod Printed
 pub mod Refusal
 pub mod Rehearse
+pub mod RehearsedParts
 pub mod RehearsedStarts
 pub mod Started
 pub mod StartsOrRests

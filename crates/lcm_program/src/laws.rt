@@ -3,14 +3,18 @@ ghost use Rattle.dsc_node.specs.HostHeadline.{kinds_of, machine_of};
 ghost use Rattle.lcm_program.specs.ConvergingCommands.{StartsWithCommandsConverge};
 ghost use Rattle.lcm_program.specs.Further.{further_of_host};
 ghost use Rattle.lcm_program.specs.Objects.{known};
+ghost use Rattle.lcm_program.specs.RehearsedParts.{PartsAreOfStarts};
 ghost use Rattle.lcm_program.specs.RehearsedStarts.{EndsGo, StopsGo};
 ghost use Rattle.lcm_program.specs.StartsOrRests.{WordsStartOrRest};
 
 use crate::rehearse::NodeStarter;
 use command_kind::{Commands, Spawner, command_laws, host_laws};
-use dsc_node::{lasting_starts_converge, starts_do_their_work, valid_starts_complete};
+use dsc_node::{
+    lasting_starts_converge, parts_are_brought, starts_do_their_work, valid_starts_complete,
+};
 use dsc_outside::{Clock, Disk, Ends, Host, Link, Sink, Source};
 use lcm_core::{host_entry_laws, lasting_laws};
+use link_laws::pulled_parts_are_of_the_shelf;
 use memory_outside::{
     FixedClock, NullSink, ReliableDisk, ReliableHost, ReliableSource, StoppedDisk, StoppedHost,
 };
@@ -50,6 +54,18 @@ pub fn rehearsed_starts_do_their_work()
     images_have_one_meaning();
     starts_do_their_work::<ReliableDisk, Kinds<ReliableHost>, FixedClock>();
     starts_do_their_work::<StoppedDisk, Kinds<StoppedHost>, FixedClock>();
+}
+
+/// Each part of a node of a rehearsal was pushed by a start of it, or is what the shelf had as a start pulled it, and the server gave it under its
+/// checksum.
+pub fn rehearsed_parts_are_of_starts()
+    ensures { PartsAreOfStarts ⟦<NodeStarter as Starter>⟧ }
+{
+    images_cross::<NodeStarter>();
+    images_have_one_meaning();
+    parts_are_brought::<ReliableDisk, Kinds<ReliableHost>, FixedClock>();
+    parts_are_brought::<StoppedDisk, Kinds<StoppedHost>, FixedClock>();
+    pulled_parts_are_of_the_shelf::<ReliableDisk, ReliableShelf>();
 }
 
 /// With programs on, where after a Set of a command the program for its Test says that it holds, in these starts, and what the others ask of a

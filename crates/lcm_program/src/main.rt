@@ -32,7 +32,8 @@
 //!   `src/program.rt`, `specs/DidWords.antt`, and with it a start of `dsc_node`, or it leaves the disk:
 //!   `specs/StartsOrRests.antt`, `src/laws.rt`; to which node it leads, and that its trace is true of the machine that
 //!   the start before it left: `specs/RehearsedStarts.antt`, `src/laws.rt`, `proofs/RehearsedStarts.antt`,
-//!   `proofs/TrueTraces.antt`
+//!   `proofs/TrueTraces.antt`; where the parts of its node come from: `specs/RehearsedParts.antt`,
+//!   `proofs/RehearsedParts.antt`
 #![tactic(auto)]
 
 ghost use Rattle.std.specs.Prelude.{◌≡◌, [], IfOk};

@@ -1,5 +1,5 @@
 -- A content that is heard over a link to a pull server is what its shelf has.
-use Rattle.std.proofs.Common.{◌≡◌, ◌⊎◌, inl, inr, ℕ, zero, suc, ◌<◌, Bool, true, false, List, [], ◌∷◌, ◌++◌, length, Option, Some, None, Result, Ok, Err, refl, sym, ◌∙◌, ap, subst, arith, codes, if◌then◌else◌}
+use Rattle.std.proofs.Common.{◌≡◌, inl, inr, ℕ, zero, suc, Bool, true, false, List, [], ◌∷◌, length, Option, Some, None, Result, Ok, Err, refl, sym, ◌∙◌, ap, subst, arith, codes, if◌then◌else◌}
 use Rattle.std.specs.Prelude.{Contains, encode_utf8_all}
 use Rattle.std.proofs.lemmas.Bool.{false≢true}
 use Rattle.std.proofs.lemmas.List.Sums.{AllPass-from_list_all}
@@ -28,7 +28,7 @@ use Rattle.pull_messages.proofs.WrittenTargets.{written_target}
 use Rattle.pull_client.specs.declared.error.PeerError.{PeerError}
 use Rattle.pull_client.specs.Content.{GivesBody, GivesPart, IsPartOf, checked_body, content_of}
 use Rattle.pull_client.specs.Requests.{host_text}
-use Rattle.pull_client.specs.Heard.{Heard, accepted, is_accepted, link_failed, no_answer, no_memory, not_accepted, too_long}
+use Rattle.pull_client.specs.Heard.{Heard, accepted, link_failed, no_answer, no_memory, not_accepted, too_long}
 use Rattle.pull_outside.specs.Shelf.{Contents, configuration_of}
 use Rattle.pull_outside.specs.declared.shelf.Shelf as shelves
 use Rattle.pull_store.specs.declared.row.Row.{Row}

@@ -1,3 +1,4 @@
 pub mod HeardContents
+pub mod PulledParts
 pub mod SendableContents
 pub mod SentContents

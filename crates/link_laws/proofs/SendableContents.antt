@@ -1,10 +1,9 @@
 -- A request for a content is sendable.
-use Rattle.std.proofs.Common.{◌≡◌, ℕ, suc, ◌+◌, ◌*◌, ◌/◌, ◌%◌, ◌<◌, ◌≤◌, ◌^◌, ◌-◌, ◌&&◌, ◌||◌, ◌==◌, nat_le, nat_lt, Bool, true, false, not, List, [], ◌∷◌, ◌++◌, length, take, drop, get_or, reverse, refl, sym, ◌∙◌, ap, subst, arith, length-append, append_assoc, codes, bytes_eq, cond, if◌then◌else◌, IsUtf8}
+use Rattle.std.proofs.Common.{◌≡◌, ℕ, suc, ◌+◌, ◌*◌, ◌/◌, ◌%◌, ◌<◌, ◌≤◌, ◌^◌, ◌-◌, ◌&&◌, ◌==◌, nat_le, nat_lt, Bool, true, false, List, [], ◌∷◌, ◌++◌, length, take, drop, get_or, reverse, refl, sym, ◌∙◌, ap, subst, arith, length-append, codes, bytes_eq, cond, if◌then◌else◌, IsUtf8}
 use Rattle.std.specs.Prelude.{All, IsTrue, encode_utf8_all}
 use Rattle.std.specs.Char.{IsScalar, is_ascii_digit}
 use Rattle.std.specs.Fmt.{decimal}
 use Rattle.std.specs.List.{AllByRecursion, flat_map, list_all}
-use Rattle.std.specs.Str.Parse.{AllDigits}
 use Rattle.std.proofs.Math.Nat.{min-le_right}
 use Rattle.std.proofs.Math.Utf8.{encode, low_scalar}
 use Rattle.std.proofs.lemmas.List.{length-take}
@@ -17,7 +16,7 @@ use Rattle.std.proofs.lemmas.Str.Ascii.{IsAscii-from_all}
 use Rattle.httparse.specs.Grammar.{AllPass, IsToken, is_ows, is_token_byte, is_uri_byte, is_value_byte, skip_ows}
 use Rattle.httparse.proofs.TrimLemmas.{AllPass-reverse}
 use Rattle.http_frames.specs.declared.message.Request.{Request}
-use Rattle.http_frames.specs.Limits.{head_bytes, header_lines, request_limits}
+use Rattle.http_frames.specs.Limits.{head_bytes}
 use Rattle.http_frames.specs.Sending.{IsPlainHeader, IsPlainValue, IsSendable}
 use Rattle.http_frames.specs.Writing.{crlf, header_line, header_text, host_value, request_length, request_line, request_text, without_default_port}
 use Rattle.http_frames.proofs.SentLines.{digits_pass, own, token_by}

@@ -1,1 +1,2 @@
+pub mod PulledParts
 pub mod ShelfContents

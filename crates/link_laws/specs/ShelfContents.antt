@@ -1,5 +1,5 @@
 -- What a node takes of a pull server in memory: items of its shelf.
-use Rattle.std.specs.Prelude.{◌≡◌, ◌⊎◌, ℕ, ◌<◌, ◌≤◌, ◌^◌, true, List, length, Contains, Some, Result, Ok, codes, encode_utf8_all}
+use Rattle.std.specs.Prelude.{◌≡◌, ◌⊎◌, ℕ, ◌<◌, ◌≤◌, ◌^◌, true, List, length, Contains, Some, Ok, codes, encode_utf8_all}
 use Rattle.std.specs.List.{list_all}
 use Rattle.dsc_outside.specs.declared.disk.Disk as disks
 use Rattle.dsc_outside.specs.declared.exchange.Exchange.{Exchange}
