@@ -22,8 +22,9 @@ pub fn starts_join<D: Disk, M: Machine, C: Clock>()
     ensures read { FindsWhatIsRead (known D.Disk M.Resources M.Machine.own C.Clock) }
 {}
 
-/// At its end a start in which the disk's count of faults did not rise leaves the node after all events of its table, and any start, at its
-/// end and wherever it is stopped, the node after a prefix of them.
+/// Where the disk shows what it holds, and each of its images stood for a node at the beginning: at its end a start in which the disk's
+/// count of faults did not rise leaves the node after all events that it committed, and any start, at its end and wherever it is stopped,
+/// the node after a prefix of its events.
 pub fn starts_do_their_work<D: Disk, M: Machine, C: Clock>()
     ensures all { StartsDoAllWork (known D.Disk M.Resources M.Machine.own C.Clock) }
     ensures prefix { StartsDoPrefixes (known D.Disk M.Resources M.Machine.own C.Clock) }

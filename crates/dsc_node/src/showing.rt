@@ -11,8 +11,7 @@ ghost use Rattle.dsc_node.specs.Shown.{agent_line, agent_text, line, meta_lines,
 
 use meta_config::{AfterReboot, ConfigMode, Meta, RefreshMode, Server, url_of};
 use mof_codec::push_literal;
-use mof_values::Items;
-use node_state::{Kept, Node};
+use node_state::{Kept, Node, SharedParts};
 use partial_merge::Part;
 use report_log::{Outcome, Report};
 use std::alloc::{AllocError, Global};
@@ -151,7 +150,7 @@ fn push_slots(out: &mut String, node: &Node) -> Result<(), AllocError>
     push_slot(out, "previous", &node.previous)
 }
 
-fn push_slot(out: &mut String, name: &str, parts: &Option<Items<Part>>) -> Result<(), AllocError>
+fn push_slot(out: &mut String, name: &str, parts: &Option<SharedParts>) -> Result<(), AllocError>
     ensures { OnOk result (string_bytes out.new
         ≡ string_bytes out.old ++ slot_line name.now parts.now) }
 {
@@ -160,7 +159,7 @@ fn push_slot(out: &mut String, name: &str, parts: &Option<Items<Part>>) -> Resul
     out.push_str("\n")
 }
 
-fn push_parts(out: &mut String, parts: &Option<Items<Part>>) -> Result<(), AllocError>
+fn push_parts(out: &mut String, parts: &Option<SharedParts>) -> Result<(), AllocError>
     ensures { OnOk result (string_bytes out.new ≡ string_bytes out.old ++ parts_text parts.now) }
 {
     let Some(parts) = parts else {

@@ -11,15 +11,15 @@ abbrev pub IsRoom : Supply → Type 0
 IsRoom (supplies.Room room) = ⊤
 IsRoom _ = ⊥
 
--- a copy of these parts
-abbrev pub IsCopy : Option (List Part) → Supply → Type 0
-IsCopy slot (supplies.Copy parts) = slot ≡ Some parts
-IsCopy slot _ = ⊥
+-- these parts
+abbrev pub IsShared : Option (List Part) → Supply → Type 0
+IsShared slot (supplies.Shared parts) = slot ≡ Some parts
+IsShared slot _ = ⊥
 
--- enough for the event: room for a report that is kept, a copy of Previous for Restore, and nothing for any other
+-- enough for the event: room for a report that is kept, Previous once more for Restore, and nothing for any other
 abbrev pub Supplies : Node → Event → Supply → Type 0
 Supplies node (events.Promote report) supply = IsRoom supply
 Supplies node (events.Note report) supply = IsRoom supply
 Supplies node (events.AskReboot report) supply = IsRoom supply
-Supplies node events.Restore supply = IsCopy node.previous supply
+Supplies node events.Restore supply = IsShared node.previous supply
 Supplies node _ supply = ⊤

@@ -9,7 +9,6 @@ use crate::supply::{Room, Supply};
 use crate::{Event, Kept, Node, Stage};
 use meta_config::Meta;
 use mof_values::{Items, Memory};
-use partial_merge::Part;
 use report_log::Report;
 use std::alloc::Global;
 
@@ -40,7 +39,7 @@ impl Node {
             (Event::Promote(_) | Event::Note(_) | Event::AskReboot(_), _) => Ok(Supply::Room(
                 Room::new(alloc)?,
             )),
-            (Event::Restore, Some(parts)) => Ok(Supply::Copy(copy_of(alloc, parts.as_slice())?)),
+            (Event::Restore, Some(parts)) => Ok(Supply::Shared(parts.share()?)),
             _ => Ok(Supply::Nothing),
         }
     }
@@ -86,7 +85,7 @@ impl Node {
             },
             Event::Remove(stage) => self.without(stage),
             Event::Restore => match supply {
-                Supply::Copy(parts) => Node {
+                Supply::Shared(parts) => Node {
                     pending: Some(parts),
                     ..self
                 },
@@ -136,7 +135,7 @@ impl Node {
                 reports: kept_in(room, self.reports, report),
                 ..self
             },
-            Supply::Nothing | Supply::Copy(_) => unreachable!(),
+            Supply::Nothing | Supply::Shared(_) => unreachable!(),
         }
     }
 }
@@ -192,14 +191,4 @@ fn mark(kept: &mut Kept, job: u64)
     if kept.report.job == job {
         kept.sent = true;
     }
-}
-
-fn copy_of(alloc: Global, parts: &[Part]) -> Result<Items<Part>, Memory>
-    ensures { IfOk result (λ copy. copy ≡ parts.now) }
-{
-    let mut copy = Vec::with_capacity(alloc, parts.len())?;
-    for part in parts {
-        copy.push(part.copy()?)?;
-    }
-    Ok(Items::of(copy))
 }

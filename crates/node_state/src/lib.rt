@@ -14,7 +14,7 @@
 //!   `proofs/Building.antt`
 //! - which lists of parts a node may keep, and which fit a meta-configuration: `specs/Lists.antt`,
 //!   `specs/Staging.antt`, `src/staging.rt`; `specs/Fits.antt`, `src/fitting.rt`; that those that fit are staged
-//!   `proofs/FittingParts.antt`
+//!   `proofs/FittingParts.antt`; the lists themselves, which are shared `src/shared.rt`
 //! - its limits: `src/limits.rt`
 #![tactic(auto)]
 
@@ -28,6 +28,7 @@ mod list;
 mod node;
 mod piece;
 mod placing;
+mod shared;
 mod staging;
 mod supply;
 mod table;
@@ -40,5 +41,6 @@ pub use limits::{MAX_BYTES, MAX_REPORTS, OLDER_REPORTS};
 pub use list::Staged;
 pub use node::{Kept, Node};
 pub use piece::Piece;
+pub use shared::SharedParts;
 pub use staging::{staged, staged_in_order, stored};
 pub use supply::{Room, Supply};

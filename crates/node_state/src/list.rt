@@ -2,14 +2,14 @@
 ghost use Rattle.std.specs.Prelude.{◌≡◌};
 ghost use Rattle.node_state.specs.Lists.{IsStaged};
 
-use mof_values::Items;
+use crate::SharedParts;
 use partial_merge::Part;
 
 /// A list of 1 to `MAX_PARTS` parts that are merged to a document: names of at most `MAX_NAME_BYTES` bytes of UTF-8, and at
 /// most `MAX_BYTES` bytes together.
 #[derive(Debug, Drop)]
 pub struct Staged {
-    pub(crate) parts: Items<Part>,
+    pub(crate) parts: SharedParts,
 
     ghost whole: { IsStaged parts },
 }
@@ -21,7 +21,7 @@ impl Staged {
         self.parts.as_slice()
     }
 
-    pub fn into_parts(self) -> Items<Part>
+    pub fn into_parts(self) -> SharedParts
         ensures parts { result ≡ self.parts }
         ensures whole { IsStaged result }
     {

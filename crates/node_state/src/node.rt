@@ -1,7 +1,7 @@
 //! The state of a node.
+use crate::SharedParts;
 use meta_config::Meta;
 use mof_values::Items;
-use partial_merge::Part;
 use report_log::Report;
 
 /// A report that the node keeps.
@@ -25,13 +25,13 @@ pub struct Node {
     pub registered: bool,
 
     /// The parts that are to be applied.
-    pub pending: Option<Items<Part>>,
+    pub pending: Option<SharedParts>,
 
     /// The parts that were applied last.
-    pub current: Option<Items<Part>>,
+    pub current: Option<SharedParts>,
 
     /// The parts that were applied before these.
-    pub previous: Option<Items<Part>>,
+    pub previous: Option<SharedParts>,
 
     /// A reboot was asked for, and no boot came after it.
     pub reboot: bool,

@@ -1,8 +1,6 @@
 //! The pieces that a node is written as, and from which it is made again.
-use crate::{Kept, Stage};
+use crate::{Kept, SharedParts, Stage};
 use meta_config::Meta;
-use mof_values::Items;
-use partial_merge::Part;
 
 /// A piece of a node. A new node and the pieces of another, in order, are that other one.
 #[derive(Debug, Drop)]
@@ -17,7 +15,7 @@ pub enum Piece {
     },
 
     /// The parts in one of its stages.
-    Slot(Stage, Items<Part>),
+    Slot(Stage, SharedParts),
 
     /// One of its reports.
     Kept(Kept),

@@ -4,9 +4,8 @@ ghost use Rattle.std.specs.List.{list_all};
 ghost use Rattle.node_state.specs.Pieces.{fits, is_before, is_free, placed, with_parts};
 
 use crate::limits::OLDER_REPORTS;
-use crate::{Kept, Node, Piece, Stage};
+use crate::{Kept, Node, Piece, SharedParts, Stage};
 use mof_values::{Items, Memory};
-use partial_merge::Part;
 
 impl Node {
     /// Returns whether the piece may come next: Base first, then parts by their stages, then the reports by their jobs. Takes no
@@ -75,7 +74,7 @@ impl Node {
         }
     }
 
-    fn with_parts(self, stage: Stage, parts: Items<Part>) -> Node
+    fn with_parts(self, stage: Stage, parts: SharedParts) -> Node
         ensures { result ≡ with_parts stage parts self }
     {
         match stage {

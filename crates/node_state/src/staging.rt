@@ -10,9 +10,9 @@ ghost use Rattle.node_state.specs.StagedParts.{parts_of};
 ghost use Rattle.node_state.specs.Staging.{AreFitting, AreRefused};
 
 use crate::limits::MAX_BYTES;
-use crate::{StageError, Staged, fits};
+use crate::{SharedParts, StageError, Staged, fits};
 use meta_config::Meta;
-use mof_values::{Items, MAX_NAME_BYTES, Memory};
+use mof_values::{MAX_NAME_BYTES, Memory};
 use partial_merge::{MergeError, OrderedDocument, Part, merge, merge_ordered};
 use report_log::MAX_PARTS;
 use std::alloc::Global;
@@ -61,7 +61,7 @@ pub fn staged_in_order(
         return Err(StageError::TooLong { bytes });
     }
     let staged = Staged {
-        parts: Items::of(parts),
+        parts: SharedParts::of(alloc, parts)?,
     };
     Ok((staged, ordered))
 }
@@ -76,7 +76,7 @@ pub fn stored(alloc: Global, parts: Vec<Part>) -> Result<Option<Staged>, Memory>
     if !are_named(&parts) || !are_merged(alloc, &parts)? {
         return Ok(None);
     }
-    Ok(listed(parts))
+    listed(alloc, parts)
 }
 
 // Returns whether the parts are merged to a document.
@@ -100,18 +100,18 @@ fn not_merged(refusal: MergeError) -> Result<bool, Memory>
 }
 
 // The list of these parts, where they are not too long together.
-fn listed(parts: Vec<Part>) -> Option<Staged>
+fn listed(alloc: Global, parts: Vec<Part>) -> Result<Option<Staged>, Memory>
     requires named { AreNamed parts.items }
     requires merged { IsMerged parts.items }
-    ensures staged { IfSome result (λ staged. parts_of staged ≡ parts.items) }
-    ensures none { IfNone result (MAX_BYTES < bytes_of parts.items) }
+    ensures staged { IfOk result (λ found. IfSome found (λ staged. parts_of staged ≡ parts.items)) }
+    ensures none { IfOk result (λ found. IfNone found (MAX_BYTES < bytes_of parts.items)) }
 {
     if bytes_of(&parts) > MAX_BYTES {
-        return None;
+        return Ok(None);
     }
-    Some(Staged {
-        parts: Items::of(parts),
-    })
+    Ok(Some(Staged {
+        parts: SharedParts::of(alloc, parts)?,
+    }))
 }
 
 fn are_named(parts: &[Part]) -> bool

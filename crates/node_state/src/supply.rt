@@ -2,10 +2,9 @@
 ghost use Rattle.std.specs.Prelude.{◌≡◌, ◌≤◌, vec_len, vec_capacity};
 ghost use Rattle.node_state.specs.declared.limits.TheConstants.{MAX_REPORTS};
 
-use crate::Kept;
 use crate::limits::MAX_REPORTS;
-use mof_values::{Items, Memory};
-use partial_merge::Part;
+use crate::{Kept, SharedParts};
+use mof_values::Memory;
 use std::alloc::Global;
 
 /// Capacity for the reports of a node.
@@ -25,8 +24,8 @@ pub enum Supply {
     /// For an event that keeps a report.
     Room(Room),
 
-    /// For Restore, a copy of Previous.
-    Copy(Items<Part>),
+    /// For Restore, Previous once more.
+    Shared(SharedParts),
 }
 
 impl Room {

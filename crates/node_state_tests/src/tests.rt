@@ -110,11 +110,7 @@ fn shown(rt: &impl AllocGlobal, node: &Node) -> Result<String, Fail> {
     Ok(line)
 }
 
-fn push_slot(
-    line: &mut String,
-    word: &str,
-    slot: &Option<Items<partial_merge::Part>>,
-) -> Result<(), Fail> {
+fn push_slot(line: &mut String, word: &str, slot: &Option<SharedParts>) -> Result<(), Fail> {
     if let Some(parts) = slot {
         for part in parts.as_slice() {
             line.push_str(word)?;

@@ -42,8 +42,8 @@ pub record Untouched {D : Type 0} (old new : StoreTerm) (before now : D) : Type 
   pub store : new ≡ old
   pub disk : now ≡ before
 
--- committing the event takes memory: for the text of a meta-configuration, for a copy of Previous, and for a report that no capacity
--- was reserved for
+-- committing the event takes memory: for the text of a meta-configuration, for the list of Previous once more, which takes none but may
+-- be refused, and for a report that no capacity was reserved for
 abbrev pub TakesMemory : Bool → Event → Type 0
 TakesMemory reserved (events.SetMeta meta) = ⊤
 TakesMemory reserved events.Restore = ⊤

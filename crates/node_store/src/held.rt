@@ -1,7 +1,7 @@
 //! Lists of parts that a node holds already, whose bytes are not read again.
 //!
 //! Reading a list takes the digest of each document, and merges all of them to one. Where its bytes are those of a list that the
-//! node holds, this was done before: the parts are copied from there.
+//! node holds, this was done before: the list is shared with it.
 ghost use Rattle.std.specs.Prelude.{◌≡◌, ◌≢◌, ◌↔◌, ◌++◌, ℕ, List, Some, IfOk, IfSome, IsTrue, MatchOption};
 ghost use Rattle.std.specs.List.{AllByRecursion};
 ghost use Rattle.partial_merge.specs.declared.part.Part.{Part as PartTerm};
@@ -12,17 +12,17 @@ ghost use Rattle.node_store.specs.Held.{AreBytesOf, IsHeld, StagesHeld};
 ghost use Rattle.node_store.specs.Parts.{bytes_of_part, bytes_of_parts, AreParts, FitsPart, IsPart};
 
 use crate::parts::put_front_of_part;
-use mof_values::{Items, Memory};
-use node_state::Node;
+use mof_values::Memory;
+use node_state::{Node, SharedParts};
 use partial_merge::Part;
 use std::alloc::Global;
 
-/// A copy of the parts that the body stages, where the node holds them.
+/// The list that the body stages, where the node holds it.
 pub(crate) fn staged_again(
     alloc: Global,
     node: &Node,
     body: &[u8],
-) -> Result<Option<Items<Part>>, Memory>
+) -> Result<Option<SharedParts>, Memory>
     requires sound { Sound node.now }
     ensures { IfOk result (λ found. MatchOption found
         ((parts : List PartTerm) → StagesHeld node.now body.now parts → ⊥)
@@ -30,20 +30,20 @@ pub(crate) fn staged_again(
 {
     match body {
         [4, bytes @ ..] => match held_in(alloc, node, bytes)? {
-            Some(parts) => Ok(Some(copy_of(alloc, parts)?)),
+            Some(parts) => Ok(Some(parts.share()?)),
             None => Ok(None),
         },
         _ => Ok(None),
     }
 }
 
-/// The parts that the node holds of which these are all the bytes. They are compared byte by byte, since other documents may
+/// The list that the node holds of which these are all the bytes. They are compared byte by byte, since other documents may
 /// have the same digests.
 pub(crate) fn held_in<'a>(
     alloc: Global,
     node: &'a Node,
     bytes: &[u8],
-) -> Result<Option<&'a [Part]>, Memory>
+) -> Result<Option<&'a SharedParts>, Memory>
     requires sound { Sound node.now }
     ensures { IfOk result (λ found. MatchOption found
         ((parts : List PartTerm) → IsHeld node.now bytes.now parts → ⊥)
@@ -58,12 +58,12 @@ pub(crate) fn held_in<'a>(
     }
 }
 
-// The parts of the slot, where these are all their bytes.
+// The list of the slot, where these are all their bytes.
 fn in_slot<'a>(
     alloc: Global,
-    slot: &'a Option<Items<Part>>,
+    slot: &'a Option<SharedParts>,
     bytes: &[u8],
-) -> Result<Option<&'a [Part]>, Memory>
+) -> Result<Option<&'a SharedParts>, Memory>
     requires { IfSome slot.now IsStaged }
     ensures { IfOk result (λ found. MatchOption found
         ((parts : List PartTerm) → slot.now ≡ Some parts → IsWhole bytes_of_parts AreParts bytes.now parts → ⊥)
@@ -72,7 +72,7 @@ fn in_slot<'a>(
     match slot {
         Some(parts) => {
             if are_all_of(alloc, parts.as_slice(), bytes)? {
-                Ok(Some(parts.as_slice()))
+                Ok(Some(parts))
             } else {
                 Ok(None)
             }
@@ -126,14 +126,4 @@ fn after_part<'a>(alloc: Global, part: &Part, bytes: &'a [u8]) -> Result<Option<
         Some(rest) => Ok(rest.strip_prefix(part.bytes.as_slice())),
         None => Ok(None),
     }
-}
-
-fn copy_of(alloc: Global, parts: &[Part]) -> Result<Items<Part>, Memory>
-    ensures { IfOk result (λ copy. copy ≡ parts.now) }
-{
-    let mut copy = Vec::with_capacity(alloc, parts.len())?;
-    for part in parts {
-        copy.push(part.copy()?)?;
-    }
-    Ok(Items::of(copy))
 }

@@ -3,8 +3,7 @@ ghost use Rattle.std.specs.Prelude.{◌≡◌, ◌++◌, map, None, option_map};
 ghost use Rattle.node_state.specs.Table.{after, newest, refusal};
 ghost use Rattle.node_store.specs.Next.{added, kept_before, sent_in};
 
-use mof_values::Items;
-use node_state::{Event, Kept, Node, OLDER_REPORTS, Stage};
+use node_state::{Event, Kept, Node, OLDER_REPORTS, SharedParts, Stage};
 use partial_merge::Part;
 use report_log::Report;
 
@@ -85,7 +84,7 @@ pub fn previous_after<'a>(node: &'a Node, event: &Event) -> Option<&'a [Part]>
     }
 }
 
-fn parts_of(slot: &Option<Items<Part>>) -> Option<&[Part]>
+fn parts_of(slot: &Option<SharedParts>) -> Option<&[Part]>
     ensures { option_map (λ parts. parts.now) result ≡ slot.now }
 {
     match slot {

@@ -9,17 +9,16 @@ use crate::body::Body;
 use crate::held::staged_again;
 use crate::reading::read_body;
 use gate_log::{Replay, TakeError};
-use mof_values::{Items, Memory};
-use node_state::{Event, Node, Piece};
-use partial_merge::Part;
+use mof_values::Memory;
+use node_state::{Event, Node, Piece, SharedParts};
 use std::alloc::Global;
 use std::mem;
 use store_fields::FieldError;
 
 /// The node that the bodies of a store lead to.
 ///
-/// The parts of a body become those of the node, and no document is copied; but a step back copies the parts of Previous, and
-/// a Stage of parts that the node holds those.
+/// The parts of a body become those of the node, and no document is copied: a step back shares the list of Previous, and a Stage
+/// of a list that the node holds that one.
 #[derive(Drop)]
 pub struct Taking {
     alloc: Global,
@@ -55,7 +54,7 @@ impl Taking {
     }
 
     // A list that the node holds becomes Pending too.
-    fn stage_again(&mut self, parts: Items<Part>)
+    fn stage_again(&mut self, parts: SharedParts)
         ensures node { self.new.node ≡ record self.old.node { pending = Some parts } }
         ensures begun { self.new.begun ≡ true }
     {

@@ -8,10 +8,9 @@ ghost use Rattle.rehearsal.specs.Rows.{slots_of};
 use crate::lasting::lasted;
 use crate::row::Slots;
 use memory_outside::ReliableDisk;
-use mof_values::{Items, Memory};
-use node_state::Node;
+use mof_values::Memory;
+use node_state::{Node, SharedParts};
 use node_store::{StoreError, images_have_one_meaning, open_store};
-use partial_merge::Part;
 use std::alloc::Global;
 
 /// The numbers of the parts that the node holds for which this image stands. It is opened in a copy, since an opening may write.
@@ -52,7 +51,7 @@ fn slots_of(node: &Node) -> Slots
     }
 }
 
-fn count_of(parts: &Option<Items<Part>>) -> Option<usize>
+fn count_of(parts: &Option<SharedParts>) -> Option<usize>
     ensures { result ≡ option_map length parts.now }
 {
     match parts {

@@ -6,8 +6,8 @@ ghost use Rattle.staged_text.specs.Texts.{AreFurther, AreTextsOf, HasNoText, Has
 
 use crate::ending::Unshown;
 use mof_codec::{MofError, read, write};
-use mof_values::{Items, Memory};
-use node_state::{Node, Stage};
+use mof_values::Memory;
+use node_state::{Node, SharedParts, Stage};
 use partial_merge::Part;
 use std::alloc::Global;
 
@@ -23,7 +23,7 @@ pub fn text_at(alloc: Global, node: &Node, stage: Stage) -> Result<Vec<u8>, Unsh
     }
 }
 
-fn parts_at(node: &Node, stage: Stage) -> &Option<Items<Part>>
+fn parts_at(node: &Node, stage: Stage) -> &Option<SharedParts>
     ensures { result.now ≡ parts_at stage node.now }
 {
     match stage {

@@ -15,6 +15,6 @@ invariant_of-result c =
     let counted = subst (λ (n : ℕ). n ≤ MAX_BYTES) c.bytes_of.ensures c.if-bytes_of-gt-MAX_BYTES.false in
     let long = subst (λ (ps : List Part). bytes_of ps ≤ MAX_BYTES) c.deref.ensures.value counted in
     record {
-      whole = subst (λ (ps : List Part). IsStaged ps) (sym c.of.ensures)
+      whole = subst (λ (ps : List Part). IsStaged ps) (sym c.in_ok-of.ensures)
           (record { named = c.requires.named; long = long; merged = c.requires.merged });
     }
