@@ -4,6 +4,5 @@ mod calls;
 mod counters;
 mod openings;
 mod rewrites;
-mod stops;
 mod stores;
 mod texts;

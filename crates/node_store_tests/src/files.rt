@@ -1,10 +1,17 @@
 //! Files of bodies.
-use crate::words::body_of;
 use node_store::StoreError;
 use std::alloc::{AllocError, Global};
 
 /// The first eight bytes of a store whose first bank is live.
 pub const HEAD: &[u8] = b"DSCSTOR1";
+
+/// Appends the cells of bodies.
+pub fn push_cells(file: &mut Vec<u8>, bodies: &[Vec<u8>]) -> Result<(), AllocError> {
+    for body in bodies {
+        push_cell(file, body)?;
+    }
+    Ok(())
+}
 
 /// Appends the cell of a body.
 pub fn push_cell(file: &mut Vec<u8>, body: &[u8]) -> Result<(), AllocError> {
@@ -14,25 +21,10 @@ pub fn push_cell(file: &mut Vec<u8>, body: &[u8]) -> Result<(), AllocError> {
     file.extend_from_slice(body)
 }
 
-/// The file of a store with the bodies of these words, but for its closed gate. Each report of an event is of
-/// this job.
-pub fn open_file(alloc: Global, words: &str, job: u64) -> Result<Vec<u8>, AllocError> {
-    let mut file = HEAD.to_vec(alloc)?;
-    if words.is_empty() {
-        return Ok(file);
-    }
-    for word in words.split(' ') {
-        push_cell(&mut file, &body_of(alloc, word, job)?)?;
-    }
-    Ok(file)
-}
-
 /// The file of a store with these bodies.
-pub fn file_of(alloc: Global, bodies: &[&[u8]]) -> Result<Vec<u8>, AllocError> {
+pub fn file_of(alloc: Global, bodies: &[Vec<u8>]) -> Result<Vec<u8>, AllocError> {
     let mut file = HEAD.to_vec(alloc)?;
-    for body in bodies {
-        push_cell(&mut file, body)?;
-    }
+    push_cells(&mut file, bodies)?;
     file.push(0)?;
     Ok(file)
 }

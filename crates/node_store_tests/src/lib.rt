@@ -1,7 +1,9 @@
-//! The tests of `node_store`: bodies of events from a word each, files of bodies, stores that events are committed to,
-//! and banks that are full, in files of 64 MiB.
+//! The tests of `node_store`: bodies of events and pieces from a word each, files of bodies, what commits leave of a
+//! store, and banks that are full, in files of 64 MiB.
 #![tactic(auto)]
 
+#[cfg(test)]
+mod documents;
 #[cfg(test)]
 mod files;
 #[cfg(test)]
@@ -12,10 +14,10 @@ mod tests;
 mod words;
 
 #[cfg(test)]
-pub use files::{HEAD, file_of, open_file, place_of, push_cell};
+pub use documents::{push_name, staged};
 #[cfg(test)]
-pub use stores::{
-    commit_all, commit_body, commit_word, kept_in, new_disk, run, shown, store_after,
-};
+pub use files::{HEAD, file_of, place_of, push_cell, push_cells};
 #[cfg(test)]
-pub use words::{COMMITS, INIT, body_of};
+pub use stores::{Left, commit_to, kept_in, line_of, run, shown};
+#[cfg(test)]
+pub use words::{COMMITS, INIT, bodies_of, body_of, last_of};

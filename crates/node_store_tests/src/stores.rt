@@ -3,19 +3,17 @@ ghost use Rattle.std.specs.Prelude.{IfOk};
 ghost use Rattle.node_state.specs.Table.{IsWithin};
 ghost use Rattle.node_store.specs.Store.{IsReady};
 
-use crate::words::body_of;
+use crate::words::bodies_of;
 use dsc_outside::Disk;
 use memory_outside::MemoryDisk;
-use mof_values::{Items, Memory};
-use node_state::{Event, Node};
+use node_state::{Event, Node, SharedParts};
 use node_store::{Body, NodeStore, StoreError, open_store, read_body};
-use partial_merge::Part;
 use std::alloc::{AllocError, Global};
 use std::fmt::Write;
 use store_fields::FieldError;
 
-/// The event of this body.
-pub fn event_of(alloc: Global, body: &[u8]) -> Result<Event, StoreError>
+// The event of this body.
+fn event_of(alloc: Global, body: &[u8]) -> Result<Event, StoreError>
     ensures { IfOk result IsWithin }
 {
     match read_body(alloc, body) {
@@ -25,8 +23,7 @@ pub fn event_of(alloc: Global, body: &[u8]) -> Result<Event, StoreError>
     }
 }
 
-/// Commits the event of this body.
-pub fn commit_body<D: Disk>(
+fn commit_body<D: Disk>(
     alloc: Global,
     store: &mut NodeStore,
     disk: &mut D,
@@ -41,45 +38,8 @@ pub fn commit_body<D: Disk>(
     }
 }
 
-/// Commits the event of this word.
-pub fn commit_word<D: Disk>(
-    alloc: Global,
-    store: &mut NodeStore,
-    disk: &mut D,
-    word: &str,
-) -> Result<(), StoreError>
-    requires { IsReady D.Disk disk.old store.old }
-    ensures { IsReady D.Disk disk.new store.new }
-{
-    match body_of(alloc, word, store.state().next_job) {
-        Ok(body) => commit_body(alloc, store, disk, &body),
-        Err(_) => Err(StoreError::Memory),
-    }
-}
-
-/// Commits the events of these words, up to the first that is not committed.
-pub fn commit_words<D: Disk>(
-    alloc: Global,
-    store: &mut NodeStore,
-    disk: &mut D,
-    words: &str,
-) -> Result<(), StoreError>
-    requires { IsReady D.Disk disk.old store.old }
-    ensures { IsReady D.Disk disk.new store.new }
-{
-    if words.is_empty() {
-        return Ok(());
-    }
-    for word in words.split(' ') {
-        if let Err(error) = commit_word(alloc, store, disk, word) {
-            return Err(error);
-        }
-    }
-    Ok(())
-}
-
-/// Commits the events of these bodies, up to the first that is not committed.
-pub fn commit_all<D: Disk>(
+// Commits the events of these bodies, up to the first that is not committed.
+fn commit_all<D: Disk>(
     alloc: Global,
     store: &mut NodeStore,
     disk: &mut D,
@@ -96,36 +56,79 @@ pub fn commit_all<D: Disk>(
     Ok(())
 }
 
-/// A new disk.
-pub fn new_disk(alloc: Global) -> Result<MemoryDisk, Memory> {
-    MemoryDisk::new(Vec::new(alloc), Vec::new(alloc))
-}
-
-/// The node of a new store after the events of these words, in a line, and the bytes of its disk.
-pub fn run(alloc: Global, words: &str) -> Result<(String, Vec<u8>), StoreError> {
-    let mut disk = new_disk(alloc)?;
-    let mut store = match open_store(alloc, &mut disk) {
+// Opens the store of a disk and commits the events of these bodies, again where the disk failed: what comes of it then, and the
+// node in a line.
+fn committed<D: Disk>(
+    alloc: Global,
+    disk: &mut D,
+    bodies: &[Vec<u8>],
+) -> Result<(Result<(), StoreError>, String), StoreError> {
+    let mut store = match open_store(alloc, disk) {
         Ok(store) => store,
         Err(error) => return Err(error),
     };
-    if let Err(error) = commit_words(alloc, &mut store, &mut disk, words) {
-        return Err(error);
+    let mut answer = commit_all(alloc, &mut store, disk, bodies);
+    if store.is_spent() {
+        answer = commit_all(alloc, &mut store, disk, bodies);
     }
-    let line = shown(alloc, store.state())?;
-    Ok((line, disk.after_stop()?))
+    Ok((answer, shown(alloc, store.state())?))
 }
 
-/// A disk with the store after the events of these words.
-pub fn store_after(alloc: Global, words: &str) -> Result<MemoryDisk, StoreError> {
-    let (_, bytes) = run(alloc, words)?;
-    Ok(MemoryDisk::new(bytes, Vec::new(alloc))?)
+/// What commits to a store left.
+#[derive(Drop)]
+pub struct Left {
+    /// What came of them; `Spent` where the disk failed, and they were tried once more.
+    pub answer: Result<(), StoreError>,
+
+    /// The node in memory, in a line.
+    pub line: String,
+
+    /// How many calls of the disk were made.
+    pub calls: u64,
+
+    /// What the next opening finds.
+    pub bytes: Vec<u8>,
+}
+
+/// Opens the store of a disk and commits the events of these bodies, up to the first that is not committed.
+pub fn commit_to(
+    alloc: Global,
+    mut disk: MemoryDisk,
+    bodies: &[Vec<u8>],
+) -> Result<Left, StoreError> {
+    let (answer, line) = match committed(alloc, &mut disk, bodies) {
+        Ok(done) => done,
+        Err(error) => return Err(error),
+    };
+    let calls = disk.calls().len() as u64;
+    Ok(Left {
+        answer,
+        line,
+        calls,
+        bytes: disk.after_stop()?,
+    })
+}
+
+/// What the events of the words of a list and of one more leave of a new store.
+pub fn run(alloc: Global, words: &str, last: &str) -> Result<Left, StoreError> {
+    let bodies = bodies_of(alloc, words, last)?;
+    let disk = MemoryDisk::new(Vec::new(alloc), Vec::new(alloc))?;
+    commit_to(alloc, disk, &bodies)
+}
+
+/// The line of the node after these events.
+pub fn line_of(alloc: Global, words: &str, last: &str) -> Result<String, StoreError> {
+    match run(alloc, words, last) {
+        Ok(left) => Ok(left.line),
+        Err(error) => Err(error),
+    }
 }
 
 /// What the store of these bytes keeps.
 pub fn kept_in(alloc: Global, bytes: Vec<u8>) -> Result<String, StoreError> {
-    let mut disk = MemoryDisk::new(bytes, Vec::new(alloc))?;
-    match open_store(alloc, &mut disk) {
-        Ok(store) => Ok(shown(alloc, store.state())?),
+    let disk = MemoryDisk::new(bytes, Vec::new(alloc))?;
+    match commit_to(alloc, disk, &[]) {
+        Ok(left) => Ok(left.line),
         Err(error) => Err(error),
     }
 }
@@ -153,7 +156,7 @@ pub fn shown(alloc: Global, node: &Node) -> Result<String, AllocError> {
     Ok(line)
 }
 
-fn push_slot(line: &mut String, word: &str, slot: &Option<Items<Part>>) -> Result<(), AllocError> {
+fn push_slot(line: &mut String, word: &str, slot: &Option<SharedParts>) -> Result<(), AllocError> {
     if let Some(parts) = slot {
         line.push_str(word)?;
         for part in parts.as_slice() {

@@ -1,4 +1,4 @@
-//! Bodies of events, from a word each.
+//! Bodies of events and of pieces, from a word each.
 use std::alloc::{AllocError, Global};
 
 /// The body of Init, of the agent 16.
@@ -32,8 +32,44 @@ pub const COMMITS: &[(&str, &str)] = &[
     ("init A promote B promote", "restore"),
 ];
 
-/// The body of the event or piece of this word, or bytes that are the body of none. A report is of this job, and of the job 0 where it is late; a word that names no
-/// event names the one part of a list that is staged.
+/// The bodies of the words of a list and of one more. A report is of the next job: from 1 on, or from the one that a base has.
+pub fn bodies_of(alloc: Global, words: &str, last: &str) -> Result<Vec<Vec<u8>>, AllocError> {
+    let mut bodies = Vec::new(alloc);
+    let mut job = 1;
+    for word in words.split(' ') {
+        job = push_body(&mut bodies, alloc, word, job)?;
+    }
+    push_body(&mut bodies, alloc, last, job)?;
+    Ok(bodies)
+}
+
+/// The last of these bodies alone.
+pub fn last_of(alloc: Global, words: &str, last: &str) -> Result<Vec<Vec<u8>>, AllocError> {
+    let mut bodies = bodies_of(alloc, words, last)?;
+    Ok(bodies.split_off(bodies.len().saturating_sub(1))?)
+}
+
+// Adds the body of a word, where it is none that is empty; the job after it.
+fn push_body(
+    bodies: &mut Vec<Vec<u8>>,
+    alloc: Global,
+    word: &str,
+    job: u64,
+) -> Result<u64, AllocError> {
+    if word.is_empty() {
+        return Ok(job);
+    }
+    bodies.push(body_of(alloc, word, job)?)?;
+    Ok(match word {
+        "promote" | "note" | "ask" => job.saturating_add(1),
+        "registered:5" | "marked:5" => 5,
+        _ => job,
+    })
+}
+
+/// The body of the event or piece of this word, or bytes that are the body of none. A report is of this job, and of the job 0 where
+/// it is late. A piece is a word, a colon, and its job or the name of its part; a word that names nothing else is that of the one
+/// part of a list that is staged.
 pub fn body_of(alloc: Global, word: &str, job: u64) -> Result<Vec<u8>, AllocError> {
     match word {
         "init" => INIT.to_vec(alloc),
@@ -52,24 +88,38 @@ pub fn body_of(alloc: Global, word: &str, job: u64) -> Result<Vec<u8>, AllocErro
         "drop-current" => b"\x0A\x01".to_vec(alloc),
         "drop-previous" => b"\x0A\x02".to_vec(alloc),
         "restore" => b"\x0B".to_vec(alloc),
-        "base" => base(alloc, 0, SERVED),
-        "marked-base" => base(alloc, 1, SERVED),
-        "base-alone" => base(alloc, 0, ALONE),
-        "slot-pending" => slot(alloc, 0),
-        "slot-current" => slot(alloc, 1),
-        "slot-previous" => slot(alloc, 2),
-        "slot-fourth" => slot(alloc, 3),
-        "kept-3" => kept(alloc, 0, 3),
-        "kept-4" => kept(alloc, 1, 4),
-        "kept-5" => kept(alloc, 0, 5),
-        "kept-twice" => kept(alloc, 2, 4),
         "nothing" => Ok(Vec::new(alloc)),
         "no-kind" => b"\x0F".to_vec(alloc),
         "long-boot" => b"\x08\0".to_vec(alloc),
         "fourth-stage" => b"\x0A\x03".to_vec(alloc),
         "wrong-digest" => wrong_digest(alloc),
         "no-canonical" => no_canonical(alloc),
-        name => staged(alloc, name.as_bytes()),
+        name => match name.split_once(':') {
+            Some((kind, name)) => piece(alloc, kind, name.as_bytes()),
+            None => staged(alloc, name.as_bytes()),
+        },
+    }
+}
+
+fn piece(alloc: Global, kind: &str, name: &[u8]) -> Result<Vec<u8>, AllocError> {
+    let job = match name {
+        [digit] => digit.saturating_sub(b'0'),
+        _ => 0,
+    };
+    match kind {
+        "usual" => base(alloc, &[0, 0], job, ALONE),
+        "asked" => base(alloc, &[0, 1], job, ALONE),
+        "served" => base(alloc, &[0, 0], job, SERVED),
+        "registered" => base(alloc, &[1, 0], job, SERVED),
+        "marked" => base(alloc, &[1, 1], job, SERVED),
+        "unserved" => base(alloc, &[1, 0], job, ALONE),
+        "pending" => slot(alloc, 0, name),
+        "current" => slot(alloc, 1, name),
+        "previous" => slot(alloc, 2, name),
+        "kept" => kept(alloc, 0, job),
+        "sent" => kept(alloc, 1, job),
+        "twice" => kept(alloc, 2, job),
+        _ => slot(alloc, 3, name),
     }
 }
 
@@ -91,29 +141,29 @@ fn staged(alloc: Global, name: &[u8]) -> Result<Vec<u8>, AllocError> {
     Ok(body)
 }
 
-// All of a registered node of the agent 16 but its parts and reports; the next job is 5.
-fn base(alloc: Global, mark: u8, meta: &[u8]) -> Result<Vec<u8>, AllocError> {
+// All of a node of the agent 16 but its parts and reports: whether it is registered and a reboot was asked for, and the next job.
+fn base(alloc: Global, marks: &[u8; 2], job: u8, meta: &[u8]) -> Result<Vec<u8>, AllocError> {
     let mut body = b"\x0C".to_vec(alloc)?;
     body.extend_from_slice(fields_of(INIT))?;
-    body.extend_from_slice(&[1, mark])?;
-    body.extend_from_slice(b"\0\0\0\0\0\0\0\x05")?;
+    body.extend_from_slice(marks)?;
+    body.extend_from_slice(&u64::from(job).to_be_bytes())?;
     body.extend_from_slice(fields_of(meta))?;
     Ok(body)
 }
 
 // A list of one part in a stage.
-fn slot(alloc: Global, stage: u8) -> Result<Vec<u8>, AllocError> {
+fn slot(alloc: Global, stage: u8, name: &[u8]) -> Result<Vec<u8>, AllocError> {
     let mut body = vec![in alloc; 13u8]?;
     body.push(stage)?;
-    let parts = staged(alloc, b"P")?;
+    let parts = staged(alloc, name)?;
     body.extend_from_slice(fields_of(&parts))?;
     Ok(body)
 }
 
-fn kept(alloc: Global, sent: u8, job: u64) -> Result<Vec<u8>, AllocError> {
+fn kept(alloc: Global, sent: u8, job: u8) -> Result<Vec<u8>, AllocError> {
     let mut body = vec![in alloc; 14u8]?;
     body.push(sent)?;
-    let report = run(alloc, 5, job)?;
+    let report = run(alloc, 5, u64::from(job))?;
     body.extend_from_slice(fields_of(&report))?;
     Ok(body)
 }

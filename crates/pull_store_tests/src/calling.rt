@@ -1,11 +1,18 @@
 //! Calls of a store.
 ghost use Rattle.pull_store.specs.Store.{IsReady};
 
-use crate::stores::said;
 use dsc_outside::Disk;
 use pull_messages::{MessageError, read_registration};
 use pull_store::{PullError, PullStore};
 use std::alloc::{AllocError, Global};
+
+/// The message of a registration with this name of the node.
+pub fn said(alloc: Global, name: &[u8]) -> Result<Vec<u8>, AllocError> {
+    let mut message = b"{\"AgentInformation\":{\"NodeName\":\"".to_vec(alloc)?;
+    message.extend_from_slice(name)?;
+    message.extend_from_slice(b"\"}}")?;
+    Ok(message)
+}
 
 /// Registers an agent by a message in JSON, which is no longer than the texts of a registration may be.
 pub fn register<D: Disk>(

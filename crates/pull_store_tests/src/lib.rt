@@ -1,22 +1,23 @@
-//! The tests of `pull_store`: calls of a store from a word each, files of bodies, and what the next opening finds.
+//! The tests of `pull_store`: calls of a store from a word each, bodies and files of bodies, and what the next opening
+//! finds.
 #![tactic(auto)]
 
 #[cfg(test)]
+mod bodies;
+#[cfg(test)]
 mod calling;
 #[cfg(test)]
-mod files;
+mod gap_disk;
 #[cfg(test)]
 mod stores;
 #[cfg(test)]
 mod tests;
-#[cfg(test)]
-mod two_banks;
 
 #[cfg(test)]
-pub use calling::{call, call_all, put, register};
+pub use bodies::{HEAD, file_of, file_with, place_of, push_cell, report};
 #[cfg(test)]
-pub use files::{HEAD, file_of, place_of, push_cell};
+pub use calling::{put, register};
 #[cfg(test)]
-pub use stores::{new_disk, run, said, shown, shown_in};
+pub use gap_disk::GapDisk;
 #[cfg(test)]
-pub use two_banks::TwoBanks;
+pub use stores::{Left, after, call_over, run, shown_in, two_banks};

@@ -1,26 +1,27 @@
-//! A count, whose changes have two cells: stops in each call, a bank that is full, and files that no count has left.
+//! A count, whose changes have two cells: stops and failures in each call, a bank that is full, and files that are cut or changed.
 ghost use Rattle.gate_log.specs.Kept.{IsReadyBy};
 ghost use Rattle.gate_log_tests.specs.Counting.{LeadsToCount, count_shape};
 
 use crate::counter::{CountError, Counter, open_counter};
-use dsc_outside::Disk;
+use dsc_outside::{Disk, Memory};
 use memory_outside::{DiskPart, DiskStop, MemoryDisk};
 use std::alloc::Global;
 use std::test::Fail;
 
 // A disk of these bytes, that stops so.
 fn disk(alloc: Global, bytes: Vec<u8>, stop: Option<DiskStop>) -> Result<MemoryDisk, CountError> {
-    match MemoryDisk::of(bytes, Vec::new(alloc), stop) {
-        Ok(disk) => Ok(disk),
+    with_memory(MemoryDisk::of(bytes, Vec::new(alloc), stop))
+}
+
+fn with_memory<T: Drop>(made: Result<T, Memory>) -> Result<T, CountError> {
+    match made {
+        Ok(value) => Ok(value),
         Err(_) => Err(CountError::Memory),
     }
 }
 
 fn left(disk: MemoryDisk) -> Result<Vec<u8>, CountError> {
-    match disk.after_stop() {
-        Ok(bytes) => Ok(bytes),
-        Err(_) => Err(CountError::Memory),
-    }
+    with_memory(disk.after_stop())
 }
 
 // The count of a store of these bytes.
@@ -66,6 +67,8 @@ const PARTS: &[DiskPart] = &[
     DiskPart::Nothing,
     DiskPart::Whole,
     DiskPart::Filled(0x00),
+    DiskPart::Filled(0x32),
+    DiskPart::Filled(0x57),
     DiskPart::Filled(0xA5),
 ];
 
@@ -77,18 +80,30 @@ fn count_of_calls(alloc: Global, times: u8) -> Result<u64, CountError> {
 }
 
 // The count that the next opening finds after a stop in one more change, and whether that came to its end before.
-fn after_stop(alloc: Global, times: u8, stop: DiskStop) -> Result<(u8, bool), CountError> {
-    let mut disk = disk(alloc, with_tens(alloc, times)?, Some(stop))?;
+fn after_stop(
+    alloc: Global,
+    times: u8,
+    call: u64,
+    part: DiskPart,
+) -> Result<(u8, bool), CountError> {
+    let mut disk = disk(
+        alloc,
+        with_tens(alloc, times)?,
+        Some(DiskStop { call, part }),
+    )?;
     let is_done = add_tens(alloc, &mut disk, 1).is_ok();
     Ok((count_in(alloc, left(disk)?)?, is_done))
 }
 
-// Whether a stop in each call leaves the count before or after the change, and the one after it once the change has ended.
+// Whether a stop in each call leaves the count before or after the change, and the one after it once the change has ended: it ends
+// where the stop comes after its last call, and nowhere else.
 fn all_stops(alloc: Global, times: u8, before: u8, after: u8) -> Result<bool, CountError> {
-    for call in 0..=count_of_calls(alloc, times)? {
+    let end = count_of_calls(alloc, times)?;
+    for call in 0..=end {
         for part in PARTS {
-            let (count, is_done) = after_stop(alloc, times, DiskStop { call, part: *part })?;
-            if count != after && (is_done || count != before) {
+            let (count, is_done) = after_stop(alloc, times, call, *part)?;
+            let is_either = count == after || (count == before && !is_done);
+            if !is_either || is_done != (call == end) {
                 return Ok(false);
             }
         }
@@ -99,6 +114,86 @@ fn all_stops(alloc: Global, times: u8, before: u8, after: u8) -> Result<bool, Co
 #[test]
 fn a_stop_leaves_the_count_before_or_after(rt: HostRuntime) -> Result<(), Fail> {
     assert!(rt; all_stops(rt.alloc(), 2, 20, 30)? && all_stops(rt.alloc(), 4, 40, 50)?);
+    Ok(())
+}
+
+// How often 10 was added, the byte that a stop in the last write of one more change leaves, and the count then: the gate of its
+// second cell is opened by A5 alone, and the second bank is made live by 32 alone.
+const LAST_WRITES: &[(u8, u8, u8)] = &[
+    (2, 0x00, 20),
+    (2, 0x57, 20),
+    (2, 0xA5, 30),
+    (4, 0x31, 40),
+    (4, 0x57, 40),
+    (4, 0x32, 50),
+];
+
+// The count after a stop in the last write, which one sync follows.
+fn after_last_write(alloc: Global, times: u8, byte: u8) -> Result<u8, CountError> {
+    let call = count_of_calls(alloc, times)?.saturating_sub(2);
+    Ok(after_stop(alloc, times, call, DiskPart::Filled(byte))?.0)
+}
+
+#[test]
+fn the_last_byte_decides(rt: HostRuntime) -> Result<(), Fail> {
+    for (times, byte, count) in LAST_WRITES {
+        assert!(rt;
+            after_last_write(rt.alloc(), *times, *byte)? == *count,
+            "{times} {byte}"
+        );
+    }
+    Ok(())
+}
+
+// Opens a counter and adds 10, and again where the disk failed: what comes of it then, and the count in memory.
+fn add_or_spend<D: Disk>(
+    alloc: Global,
+    disk: &mut D,
+) -> Result<(Result<(), CountError>, u8), CountError> {
+    let mut counter = open_counter(alloc, disk)?;
+    let answer = match counter.add(disk, 10) {
+        Err(CountError::Disk) => counter.add(disk, 10),
+        answer => answer,
+    };
+    Ok((answer, counter.count()))
+}
+
+// Whether one more change fails where this call does: the opening, or the change, which spends the counter.
+fn fails_at(
+    alloc: Global,
+    times: u8,
+    call: u64,
+    before: u8,
+    after: u8,
+) -> Result<bool, CountError> {
+    let failing = with_memory(numbers(alloc, call))?;
+    let mut disk = with_memory(MemoryDisk::new(with_tens(alloc, times)?, failing))?;
+    let answer = add_or_spend(alloc, &mut disk);
+    let count = count_in(alloc, left(disk)?)?;
+    Ok(match answer {
+        Err(CountError::Disk) => count == before,
+        Ok((Err(CountError::Spent), memory)) => memory == before
+            && (count == before || count == after),
+        _ => false,
+    })
+}
+
+fn numbers(alloc: Global, call: u64) -> Result<Vec<u64>, Memory> {
+    Ok(vec![in alloc; call]?)
+}
+
+fn all_failures(alloc: Global, times: u8, before: u8, after: u8) -> Result<bool, CountError> {
+    for call in 0..count_of_calls(alloc, times)? {
+        if !fails_at(alloc, times, call, before, after)? {
+            return Ok(false);
+        }
+    }
+    Ok(true)
+}
+
+#[test]
+fn a_call_that_fails_spends_the_counter(rt: HostRuntime) -> Result<(), Fail> {
+    assert!(rt; all_failures(rt.alloc(), 2, 20, 30)? && all_failures(rt.alloc(), 4, 40, 50)?);
     Ok(())
 }
 
@@ -121,11 +216,7 @@ const FILES: &[(&[u8], Result<u8, u64>)] = &[
 ];
 
 fn stands_for(alloc: Global, bytes: &[u8]) -> Result<Result<u8, u64>, CountError> {
-    let bytes = match bytes.to_vec(alloc) {
-        Ok(bytes) => bytes,
-        Err(_) => return Err(CountError::Memory),
-    };
-    match count_in(alloc, bytes) {
+    match count_in(alloc, with_memory(copy(alloc, bytes))?) {
         Ok(count) => Ok(Ok(count)),
         Err(CountError::NotACount { at }) => Ok(Err(at)),
         Err(error) => Err(error),
@@ -137,6 +228,89 @@ fn a_file_stands_for_a_count_or_fails_at_a_byte(rt: HostRuntime) -> Result<(), F
     for (bytes, wanted) in FILES {
         assert!(rt; stands_for(rt.alloc(), bytes)? == *wanted, "{bytes:?}");
     }
+    Ok(())
+}
+
+// The name of the format and the selector, and the cells of 5 that is named, from 8 on, and added, from 15 on.
+const SMALL: &[u8] = b"DSCSTOR1\xA5\0\0\0\x02\x00\x05\xA5\0\0\0\x02\x01\x05\0";
+
+// Of each byte of the small file what it stands for where that byte is 00, is FF, or has its last bit turned.
+const CHANGES: &[[Result<u8, u64>; 3]] = &[
+    // the name of the format, and the selector: each of these selects the first bank
+    [Err(0), Err(0), Err(0)],
+    [Err(1), Err(1), Err(1)],
+    [Err(2), Err(2), Err(2)],
+    [Err(3), Err(3), Err(3)],
+    [Err(4), Err(4), Err(4)],
+    [Err(5), Err(5), Err(5)],
+    [Err(6), Err(6), Err(6)],
+    [Ok(5), Ok(5), Ok(5)],
+    // the gate, the length, and the body, of which the kind is 0
+    [Ok(0), Ok(0), Ok(0)],
+    [Ok(5), Err(9), Err(9)],
+    [Ok(5), Err(9), Err(9)],
+    [Ok(5), Err(9), Err(9)],
+    [Err(13), Err(9), Err(13)],
+    [Ok(5), Err(13), Ok(10)],
+    [Ok(5), Ok(5), Ok(5)],
+    // the same of the second body, of the kind 1
+    [Ok(0), Ok(0), Ok(0)],
+    [Ok(5), Err(16), Err(16)],
+    [Ok(5), Err(16), Err(16)],
+    [Ok(5), Err(16), Err(16)],
+    [Err(20), Err(16), Err(20)],
+    [Ok(0), Err(20), Ok(0)],
+    [Ok(0), Ok(255), Ok(4)],
+    // a closed gate
+    [Ok(5), Ok(5), Ok(5)],
+];
+
+// What the small file stands for with this byte at that place.
+fn changed(alloc: Global, at: usize, byte: u8) -> Result<Result<u8, u64>, CountError> {
+    let mut bytes = with_memory(copy(alloc, SMALL))?;
+    if let Some(place) = bytes.get_mut(at) {
+        *place = byte;
+    }
+    stands_for(alloc, &bytes)
+}
+
+fn copy(alloc: Global, bytes: &[u8]) -> Result<Vec<u8>, Memory> {
+    Ok(bytes.to_vec(alloc)?)
+}
+
+// The first byte whose change is answered otherwise.
+fn first_changed_otherwise(alloc: Global) -> Result<Option<usize>, CountError> {
+    for (at, (byte, wanted)) in SMALL.iter().zip(CHANGES).enumerate() {
+        for (byte, wanted) in [0x00, 0xFF, *byte ^ 1].iter().zip(wanted) {
+            if changed(alloc, at, *byte)? != *wanted {
+                return Ok(Some(at));
+            }
+        }
+    }
+    Ok(None)
+}
+
+// The first length to which the small file is cut and answered otherwise: up to nine bytes it is new, else it fails at its end.
+fn first_cut_otherwise(alloc: Global) -> Result<Option<usize>, CountError> {
+    for length in 0..SMALL.len() {
+        let wanted = if length < 10 {
+            Ok(0)
+        } else {
+            Err(length as u64)
+        };
+        if stands_for(alloc, &SMALL[..length])? != wanted {
+            return Ok(Some(length));
+        }
+    }
+    Ok(None)
+}
+
+#[test]
+fn a_file_that_is_cut_or_changed_is_told_or_stands_for_a_count(
+    rt: HostRuntime,
+) -> Result<(), Fail> {
+    assert!(rt; CHANGES.len() == SMALL.len() && first_changed_otherwise(rt.alloc())? == None);
+    assert!(rt; first_cut_otherwise(rt.alloc())? == None);
     Ok(())
 }
 

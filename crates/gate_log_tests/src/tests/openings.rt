@@ -1,7 +1,7 @@
 //! Files that are opened as stores.
 ghost use Rattle.std.specs.Prelude.{⊤};
 
-use super::stores::{add_two, bodies_of, holds, rewrite, small, with_memory};
+use super::stores::{add_two, bodies_of, small, with_memory};
 use gate_log::{LogError, Replay, TakeError, replay_log};
 use memory_outside::MemoryDisk;
 use std::alloc::Global;
@@ -83,20 +83,9 @@ fn capacity_is_what_is_left(alloc: Global) -> Result<bool, LogError> {
     Ok(is_enough && answer(alloc, &bytes)? == Err(59))
 }
 
-// The file has 98 bytes, of which the eighth makes the second bank live.
-fn is_rewritten(alloc: Global) -> Result<bool, LogError> {
-    let mut disk = with_memory(MemoryDisk::new(Vec::new(alloc), Vec::new(alloc)))?;
-    let mut log = add_two(alloc, &mut disk)?;
-    rewrite(&mut log, &mut disk, &[b'c'; 20])?;
-    let bytes = with_memory(disk.after_stop())?;
-    let is_second = bytes.len() == 98 && bytes[7] == 0x32;
-    let mut disk = with_memory(MemoryDisk::new(bytes, Vec::new(alloc)))?;
-    Ok(is_second && holds(bodies_of(alloc, &mut disk)?.as_slice(), b"c"))
-}
-
 #[test]
-fn a_bank_that_is_full_is_rewritten(rt: HostRuntime) -> Result<(), Fail> {
-    assert!(rt; capacity_is_what_is_left(rt.alloc())? && is_rewritten(rt.alloc())?);
+fn the_capacity_of_a_bank_is_what_is_left(rt: HostRuntime) -> Result<(), Fail> {
+    assert!(rt; capacity_is_what_is_left(rt.alloc())?);
     Ok(())
 }
 

@@ -1,5 +1,5 @@
 //! Files that are opened as stores of a node.
-use crate::{kept_in, open_file, place_of};
+use crate::{bodies_of, file_of, kept_in, place_of};
 use node_store::StoreError;
 use std::alloc::{AllocError, Global};
 use std::test::Fail;
@@ -54,76 +54,66 @@ fn is_opened_so(alloc: Global, row: &Row<'_>) -> Result<bool, AllocError> {
     })
 }
 
-fn first_opened_otherwise(alloc: Global) -> Result<Option<usize>, AllocError> {
-    for (index, row) in FILES.iter().enumerate() {
-        if !is_opened_so(alloc, row)? {
-            return Ok(Some(index));
-        }
-    }
-    Ok(None)
-}
-
 #[test]
 fn a_file_is_a_store_or_fails_at_its_first_wrong_byte(rt: HostRuntime) -> Result<(), Fail> {
-    assert_eq!(rt; first_opened_otherwise(rt.alloc())?, None);
+    for row in FILES {
+        assert!(rt; is_opened_so(rt.alloc(), row)?, "{row:?}");
+    }
     Ok(())
 }
 
 // The words of bodies, and what the store keeps.
 const KEPT: &[(&str, &str)] = &[
-    ("base", "agent server registered job 5"),
-    ("marked-base", "agent server registered reboot job 5"),
+    ("registered:5", "agent server registered job 5"),
+    ("marked:5", "agent server registered reboot job 5"),
     (
-        "base slot-pending slot-current slot-previous kept-3 kept-4",
+        "registered:5 pending:P current:P previous:P kept:3 sent:4",
         "agent server registered pending P current P previous P r3 s4 job 5",
     ),
     (
-        "base slot-previous kept-4",
+        "registered:5 previous:P sent:4",
         "agent server registered previous P s4 job 5",
     ),
+    ("marked:5 kept:3 boot", "agent server registered r3 job 5"),
     (
-        "marked-base kept-3 boot",
-        "agent server registered r3 job 5",
-    ),
-    (
-        "base slot-current kept-4 note",
+        "registered:5 current:P sent:4 note",
         "agent server registered current P s4 r5 job 6",
     ),
     ("init usual A", "agent pending A job 1"),
     // Lists that the node holds.
     ("init A A", "agent pending A job 1"),
     (
-        "base slot-current A promote A",
+        "registered:5 current:P A promote A",
         "agent server registered pending A current A previous P r5 job 6",
     ),
     (
-        "base slot-current A promote P",
+        "registered:5 current:P A promote P",
         "agent server registered pending P current A previous P r5 job 6",
     ),
 ];
 
 // The words of bodies, of which the last is the first that is refused.
 const REFUSED: &[&str] = &[
-    "slot-pending",
-    "kept-3",
-    "base-alone",
-    "base base",
-    "init base",
-    "init slot-pending",
-    "init kept-3",
-    "base slot-fourth",
-    "base slot-pending slot-pending",
-    "base slot-current slot-pending",
-    "base slot-previous slot-current",
-    "base kept-3 slot-current",
-    "base kept-4 kept-3",
-    "base kept-4 kept-4",
-    "base kept-5",
-    "base kept-twice",
-    "base A slot-current",
-    "base slot-pending late-note",
-    "base boot",
-    "base init",
+    "pending:P",
+    "kept:3",
+    "unserved:5",
+    "registered:5 registered:5",
+    "init registered:5",
+    "init pending:P",
+    "init kept:3",
+    "registered:5 fourth:P",
+    "registered:5 pending:P pending:P",
+    "registered:5 current:P pending:P",
+    "registered:5 previous:P current:P",
+    "registered:5 kept:3 current:P",
+    "registered:5 sent:4 kept:3",
+    "registered:5 sent:4 sent:4",
+    "registered:5 kept:5",
+    "registered:5 twice:4",
+    "registered:5 A current:P",
+    "registered:5 pending:P late-note",
+    "registered:5 boot",
+    "registered:5 init",
     "init nothing",
     "init no-kind",
     "init long-boot",
@@ -137,41 +127,24 @@ const REFUSED: &[&str] = &[
 
 // What the store of the bodies of these words keeps.
 fn kept_of(alloc: Global, words: &str) -> Result<String, StoreError> {
-    let mut file = open_file(alloc, words, 5)?;
-    file.push(0)?;
-    kept_in(alloc, file)
+    kept_in(alloc, file_of(alloc, &bodies_of(alloc, words, "")?)?)
 }
 
-fn first_kept_otherwise(alloc: Global) -> Result<Option<usize>, StoreError> {
-    for (index, (words, wanted)) in KEPT.iter().enumerate() {
-        if kept_of(alloc, words)?.as_str() != *wanted {
-            return Ok(Some(index));
-        }
-    }
-    Ok(None)
-}
-
-// The place of the last body of these words.
-fn last_place(alloc: Global, words: &str) -> Result<u64, AllocError> {
-    let front = match words.rsplit_once(' ') {
-        Some((front, _)) => front,
-        None => "",
-    };
-    Ok(open_file(alloc, front, 5)?.len() as u64 + 5)
-}
-
-fn first_not_refused(alloc: Global) -> Result<Option<usize>, AllocError> {
-    for (index, words) in REFUSED.iter().enumerate() {
-        if place_of(kept_of(alloc, words)) != Some(last_place(alloc, words)?) {
-            return Ok(Some(index));
-        }
-    }
-    Ok(None)
+// Whether the last of these bodies is where their file fails.
+fn is_refused(alloc: Global, words: &str) -> Result<bool, AllocError> {
+    let bodies = bodies_of(alloc, words, "")?;
+    let (front, _) = bodies.split_at(bodies.len().saturating_sub(1));
+    let place = (file_of(alloc, front)?.len() as u64).saturating_add(4);
+    Ok(place_of(kept_of(alloc, words)) == Some(place))
 }
 
 #[test]
 fn pieces_stand_in_front_and_in_order(rt: HostRuntime) -> Result<(), Fail> {
-    assert_eq!(rt; first_kept_otherwise(rt.alloc())?, None);
-    assert_eq!(rt; first_not_refused(rt.alloc())?, None);
+    for (words, wanted) in KEPT {
+        assert!(rt; kept_of(rt.alloc(), words)?.as_str() == *wanted, "{words}");
+    }
+    for words in REFUSED {
+        assert!(rt; is_refused(rt.alloc(), words)?, "{words}");
+    }
     Ok(())
 }

@@ -1,354 +1,190 @@
-//! Commits to a bank that is full.
-ghost use Rattle.node_store.specs.Store.{IsReady};
-
-use super::banks::filled;
-use crate::{body_of, commit_body, kept_in, shown};
-use dsc_outside::Disk;
-use memory_outside::{DiskCall, DiskPart, DiskStop, MemoryDisk, RecordedCall};
-use node_store::{NodeStore, StoreError, open_store};
+//! Commits to a bank that is full, in files of 64 MiB.
+use super::stops::{Last, calls_of};
+use crate::{
+    HEAD, INIT, Left, bodies_of, commit_to, kept_in, last_of, line_of, push_cell, push_cells,
+    staged,
+};
+use memory_outside::{DiskPart, MemoryDisk};
+use node_store::StoreError;
 use std::alloc::{AllocError, Global};
 use std::test::Fail;
 
-/// The words of the events in front, an event, and how the node begins after it.
-type Row<'a> = (&'a str, &'a str, &'a str);
+// The bytes of a bank, of the longest document, and of all else in the cell that stages it.
+const BANK: usize = 67_108_864;
 
-const SETTINGS: &[Row<'_>] = &[
-    ("init A", "meta", "agent server pending A r"),
+const LONGEST: usize = 8_388_608;
+
+const HEAD_OF_STAGE: usize = 45;
+
+// The words of events, one more, and the pieces of the node after it.
+const ROWS: &[(&str, &str, &str)] = &[
+    ("init usual P", "meta", "served:1 pending:P"),
+    ("init meta P", "registered", "registered:1 pending:P"),
+    ("init usual A", "P", "usual:1 pending:P"),
     (
-        "init meta A",
-        "registered",
-        "agent server registered pending A r",
+        "init usual P promote A",
+        "promote",
+        "usual:3 current:A previous:P kept:1 kept:2",
     ),
-    ("init A ask", "boot", "agent pending A r"),
-];
-
-const LISTS: &[Row<'_>] = &[
-    ("init A", "B", "agent pending B r"),
-    ("init A promote B", "drop-current", "agent pending B r"),
+    ("init usual P", "note", "usual:2 pending:P kept:1"),
+    ("init usual P", "ask", "asked:2 pending:P kept:1"),
+    ("init usual P ask", "boot", "usual:2 pending:P kept:1"),
+    ("init usual P note", "sent", "usual:2 pending:P sent:1"),
     (
-        "init A promote B promote",
+        "init usual A promote P",
+        "drop-current",
+        "usual:2 pending:P kept:1",
+    ),
+    (
+        "init usual P promote A promote",
         "restore",
-        "agent pending A current B previous A r",
+        "usual:3 pending:P current:A previous:P kept:1 kept:2",
     ),
 ];
 
-const REPORTS: &[Row<'_>] = &[
-    ("init A", "note", "agent pending A r"),
-    ("init A", "ask", "agent reboot pending A r"),
-    ("init A", "sent", "agent pending A r"),
-];
-
-const PROMOTION: Row<'_> = (
-    "init A promote B",
-    "promote",
-    "agent current B previous A r",
-);
-
-// The body of the event of the word; the report that is sent is the newest.
-fn last_body(alloc: Global, word: &str, job: u64) -> Result<Vec<u8>, AllocError> {
-    if word != "sent" {
-        return body_of(alloc, word, job);
+// The file of a store whose live bank has that many bytes left for a cell: a new node, to which large documents were staged and
+// taken away, and then the events of these bodies.
+fn filled(alloc: Global, bodies: &[Vec<u8>], left: usize) -> Result<Vec<u8>, AllocError> {
+    let mut end = b"\xA5\0\0\0\x02\x0A\0".to_vec(alloc)?;
+    push_cells(&mut end, bodies)?;
+    end.push(0)?;
+    let mut file = HEAD.to_vec(alloc)?;
+    push_cell(&mut file, INIT)?;
+    let list = staged(alloc, 1, 0, LONGEST)?;
+    for _ in 0..7 {
+        push_cell(&mut file, &list)?;
     }
-    let mut body = vec![in alloc; 9u8]?;
-    body.extend_from_slice(&job.saturating_sub(1).to_be_bytes())?;
-    Ok(body)
+    let size = (8 + BANK)
+        .saturating_sub(file.len())
+        .saturating_sub(end.len())
+        .saturating_sub(HEAD_OF_STAGE)
+        .saturating_sub(left);
+    push_cell(&mut file, &staged(alloc, 1, 0, size)?)?;
+    file.extend_from_slice(&end)?;
+    Ok(file)
 }
 
-// A store whose bank has capacity for all but that many bytes of an event's cell, and the body of the event.
+// The file with the cells of these pieces in the second bank, which is live.
+fn with_second(alloc: Global, file: &[u8], pieces: &str) -> Result<Vec<u8>, AllocError> {
+    let mut wanted = file.to_vec(alloc)?;
+    wanted.resize(8 + BANK, 0)?;
+    push_cells(&mut wanted, &bodies_of(alloc, pieces, "")?)?;
+    wanted.push(0)?;
+    if let Some(selector) = wanted.get_mut(7) {
+        *selector = b'2';
+    }
+    Ok(wanted)
+}
+
+// The bodies after the first, which is that of Init, up to the last.
+fn front_of(bodies: &[Vec<u8>]) -> &[Vec<u8>] {
+    match bodies {
+        [_, front @ .., _] => front,
+        _ => &[],
+    }
+}
+
+// The bytes that the cell of the last body takes.
+fn need_of(bodies: &[Vec<u8>]) -> usize {
+    match bodies {
+        [.., last] => last.len().saturating_add(5),
+        [] => 5,
+    }
+}
+
+// The file of a store whose live bank has capacity for all but that many bytes of the cell of the word's event.
 fn nearly_full(
     alloc: Global,
     words: &str,
     word: &str,
     missing: usize,
-) -> Result<(Vec<u8>, Vec<u8>), AllocError> {
-    // The job changes no length.
-    let need = last_body(alloc, word, 1)?.len().saturating_add(5);
-    let (file, job) = filled(alloc, words, need.saturating_sub(missing))?;
-    Ok((file, last_body(alloc, word, job)?))
-}
-
-// Opens the store and commits the event of the body: the number of calls of the opening, and the node in a line.
-fn committed(
-    alloc: Global,
-    disk: &mut MemoryDisk,
-    body: &[u8],
-) -> Result<(usize, String), StoreError> {
-    let mut store = match open_store(alloc, disk) {
-        Ok(store) => store,
-        Err(error) => return Err(error),
-    };
-    let calls = disk.calls().len();
-    if let Err(error) = commit_body(alloc, &mut store, disk, body) {
-        return Err(error);
-    }
-    Ok((calls, shown(alloc, store.state())?))
-}
-
-// Makes the calls again, up to the first that fails.
-fn make_again(disk: &mut MemoryDisk, calls: &[RecordedCall]) {
-    for recorded in calls {
-        if !is_made(disk, &recorded.call) {
-            return;
-        }
-    }
-}
-
-fn is_made(disk: &mut MemoryDisk, call: &DiskCall) -> bool {
-    match call {
-        DiskCall::WriteAt { at, bytes } => {
-            *at <= disk.bytes().len() as u64 && disk.write_at(*at, bytes.as_slice()).is_ok()
-        }
-        DiskCall::Cut { to } => disk.cut(*to).is_ok(),
-        DiskCall::Sync => disk.sync().is_ok(),
-        DiskCall::Length => disk.length().is_ok(),
-        DiskCall::ReadAt { at: _, room: _ } => true,
-    }
-}
-
-/// What the next opening finds.
-#[derive(Clone, Copy, Debug, PartialEq)]
-enum Found {
-    Old,
-    New,
-    Neither,
-}
-
-// Whether a file has the selector of the first bank and that bank as the old file has it: what else is there says nothing.
-fn is_old(file: &[u8], left: &[u8]) -> bool {
-    left.get(7) != Some(&0x32)
-        && left.get(..7) == file.get(..7)
-        && left.get(8..file.len()) == file.get(8..)
-}
-
-fn found_in(alloc: Global, file: &[u8], left: Vec<u8>, after: &str) -> Result<Found, StoreError> {
-    if is_old(file, &left) {
-        return Ok(Found::Old);
-    }
-    let line = match kept_in(alloc, left) {
-        Ok(line) => line,
-        Err(error) => return Err(error),
-    };
-    Ok(if line.as_str() == after {
-        Found::New
-    } else {
-        Found::Neither
-    })
-}
-
-/// A rewrite: the file before it, its calls, and the node after it in a line.
-#[derive(Drop)]
-struct Rewrite {
-    file: Vec<u8>,
-    disk: MemoryDisk,
-    opening: usize,
-    after: String,
-}
-
-fn full_rewrite(alloc: Global, row: &Row<'_>) -> Result<Rewrite, StoreError> {
-    let (words, word, _) = row;
-    let (file, body) = nearly_full(alloc, words, word, 1)?;
-    let mut disk = MemoryDisk::new(file.to_vec(alloc)?, Vec::new(alloc))?;
-    let (opening, after) = match committed(alloc, &mut disk, &body) {
-        Ok(done) => done,
-        Err(error) => return Err(error),
-    };
-    Ok(Rewrite {
-        file,
-        disk,
-        opening,
-        after,
-    })
-}
-
-// The calls of the commit.
-fn calls_of(rewrite: &Rewrite) -> &[RecordedCall] {
-    rewrite.disk.calls().get(rewrite.opening..).unwrap_or(&[])
-}
-
-// What is found where the disk stopped so in the rewrite.
-fn after_stop(
-    alloc: Global,
-    rewrite: &Rewrite,
-    call: usize,
-    part: DiskPart,
-) -> Result<Found, StoreError> {
-    let stop = DiskStop {
-        call: call as u64,
-        part,
-    };
-    let mut disk = MemoryDisk::of(rewrite.file.to_vec(alloc)?, Vec::new(alloc), Some(stop))?;
-    make_again(&mut disk, calls_of(rewrite));
-    found_in(alloc, &rewrite.file, disk.after_stop()?, &rewrite.after)
-}
-
-const PARTS: &[DiskPart] = &[
-    DiskPart::Nothing,
-    DiskPart::Whole,
-    DiskPart::Filled(0x00),
-    DiskPart::Filled(0x32),
-    DiskPart::Filled(0x57),
-    DiskPart::Filled(0xA5),
-];
-
-// What each of these parts of the selector's write leaves.
-const SELECTED: &[Found] = &[
-    Found::Old,
-    Found::New,
-    Found::Old,
-    Found::New,
-    Found::Old,
-    Found::Old,
-];
-
-// Whether a stop in this call leaves the node before the event, with each of the parts.
-fn leaves_old(
-    alloc: Global,
-    rewrite: &Rewrite,
-    call: usize,
-    parts: &[DiskPart],
-) -> Result<bool, StoreError> {
-    for part in parts {
-        if after_stop(alloc, rewrite, call, *part)? != Found::Old {
-            return Ok(false);
-        }
-    }
-    Ok(true)
-}
-
-// Whether a stop in the selector's write leaves the node that the part says.
-fn are_selected(alloc: Global, rewrite: &Rewrite, call: usize) -> Result<bool, StoreError> {
-    for (part, wanted) in PARTS.iter().zip(SELECTED) {
-        if after_stop(alloc, rewrite, call, *part)? != *wanted {
-            return Ok(false);
-        }
-    }
-    Ok(true)
-}
-
-// Whether a stop in the last call leaves the node before the event or after it, with each of the parts.
-fn are_ended(
-    alloc: Global,
-    rewrite: &Rewrite,
-    call: usize,
-    parts: &[DiskPart],
-) -> Result<bool, StoreError> {
-    for part in parts {
-        if after_stop(alloc, rewrite, call, *part)? == Found::Neither {
-            return Ok(false);
-        }
-    }
-    Ok(true)
-}
-
-// Whether each call stopped with these parts, and the write of the selector with all, leaves the node before or after. The
-// selector is written in the last call but one; a sync follows.
-fn are_either(alloc: Global, rewrite: &Rewrite, parts: &[DiskPart]) -> Result<bool, StoreError> {
-    let selector = calls_of(rewrite).len().saturating_sub(2);
-    for call in 0..selector {
-        if !leaves_old(alloc, rewrite, call, parts)? {
-            return Ok(false);
-        }
-    }
-    Ok(
-        are_selected(alloc, rewrite, selector)?
-            && are_ended(alloc, rewrite, selector.saturating_add(1), parts)?,
+) -> Result<Vec<u8>, AllocError> {
+    let bodies = bodies_of(alloc, words, word)?;
+    filled(
+        alloc,
+        front_of(&bodies),
+        need_of(&bodies).saturating_sub(missing),
     )
 }
 
-// Whether the other bank is live, with the node that the row says.
-fn is_rewritten(alloc: Global, rewrite: Rewrite, wanted: &str) -> Result<bool, StoreError> {
-    let bytes = rewrite.disk.after_stop()?;
-    let is_second = bytes.get(7) == Some(&0x32);
-    let is_as_wanted = rewrite.after.as_str().starts_with(wanted);
-    Ok(is_second && is_as_wanted && kept_in(alloc, bytes)? == rewrite.after)
-}
-
-fn is_committed(alloc: Global, row: &Row<'_>, parts: &[DiskPart]) -> Result<bool, StoreError> {
-    let rewrite = match full_rewrite(alloc, row) {
-        Ok(rewrite) => rewrite,
-        Err(error) => return Err(error),
-    };
-    if !are_either(alloc, &rewrite, parts)? {
-        return Ok(false);
+// Whether a commit of the word's event to this file leaves these bytes, and the node after it.
+fn leaves(
+    alloc: Global,
+    file: Vec<u8>,
+    words: &str,
+    word: &str,
+    wanted: &[u8],
+) -> Result<bool, StoreError> {
+    let disk = MemoryDisk::new(file, Vec::new(alloc))?;
+    let body = last_of(alloc, words, word)?;
+    match commit_to(alloc, disk, &body) {
+        Ok(left) => is_left(alloc, left, wanted, &line_of(alloc, words, word)?),
+        Err(error) => Err(error),
     }
-    is_rewritten(alloc, rewrite, row.2)
 }
 
-// The first row whose event, for which one free byte is missing, is not committed by a rewrite, or of which a stop leaves
-// something else.
-fn first_otherwise(alloc: Global, rows: &[Row<'_>]) -> Result<Option<usize>, StoreError> {
-    let parts = &[DiskPart::Whole];
-    for (index, row) in rows.iter().enumerate() {
-        if !is_committed(alloc, row, parts)? {
-            return Ok(Some(index));
-        }
+fn is_left(alloc: Global, left: Left, wanted: &[u8], line: &str) -> Result<bool, StoreError> {
+    let is_done = left.answer == Ok(()) && left.line.as_str() == line;
+    Ok(is_done && left.bytes.as_slice() == wanted && kept_in(alloc, left.bytes)?.as_str() == line)
+}
+
+// Whether an event for which one free byte is missing is committed by a rewrite, which writes these pieces.
+fn is_rewritten(alloc: Global, words: &str, word: &str, pieces: &str) -> Result<bool, StoreError> {
+    let file = nearly_full(alloc, words, word, 1)?;
+    let wanted = with_second(alloc, &file, pieces)?;
+    leaves(alloc, file, words, word, &wanted)
+}
+
+#[test]
+fn an_event_that_lacks_one_byte_of_capacity_is_committed_by_a_rewrite(
+    rt: HostRuntime,
+) -> Result<(), Fail> {
+    for (words, word, pieces) in ROWS {
+        assert!(rt;
+            is_rewritten(rt.alloc(), words, word, pieces)?,
+            "{words} {word}"
+        );
     }
-    Ok(None)
-}
-
-#[test]
-fn settings_that_lack_one_byte_of_capacity_are_committed_by_a_rewrite(
-    rt: HostRuntime,
-) -> Result<(), Fail> {
-    assert_eq!(rt; first_otherwise(rt.alloc(), SETTINGS)?, None);
-    Ok(())
-}
-
-#[test]
-fn lists_that_lack_one_byte_of_capacity_are_committed_by_a_rewrite(
-    rt: HostRuntime,
-) -> Result<(), Fail> {
-    assert_eq!(rt; first_otherwise(rt.alloc(), LISTS)?, None);
-    Ok(())
-}
-
-#[test]
-fn reports_that_lack_one_byte_of_capacity_are_committed_by_a_rewrite(
-    rt: HostRuntime,
-) -> Result<(), Fail> {
-    assert_eq!(rt; first_otherwise(rt.alloc(), REPORTS)?, None);
-    Ok(())
-}
-
-const WHOLE: &[DiskPart] = &[DiskPart::Nothing, DiskPart::Whole, DiskPart::Filled(0x00)];
-
-#[test]
-fn a_promotion_is_stopped_in_each_call(rt: HostRuntime) -> Result<(), Fail> {
-    assert!(rt; is_committed(rt.alloc(), &PROMOTION, WHOLE)?);
-    Ok(())
-}
-
-const TORN: &[DiskPart] = &[
-    DiskPart::Filled(0x32),
-    DiskPart::Filled(0x57),
-    DiskPart::Filled(0xA5),
-];
-
-#[test]
-fn a_promotion_is_torn_in_each_call(rt: HostRuntime) -> Result<(), Fail> {
-    assert!(rt; is_committed(rt.alloc(), &PROMOTION, TORN)?);
     Ok(())
 }
 
 // Whether an event that takes the last byte of the bank is appended.
-fn is_appended(alloc: Global, row: &Row<'_>) -> Result<bool, StoreError> {
-    let (words, word, wanted) = row;
-    let (file, body) = nearly_full(alloc, words, word, 0)?;
-    let mut disk = MemoryDisk::new(file, Vec::new(alloc))?;
-    let (_, line) = match committed(alloc, &mut disk, &body) {
-        Ok(done) => done,
-        Err(error) => return Err(error),
-    };
-    let bytes = disk.after_stop()?;
-    let is_full = bytes.get(7) == Some(&0x31) && bytes.len() == 67_108_872;
-    let is_as_wanted = line.as_str().starts_with(wanted);
-    Ok(is_full && is_as_wanted && kept_in(alloc, bytes)? == line)
+fn is_appended(alloc: Global, words: &str, word: &str) -> Result<bool, StoreError> {
+    let bodies = bodies_of(alloc, words, word)?;
+    let wanted = filled(alloc, bodies.get(1..).unwrap_or(&[]), 0)?;
+    leaves(
+        alloc,
+        nearly_full(alloc, words, word, 0)?,
+        words,
+        word,
+        &wanted,
+    )
 }
 
 #[test]
 fn an_event_that_takes_the_last_byte_is_appended(rt: HostRuntime) -> Result<(), Fail> {
-    for row in REPORTS {
-        assert!(rt; is_appended(rt.alloc(), row)?);
-    }
+    assert!(rt; is_appended(rt.alloc(), "init usual P note", "sent")?);
+    assert!(rt; is_appended(rt.alloc(), "init usual P", "note")?);
+    Ok(())
+}
+
+// How many calls a rewrite makes, where its last four leave the node before or after it: the closed gate, a sync, the selector, a
+// sync.
+fn calls_of_rewrite(alloc: Global, words: &str, word: &str) -> Result<Option<u64>, StoreError> {
+    let bytes = nearly_full(alloc, words, word, 1)?;
+    let last = Last {
+        calls: 4,
+        parts: &[DiskPart::Whole],
+    };
+    calls_of(alloc, &bytes, words, word, &last)
+}
+
+// The first six are writes of zeros up to the second bank, and of the five pieces.
+#[test]
+fn a_rewrite_that_fails_or_stops_leaves_the_node_before_or_after(
+    rt: HostRuntime,
+) -> Result<(), Fail> {
+    let calls = calls_of_rewrite(rt.alloc(), "init usual P promote A", "promote")?;
+    assert_eq!(rt; calls, Some(10));
     Ok(())
 }

@@ -1,89 +1,99 @@
 //! Each event in each state that the conditions distinguish: what the store then keeps, or why the event is not allowed.
-ghost use Rattle.node_store.specs.Store.{IsReady};
-
-use crate::{commit_word, kept_in, run, store_after};
-use dsc_outside::Disk;
-use node_store::{NodeStore, StoreError, open_store};
-use std::alloc::{AllocError, Global};
+use crate::{kept_in, run};
+use node_state::Why;
+use node_store::StoreError;
+use std::alloc::Global;
 use std::test::Fail;
 
 // The events of these words lead to a state; there each of these is not allowed, for this reason.
-const REFUSED: &[(&str, &str, &str)] = &[
+const REFUSED: &[(&str, Why, &str)] = &[
     (
         "",
-        "NoAgent",
+        Why::NoAgent,
         "meta usual registered C promote late-promote note late-note ask late-ask drop-pending drop-current drop-previous",
     ),
-    ("", "NoReboot", "boot"),
-    ("", "NoReport", "sent"),
-    ("", "NoPrevious", "restore"),
-    ("init", "HasAgent", "init"),
-    ("init", "NoServer", "registered"),
-    ("init", "NoPending", "promote late-promote"),
-    ("init", "NoDocument", "note late-note ask late-ask"),
-    ("init", "NoReboot", "boot"),
-    ("init", "NoReport", "sent"),
-    ("init", "NoPrevious", "restore"),
-    ("init meta", "HasAgent", "init"),
-    ("init meta", "NoPending", "promote late-promote"),
-    ("init meta", "NoDocument", "note late-note ask late-ask"),
-    ("init meta", "NoReboot", "boot"),
-    ("init meta", "NoReport", "sent"),
-    ("init meta", "NoPrevious", "restore"),
-    ("init meta registered", "HasAgent", "init"),
-    ("init meta registered", "NoPending", "promote late-promote"),
+    ("", Why::NoReboot, "boot"),
+    ("", Why::NoReport, "sent"),
+    ("", Why::NoPrevious, "restore"),
+    ("init", Why::HasAgent, "init"),
+    ("init", Why::NoServer, "registered"),
+    ("init", Why::NoPending, "promote late-promote"),
+    ("init", Why::NoDocument, "note late-note ask late-ask"),
+    ("init", Why::NoReboot, "boot"),
+    ("init", Why::NoReport, "sent"),
+    ("init", Why::NoPrevious, "restore"),
+    ("init meta", Why::HasAgent, "init"),
+    ("init meta", Why::NoPending, "promote late-promote"),
+    ("init meta", Why::NoDocument, "note late-note ask late-ask"),
+    ("init meta", Why::NoReboot, "boot"),
+    ("init meta", Why::NoReport, "sent"),
+    ("init meta", Why::NoPrevious, "restore"),
+    ("init meta registered", Why::HasAgent, "init"),
     (
         "init meta registered",
-        "NoDocument",
-        "note late-note ask late-ask",
-    ),
-    ("init meta registered", "NoReboot", "boot"),
-    ("init meta registered", "NoReport", "sent"),
-    ("init meta registered", "NoPrevious", "restore"),
-    ("init A", "HasAgent", "init"),
-    ("init A", "NoServer", "registered"),
-    ("init A", "WrongJob", "late-promote late-note late-ask"),
-    ("init A", "NoReboot", "boot"),
-    ("init A", "NoReport", "sent"),
-    ("init A", "NoPrevious", "restore"),
-    ("init A promote", "HasAgent", "init"),
-    ("init A promote", "NoServer", "registered"),
-    ("init A promote", "NoPending", "promote late-promote"),
-    ("init A promote", "WrongJob", "late-note late-ask"),
-    ("init A promote", "NoReboot", "boot"),
-    ("init A promote", "NoPrevious", "restore"),
-    ("init A promote B", "HasAgent", "init"),
-    ("init A promote B", "NoServer", "registered"),
-    (
-        "init A promote B",
-        "WrongJob",
-        "late-promote late-note late-ask",
-    ),
-    ("init A promote B", "NoReboot", "boot"),
-    ("init A promote B", "NoPrevious", "restore"),
-    ("init A promote B promote", "HasAgent", "init"),
-    ("init A promote B promote", "NoServer", "registered"),
-    (
-        "init A promote B promote",
-        "NoPending",
+        Why::NoPending,
         "promote late-promote",
     ),
-    ("init A promote B promote", "WrongJob", "late-note late-ask"),
-    ("init A promote B promote", "NoReboot", "boot"),
-    ("init A ask", "HasAgent", "init"),
-    ("init A ask", "NoServer", "registered"),
-    ("init A ask", "WrongJob", "late-promote late-note late-ask"),
-    ("init A ask", "NoPrevious", "restore"),
-    ("init A note sent", "HasAgent", "init"),
-    ("init A note sent", "NoServer", "registered"),
     (
-        "init A note sent",
-        "WrongJob",
+        "init meta registered",
+        Why::NoDocument,
+        "note late-note ask late-ask",
+    ),
+    ("init meta registered", Why::NoReboot, "boot"),
+    ("init meta registered", Why::NoReport, "sent"),
+    ("init meta registered", Why::NoPrevious, "restore"),
+    ("init A", Why::HasAgent, "init"),
+    ("init A", Why::NoServer, "registered"),
+    ("init A", Why::WrongJob, "late-promote late-note late-ask"),
+    ("init A", Why::NoReboot, "boot"),
+    ("init A", Why::NoReport, "sent"),
+    ("init A", Why::NoPrevious, "restore"),
+    ("init A promote", Why::HasAgent, "init"),
+    ("init A promote", Why::NoServer, "registered"),
+    ("init A promote", Why::NoPending, "promote late-promote"),
+    ("init A promote", Why::WrongJob, "late-note late-ask"),
+    ("init A promote", Why::NoReboot, "boot"),
+    ("init A promote", Why::NoPrevious, "restore"),
+    ("init A promote B", Why::HasAgent, "init"),
+    ("init A promote B", Why::NoServer, "registered"),
+    (
+        "init A promote B",
+        Why::WrongJob,
         "late-promote late-note late-ask",
     ),
-    ("init A note sent", "NoReboot", "boot"),
-    ("init A note sent", "NoReport", "sent"),
-    ("init A note sent", "NoPrevious", "restore"),
+    ("init A promote B", Why::NoReboot, "boot"),
+    ("init A promote B", Why::NoPrevious, "restore"),
+    ("init A promote B promote", Why::HasAgent, "init"),
+    ("init A promote B promote", Why::NoServer, "registered"),
+    (
+        "init A promote B promote",
+        Why::NoPending,
+        "promote late-promote",
+    ),
+    (
+        "init A promote B promote",
+        Why::WrongJob,
+        "late-note late-ask",
+    ),
+    ("init A promote B promote", Why::NoReboot, "boot"),
+    ("init A ask", Why::HasAgent, "init"),
+    ("init A ask", Why::NoServer, "registered"),
+    (
+        "init A ask",
+        Why::WrongJob,
+        "late-promote late-note late-ask",
+    ),
+    ("init A ask", Why::NoPrevious, "restore"),
+    ("init A note sent", Why::HasAgent, "init"),
+    ("init A note sent", Why::NoServer, "registered"),
+    (
+        "init A note sent",
+        Why::WrongJob,
+        "late-promote late-note late-ask",
+    ),
+    ("init A note sent", Why::NoReboot, "boot"),
+    ("init A note sent", Why::NoReport, "sent"),
+    ("init A note sent", Why::NoPrevious, "restore"),
 ];
 
 // What a new store keeps after the events of these words.
@@ -238,75 +248,39 @@ const ALLOWED: &[(&str, &str)] = &[
     ("init A note sent drop-previous", "agent pending A s1 job 2"),
 ];
 
-// Whether each of the events is refused for this reason.
-fn are_refused<D: Disk>(
-    alloc: Global,
-    store: &mut NodeStore,
-    disk: &mut D,
-    why: &str,
-    words: &str,
-) -> Result<bool, AllocError>
-    requires { IsReady D.Disk disk.old store.old }
-    ensures { IsReady D.Disk disk.new store.new }
-{
-    for word in words.split(' ') {
-        match commit_word(alloc, store, disk, word) {
-            Err(StoreError::NotAllowed(found)) => {
-                if format!(in alloc; "{found:?}")?.as_str() != why {
-                    return Ok(false);
-                }
-            }
-            _ => return Ok(false),
-        }
-    }
-    Ok(true)
-}
-
-// Whether they are refused in this state, with no call of the disk and with the node as it was.
-fn leave_all(alloc: Global, state: &str, why: &str, words: &str) -> Result<bool, StoreError> {
-    let mut disk = store_after(alloc, state)?;
-    let mut store = match open_store(alloc, &mut disk) {
-        Ok(store) => store,
-        Err(error) => return Err(error),
-    };
-    let calls = disk.calls().len();
-    let is_refused = are_refused(alloc, &mut store, &mut disk, why, words)?;
-    let is_same = kept_in(alloc, disk.bytes().to_vec(alloc)?)? == run(alloc, state)?.0;
-    Ok(is_refused && is_same && disk.calls().len() == calls)
-}
-
-fn first_not_refused(alloc: Global) -> Result<Option<usize>, StoreError> {
-    for (index, (state, why, words)) in REFUSED.iter().enumerate() {
-        if !leave_all(alloc, state, why, words)? {
-            return Ok(Some(index));
-        }
-    }
-    Ok(None)
+// Whether the event is refused in this state, with no call of the disk and with the node as it was.
+fn is_refused(alloc: Global, state: &str, why: Why, word: &str) -> Result<bool, StoreError> {
+    let before = run(alloc, state, "")?;
+    let after = run(alloc, state, word)?;
+    let is_same = after.line == before.line && after.bytes == before.bytes;
+    let is_untouched = is_same && after.calls == before.calls;
+    Ok(is_untouched && before.answer == Ok(()) && after.answer == Err(StoreError::NotAllowed(why)))
 }
 
 #[test]
 fn an_event_is_not_allowed_for_its_first_condition_that_fails(rt: HostRuntime) -> Result<(), Fail> {
-    assert_eq!(rt; first_not_refused(rt.alloc())?, None);
+    for (state, why, words) in REFUSED {
+        for word in words.split(' ') {
+            assert!(rt;
+                is_refused(rt.alloc(), state, *why, word)?,
+                "{state} {word}"
+            );
+        }
+    }
     Ok(())
 }
 
 // Whether the store keeps this, in memory and on its disk.
 fn is_kept(alloc: Global, words: &str, wanted: &str) -> Result<bool, StoreError> {
-    let (line, bytes) = run(alloc, words)?;
-    Ok(line.as_str() == wanted && kept_in(alloc, bytes)?.as_str() == wanted)
-}
-
-fn first_not_kept(alloc: Global) -> Result<Option<usize>, StoreError> {
-    for (index, (words, wanted)) in ALLOWED.iter().enumerate() {
-        if !is_kept(alloc, words, wanted)? {
-            return Ok(Some(index));
-        }
-    }
-    Ok(None)
+    let left = run(alloc, words, "")?;
+    let is_done = left.answer == Ok(()) && left.line.as_str() == wanted;
+    Ok(is_done && kept_in(alloc, left.bytes)?.as_str() == wanted)
 }
 
 #[test]
 fn an_event_makes_its_change(rt: HostRuntime) -> Result<(), Fail> {
-    assert_eq!(rt; first_not_kept(rt.alloc())?, None);
+    for (words, wanted) in ALLOWED {
+        assert!(rt; is_kept(rt.alloc(), words, wanted)?, "{words}");
+    }
     Ok(())
 }

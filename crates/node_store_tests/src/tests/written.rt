@@ -1,10 +1,8 @@
 //! Stores that were made elsewhere: their bytes are what the same events write here, and they are read as their nodes.
-ghost use Rattle.node_store.specs.Store.{IsReady};
-
-use crate::{commit_body, file_of, kept_in, new_disk, shown};
-use dsc_outside::Disk;
-use node_store::{NodeStore, StoreError, open_store};
-use std::alloc::Global;
+use crate::{commit_to, file_of, kept_in};
+use memory_outside::MemoryDisk;
+use node_store::StoreError;
+use std::alloc::{AllocError, Global};
 use std::test::Fail;
 
 // A node that registered, pulled twice, and sent its reports.
@@ -48,58 +46,33 @@ const STORES: &[(&[&[u8]], &str)] = &[
     (RESTORED, "agent current  previous  r1 r2 r3 job 4"),
 ];
 
-// Commits the events of these bodies, up to the first that is not committed.
-fn commit_bodies<D: Disk>(
-    alloc: Global,
-    store: &mut NodeStore,
-    disk: &mut D,
-    bodies: &[&[u8]],
-) -> Result<(), StoreError>
-    requires { IsReady D.Disk disk.old store.old }
-    ensures { IsReady D.Disk disk.new store.new }
-{
+fn copies_of(alloc: Global, bodies: &[&[u8]]) -> Result<Vec<Vec<u8>>, AllocError> {
+    let mut copies = Vec::new(alloc);
     for body in bodies {
-        if let Err(error) = commit_body(alloc, store, disk, body) {
-            return Err(error);
-        }
+        copies.push(body.to_vec(alloc)?)?;
     }
-    Ok(())
+    Ok(copies)
 }
 
-// The node after the events of these bodies, in a line, and the bytes of its disk.
-fn written(alloc: Global, bodies: &[&[u8]]) -> Result<(String, Vec<u8>), StoreError> {
-    let mut disk = new_disk(alloc)?;
-    let mut store = match open_store(alloc, &mut disk) {
-        Ok(store) => store,
+// Whether the events of these bodies leave a file of them, which keeps this.
+fn is_the_same(alloc: Global, bodies: &[&[u8]], wanted: &str) -> Result<bool, StoreError> {
+    let bodies = copies_of(alloc, bodies)?;
+    let disk = MemoryDisk::new(Vec::new(alloc), Vec::new(alloc))?;
+    let left = match commit_to(alloc, disk, &bodies) {
+        Ok(left) => left,
         Err(error) => return Err(error),
     };
-    if let Err(error) = commit_bodies(alloc, &mut store, &mut disk, bodies) {
-        return Err(error);
-    }
-    let line = shown(alloc, store.state())?;
-    Ok((line, disk.after_stop()?))
-}
-
-fn is_the_same(alloc: Global, bodies: &[&[u8]], wanted: &str) -> Result<bool, StoreError> {
-    let file = file_of(alloc, bodies)?;
-    let (line, bytes) = written(alloc, bodies)?;
-    let is_written = bytes.as_slice() == file.as_slice();
-    Ok(is_written && line.as_str() == wanted && kept_in(alloc, file)?.as_str() == wanted)
-}
-
-fn first_other(alloc: Global) -> Result<Option<usize>, StoreError> {
-    for (index, (bodies, wanted)) in STORES.iter().enumerate() {
-        if !is_the_same(alloc, bodies, wanted)? {
-            return Ok(Some(index));
-        }
-    }
-    Ok(None)
+    let is_written = left.bytes == file_of(alloc, &bodies)?;
+    let is_done = left.answer == Ok(()) && left.line.as_str() == wanted;
+    Ok(is_written && is_done && kept_in(alloc, left.bytes)?.as_str() == wanted)
 }
 
 #[test]
 fn a_store_that_was_made_elsewhere_is_written_and_read_the_same(
     rt: HostRuntime,
 ) -> Result<(), Fail> {
-    assert_eq!(rt; first_other(rt.alloc())?, None);
+    for (bodies, wanted) in STORES {
+        assert!(rt; is_the_same(rt.alloc(), bodies, wanted)?, "{wanted}");
+    }
     Ok(())
 }

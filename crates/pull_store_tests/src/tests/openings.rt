@@ -1,7 +1,7 @@
 //! Files that are opened as stores.
-use crate::{file_of, place_of, shown_in};
+use crate::{GapDisk, call_over, file_with, place_of, shown_in};
 use memory_outside::MemoryDisk;
-use pull_store::{PullError, open_pull};
+use pull_store::PullError;
 use std::alloc::{AllocError, Global};
 use std::test::Fail;
 
@@ -67,44 +67,12 @@ fn is_opened_so(alloc: Global, row: &Row<'_>) -> Result<bool, AllocError> {
     })
 }
 
-fn first_opened_otherwise(alloc: Global) -> Result<Option<usize>, AllocError> {
-    for (index, row) in FILES.iter().enumerate() {
-        if !is_opened_so(alloc, row)? {
-            return Ok(Some(index));
-        }
-    }
-    Ok(None)
-}
-
 #[test]
 fn a_file_is_a_store_or_fails_at_its_first_wrong_byte(rt: HostRuntime) -> Result<(), Fail> {
-    assert_eq!(rt; first_opened_otherwise(rt.alloc())?, None);
+    for row in FILES {
+        assert!(rt; is_opened_so(rt.alloc(), row)?, "{row:?}");
+    }
     Ok(())
-}
-
-// The body of a registration of the agent 65 with texts of that many bytes and that many names of that many bytes.
-fn registration(
-    alloc: Global,
-    texts: &[usize; 3],
-    count: u8,
-    name: usize,
-) -> Result<Vec<u8>, AllocError> {
-    let mut body = b"\x01\0\0\0\0\0\0\0\0\0\0\0\0\0\0\0A".to_vec(alloc)?;
-    for size in texts {
-        push_text(&mut body, *size)?;
-    }
-    body.push(count)?;
-    for _ in 0..count {
-        push_text(&mut body, name)?;
-    }
-    Ok(body)
-}
-
-fn push_text(body: &mut Vec<u8>, size: usize) -> Result<(), AllocError> {
-    let length = u16::try_from(size).unwrap_or(u16::MAX);
-    body.extend_from_slice(&length.to_be_bytes())?;
-    let end = body.len().saturating_add(size);
-    body.resize(end, b't')
 }
 
 // The bytes of a registration's texts, of its names how many there are and the bytes of each, and whether it is kept: at most 16
@@ -128,86 +96,35 @@ const REGISTRATIONS: &[([usize; 3], u8, usize, bool)] = &[
     ([0, 65_535, 65_522], 16, 1, false),
 ];
 
-fn first_kept_otherwise(alloc: Global) -> Result<Option<usize>, AllocError> {
-    for (index, (texts, count, name, is_kept)) in REGISTRATIONS.iter().enumerate() {
-        let body = registration(alloc, texts, *count, *name)?;
-        let wanted = if *is_kept { None } else { Some(13) };
-        if place_of(shown_in(alloc, file_of(alloc, &[&body])?)) != wanted {
-            return Ok(Some(index));
-        }
-    }
-    Ok(None)
+// Where a file is no store, on a disk with no gap.
+fn place_in(alloc: Global, file: Vec<u8>) -> Result<Option<u64>, PullError> {
+    let disk = GapDisk {
+        kept: MemoryDisk::new(file, Vec::new(alloc))?,
+        begin: u64::MAX,
+        length: 0,
+        filling: Vec::new(alloc),
+    };
+    Ok(place_of(call_over(alloc, disk, "")))
 }
 
 #[test]
 fn a_registration_is_kept_up_to_its_sizes(rt: HostRuntime) -> Result<(), Fail> {
-    assert_eq!(rt; first_kept_otherwise(rt.alloc())?, None);
+    for (texts, count, name, is_kept) in REGISTRATIONS {
+        let place = place_in(rt.alloc(), file_with(rt.alloc(), texts, *count, *name, 0)?)?;
+        let wanted = if *is_kept { None } else { Some(13) };
+        assert!(rt; place == wanted, "{texts:?} {count} {name}");
+    }
     Ok(())
 }
 
-const AGENT: &[u8] = b"\x01\0\0\0\0\0\0\0\0\0\0\0\0\0\0\0A\0\0\0\0\0\0\0";
-
-// Where a report of that many bytes is refused: its body begins at 42.
-fn place_of_report(alloc: Global, size: usize) -> Result<Option<u64>, AllocError> {
-    let mut body = b"\x02\0\0\0\0\0\0\0\0\0\0\0\0\0\0\0A".to_vec(alloc)?;
-    body.resize(33usize.saturating_add(size), b'r')?;
-    Ok(place_of(shown_in(alloc, file_of(alloc, &[AGENT, &body])?)))
-}
+// The bytes of a report, and where it is refused, behind a registration.
+const REPORTS: &[(usize, Option<u64>)] = &[(131_072, None), (131_073, Some(42))];
 
 #[test]
 fn a_report_is_kept_up_to_its_size(rt: HostRuntime) -> Result<(), Fail> {
-    assert_eq!(rt; place_of_report(rt.alloc(), 131_072)?, None);
-    assert_eq!(rt; place_of_report(rt.alloc(), 131_073)?, Some(42));
-    Ok(())
-}
-
-// The file with the registrations of that many agents, and of one of them again.
-fn many(alloc: Global, count: u32, again: u32) -> Result<Vec<u8>, AllocError> {
-    let mut file = crate::HEAD.to_vec(alloc)?;
-    for agent in 0..count {
-        push_agent(&mut file, agent)?;
+    for (size, wanted) in REPORTS {
+        let file = file_with(rt.alloc(), &[0, 0, 0], 0, 0, *size)?;
+        assert_eq!(rt; place_in(rt.alloc(), file)?, *wanted);
     }
-    push_agent(&mut file, again)?;
-    file.push(0)?;
-    Ok(file)
-}
-
-// A cell of 29 bytes.
-fn push_agent(file: &mut Vec<u8>, agent: u32) -> Result<(), AllocError> {
-    file.extend_from_slice(b"\xA5\0\0\0\x18\x01\0\0\0\0\0\0\0\0\0\0\0\0")?;
-    file.extend_from_slice(&agent.to_be_bytes())?;
-    file.extend_from_slice(&[0; 7])
-}
-
-// How many agents there are, of which one the next registration is, and where it is refused: after 512 cells.
-const AGENTS: &[(u32, u32, Option<u64>)] = &[
-    (511, 511, None),
-    (512, 0, None),
-    (512, 511, None),
-    (512, 512, Some(14_861)),
-    (513, 0, Some(14_861)),
-];
-
-#[test]
-fn the_513th_agent_is_refused(rt: HostRuntime) -> Result<(), Fail> {
-    for (count, again, wanted) in AGENTS {
-        let answer = shown_in(rt.alloc(), many(rt.alloc(), *count, *again)?);
-        assert_eq!(rt; place_of(answer), *wanted);
-    }
-    Ok(())
-}
-
-// Whether an opening whose first sync fails answers Disk, and the next one opens a new store.
-fn fails_and_opens(alloc: Global) -> Result<bool, PullError> {
-    let mut disk = MemoryDisk::new(Vec::new(alloc), vec![in alloc; 0]?)?;
-    match open_pull(alloc, &mut disk) {
-        Err(PullError::Disk) => Ok(shown_in(alloc, disk.after_stop()?)?.is_empty()),
-        _ => Ok(false),
-    }
-}
-
-#[test]
-fn a_sync_that_fails_fails_the_opening(rt: HostRuntime) -> Result<(), Fail> {
-    assert!(rt; fails_and_opens(rt.alloc())?);
     Ok(())
 }

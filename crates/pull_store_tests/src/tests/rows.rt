@@ -1,7 +1,6 @@
 //! What calls of a store make of its rows.
-use crate::{call, file_of, run, shown, shown_in};
-use memory_outside::MemoryDisk;
-use pull_store::{PullError, open_pull};
+use crate::{file_of, run, shown_in};
+use pull_store::PullError;
 use std::alloc::Global;
 use std::test::Fail;
 
@@ -29,58 +28,66 @@ const KEPT: &[(&str, &str)] = &[
         "Ax:2b:3c:4d:5e By:9z",
     ),
     ("RAx RBy PB1b RAz", "Az By:1b"),
+    // agents are forgotten
+    ("RAx RBy RCz FB", "Ax Cz"),
+    ("RAx RBy RCz FA", "By Cz"),
+    ("RAx RBy RCz FC", "Ax By"),
+    ("RAx PA1a RBy PB2b RCz PC3c FCA", "By:2b"),
+    ("RAx PA1a PA2b RAy PA1c RBy FB", "Ay:1c:2b"),
+    ("RAx PA1a PA2b PA3c PA4d PA5e RBy FB", "Ax:2b:3c:4d:5e"),
+    ("RAx RBy FBBD", "Ax"),
+    ("RAx RBy PB1b FAB", ""),
+    ("RAx RBy PB1b FAB RHn PH1m", "Hn:1m"),
+    ("RAx RBy RCz PC1c FB RHn PH1m", "Ax Cz:1c Hn:1m"),
+    ("RAx RBy RCz PC1c FB RHn PH1m FH", "Ax Cz:1c"),
 ];
 
 // Whether the store keeps this, in memory and on its disk.
 fn is_kept(alloc: Global, words: &str, wanted: &str) -> Result<bool, PullError> {
-    let (line, bytes) = run(alloc, words)?;
-    Ok(line.as_str() == wanted && shown_in(alloc, bytes)?.as_str() == wanted)
-}
-
-fn first_not_kept(alloc: Global) -> Result<Option<usize>, PullError> {
-    for (index, (words, wanted)) in KEPT.iter().enumerate() {
-        if !is_kept(alloc, words, wanted)? {
-            return Ok(Some(index));
-        }
-    }
-    Ok(None)
+    let left = run(alloc, words)?;
+    let is_done = left.answer == Ok(()) && left.kept.line.as_str() == wanted;
+    Ok(is_done && shown_in(alloc, left.bytes)?.as_str() == wanted)
 }
 
 #[test]
-fn registrations_and_reports_are_kept(rt: HostRuntime) -> Result<(), Fail> {
-    assert_eq!(rt; first_not_kept(rt.alloc())?, None);
+fn rows_are_kept_and_forgotten(rt: HostRuntime) -> Result<(), Fail> {
+    for (words, wanted) in KEPT {
+        assert!(rt; is_kept(rt.alloc(), words, wanted)?, "{words}");
+    }
     Ok(())
 }
 
-// The words of calls, and that of a report of an agent that they do not register.
-const UNKNOWN: &[(&str, &str)] = &[("", "PA1a"), ("RAx", "PB1a"), ("RAx RBy PA1a", "PC1a")];
+// The words of calls, the same with one more, and what comes of that: a report of an agent that has no row, or agents of whom none
+// has one are forgotten.
+const UNTOUCHED: &[(&str, &str, Result<(), PullError>)] = &[
+    ("", "PA1a", Err(PullError::NoAgent)),
+    ("RAx", "RAx PB1b", Err(PullError::NoAgent)),
+    ("RAx RBy PA1a", "RAx RBy PA1a PC1c", Err(PullError::NoAgent)),
+    ("RAx RBy FB", "RAx RBy FB PB1b", Err(PullError::NoAgent)),
+    ("", "FA", Ok(())),
+    ("RAx PA1a", "RAx PA1a FB", Ok(())),
+    ("RAx RBy", "RAx RBy FCD", Ok(())),
+    ("RAx", "RAx F", Ok(())),
+];
 
-// Whether the report is refused, with no call of the disk, and the rows are as they were.
-fn is_refused(alloc: Global, words: &str, word: &str) -> Result<bool, PullError> {
-    let (before, bytes) = run(alloc, words)?;
-    let mut disk = MemoryDisk::new(bytes, Vec::new(alloc))?;
-    let mut store = match open_pull(alloc, &mut disk) {
-        Ok(store) => store,
-        Err(error) => return Err(error),
-    };
-    let count = disk.calls().len();
-    let answer = call(alloc, &mut store, &mut disk, word);
-    let is_same = shown(alloc, &store)? == before && disk.calls().len() == count;
-    Ok(answer == Err(PullError::NoAgent) && is_same)
-}
-
-fn first_not_refused(alloc: Global) -> Result<Option<usize>, PullError> {
-    for (index, (words, word)) in UNKNOWN.iter().enumerate() {
-        if !is_refused(alloc, words, word)? {
-            return Ok(Some(index));
-        }
-    }
-    Ok(None)
+// Whether the last call is answered so, with no call of the disk, and the rows are as they were.
+fn is_untouched(
+    alloc: Global,
+    words: &str,
+    more: &str,
+    wanted: Result<(), PullError>,
+) -> Result<bool, PullError> {
+    let before = run(alloc, words)?;
+    let after = run(alloc, more)?;
+    let is_same = after.kept.line == before.kept.line && after.bytes == before.bytes;
+    Ok(is_same && after.calls == before.calls && after.answer == wanted)
 }
 
 #[test]
-fn a_report_of_an_unknown_agent_is_refused(rt: HostRuntime) -> Result<(), Fail> {
-    assert_eq!(rt; first_not_refused(rt.alloc())?, None);
+fn agents_without_a_row_leave_the_disk_alone(rt: HostRuntime) -> Result<(), Fail> {
+    for (words, more, wanted) in UNTOUCHED {
+        assert!(rt; is_untouched(rt.alloc(), words, more, *wanted)?, "{more}");
+    }
     Ok(())
 }
 
@@ -88,26 +95,26 @@ fn a_report_of_an_unknown_agent_is_refused(rt: HostRuntime) -> Result<(), Fail> 
 const WRITTEN: &[(&str, &[&[u8]])] = &[
     ("", &[]),
     (
-        "RAx PA1ab RB",
+        "RAx PA1ab RB RAyz PA1",
         &[
             b"\x01\0\0\0\0\0\0\0\0\0\0\0\0\0\0\0A\0\0\0\x01x\0\0\0",
             b"\x02\0\0\0\0\0\0\0\0\0\0\0\0\0\0\0A\0\0\0\0\0\0\0\0\0\0\0\0\0\0\01ab",
             b"\x01\0\0\0\0\0\0\0\0\0\0\0\0\0\0\0B\0\0\0\0\0\0\0",
+            b"\x01\0\0\0\0\0\0\0\0\0\0\0\0\0\0\0A\0\0\0\x02yz\0\0\0",
+            b"\x02\0\0\0\0\0\0\0\0\0\0\0\0\0\0\0A\0\0\0\0\0\0\0\0\0\0\0\0\0\0\01",
         ],
     ),
 ];
 
-fn first_written_otherwise(alloc: Global) -> Result<Option<usize>, PullError> {
-    for (index, (words, bodies)) in WRITTEN.iter().enumerate() {
-        if run(alloc, words)?.1.as_slice() != file_of(alloc, bodies)?.as_slice() {
-            return Ok(Some(index));
-        }
-    }
-    Ok(None)
+fn is_written(alloc: Global, words: &str, bodies: &[&[u8]]) -> Result<bool, PullError> {
+    let left = run(alloc, words)?;
+    Ok(left.bytes == file_of(alloc, bodies)?)
 }
 
 #[test]
 fn a_call_writes_one_body(rt: HostRuntime) -> Result<(), Fail> {
-    assert_eq!(rt; first_written_otherwise(rt.alloc())?, None);
+    for (words, bodies) in WRITTEN {
+        assert!(rt; is_written(rt.alloc(), words, bodies)?, "{words}");
+    }
     Ok(())
 }

@@ -1,13 +1,14 @@
 //! That ample memory is enough, and the texts of errors.
-use crate::{new_disk, put, register};
+use crate::{file_with, put, register};
+use dsc_outside::Disk;
 use memory_outside::MemoryDisk;
-use pull_store::{PullError, PullStore, Row, open_pull};
+use pull_store::{PullError, open_pull};
 use std::alloc::{AllocError, Global};
 use std::fmt::Write;
 use std::test::Fail;
 
 // The bytes of each of the three texts, how many names there are, and the bytes of each.
-const REGISTRATIONS: &[(usize, usize, usize)] = &[
+const REGISTRATIONS: &[(usize, u8, usize)] = &[
     (0, 0, 0),
     (1, 1, 1),
     (2, 2, 2),
@@ -26,7 +27,7 @@ const REPORTS: &[usize] = &[
 ];
 
 // The message of such a registration.
-fn message(alloc: Global, text: usize, count: usize, name: usize) -> Result<Vec<u8>, AllocError> {
+fn message(alloc: Global, text: usize, count: u8, name: usize) -> Result<Vec<u8>, AllocError> {
     let mut message = b"{\"AgentInformation\":{\"LCMVersion\":".to_vec(alloc)?;
     push_text(&mut message, text)?;
     message.extend_from_slice(b",\"NodeName\":")?;
@@ -46,7 +47,7 @@ fn push_text(message: &mut Vec<u8>, size: usize) -> Result<(), AllocError> {
     Ok(message.push(b'"')?)
 }
 
-fn push_names(message: &mut Vec<u8>, count: usize, name: usize) -> Result<(), AllocError> {
+fn push_names(message: &mut Vec<u8>, count: u8, name: usize) -> Result<(), AllocError> {
     for place in 0..count {
         if place > 0 {
             message.push(b',')?;
@@ -56,73 +57,60 @@ fn push_names(message: &mut Vec<u8>, count: usize, name: usize) -> Result<(), Al
     Ok(())
 }
 
-// Whether a row has a registration of these sizes.
-fn has_sizes(row: &Row, text: usize, count: usize, name: usize) -> bool {
-    let said = &row.registration;
-    said.lcm_version.as_slice().len() == text
-        && said.node_name.as_slice().len() == text
-        && said.ip_address.as_slice().len() == text
-        && said.names.as_slice().len() == count
-        && said
-            .names
-            .as_slice()
-            .iter()
-            .all(|found| found.as_slice().len() == name)
-}
-
-// Whether the store has this report as the only one of the agent 1.
-fn has_report(store: &PullStore, body: &[u8]) -> bool {
-    match store.reports(1) {
-        Some([report]) => report.job == 2 && report.body.as_slice() == body,
-        _ => false,
+// Registers an agent by this message, and puts a report of it.
+fn keep<D: Disk>(
+    alloc: Global,
+    disk: &mut D,
+    message: &[u8],
+    body: &[u8],
+) -> Result<(), PullError> {
+    let mut store = match open_pull(alloc, disk) {
+        Ok(store) => store,
+        Err(error) => return Err(error),
+    };
+    match register(alloc, &mut store, disk, 65, message) {
+        Ok(()) => put(alloc, &mut store, disk, 65, 49, body),
+        Err(error) => Err(error),
     }
 }
 
-// Whether a new store keeps such a registration and a report, and the next opening finds them.
-fn are_kept(alloc: Global, sizes: (usize, usize, usize), report: usize) -> Result<bool, PullError> {
-    let (text, count, name) = sizes;
+// The bytes of a new disk after such a registration and a report of that many bytes.
+fn written(
+    alloc: Global,
+    text: usize,
+    count: u8,
+    name: usize,
+    size: usize,
+) -> Result<Vec<u8>, PullError> {
     let message = message(alloc, text, count, name)?;
-    let body = vec![in alloc; 0xFFu8; report]?;
-    let bytes = written(alloc, &message, &body)?;
-    let mut disk = MemoryDisk::new(bytes, Vec::new(alloc))?;
-    let store = match open_pull(alloc, &mut disk) {
-        Ok(store) => store,
-        Err(error) => return Err(error),
-    };
-    let is_registered = match store.agent(1) {
-        Some(row) => has_sizes(row, text, count, name),
-        None => false,
-    };
-    Ok(is_registered && has_report(&store, &body))
+    let body = vec![in alloc; b'r'; size]?;
+    let mut disk = MemoryDisk::new(Vec::new(alloc), Vec::new(alloc))?;
+    match keep(alloc, &mut disk, &message, &body) {
+        Ok(()) => Ok(disk.after_stop()?),
+        Err(error) => Err(error),
+    }
 }
 
-// The bytes of a disk with this registration, twice, and this report.
-fn written(alloc: Global, message: &[u8], body: &[u8]) -> Result<Vec<u8>, PullError> {
-    let mut disk = new_disk(alloc)?;
-    let mut store = match open_pull(alloc, &mut disk) {
-        Ok(store) => store,
-        Err(error) => return Err(error),
-    };
-    if let Err(error) = register(alloc, &mut store, &mut disk, 1, message) {
-        return Err(error);
-    }
-    if let Err(error) = put(alloc, &mut store, &mut disk, 1, 2, body) {
-        return Err(error);
-    }
-    if let Err(error) = register(alloc, &mut store, &mut disk, 1, message) {
-        return Err(error);
-    }
-    Ok(disk.after_stop()?)
+// Whether these are the bytes of a file with both.
+fn are_kept(
+    alloc: Global,
+    text: usize,
+    count: u8,
+    name: usize,
+    size: usize,
+) -> Result<bool, PullError> {
+    let file = file_with(alloc, &[text, text, text], count, name, size)?;
+    Ok(written(alloc, text, count, name, size)? == file)
 }
 
 #[test]
 fn ample_memory_is_enough_for_each_size(rt: HostRuntime) -> Result<(), Fail> {
     for (text, count, name) in REGISTRATIONS {
-        let answer = are_kept(rt.alloc(), (*text, *count, *name), 1);
+        let answer = are_kept(rt.alloc(), *text, *count, *name, 1);
         assert_eq!(rt; answer, Ok(true), "{text} {count} {name}");
     }
     for size in REPORTS {
-        assert_eq!(rt; are_kept(rt.alloc(), (1, 1, 1), *size), Ok(true), "{size}");
+        assert_eq!(rt; are_kept(rt.alloc(), 1, 1, 1, *size), Ok(true), "{size}");
     }
     Ok(())
 }
