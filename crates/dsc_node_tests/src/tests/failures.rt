@@ -272,14 +272,9 @@ const KEEPING: &[Step] = &[
 
 // ---- starts
 
-// A start without a failure.
-fn undisturbed(
-    alloc: Global,
-    left: Left,
-    word: &str,
-    text: &str,
-) -> Result<(Outcome, Left), Memory> {
-    answered(alloc, left, word, text, answers_of(word), &Trouble::none())
+// What a start without a failure leaves.
+fn left_after(alloc: Global, left: Left, word: &str, text: &str) -> Result<Left, Memory> {
+    Ok(answered(alloc, left, word, text, answers_of(word), &Trouble::none())?.1)
 }
 
 // The store of a node that is registered, and before a consistency has the document as Current.
@@ -288,14 +283,13 @@ fn store_before(alloc: Global, word: &str) -> Result<Vec<u8>, Memory> {
         store: Vec::new(alloc),
         host: HostContents::empty(alloc),
     };
-    let (_, left) = undisturbed(alloc, left, "init", "")?;
-    let (_, left) = undisturbed(alloc, left, "meta", META)?;
-    let (_, left) = undisturbed(alloc, left, "register", "n")?;
+    let left = left_after(alloc, left, "init", "")?;
+    let left = left_after(alloc, left, "meta", META)?;
+    let left = left_after(alloc, left, "register", "n")?;
     if word != "consistency" {
         return Ok(left.store);
     }
-    let (_, left) = undisturbed(alloc, left, "push", DOCUMENT)?;
-    Ok(left.store)
+    Ok(left_after(alloc, left, "push", DOCUMENT)?.store)
 }
 
 // The start of the word over this store and a machine that holds nothing, which meets this trouble, and the consistency after it.
@@ -310,7 +304,11 @@ fn applied(
         host: HostContents::empty(alloc),
     };
     let (end, left) = answered(alloc, left, word, DOCUMENT, answers_of(word), trouble)?;
-    Ok((end, undisturbed(alloc, left, "consistency", "")?.0))
+    let (word, none) = ("consistency", Trouble::none());
+    Ok((
+        end,
+        answered(alloc, left, word, "", answers_of(word), &none)?.0,
+    ))
 }
 
 // What fails: this call of the object.
@@ -352,13 +350,25 @@ fn end_so(end: &Outcome, next: &Outcome, ends: &Ends) -> bool {
         && prints(next.lines.as_str(), next_lines)
 }
 
+// Whether the start of the word ends so where this call of the object fails.
+fn fails_so(
+    alloc: Global,
+    store: &[u8],
+    word: &str,
+    object: Object,
+    call: usize,
+    ends: &Ends,
+) -> Result<bool, Memory> {
+    let (end, next) = applied(alloc, store, word, &failing(object, &[call as u64]))?;
+    Ok(end_so(&end, &next, ends))
+}
+
 // The first call of the row whose failure ends otherwise.
 fn first_wrong_end(alloc: Global, row: &Row) -> Result<Option<usize>, Memory> {
     let (word, object, all_ends) = row;
     let store = store_before(alloc, word)?;
     for (call, ends) in all_ends.iter().enumerate() {
-        let (end, next) = applied(alloc, &store, word, &failing(*object, &[call as u64]))?;
-        if !end_so(&end, &next, ends) {
+        if !fails_so(alloc, &store, word, *object, call, ends)? {
             return Ok(Some(call));
         }
     }
@@ -386,19 +396,35 @@ fn goes_on(end: &Outcome, next: &Outcome, step: Option<&Step>) -> bool {
         && prints_one(next.lines.as_str(), after)
 }
 
+// Whether the start of the word, and the next one, go on so where this call of the disk fails.
+fn fails_in(
+    alloc: Global,
+    store: &[u8],
+    word: &str,
+    call: usize,
+    step: Option<&Step>,
+) -> Result<bool, Memory> {
+    let (end, next) = applied(alloc, store, word, &failing(Object::Disk, &[call as u64]))?;
+    Ok(goes_on(&end, &next, step))
+}
+
+// How many calls of the disk the start of the word makes.
+fn calls_of(alloc: Global, store: &[u8], word: &str) -> Result<usize, Memory> {
+    Ok(applied(alloc, store, word, &Trouble::none())?.0.calls)
+}
+
 // The first call of the disk, counted from the last one of the start, whose failure ends otherwise, or the number of the calls where
 // they are too few for these steps.
 fn first_wrong_call(alloc: Global, word: &str, steps: &[Step]) -> Result<Option<usize>, Memory> {
     let store = store_before(alloc, word)?;
-    let (whole, _) = applied(alloc, &store, word, &Trouble::none())?;
-    for (back, call) in (0..whole.calls).rev().enumerate() {
-        let (end, next) = applied(alloc, &store, word, &failing(Object::Disk, &[call as u64]))?;
+    let calls = calls_of(alloc, &store, word)?;
+    for (back, call) in (0..calls).rev().enumerate() {
         let step = steps.get(back / EVENT_CALLS).or(steps.last());
-        if !goes_on(&end, &next, step) {
+        if !fails_in(alloc, &store, word, call, step)? {
             return Ok(Some(back));
         }
     }
-    Ok((whole.calls / EVENT_CALLS < steps.len()).then_some(whole.calls))
+    Ok((calls / EVENT_CALLS < steps.len()).then_some(calls))
 }
 
 #[test]
