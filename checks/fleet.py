@@ -135,7 +135,7 @@ def many_kinds(name):
     end, old = moment(1), moment(30)
     counts = json.dumps({'NumberNotInDesiredState': 70})
     return store(name, registered(1, 'web1', ('Web', 'Base')), registered(2, ''), registered(3, 'a"\\\n\u00fc\U0001f600', ()),
-        registered(4, '\x1b[31mred\x07\x9b2J'), registered(5, 'a\u202eb\u200bc\u2066d\ufeffe\u061cf'), registered(6, 'x' * 60), registered(7, 'late'),
+        registered(4, '\x1b[31mred\x07\x9b2J'), registered(5, 'a\u202eb\u200bc\u2066d\ufeffe\u061cf\u00adg\u3164h\ufe0fi\U000e0041j'), registered(6, 'x' * 60), registered(7, 'late'),
         registered(0xfedcba9876543210fedcba9876543210, ''),
         reported(1, 11, body(11, Status='Failure', EndTime=end)), reported(1, 12, body(12, Status='success', EndTime=end, Errors=[])),
         reported(3, 31, body(31, Status='FAILURE', EndTime='', Errors=['[File]a: b: NotInDesiredState', '[Log]\u00e9\x1b]0;: Skipped', 'none', ': '],
@@ -173,7 +173,7 @@ def forms(fine):
         for form in ('--table', '--prometheus'):
             check('an output that is full, ' + form, subprocess.run([program, form, fine], stdin=subprocess.DEVNULL, stdout=out, stderr=subprocess.PIPE).returncode, 4)
     for words in (('--table', '--prometheus', fine), ('--table', '--table', fine), ('--prometheus', '--prometheus', fine), ('--table=x', fine), ('--table',),
-                  ('--prometheus',), ('--table', '--class', 'Good', fine), ('--prometheus', '--older', 'x', fine)):
+                  ('--prometheus',), ('--prometheus', fine, path, fine), ('--table', '--class', 'Good', fine), ('--prometheus', '--older', 'x', fine)):
         check('words %r' % (words,), run(*words)[:2], (2, b''))
 
 # ---- agents that are forgotten

@@ -75,7 +75,11 @@ def count_of(said):
     except (KeyError, IndexError, ValueError):
         return len(said.get('Errors', ()))
 
-HIDDEN = {0x61C, 0xFEFF, *range(0x200B, 0x2010), *range(0x2028, 0x202F), *range(0x2060, 0x2070)}
+HIDDEN = {
+    0xAD, 0x34F, 0x61C, 0x115F, 0x1160, 0x17B4, 0x17B5, *range(0x180B, 0x1810), *range(0x200B, 0x2010), *range(0x2028, 0x202F),
+    *range(0x2060, 0x2070), 0x3164, *range(0xFE00, 0xFE10), 0xFEFF, 0xFFA0, *range(0xFFF0, 0xFFFC), *range(0x1BCA0, 0x1BCA4),
+    *range(0x1D173, 0x1D17B), *range(0xE0000, 0xE1000),
+}
 
 def harmless(text):
     return ''.join('\ufffd' if ord(it) < 32 or 127 <= ord(it) < 160 or ord(it) in HIDDEN else it for it in text)
@@ -91,7 +95,7 @@ def table(path, classes=(), since=None, moment=None):
         said = message_of(row)
         errors = (said or {}).get('Errors', ())
         lines.append((harmless(row['texts'][1]) or uuid(agent), class_of(row) + (' (stale)' if is_stale(row, since, moment) else ''),
-                      harmless((said or {}).get('EndTime', '')) or '-', str(count_of(said) if said else 0),
+                      harmless((said or {}).get('EndTime', '')) or '-', str(count_of(said)) if said else '-',
                       harmless(', '.join(it.rpartition(': ')[0] if ': ' in it else it for it in errors)) or '-'))
     widths = [max(len(line[at]) for line in lines) for at in range(4)]
     text = ''.join(''.join('%-*s  ' % (width, cell) for width, cell in zip(widths, line)) + line[4] + '\n' for line in lines)
@@ -112,7 +116,7 @@ def gauges(stores, classes=(), since=None, moment=None):
            [('%s,class="%s"' % (labels, said), sum(class_of(row) == said for row in rows.values()))
             for said in CLASSES if not classes or said in classes for labels, rows in read])
     if since is not None:
-        family('stale_agents', 'Agents of a store whose last report did not end within the hours given.',
+        family('stale_agents', 'Agents of a store whose last report does not say that it ended within the hours given.',
                [(labels, sum(is_stale(row, since, moment) for row in rows.values())) for labels, rows in read])
     family('places_taken', 'Agents that a store has.', [(labels, len(rows)) for labels, rows in read])
     family('places_free', 'Further agents that a store takes.', [(labels, PLACES - len(rows)) for labels, rows in read])

@@ -20,9 +20,25 @@ is_within first last c = nat_le first c && nat_le c last
 abbrev pub is_control : ℕ → Bool
 is_control c = is_within 0 31 c || is_within 127 159 c
 
--- one of no width, of the direction of what follows, or the end of a line or paragraph
+-- U+00AD, U+034F, U+061C, U+115F and U+1160, U+17B4 and U+17B5, U+180B to U+180F, U+3164
+abbrev pub is_hidden_mark : ℕ → Bool
+is_hidden_mark c =
+    (c == 173) || (c == 847) || (c == 1564) || is_within 4447 4448 c || is_within 6068 6069 c || is_within 6155 6159 c || (c == 12644)
+
+-- U+200B to U+200F, U+2028 to U+202E, U+2060 to U+206F, U+FE00 to U+FE0F, U+FEFF, U+FFA0, U+FFF0 to U+FFFB
+abbrev pub is_hidden_format : ℕ → Bool
+is_hidden_format c =
+    is_within 8203 8207 c || is_within 8232 8238 c || is_within 8288 8303 c || is_within 65024 65039 c || (c == 65279) || (c == 65440)
+    || is_within 65520 65531 c
+
+-- U+1BCA0 to U+1BCA3, U+1D173 to U+1D17A, U+E0000 to U+E0FFF
+abbrev pub is_hidden_above : ℕ → Bool
+is_hidden_above c = is_within 113824 113827 c || is_within 119155 119162 c || is_within 917504 921599 c
+
+-- one that is Default_Ignorable_Code_Point or Bidi_Control in the Unicode Character Database, or the end of a line or paragraph
+-- (U+2028, U+2029), or a mark of interlinear annotation (U+FFF9 to U+FFFB)
 abbrev pub is_hidden : ℕ → Bool
-is_hidden c = (c == 1564) || is_within 8203 8207 c || is_within 8232 8238 c || is_within 8288 8303 c || (c == 65279)
+is_hidden c = is_hidden_mark c || is_hidden_format c || is_hidden_above c
 
 -- U+FFFD, the replacement character, in place of each of these
 abbrev pub harmless : ℕ → ℕ
@@ -62,7 +78,7 @@ ended_cell (Some message) = text_or_dash message.end
 
 -- how many resources are not in the desired state
 abbrev pub count_cell : Option ReportMessage → Cell
-count_cell None = word_cell (codes "0")
+count_cell None = word_cell (codes "-")
 count_cell (Some message) = word_cell (decimal (count_of message.errors message.status_data))
 
 -- the id of a further resource

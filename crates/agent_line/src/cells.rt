@@ -115,7 +115,7 @@ fn count_cell(alloc: Global, message: Option<&ReportMessage>) -> Result<Cell, Al
             let mut digits = Buffer::new();
             word_cell(alloc, digits.format(count))
         }
-        None => word_cell(alloc, "0"),
+        None => word_cell(alloc, "-"),
     }
 }
 

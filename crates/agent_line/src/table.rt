@@ -6,7 +6,7 @@ ghost use Rattle.agent_line.specs.Table.{no_widths, padded, row_text, table_text
 use crate::cells::{Cell, Cells};
 use std::alloc::AllocError;
 
-/// How wide the columns are, but for the last one, which ends its line.
+/// How wide the columns are, in characters, but for the last one, which ends its line.
 #[derive(Clone, Copy)]
 pub struct Widths {
     pub name: usize,

@@ -63,7 +63,7 @@ gauge_name Read = codes "nimchout_fleet_store_read"
 
 abbrev pub help_of : Gauge → List ℕ
 help_of (Agents class) = codes "Agents of a store by the class of their last report."
-help_of Stale = codes "Agents of a store whose last report did not end within the hours given."
+help_of Stale = codes "Agents of a store whose last report does not say that it ended within the hours given."
 help_of Taken = codes "Agents that a store has."
 help_of Free = codes "Further agents that a store takes."
 help_of Read = codes "1 where the store was read, 0 where it was not."

@@ -1,5 +1,6 @@
 -- The command line of the program, and its values.
-use Rattle.std.specs.Prelude.{◌≡◌, ◌⊎◌, ◌<◌, ◌^◌, ℕ, ◌&&◌, ◌||◌, not, Bool, true, false, if◌then◌else◌, List, [], ◌∷◌, codes, map, Option, Some, None, is_none, is_some, unwrap_or, encode_utf8_all, ⊤}
+use Rattle.std.specs.Prelude.{◌≡◌, ◌⊎◌, ◌<◌, ◌^◌, ℕ, ◌&&◌, ◌||◌, not, Bool, true, false, if◌then◌else◌, List, [], ◌∷◌, codes, map, Option, Some, None, is_none, is_some, unwrap_or, encode_utf8_all, bytes_eq, ⊤}
+use Rattle.std.specs.List.{list_any}
 use Rattle.std.specs.Str.Parse.{IsNumeral, digits_value, without_leading_plus}
 use Rattle.clap.specs.Words.{App, Row, Rule, all_of, first_of, fault_of, matches_of, new_app, new_rule, with_rule}
 use Rattle.clap.specs.Simple.{on_top}
@@ -134,11 +135,21 @@ form_of true false = Some Table
 form_of false true = Some Gauges
 form_of true true = None
 
+-- one of the texts stands twice
+abbrev pub is_repeated : List (List ℕ) → Bool
+is_repeated [] = false
+is_repeated (text ∷ texts) = list_any (bytes_eq text) texts || is_repeated texts
+
+-- of each store there is one sample of a gauge
+abbrev pub printed_form : FleetOptions → Option Task
+printed_form options =
+    if options.prometheus && is_repeated options.stores then None else form_of options.table options.prometheus
+
 -- agents are forgotten of one store, and nothing else is asked then
 abbrev pub task_of : FleetOptions → Option Task
 task_of options =
     if chooses options.choice then (if prints_nothing options && is_one options.stores then Some Forget else None)
-    else form_of options.table options.prometheus
+    else printed_form options
 
 -- ---- the answers
 

@@ -43,8 +43,8 @@ fn has_row(rows: &[Row], agent: u128) -> bool
     rows.iter().any(|row| row.agent == agent)
 }
 
-/// The agents of these rows that are to be forgotten. Where a moment is given, these are also the agents whose last report says that
-/// it ended before.
+/// The agents of these rows that are to be forgotten. Where a moment is given, in seconds since 1970 by UTC, these are also the agents
+/// whose last report says that it ended before.
 #[tactic(auto, using(std::proofs::lemmas::List::Elements::filter_more, std::proofs::lemmas::List::flat_map_more))]
 pub fn choose(
     alloc: Global,

@@ -22,8 +22,8 @@ pub struct Seen {
     pub stale: bool,
 }
 
-/// What is seen of the agent of a row. It is stale where a moment is given and its last report does not say that it ended then or
-/// later.
+/// What is seen of the agent of a row. It is stale where a moment is given, in seconds since 1970 by UTC, and its last report does not
+/// say that it ended then or later.
 #[tactic(auto, unfolding(crate::specs::Told::seen_of))]
 pub fn seen_of(alloc: Global, since: Option<u64>, row: &Row) -> Result<Seen, Memory>
     ensures { IfOk result (λ seen. seen ≡ seen_of since row.now) }

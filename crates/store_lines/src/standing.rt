@@ -23,8 +23,8 @@ pub struct StoreStandings {
     pub standings: Option<Items<Standing>>,
 }
 
-/// What is counted of the agents of these rows. An agent is stale where a moment is given and its last report does not say that it
-/// ended then or later.
+/// What is counted of the agents of these rows. An agent is stale where a moment is given, in seconds since 1970 by UTC, and its last
+/// report does not say that it ended then or later.
 pub fn standings_of(
     alloc: Global,
     since: Option<u64>,

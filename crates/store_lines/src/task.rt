@@ -1,6 +1,7 @@
 //! What the program is asked to do.
-ghost use Rattle.std.specs.Prelude.{◌≡◌};
-ghost use Rattle.store_lines.specs.Words.{chooses, form_of, is_empty, is_one, prints_nothing, task_of};
+ghost use Rattle.std.specs.Prelude.{◌≡◌, bytes_eq};
+ghost use Rattle.std.specs.List.{list_any};
+ghost use Rattle.store_lines.specs.Words.{chooses, form_of, is_empty, is_one, is_repeated, printed_form, prints_nothing, task_of};
 
 use crate::choice::Choice;
 use agent_class::Class;
@@ -49,7 +50,7 @@ pub(crate) fn task_of(options: &FleetOptions) -> Option<Task>
     ensures { result ≡ task_of options.now }
 {
     if !chooses(&options.choice) {
-        return form_of(options.table, options.prometheus);
+        return printed_form(options);
     }
     if prints_nothing(options) && is_one(options.stores.as_slice()) {
         Some(Task::Forget)
@@ -71,6 +72,35 @@ fn prints_nothing(options: &FleetOptions) -> bool
         && !options.prometheus
         && is_empty(options.classes.as_slice())
         && options.older.is_none()
+}
+
+fn printed_form(options: &FleetOptions) -> Option<Task>
+    ensures { result ≡ printed_form options.now }
+{
+    if options.prometheus && is_repeated(options.stores.as_slice()) {
+        return None;
+    }
+    form_of(options.table, options.prometheus)
+}
+
+// Whether one of the texts stands twice.
+fn is_repeated(texts: &[Text]) -> bool
+    ensures { result ≡ is_repeated texts.now }
+{
+    let mut left = texts;
+    while let [text, rest @ ..] = left {
+        if is_among(rest, text) {
+            return true;
+        }
+        left = rest;
+    }
+    false
+}
+
+fn is_among(texts: &[Text], text: &Text) -> bool
+    ensures { result ≡ list_any (bytes_eq text.now) texts.now }
+{
+    texts.iter().any(|other| *text == *other)
 }
 
 fn form_of(table: bool, prometheus: bool) -> Option<Task>

@@ -21,8 +21,8 @@ pub struct Told {
 
 /// The text of a store's rows: a line for each agent of one of these classes, where some are given, and one of the store.
 ///
-/// An agent is stale where a moment is given and its last report does not say that it ended then or later. Whether there is an
-/// alarm is said of all rows.
+/// An agent is stale where a moment is given, in seconds since 1970 by UTC, and its last report does not say that it ended then or
+/// later. Whether there is an alarm is said of all rows.
 #[tactic(auto, using(std::proofs::lemmas::List::Folds::list_any_more, std::proofs::lemmas::List::flat_map_more))]
 pub fn store_text(
     alloc: Global,
