@@ -142,7 +142,8 @@ fn help_of(gauge: Gauge) -> &'static str
 {
     match gauge {
         Gauge::Agents(_) => "Agents of a store by the class of their last report.",
-        Gauge::Stale => "Agents of a store whose last report does not say that it ended within the hours given.",
+        Gauge::Stale =>
+            "Agents of a store whose last report does not say that it ended within the hours given.",
         Gauge::Taken => "Agents that a store has.",
         Gauge::Free => "Further agents that a store takes.",
         Gauge::Read => "1 where the store was read, 0 where it was not.",
