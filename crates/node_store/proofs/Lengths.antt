@@ -35,3 +35,10 @@ parts_fit (part ∷ parts) total long less named =
 
 pub staged_fit : (parts : List Part) → IsStaged parts → AllByRecursion (λ (part : Part). (length (encode_utf8_all part.name) ≤ MAX_TEXT) × IsBlob part.bytes) parts
 staged_fit parts staged = parts_fit parts MAX_BYTES staged.long (omega arith) (recursion_from_All (λ part. Fits 255 part.name) parts staged.named.names)
+
+are_blobs : (parts : List Part) → AllByRecursion (λ (part : Part). (length (encode_utf8_all part.name) ≤ MAX_TEXT) × IsBlob part.bytes) parts → AllByRecursion (λ (part : Part). IsBlob part.bytes) parts
+are_blobs [] all = tt
+are_blobs (part ∷ parts) all = (all.0.1, are_blobs parts all.1)
+
+pub staged_blobs : (parts : List Part) → IsStaged parts → AllByRecursion (λ (part : Part). IsBlob part.bytes) parts
+staged_blobs parts staged = are_blobs parts (staged_fit parts staged)

@@ -1,5 +1,5 @@
 -- Nodes whose fields are in range.
-use Rattle.std.proofs.Common.{◌≡◌, ◌<◌, ◌-◌, ◌^◌, ℕ, true, List, Option, Some, None, [], ◌∷◌, ◌++◌, drop, length, map, sym, subst, arith, zero, suc}
+use Rattle.std.proofs.Common.{inl, inr, ◌≡◌, ◌<◌, ◌-◌, ◌^◌, ℕ, true, List, Option, Some, None, [], ◌∷◌, ◌++◌, drop, length, map, sym, subst, arith, zero, suc}
 use Rattle.std.specs.Prelude.{IfSome}
 use Rattle.std.specs.List.{AllByRecursion}
 use Rattle.std.specs.Int.{w64, w128}
@@ -25,7 +25,7 @@ use Rattle.node_state.specs.declared.limits.TheConstants.{OLDER_REPORTS}
 use Rattle.node_store.specs.Bodies.{IsEventInRange, IsPieceInRange}
 use Rattle.node_store.specs.Parts.{AreParts}
 use Rattle.node_store.specs.Reports.{IsReport}
-use Rattle.node_store.specs.Stands.{Leads}
+use Rattle.node_store.specs.Stands.{Leads, LeadsInFull}
 
 -- its numbers, parts and reports are in range
 pub record InRange (node : Node) : Type 0 where
@@ -117,11 +117,19 @@ steps_sound old new [] is sound = subst (λ (n : Node). Sound n) (sym is) sound
 steps_sound old new (event ∷ happened) (mid, step, more) sound = steps_sound mid new happened more (steps_are_sound old event mid sound step)
 
 -- a node that bodies lead to is sound and in range
+pub full_sound : (bodies : List (List ℕ)) (node : Node) → LeadsInFull bodies node → Sound node
+full_sound bodies node leads = steps_sound leads.first node leads.events leads.steps (built_is_sound leads.front leads.first leads.builds)
+
+full_in_range : (bodies : List (List ℕ)) (node : Node) → LeadsInFull bodies node → InRange node
+full_in_range bodies node leads = steps_in_range leads.first node leads.events leads.steps leads.ranges (built_in_range new_node leads.first leads.front leads.builds leads.pieces new_in_range)
+
 pub leads_sound : (bodies : List (List ℕ)) (node : Node) → Leads bodies node → Sound node
-leads_sound bodies node leads = steps_sound leads.first node leads.events leads.steps (built_is_sound leads.front leads.first leads.builds)
+leads_sound bodies node (inl leads) = full_sound bodies node leads
+leads_sound bodies node (inr leads) = full_sound leads.1.said node leads.1.leads
 
 pub leads_in_range : (bodies : List (List ℕ)) (node : Node) → Leads bodies node → InRange node
-leads_in_range bodies node leads = steps_in_range leads.first node leads.events leads.steps leads.ranges (built_in_range new_node leads.first leads.front leads.builds leads.pieces new_in_range)
+leads_in_range bodies node (inl leads) = full_in_range bodies node leads
+leads_in_range bodies node (inr leads) = full_in_range leads.1.said node leads.1.leads
 
 -- ---- the pieces of a node
 

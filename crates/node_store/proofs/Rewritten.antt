@@ -1,5 +1,5 @@
 -- The pieces of the node after an event.
-use Rattle.std.proofs.Common.{◌≡◌, ◌<◌, List, ℕ, Some, None, All, zero, suc, [], ◌∷◌, length, map, refl, sym, subst, arith}
+use Rattle.std.proofs.Common.{◌≡◌, ◌<◌, List, ℕ, Option, Some, None, All, zero, suc, [], ◌∷◌, length, map, refl, sym, subst, arith}
 use Rattle.std.specs.List.{AllByRecursion}
 use Rattle.gate_log.specs.Kept.{LeadsAnew}
 use Rattle.gate_log.specs.Text.{AllFit, cells}
@@ -13,7 +13,9 @@ use Rattle.node_state.proofs.Building.{fronts_build}
 use Rattle.node_state.proofs.SoundSteps.{steps_are_sound}
 use Rattle.node_store.specs.Bodies.{HasDigests, IsEventInRange, body_of_piece}
 use Rattle.node_store.specs.Reports.{IsReport}
-use Rattle.node_store.specs.Stands.{Leads}
+use Rattle.node_store.specs.Digests.{Blobs}
+use Rattle.node_store.specs.Stands.{LeadTo, Leads, LeadsInFull}
+use Rattle.node_store.proofs.Formats.{kept_as}
 use Rattle.node_store.specs.declared.limits.TheConstants.{BANK, MAX_BODY}
 use Rattle.node_store.proofs.Ranges.{InRange, front_in_range, leads_in_range, leads_sound, step_in_range}
 use Rattle.node_store.proofs.Replay.{built_leads}
@@ -35,8 +37,9 @@ module _ (bodies : List (List ℕ)) (node : Node) (event : Event) (leads : Leads
   pub pieces_fit : (agent : ℕ) → (length (cells (map body_of_piece (front agent (after node event)))) < BANK) × AllFit MAX_BODY (map body_of_piece (front agent (after node event)))
   pieces_fit agent = front_small agent (after node event) sound_after (have_digests (after node event).reports range_after.reports)
 
-  -- they lead to the node
-  pub anew : (agent : ℕ) (whole : List (List ℕ)) → (after node event).agent ≡ Some agent → whole ≡ map body_of_piece (front agent (after node event)) → LeadsAnew Leads whole node (after node event)
-  anew agent whole has is =
+  -- they lead to the node, in format 1
+  pub anew : (blobs : Option Blobs) (agent : ℕ) (whole : List (List ℕ)) → (after node event).agent ≡ Some agent → whole ≡ map body_of_piece (front agent (after node event))
+      → LeadsAnew LeadTo whole (kept_as node blobs) (kept_as (after node event) None)
+  anew blobs agent whole has is =
       let next = after node event in
-      subst (λ (l : List (List ℕ)). Leads l next) (sym is) (built_leads (front agent next) next (fronts_build agent next has sound_after) (front_in_range agent next has sound_after range_after))
+      subst (λ (l : List (List ℕ)). LeadsInFull l next) (sym is) (built_leads (front agent next) next (fronts_build agent next has sound_after) (front_in_range agent next has sound_after range_after))

@@ -1,11 +1,10 @@
--- The nodes that bodies lead to, one body after the other.
+-- The nodes that bodies in full lead to, one body after the other.
 use Rattle.std.proofs.Common.{◌≡◌, List, ℕ, Bool, true, false, [], ◌∷◌, ◌++◌, map, refl, sym, ap, ◌∙◌, subst, Result, Ok, Err}
 use Rattle.std.specs.Prelude.{IfOk}
 use Rattle.std.specs.List.{AllByRecursion}
 use Rattle.std.proofs.lemmas.List.{append-nil, map-append}
 use Rattle.gate_log.specs.declared.replay.TakeError.{TakeError}
 use Rattle.gate_log.specs.declared.replay.TakeError.TheVariants.{Refused, Memory}
-use Rattle.gate_log.specs.Replay.{Taken}
 use Rattle.node_state.specs.declared.node.Node.{Node}
 use Rattle.node_state.specs.declared.event.Event.{Event}
 use Rattle.node_state.specs.declared.piece.Piece.{Piece}
@@ -14,8 +13,10 @@ use Rattle.node_state.specs.Pieces.{Builds, IsPiece, fits, placed}
 use Rattle.node_store.specs.declared.body.Body.{Body}
 use Rattle.node_store.specs.declared.body.Body.TheVariants as kinds
 use Rattle.node_store.specs.Bodies.{IsBody, IsEventInRange, IsPieceInRange, body_of_event, body_of_piece}
-use Rattle.node_store.specs.Stands.{EndsAt, Leads}
-use Rattle.node_store.specs.Taking.{Goes, Moves, Reached, Stays, Took, TookBody, has_events}
+use Rattle.node_store.specs.Digests.{format_body}
+use Rattle.node_store.specs.Stands.{LeadsInFull}
+use Rattle.node_store.specs.Taking.{Goes, Moves, Reached, Took, TookBody, has_events}
+use Rattle.node_store.proofs.ByKind.{of_kind}
 use Rattle.node_store.proofs.OneBody.{one_body}
 use Rattle.node_store.proofs.Replay.{leads-push}
 
@@ -71,11 +72,17 @@ events_run old new [] is ranges = (is, refl)
 events_run old new (event ∷ events) (mid, step, rest) ranges =
     (mid, true, record { of = kinds.Event event; is = (refl, ranges.0, step.within); goes = (step, refl) }, later_run mid new events rest ranges.1)
 
-pub leads_run : (bodies : List (List ℕ)) (node : Node) (leads : Leads bodies node) → Runs new_node false bodies node (has_events leads.events)
+pub leads_run : (bodies : List (List ℕ)) (node : Node) (leads : LeadsInFull bodies node) → Runs new_node false bodies node (has_events leads.events)
 leads_run bodies node leads =
     subst (λ (l : List (List ℕ)). Runs new_node false l node (has_events leads.events)) (sym leads.is)
     (fronts_run new_node leads.first leads.front leads.builds leads.pieces (map body_of_event leads.events) node (has_events leads.events)
     (events_run leads.first node leads.events leads.steps leads.ranges))
+
+-- a Format is of no event and no piece
+pub no_format : (rest : List (List ℕ)) (node : Node) → LeadsInFull (format_body ∷ rest) node → ⊥
+no_format rest node leads =
+    let run = leads_run (format_body ∷ rest) node leads in
+    of_kind 15 (2 ∷ []) run.2.of run.2.is
 
 -- ---- one body more
 
@@ -96,8 +103,8 @@ pieces-push [] piece all range = (range, tt)
 pieces-push (p ∷ front) piece all range = (all.0, pieces-push front piece all.1 range)
 
 -- pieces alone, and one piece more
-abbrev piece-push : (mid : Node) (bodies : List (List ℕ)) (body : List ℕ) (piece : Piece) (leads : Leads bodies mid) → leads.events ≡ [] → IsBody body (kinds.Piece piece) → fits mid piece ≡ true
-    → Leads (bodies ++ body ∷ []) (placed mid piece)
+abbrev piece-push : (mid : Node) (bodies : List (List ℕ)) (body : List ℕ) (piece : Piece) (leads : LeadsInFull bodies mid) → leads.events ≡ [] → IsBody body (kinds.Piece piece) → fits mid piece ≡ true
+    → LeadsInFull (bodies ++ body ∷ []) (placed mid piece)
 piece-push mid bodies body piece leads none is fit =
     let whole : bodies ≡ map body_of_piece leads.front =
     leads.is ∙ ap (λ (l : List Event). map body_of_piece leads.front ++ map body_of_event l) none ∙ append-nil (map body_of_piece leads.front) in
@@ -123,16 +130,13 @@ reached_by old new begun after bodies body (kinds.Piece piece) reached is goes =
     let leads = piece-push old bodies body piece reached.leads (no_events reached.leads.events (sym goes.0 ∙ reached.is_begun)) is goes.1 in
     subst (λ (n : Node). Reached n after (bodies ++ body ∷ [])) (sym goes.2) (record { leads = leads; is_begun = goes.3 })
 
--- where a body makes no node of that one, the bodies with it lead to none
-ends : (old : Node) (begun : Bool) (bodies : List (List ℕ)) (body : List ℕ) → Reached old begun bodies → Stays old begun body → EndsAt bodies body
-ends old begun bodies body reached stays = record {
-  lead = (old, reached.leads);
-  ends = λ new leads.
-      let last = runs_last new_node false bodies body new (has_events leads.events) (leads_run (bodies ++ body ∷ []) new leads) in
-      let s = runs_one new_node false bodies last.0 old last.1 (has_events reached.leads.events) last.2 (leads_run bodies old reached.leads) in
-      let there = subst (λ (n : Node). Moves n last.1 body new (has_events leads.events)) s.0 last.3 in
-      stays new (has_events leads.events) (subst (λ (k : Bool). Moves old k body new (has_events leads.events)) (s.1 ∙ sym reached.is_begun) there);
-}
+-- where the bodies with one more lead to a node, that one makes it of the node before
+pub last_moves : (old new : Node) (begun : Bool) (bodies : List (List ℕ)) (body : List ℕ) → Reached old begun bodies → (leads : LeadsInFull (bodies ++ body ∷ []) new) → Moves old begun body new (has_events leads.events)
+last_moves old new begun bodies body reached leads =
+    let last = runs_last new_node false bodies body new (has_events leads.events) (leads_run (bodies ++ body ∷ []) new leads) in
+    let s = runs_one new_node false bodies last.0 old last.1 (has_events reached.leads.events) last.2 (leads_run bodies old reached.leads) in
+    let there = subst (λ (n : Node). Moves n last.1 body new (has_events leads.events)) s.0 last.3 in
+    subst (λ (k : Bool). Moves old k body new (has_events leads.events)) (s.1 ∙ sym reached.is_begun) there
 
 -- ---- what taking answers
 
@@ -151,9 +155,3 @@ took_body old new begun after body of (Ok v) took is = record { of = of; is = is
 took_body old new begun after body of (Err Refused) took is = λ next flag moves.
     took next flag (subst (λ (b : Body). Goes old begun b next flag) (one_body body moves.of of moves.is is) moves.goes)
 took_body old new begun after body of (Err Memory) took is = tt
-
-pub taken : (old new : Node) (begun after : Bool) (bodies : List (List ℕ)) (body : List ℕ) (result : Result (Unit {0}) TakeError) → Reached old begun bodies → TookBody old begun body new after result
-    → Taken (λ l. Reached new after l) (λ l b. EndsAt l b) bodies body result
-taken old new begun after bodies body (Ok v) reached took = reached_by old new begun after bodies body took.of reached took.is took.goes
-taken old new begun after bodies body (Err Refused) reached took = ends old begun bodies body reached took
-taken old new begun after bodies body (Err Memory) reached took = tt

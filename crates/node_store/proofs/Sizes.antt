@@ -60,7 +60,7 @@ long_128 : (n : ℕ) → length (bytes_of_number w128 n) ≡ 16
 unfolding bytes_of_number
 long_128 n = omega arith
 
-text_long : (text : List ℕ) → length (bytes_of_text text) ≡ 2 + length (encode_utf8_all text)
+pub text_long : (text : List ℕ) → length (bytes_of_text text) ≡ 2 + length (encode_utf8_all text)
 text_long text = omega (arith, long_16 (length (encode_utf8_all text)), length-append (bytes_of_number w16 (length (encode_utf8_all text))) (encode_utf8_all text))
 
 blob_long : (bytes : List ℕ) → length (bytes_of_blob bytes) ≡ 4 + length bytes

@@ -1,8 +1,9 @@
 -- A store, its disk, and what its calls answer.
-use Rattle.std.specs.Prelude.{◌≡◌, ℕ, Bool, true, false, List, Some, None, Option, Result, Ok, Err, ⊤}
+use Rattle.std.specs.Prelude.{◌≡◌, ℕ, ◌≤◌, Bool, true, false, List, [], ◌∷◌, ◌++◌, length, OnOk, Some, None, Option, Result, Ok, Err, ⊤}
 use Rattle.dsc_outside.specs.declared.disk.Disk.{Ghosts}
 use Rattle.dsc_terms.specs.Counts.{Rose}
-use Rattle.gate_log.specs.Log.{LogTerm}
+use Rattle.gate_log.specs.Log.{IsLogOf, LogTerm, capacity_in}
+use Rattle.gate_log.specs.Text.{cells}
 use Rattle.gate_log.specs.Kept.{IsKeptBy, IsReadyBy, NotOpenedBy}
 use Rattle.node_state.specs.declared.node.Node.{Node}
 use Rattle.node_state.specs.declared.event.Event.{Event}
@@ -12,7 +13,11 @@ use Rattle.node_store.specs.declared.error.StoreError.{StoreError}
 use Rattle.node_store.specs.declared.error.StoreError.TheVariants.{Spent, NotAllowed, Disk, NotAStore, Memory}
 use Rattle.mof_values.specs.declared.memory.Memory.{Memory as NoMemory}
 use Rattle.meta_config.specs.Writing.{text_of_meta}
-use Rattle.node_store.specs.Stands.{Leads, node_shape}
+use Rattle.node_state.specs.declared.list.Staged.{Staged}
+use Rattle.node_state.specs.StagedParts.{parts_of}
+use Rattle.node_store.specs.Bodies.{body_of_event}
+use Rattle.node_store.specs.Digests.{Blobs, Lack, staged_bodies, texts_of}
+use Rattle.node_store.specs.Stands.{Leads, LeadsIn, node_shape}
 
 -- what contracts see of a store
 pub record StoreTerm : Type 0 where
@@ -20,17 +25,19 @@ pub record StoreTerm : Type 0 where
   pub node : Node
   -- there is capacity for one more report
   pub reserved : Bool
+  -- the Blobs of the live bank, where it is of format 2
+  pub blobs : Option Blobs
 
 abbrev pub is_spent : StoreTerm → Bool
 is_spent store = store.log.spent
 
 -- the store is of the disk: its log is, and the log's bodies lead to its node
 abbrev pub IsKept : {D : Type 0} → Ghosts D → D → StoreTerm → Type 0
-IsKept d disk store = IsKeptBy d disk node_shape Leads store.log store.node
+IsKept d disk store = IsKeptBy d disk node_shape (LeadsIn store.blobs) store.log store.node
 
 -- it is, or a commit of it answered Disk
 abbrev pub IsReady : {D : Type 0} → Ghosts D → D → StoreTerm → Type 0
-IsReady d disk store = IsReadyBy d disk node_shape Leads store.log store.node
+IsReady d disk store = IsReadyBy d disk node_shape (LeadsIn store.blobs) store.log store.node
 
 -- the store could commit, and its node allowed the event
 pub record WasTried (old : StoreTerm) (event : Event) : Type 0 where
@@ -43,14 +50,31 @@ pub record Untouched {D : Type 0} (old new : StoreTerm) (before now : D) : Type 
   pub disk : now ≡ before
 
 -- committing the event takes memory: for the text of a meta-configuration, for the list of Previous once more, which takes none but may
--- be refused, and for a report that no capacity was reserved for
+-- be refused, for the Blobs of a Stage, which it needs in format 2 alone, and for a report that no capacity was reserved for
 abbrev pub TakesMemory : Bool → Event → Type 0
+TakesMemory reserved (events.Stage staged) = ⊤
 TakesMemory reserved (events.SetMeta meta) = ⊤
 TakesMemory reserved events.Restore = ⊤
 TakesMemory reserved (events.Promote report) = reserved ≡ false
 TakesMemory reserved (events.Note report) = reserved ≡ false
 TakesMemory reserved (events.AskReboot report) = reserved ≡ false
 TakesMemory reserved _ = ⊥
+
+-- the bodies that are added to the live bank, where it has room for them: in format 2 those of a Stage are the Blobs that the bank lacks, and
+-- the Stage by digests; no bodies are, where its list collides with the bank
+abbrev pub AreAdded : Option Blobs → Event → List (List ℕ) → Type 0
+AreAdded (Some blobs) (events.Stage staged) added =
+    (lacking : Blobs) × Lack blobs (texts_of (parts_of staged)) lacking × (added ≡ staged_bodies lacking (parts_of staged))
+AreAdded _ event added = added ≡ body_of_event event ∷ []
+
+abbrev pub IsStage : Event → Type 0
+IsStage event = (staged : Staged) × (event ≡ events.Stage staged)
+
+-- in format 2 a Stage whose bodies the live bank has room for is added as these bodies, and nothing else
+abbrev pub AddsStage : {T E D : Type 0} → Ghosts D → D → D → StoreTerm → Event → Result T E → StoreTerm → Type 0
+AddsStage d before now old event result new =
+    (blobs : Blobs) → old.blobs ≡ Some blobs → IsStage event → (added bodies : List (List ℕ)) → AreAdded (Some blobs) event added
+    → length (cells added) ≤ capacity_in old.log → IsLogOf d before old.log bodies → OnOk result (IsLogOf d now new.log (bodies ++ added))
 
 -- whether there is capacity for one more report after the event: a report takes it, every other event leaves it
 abbrev pub reserved_after : Event → Bool → Bool
@@ -89,5 +113,5 @@ IsTextOf _ text = text ≡ None
 
 -- a report takes the capacity that was reserved for it; nothing else of the store changes, and out of memory nothing does
 abbrev pub Supplied : {T : Type 0} → StoreTerm → Event → Result T NoMemory → StoreTerm → Type 0
-Supplied old event (Ok supply) new = (new.log ≡ old.log) × (new.node ≡ old.node) × (new.reserved ≡ reserved_after event old.reserved)
+Supplied old event (Ok supply) new = (new.log ≡ old.log) × (new.node ≡ old.node) × (new.reserved ≡ reserved_after event old.reserved) × (new.blobs ≡ old.blobs)
 Supplied old event (Err error) new = TakesMemory old.reserved event × (new ≡ old)

@@ -1,4 +1,5 @@
-//! A node, as the bodies of a log keep it.
+//! A node, as the bodies of a log keep it in either format.
+use crate::blobs::Blobs;
 use crate::limits::{BANK, MAX_BODY};
 use gate_log::{Kept, Shape};
 use node_state::Node;
@@ -9,18 +10,18 @@ pub const NODE_SHAPE: Shape = Shape {
     largest: MAX_BODY as u32,
 };
 
-/// A node, to which pieces and events lead.
+/// A node to which bodies lead, and the Blobs of these where they are of format 2.
 pub struct KeptNode;
 
 impl Kept for KeptNode {
     ghost use Rattle.node_state.specs.Sound.{Sound};
-    ghost use Rattle.node_store.specs.Stands.{Leads, node_shape};
+    ghost use Rattle.node_store.specs.Stands.{LeadTo, node_shape};
 
-    type State = Node;
+    type State = (Node, Option<Blobs>);
 
     ghost shape = { node_shape };
 
-    ghost leads = { Leads };
+    ghost leads = { LeadTo };
 
-    ghost sound = { Sound };
+    ghost sound = { λ kept. Sound kept.0 };
 }

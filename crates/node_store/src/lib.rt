@@ -2,7 +2,8 @@
 //!
 //! A store is a file of two banks (`gate_log`), whose bodies are the events that happened to the node, after the pieces
 //! of a node where the store was rewritten. A body has exactly the bytes of its definition, and is refused exactly
-//! where no value in range has them.
+//! where no value in range has them. A bank of format 2 has the bytes of equal parts once: its bodies name parts by
+//! their digests, and say others in full. Both formats are read and added to; a whole node is written in format 1.
 //!
 //! A layer above may rely on this: an opening gives the node that the disk reads as; a commit appends an event, or
 //! writes the whole node after it into the other bank, and a crash at any moment leaves the node before the event or
@@ -14,20 +15,30 @@
 //!   `src/reading.rt`; the two pieces in which it is written `specs/Split.antt`, `proofs/Split.antt`
 //! - what an image of a node's store stands for, what a commit answers: `specs/Stands.antt`, `specs/Store.antt`; that a
 //!   node is a state that `gate_log` keeps: `src/kept_node.rt`
-//! - the opening of a node's store: `src/opening.rt` over `src/taking.rt`, which takes the bodies one by one;
-//!   `specs/Taking.antt`; a list that the node holds is not read again `src/held.rt`, `specs/Held.antt`; that bodies
-//!   lead to one node at most `proofs/Runs.antt`
+//! - the bodies of format 2 and what they say in full: `specs/Digests.antt`, `src/resolving.rt` over `src/blobs.rt`;
+//!   that they say one thing `proofs/Unfolded.antt`
+//! - the opening of a node's store: `src/opening.rt` over `src/replaying.rt`, which takes the bodies of either format
+//!   one by one, those in full by `src/taking.rt`; `specs/Taking.antt`; a list that the node holds is not read again
+//!   `src/held.rt`, `specs/Held.antt`; that bodies lead to one node at most `proofs/Runs.antt`, `proofs/Meaning.antt`
 //! - a commit: `src/store.rt`, `specs/Store.antt`; a disk that no call was made of `proofs/AtRest.antt`
+//! - how a Stage is added to a bank of format 2: `src/by_digests.rt` after `Blobs::grow`, `specs/Growing.antt`; the
+//!   Blobs that the bank lacks `proofs/Lacking.antt`; that the bodies count, and a crash among them leaves the node
+//!   before it `proofs/AddedByDigests.antt`, `proofs/StageWritten.antt`
 //! - how an event is written, or the whole node after it: `src/writing.rt`; the bodies of that node's pieces, one after
 //!   the other: `src/whole.rt` over `src/next.rt` (the node after an event, looked at before it is applied),
 //!   `specs/Whole.antt`, `specs/Next.antt`; that they fit a bank and lead to it `proofs/Rewritten.antt`
 #![tactic(auto)]
 
+mod blob;
+mod blobs;
 mod body;
+mod by_digests;
 mod digests;
 mod error;
+mod format;
 mod held;
 mod kept_node;
+mod kinds;
 mod laws;
 mod limits;
 mod metas;
@@ -35,7 +46,9 @@ mod next;
 mod opening;
 mod parts;
 mod reading;
+mod replaying;
 mod reports;
+mod resolving;
 mod spelling;
 mod store;
 mod taking;

@@ -5,11 +5,11 @@ ghost use Rattle.node_store.specs.Stands.{Stands};
 ghost use Rattle.node_store.specs.Store.{IsKept, Unopened};
 
 use crate::error::StoreError;
-use crate::kept_node::{KeptNode, NODE_SHAPE};
+use crate::kept_node::NODE_SHAPE;
+use crate::replaying::Replaying;
 use crate::store::NodeStore;
-use crate::taking::Taking;
 use dsc_outside::Disk;
-use gate_log::{LogError, open_kept};
+use gate_log::{LogError, replay_log};
 use std::alloc::Global;
 
 /// Opens the store of a disk; a file of at most nine bytes becomes a new store, of a node that nothing has happened to.
@@ -29,9 +29,12 @@ pub fn open_store<D: Disk>(alloc: Global, disk: &mut D) -> Result<NodeStore, Sto
     ensures cause { IfErr result (Unopened D.Disk disk.old disk.new) }
     ensures count { D.faults disk.old ≤ D.faults disk.new }
 {
-    let mut taking = Taking::new(alloc);
-    match open_kept::<KeptNode, D, Taking>(alloc, disk, NODE_SHAPE, &mut taking) {
-        Ok(log) => Ok(NodeStore::of(alloc, log, taking.node)?),
+    let mut replaying = Replaying::new(alloc);
+    match replay_log(alloc, disk, NODE_SHAPE, &mut replaying) {
+        Ok(log) => {
+            let (node, blobs) = replaying.into_node();
+            Ok(NodeStore::of(alloc, log, node, blobs)?)
+        }
         Err(LogError::Disk) => Err(StoreError::Disk),
         Err(LogError::NotAStore { at }) => Err(StoreError::NotAStore { at }),
         Err(LogError::Memory) => Err(StoreError::Memory),

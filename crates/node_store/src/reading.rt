@@ -17,9 +17,9 @@ use crate::spelling::{put_parts, put_stage_byte};
 use mof_values::{Items, Memory};
 use node_state::{Event, Kept, Piece, Stage, Staged, stored};
 use partial_merge::Part;
-use report_log::Report;
+use report_log::{PartMark, Report};
 use std::alloc::Global;
-use store_fields::{FieldError, Fields, Form, put_u64, put_u128, read_list};
+use store_fields::{FieldError, Fields, Form, put_list, put_u64, put_u128, read_list};
 
 /// The event or piece of which the bytes are the body.
 ///
@@ -236,7 +236,8 @@ fn read_base(fields: &mut Fields<'_>) -> Result<(u128, bool, bool, u64), FieldEr
     Ok((agent, registered, reboot, next_job))
 }
 
-fn read_stage(fields: &mut Fields<'_>) -> Result<Stage, FieldError>
+/// A stage from its byte.
+pub(crate) fn read_stage(fields: &mut Fields<'_>) -> Result<Stage, FieldError>
     ensures { Reads bytes_of_stage (λ stage. ⊤) fields.old fields.new result }
 {
     match fields.byte() {
@@ -264,8 +265,8 @@ fn read_staged(alloc: Global, bytes: &[u8]) -> Result<Staged, FieldError>
     }
 }
 
-// The value of which these are all the bytes.
-fn read_whole<F: Form<T>, T: Drop>(alloc: Global, bytes: &[u8]) -> Result<T, FieldError>
+/// The value of which these are all the bytes.
+pub(crate) fn read_whole<F: Form<T>, T: Drop>(alloc: Global, bytes: &[u8]) -> Result<T, FieldError>
     ensures found { IfOk result (λ value. IsWhole F.bytes_of F.is_in_range bytes.now value) }
     ensures wrong { IfErr result (λ e. e ≡ FieldError.Wrong → (value : T) → IsWhole F.bytes_of F.is_in_range bytes.now value → ⊥) }
 {
@@ -375,5 +376,28 @@ impl Form<Items<Part>> for NodeForm {
 
     fn write(value: &Items<Part>, into: &mut Vec<u8>) -> Result<(), Memory> {
         put_parts(into, value.as_slice())
+    }
+}
+
+impl Form<Items<PartMark>> for NodeForm {
+    ghost use Rattle.std.specs.Prelude.{◌<◌, ◌≤◌, length, encode_utf8_all};
+    ghost use Rattle.std.specs.List.{AllByRecursion};
+    ghost use Rattle.store_fields.specs.Fields.{IsList};
+    ghost use Rattle.store_fields.specs.declared.limits.TheConstants.{MAX_TEXT};
+    ghost use Rattle.node_store.specs.Digests.{bytes_of_marks};
+    ghost use Rattle.node_store.specs.Reports.{IsMark};
+
+    ghost bytes_of = { bytes_of_marks };
+
+    ghost is_in_range = { IsList IsMark };
+
+    ghost fits = { λ marks. (length marks < 256) × AllByRecursion (λ mark. length (encode_utf8_all mark.name) ≤ MAX_TEXT) marks };
+
+    fn read(alloc: Global, fields: &mut Fields<'_>) -> Result<Items<PartMark>, FieldError> {
+        read_list::<NodeForm, PartMark>(alloc, fields)
+    }
+
+    fn write(value: &Items<PartMark>, into: &mut Vec<u8>) -> Result<(), Memory> {
+        put_list::<NodeForm, PartMark>(into, value.as_slice())
     }
 }

@@ -126,7 +126,8 @@ pub(crate) fn put_stage_byte(into: &mut Vec<u8>, stage: Stage) -> Result<(), Mem
     put_byte(into, stage_byte(stage))
 }
 
-fn stage_byte(stage: Stage) -> u8
+/// The byte of a stage.
+pub(crate) fn stage_byte(stage: Stage) -> u8
     ensures { result ≡ byte_of_stage stage }
 {
     match stage {

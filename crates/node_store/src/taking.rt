@@ -1,4 +1,4 @@
-//! The bodies of a store, taken one after the other while it is opened.
+//! Bodies in full, taken one after the other.
 ghost use Rattle.std.specs.Prelude.{◌≡◌, [], true, Some};
 ghost use Rattle.node_state.specs.Sound.{Sound};
 ghost use Rattle.node_state.specs.Table.{IsWithin};
@@ -8,14 +8,14 @@ ghost use Rattle.node_store.specs.Taking.{Reached, Took, TookBody};
 use crate::body::Body;
 use crate::held::staged_again;
 use crate::reading::read_body;
-use gate_log::{Replay, TakeError};
+use gate_log::TakeError;
 use mof_values::Memory;
 use node_state::{Event, Node, Piece, SharedParts};
 use std::alloc::Global;
 use std::mem;
 use store_fields::FieldError;
 
-/// The node that the bodies of a store lead to.
+/// The node that bodies in full lead to.
 ///
 /// The parts of a body become those of the node, and no document is copied: a step back shares the list of Previous, and a Stage
 /// of a list that the node holds that one.
@@ -24,7 +24,7 @@ pub struct Taking {
     alloc: Global,
     pub node: Node,
     // an event was taken, so that no piece may follow
-    begun: bool,
+    pub(crate) begun: bool,
 }
 
 impl Taking {
@@ -39,7 +39,8 @@ impl Taking {
         }
     }
 
-    fn take_body(&mut self, body: &[u8]) -> Result<(), TakeError>
+    /// Takes the next body.
+    pub fn take(&mut self, body: &[u8]) -> Result<(), TakeError>
         requires { Sound self.old.node }
         ensures { TookBody self.old.node self.old.begun body.now self.new.node self.new.begun result }
     {
@@ -104,18 +105,5 @@ impl Taking {
             }
             Err(Memory) => Err(TakeError::Memory),
         }
-    }
-}
-
-impl Replay for Taking {
-    ghost use Rattle.node_store.specs.Stands.{EndsAt};
-    ghost use Rattle.node_store.specs.Taking.{Reached};
-
-    ghost took = { λ taking so_far. Reached taking.node taking.begun so_far };
-
-    ghost refused = { λ taking so_far body. EndsAt so_far body };
-
-    fn take(&mut self, body: &[u8]) -> Result<(), TakeError> {
-        self.take_body(body)
     }
 }

@@ -90,6 +90,9 @@ pub fn body_of(alloc: Global, word: &str, job: u64) -> Result<Vec<u8>, AllocErro
         "restore" => b"\x0B".to_vec(alloc),
         "nothing" => Ok(Vec::new(alloc)),
         "no-kind" => b"\x0F".to_vec(alloc),
+        "format" => b"\x0F\x02".to_vec(alloc),
+        "blob" => blob(alloc, DOCUMENT),
+        "wrong-blob" => blob(alloc, b"instance of OMI_ConfigurationDocument{}; "),
         "long-boot" => b"\x08\0".to_vec(alloc),
         "fourth-stage" => b"\x0A\x03".to_vec(alloc),
         "wrong-digest" => wrong_digest(alloc),
@@ -113,6 +116,8 @@ fn piece(alloc: Global, kind: &str, name: &[u8]) -> Result<Vec<u8>, AllocError> 
         "registered" => base(alloc, &[1, 0], job, SERVED),
         "marked" => base(alloc, &[1, 1], job, SERVED),
         "unserved" => base(alloc, &[1, 0], job, ALONE),
+        "marks" => marks(alloc, b"\x11", name),
+        "current-marks" => marks(alloc, b"\x12\x01", name),
         "pending" => slot(alloc, 0, name),
         "current" => slot(alloc, 1, name),
         "previous" => slot(alloc, 2, name),
@@ -138,6 +143,23 @@ fn staged(alloc: Global, name: &[u8]) -> Result<Vec<u8>, AllocError> {
     body.extend_from_slice(DIGEST)?;
     body.extend_from_slice(b"\0\0\0\x28")?;
     body.extend_from_slice(DOCUMENT)?;
+    Ok(body)
+}
+
+// These bytes under the digest of the document.
+fn blob(alloc: Global, bytes: &[u8]) -> Result<Vec<u8>, AllocError> {
+    let mut body = b"\x10".to_vec(alloc)?;
+    body.extend_from_slice(DIGEST)?;
+    body.extend_from_slice(bytes)?;
+    Ok(body)
+}
+
+// One part of this name, of one letter, by the digest of the document, behind these bytes.
+fn marks(alloc: Global, front: &[u8], name: &[u8]) -> Result<Vec<u8>, AllocError> {
+    let mut body = front.to_vec(alloc)?;
+    body.extend_from_slice(b"\x01\0\x01")?;
+    body.extend_from_slice(name)?;
+    body.extend_from_slice(DIGEST)?;
     Ok(body)
 }
 

@@ -90,6 +90,17 @@ const KEPT: &[(&str, &str)] = &[
         "registered:5 current:P A promote P",
         "agent server registered pending P current A previous P r5 job 6",
     ),
+    // Of format 2.
+    ("format", "job 1"),
+    ("format init blob marks:P", "agent pending P job 1"),
+    (
+        "format init blob marks:A promote marks:A marks:P",
+        "agent pending P current A r1 job 2",
+    ),
+    (
+        "format blob registered:5 current-marks:A kept:4 note",
+        "agent server registered current A r4 r5 job 6",
+    ),
 ];
 
 // The words of bodies, of which the last is the first that is refused.
@@ -123,6 +134,17 @@ const REFUSED: &[&str] = &[
     "init no-canonical",
     "init registered",
     "init sent",
+    "init format",
+    "init blob",
+    "init marks:P",
+    "format format",
+    "format wrong-blob",
+    "format blob blob",
+    "format blob init A",
+    "format blob init marks:P marks:PP",
+    "format init marks:P",
+    "format blob registered:5 current:P",
+    "format blob init current-marks:P",
 ];
 
 // What the store of the bodies of these words keeps.

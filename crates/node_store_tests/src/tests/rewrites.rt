@@ -1,8 +1,8 @@
 //! Commits to a bank that is full, in files of 64 MiB.
 use super::stops::{Last, calls_of};
 use crate::{
-    HEAD, INIT, Left, bodies_of, commit_to, kept_in, last_of, line_of, push_cell, push_cells,
-    staged,
+    HEAD, INIT, Left, bodies_of, commit_to, file_of, kept_in, last_of, line_of, push_cell,
+    push_cells, staged,
 };
 use memory_outside::{DiskPart, MemoryDisk};
 use node_store::StoreError;
@@ -165,6 +165,65 @@ fn is_appended(alloc: Global, words: &str, word: &str) -> Result<bool, StoreErro
 fn an_event_that_takes_the_last_byte_is_appended(rt: HostRuntime) -> Result<(), Fail> {
     assert!(rt; is_appended(rt.alloc(), "init usual P note", "sent")?);
     assert!(rt; is_appended(rt.alloc(), "init usual P", "note")?);
+    Ok(())
+}
+
+// Whether an event that is committed to a bank of format 2 with the bodies of these words adds those of other words.
+fn adds(
+    alloc: Global,
+    words: &str,
+    before: &str,
+    event: &str,
+    added: &str,
+) -> Result<bool, StoreError> {
+    let mut bodies = bodies_of(alloc, words, "")?;
+    let file = file_of(alloc, &bodies)?;
+    for body in bodies_of(alloc, added, "")? {
+        bodies.push(body)?;
+    }
+    leaves(alloc, file, before, event, &file_of(alloc, &bodies)?)
+}
+
+// What a bank of format 2 has, the same in full, an event, and what it adds.
+const ADDED: &[(&str, &str, &str, &str)] = &[
+    ("format init usual", "init usual", "P", "blob marks:P"),
+    (
+        "format init usual blob marks:P",
+        "init usual P",
+        "P",
+        "marks:P",
+    ),
+    (
+        "format init usual blob marks:P",
+        "init usual P",
+        "A",
+        "marks:A",
+    ),
+    ("format init usual blob", "init usual", "P", "marks:P"),
+];
+
+#[test]
+fn a_stage_adds_to_a_bank_of_format_2_what_the_bank_lacks(rt: HostRuntime) -> Result<(), Fail> {
+    for (words, before, event, added) in ADDED {
+        assert!(rt;
+            adds(rt.alloc(), words, before, event, added)?,
+            "{words} {event}"
+        );
+    }
+    let note = bodies_of(rt.alloc(), "format init usual blob marks:P", "note")?;
+    let file = file_of(
+        rt.alloc(),
+        &bodies_of(rt.alloc(), "format init usual blob marks:P", "")?,
+    )?;
+    assert!(rt;
+        leaves(
+            rt.alloc(),
+            file,
+            "init usual P",
+            "note",
+            &file_of(rt.alloc(), &note)?
+        )?
+    );
     Ok(())
 }
 

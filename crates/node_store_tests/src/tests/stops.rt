@@ -1,5 +1,5 @@
 //! Stops and failures in each call of a commit.
-use crate::{COMMITS, commit_to, kept_in, last_of, line_of, run};
+use crate::{COMMITS, bodies_of, commit_to, file_of, kept_in, last_of, line_of, run};
 use memory_outside::{DiskPart, DiskStop, MemoryDisk};
 use node_store::StoreError;
 use std::alloc::Global;
@@ -132,5 +132,32 @@ fn a_commit_makes_four_calls_that_leave_the_node_before_or_after(
             "{words} {word}"
         );
     }
+    Ok(())
+}
+
+// How many calls a Stage makes in a bank of format 2 with the bodies of these words, which lead to the node of `before`.
+fn calls_by_digests(
+    alloc: Global,
+    words: &str,
+    before: &str,
+    all: u64,
+) -> Result<Option<u64>, StoreError> {
+    let bytes = file_of(alloc, &bodies_of(alloc, words, "")?)?;
+    let last = Last {
+        calls: all,
+        parts: PARTS,
+    };
+    calls_of(alloc, &bytes, before, "P", &last)
+}
+
+// Four calls for the Blob and four for the Stage, which alone makes the node another one.
+#[test]
+fn a_stage_in_format_2_leaves_the_node_before_or_after_in_each_call(
+    rt: HostRuntime,
+) -> Result<(), Fail> {
+    let calls = calls_by_digests(rt.alloc(), "format init usual", "init usual", 8)?;
+    assert_eq!(rt; calls, Some(8));
+    let calls = calls_by_digests(rt.alloc(), "format init usual blob", "init usual", 4)?;
+    assert_eq!(rt; calls, Some(4));
     Ok(())
 }

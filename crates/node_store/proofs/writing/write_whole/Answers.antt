@@ -4,7 +4,8 @@ use Rattle.gate_log.specs.Text.{cells}
 use Rattle.gate_log.proofs.Leading.{wrote_replaced}
 use Rattle.node_state.specs.Table.{after}
 use Rattle.node_state.proofs.SoundSteps.{steps_have_agents}
-use Rattle.node_store.specs.Stands.{Leads, node_shape}
+use Rattle.node_store.specs.Stands.{LeadTo, node_shape}
+use Rattle.node_store.proofs.Formats.{kept_as, kept_to, leads_in, wrote_in}
 use Rattle.node_store.proofs.Ranges.{leads_sound}
 use Rattle.node_store.proofs.Replay.{stepped}
 use Rattle.node_store.proofs.Rewritten.{anew, pieces_fit, sound_after}
@@ -15,14 +16,14 @@ unreachable-requires g c =
     let node = c.args.node.now in
     let event = c.args.event.now in
     let some : IsSome {T = ℕ} None = subst (λ (o : Option ℕ). IsSome o) (sym c.agent_after.ensures ∙ c.in_default.is)
-    (steps_have_agents node event (after node event) (leads_sound c.requires.kept.bodies node c.requires.kept.leads) (record { within = c.requires.within; allowed = c.requires.allowed; is = refl })) in
+    (steps_have_agents node event (after node event) (leads_sound c.requires.kept.1.bodies node (leads_in c.requires.kept.0 c.requires.kept.1.bodies node c.requires.kept.1.leads)) (record { within = c.requires.within; allowed = c.requires.allowed; is = refl })) in
     cc some
 
 pub after-whole-requires-clause-sound : goal.after-whole-requires-clause-sound
-after-whole-requires-clause-sound g c = sound_after c.requires.kept.bodies c.args.node.now c.args.event.now c.requires.kept.leads c.requires.allowed c.requires.within c.requires.range
+after-whole-requires-clause-sound g c = sound_after c.requires.kept.1.bodies c.args.node.now c.args.event.now (leads_in c.requires.kept.0 c.requires.kept.1.bodies c.args.node.now c.requires.kept.1.leads) c.requires.allowed c.requires.within c.requires.range
 
 pub after-whole-requires-clause-fit : goal.after-whole-requires-clause-fit
-after-whole-requires-clause-fit g c = (pieces_fit c.requires.kept.bodies c.args.node.now c.args.event.now c.requires.kept.leads c.requires.allowed c.requires.within c.requires.range c.in-Some.agent).1
+after-whole-requires-clause-fit g c = (pieces_fit c.requires.kept.1.bodies c.args.node.now c.args.event.now (leads_in c.requires.kept.0 c.requires.kept.1.bodies c.args.node.now c.requires.kept.1.leads) c.requires.allowed c.requires.within c.requires.range c.in-Some.agent).1
 
 pub rewrite-requires-clause-size : goal.rewrite-requires-clause-size
 rewrite-requires-clause-size g c = c.after-whole.ensures.ready.fit
@@ -31,22 +32,32 @@ pub rewrite-requires-clause-capacity : goal.rewrite-requires-clause-capacity
 rewrite-requires-clause-capacity g c =
     omega (
       arith,
-      (pieces_fit c.requires.kept.bodies c.args.node.now c.args.event.now c.requires.kept.leads c.requires.allowed c.requires.within c.requires.range c.in-Some.agent).0,
+      (pieces_fit c.requires.kept.1.bodies c.args.node.now c.args.event.now (leads_in c.requires.kept.0 c.requires.kept.1.bodies c.args.node.now c.requires.kept.1.leads) c.requires.allowed c.requires.within c.requires.range c.in-Some.agent).0,
       ap (λ (l : List (List ℕ)). length (cells l)) c.after-whole.ensures.rest,
     )
+
+pub rewrite-requires-clause-kept : goal.rewrite-requires-clause-kept
+rewrite-requires-clause-kept g c =
+    (kept_as c.args.node.now c.requires.kept.0, kept_to g.D.Disk c.args.disk.now c.args.log.now c.args.node.now c.requires.kept.0 c.requires.kept.1)
 
 pub returns-clause-answer : goal.returns-clause-answer
 returns-clause-answer g c =
     let node = c.args.node.now in
     let event = c.args.event.now in
-    wrote_replaced node_shape Leads g.D.Disk c.args.disk.now c.rewrite.new.disk c.args.log.now c.rewrite.new.log _ (after node event) c.rewrite.result c.rewrite.ensures.answer
-    (c.rewrite.ensures.kept node (after node event) c.requires.kept
-    (anew c.requires.kept.bodies node event c.requires.kept.leads c.requires.allowed c.requires.within c.requires.range c.in-Some.agent _ (sym c.agent_after.ensures ∙ c.in-Some.is) c.after-whole.ensures.rest))
+    let from = c.requires.kept.0 in
+    let kept = c.requires.kept.1 in
+    let new = kept_as (after node event) None in
+    wrote_in g.D.Disk c.args.disk.now c.rewrite.new.disk c.rewrite.new.log (after node event) None c.rewrite.result
+    (wrote_replaced node_shape LeadTo g.D.Disk c.args.disk.now c.rewrite.new.disk c.args.log.now c.rewrite.new.log _ new c.rewrite.result c.rewrite.ensures.answer
+    (c.rewrite.ensures.kept (kept_as node from) new (kept_to g.D.Disk c.args.disk.now c.args.log.now node from kept)
+    (anew kept.bodies node event (leads_in from kept.bodies node kept.leads) c.requires.allowed c.requires.within c.requires.range from c.in-Some.agent _ (sym c.agent_after.ensures ∙ c.in-Some.is) c.after-whole.ensures.rest)))
 
 pub returns-clause-any_moment : goal.returns-clause-any_moment
 returns-clause-any_moment g c =
     let node = c.args.node.now in
     let event = c.args.event.now in
-    stepped g.D.Disk c.args.disk.now c.rewrite.new.disk node event c.requires.within c.requires.allowed
-    (c.rewrite.ensures.any_moment node (after node event) c.requires.kept
-    (anew c.requires.kept.bodies node event c.requires.kept.leads c.requires.allowed c.requires.within c.requires.range c.in-Some.agent _ (sym c.agent_after.ensures ∙ c.in-Some.is) c.after-whole.ensures.rest))
+    let from = c.requires.kept.0 in
+    let kept = c.requires.kept.1 in
+    stepped g.D.Disk c.args.disk.now c.rewrite.new.disk node event from None c.requires.within c.requires.allowed
+    (c.rewrite.ensures.any_moment (kept_as node from) (kept_as (after node event) None) (kept_to g.D.Disk c.args.disk.now c.args.log.now node from kept)
+    (anew kept.bodies node event (leads_in from kept.bodies node kept.leads) c.requires.allowed c.requires.within c.requires.range from c.in-Some.agent _ (sym c.agent_after.ensures ∙ c.in-Some.is) c.after-whole.ensures.rest))

@@ -3,7 +3,7 @@ use Rattle.std.proofs.lemmas.Option.{MatchOption-at_some}
 use Rattle.partial_merge.specs.declared.part.Part.{Part}
 use Rattle.node_store.specs.Held.{StagesHeld}
 use Rattle.node_store.proofs.HeldLists.{moved_again}
-use Rattle.node_store.proofs.taking.Taking.take_body.Goals as goal
+use Rattle.node_store.proofs.taking.Taking.take.Goals as goal
 
 pub returns-in-Ok-Some : goal.returns-in-Ok-Some
 returns-in-Ok-Some c =

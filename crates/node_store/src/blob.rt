@@ -1,0 +1,18 @@
+//! A Blob: bytes under their digest.
+ghost use Rattle.std.specs.Prelude.{◌≡◌, ◌<◌, ◌^◌, length};
+ghost use Rattle.sha2.specs.Sha256.{sha256};
+
+use mof_values::Bytes;
+
+/// The bytes of a Blob, with their digest.
+#[derive(Debug, Drop)]
+pub struct Blob {
+    /// The SHA-256 digest of the bytes (FIPS 180-4).
+    pub digest: [u8; 32],
+
+    pub bytes: Bytes,
+
+    ghost whole: { digest ≡ sha256 bytes },
+
+    ghost small: { length bytes < 2 ^ 32 },
+}
