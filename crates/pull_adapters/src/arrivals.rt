@@ -19,6 +19,9 @@ pub const MOST_OF_ALL: usize = 33_554_432;
 /// The most connections whose requests are put off for others.
 pub const MOST_PUT_OFF: usize = 128;
 
+// For how long nothing has come of any where they are quiet, in milliseconds.
+const QUIET_MILLIS: u64 = 10;
+
 // How many others are given out while one is put off.
 const MOST_PASSED: u32 = 64;
 
@@ -37,6 +40,9 @@ pub struct Arrivals<S: Drop> {
 
     // None has waited too long before this moment.
     next_moment: Duration,
+
+    // The moment at which the last of them came, or sent something.
+    heard: Duration,
     large: LargeAnswers,
 
     // How many are put off, and how many others were given out since the last of these.
@@ -54,6 +60,7 @@ impl<S: Read + OpenStream + AsRawFd + Drop> Arrivals<S> {
                 buffer,
                 busy: false,
                 next_moment: Duration::MAX,
+                heard: Duration::ZERO,
                 large: LargeAnswers::new(alloc),
                 put_off: 0,
                 passed: 0,
@@ -71,6 +78,14 @@ impl<S: Read + OpenStream + AsRawFd + Drop> Arrivals<S> {
         if self.busy { now } else { self.next_moment }
     }
 
+    /// Whether a turn would find nothing, and nothing has come of any for a while.
+    pub fn is_quiet(&self, now: Duration) -> bool {
+        let until = self
+            .heard
+            .saturating_add(Duration::from_millis(QUIET_MILLIS));
+        !self.busy && !self.has_put_off() && until <= now && now < self.next_moment
+    }
+
     /// Takes one in. Where there are as many as there can be, the one that has been silent longest is lost and given back.
     pub fn admit(&mut self, mut fresh: Incoming<S>) -> Option<Incoming<S>> {
         let mut lost = None;
@@ -80,6 +95,7 @@ impl<S: Read + OpenStream + AsRawFd + Drop> Arrivals<S> {
         if self.list.len() < MOST_INCOMING {
             self.busy = self.busy || fresh.ready;
             self.next_moment = self.next_moment.min(fresh.last_moment(self.patience));
+            self.heard = self.heard.max(fresh.heard);
             let _ = self.list.push(fresh);
             return lost;
         }
@@ -172,6 +188,7 @@ impl<S: Read + OpenStream + AsRawFd + Drop> Arrivals<S> {
         self.busy = survey.busy;
         self.put_off = survey.put_off;
         self.next_moment = survey.next_moment;
+        self.heard = survey.heard;
         if survey.bytes > MOST_OF_ALL {
             self.busy = true;
             trim(&mut self.list);
@@ -208,6 +225,7 @@ struct Survey {
     // Whether a further turn may read something, or give one out.
     busy: bool,
     next_moment: Duration,
+    heard: Duration,
     bytes: usize,
 }
 
@@ -223,6 +241,7 @@ fn step_all<S: Read + OpenStream + AsRawFd + Drop>(
         put_off: 0,
         busy: false,
         next_moment: Duration::MAX,
+        heard: Duration::ZERO,
         bytes: 0,
     };
     for at in 0..list.len() {
@@ -231,6 +250,7 @@ fn step_all<S: Read + OpenStream + AsRawFd + Drop>(
         if one.progress == Progress::Awaited {
             survey.busy = survey.busy || one.ready;
             survey.next_moment = survey.next_moment.min(one.last_moment(patience));
+            survey.heard = survey.heard.max(one.heard);
             survey.bytes = survey.bytes.saturating_add(one.came.len());
         } else if one.is_put_off() && survey.put_off < MOST_PUT_OFF {
             survey.put_off += 1;

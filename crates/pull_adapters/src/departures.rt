@@ -4,6 +4,7 @@ ghost use Rattle.std.specs.Prelude.{◌≤◌, vec_len};
 use crate::kept_answers::KeptAnswers;
 use crate::outgoing::{Outgoing, Step};
 use crate::poll_door::DoorLimits;
+use crate::unsent::Unsent;
 use std::alloc::Global;
 use std::io::{Read, Write};
 use std::net::OpenStream;
@@ -74,7 +75,7 @@ impl<S: Read + Write + OpenStream + AsRawFd + Drop> Departures<S> {
     }
 
     /// Takes one that was served, with what its peer has not taken of its answer; out of memory it is closed, and nothing of it is kept.
-    pub fn add(&mut self, mut served: Outgoing<S>, left: Vec<u8>) {
+    pub fn add(&mut self, mut served: Outgoing<S>, left: Unsent) {
         if self.list.len() >= MOST_OUTGOING {
             return;
         }

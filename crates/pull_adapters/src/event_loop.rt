@@ -2,16 +2,17 @@
 use crate::arrivals::Arrivals;
 use crate::departures::Departures;
 use crate::incoming::{Incoming, Progress};
-use crate::listening::Listening;
+use crate::listening::{Listening, SOON_MILLIS};
 use crate::outgoing::Outgoing;
 use crate::poll_door::DoorLimits;
+use crate::unsent::Unsent;
 use dsc_outside::Failed;
 use mio::unix::SourceFd;
 use mio::{Events, Interest, Poll, Token};
 use pull_outside::LONGEST_ITEM;
 use std::alloc::Global;
 use std::net::{Net, OpenListener, OpenStream, TcpListener};
-use std::os::fd::{AsRawFd, RawFd};
+use std::os::fd::{AsFd, AsRawFd, RawFd};
 use std::time::{Clock, Duration};
 
 // The most descriptors that are reported at once.
@@ -45,12 +46,18 @@ pub struct EventLoop<R: Net> {
     // The moment of the last look at what is ready; none right after one.
     looked: Option<Duration>,
 
+    // Whether connections come one soon after the other.
+    flows: bool,
+
     // Whether the next connection's first read may wait. It may once after each request that came, so that clients that
     // send nothing cost no more waiting than there were others.
     may_wait: bool,
 }
 
-impl<R: Net + Clock> EventLoop<R> {
+impl<R: Net + Clock> EventLoop<R>
+where
+    R::Listener: AsFd,
+{
     /// Listens at the address.
     pub fn open(
         rt: &R,
@@ -75,10 +82,11 @@ impl<R: Net + Clock> EventLoop<R> {
             limits,
             poll,
             events,
-            listening: Listening::new(listener),
+            listening: Listening::new(listener)?,
             arrivals: Arrivals::new(alloc, limits.patience)?,
             departures: Departures::new(alloc, limits),
             looked: None,
+            flows: false,
             may_wait: true,
         })
     }
@@ -128,6 +136,7 @@ impl<R: Net + Clock> EventLoop<R> {
             }
         }
         self.wait(now, has_place)?;
+        self.flows = moment(rt)?.saturating_sub(now) <= Duration::from_millis(SOON_MILLIS);
         Ok(None)
     }
 
@@ -142,7 +151,7 @@ impl<R: Net + Clock> EventLoop<R> {
     }
 
     /// Takes a connection that was served, with what its peer has not taken of its answer.
-    pub fn part(&mut self, served: Outgoing<R::Stream>, left: Vec<u8>) {
+    pub fn part(&mut self, served: Outgoing<R::Stream>, left: Unsent) {
         let both = Interest::READABLE | Interest::WRITABLE;
         let is_reported = if served.registered {
             is_registered_anew(&self.poll, served.fd(), both)
@@ -199,7 +208,7 @@ impl<R: Net + Clock> EventLoop<R> {
             return Ok(Some(given));
         }
         for _ in 0..MOST_TAKEN {
-            let Some(stream) = self.listening.accept(now)? else {
+            let Some(stream) = self.accept(now)? else {
                 return Ok(None);
             };
             if let Some(given) = self.admit(stream, now) {
@@ -207,6 +216,22 @@ impl<R: Net + Clock> EventLoop<R> {
             }
         }
         Ok(None)
+    }
+
+    // The next connection, where one is there. Where connections come one soon after the other, and the others are quiet, it is
+    // waited for, which takes fewer calls than a report that it is there.
+    fn accept(&mut self, now: Duration) -> Result<Option<R::Stream>, Failed> {
+        if !self.flows || !self.is_quiet(now) {
+            return self.listening.accept(now);
+        }
+        let taken = self.listening.accept_soon(now)?;
+        self.flows = taken.is_some();
+        Ok(taken)
+    }
+
+    // Whether nothing is likely to happen soon, but that a connection comes.
+    fn is_quiet(&self, now: Duration) -> bool {
+        self.departures.is_empty() && self.arrivals.is_quiet(now) && !self.listening.is_paused()
     }
 
     // Reads what is there at once, or in a moment. Where more has to come, or its request is put off, it waits with the others, and

@@ -2,10 +2,10 @@
 ghost use Rattle.std.specs.Prelude.{◌≡◌, None, Ok, false};
 ghost use Rattle.sha2.specs.Sha256.{sha256};
 ghost use Rattle.dsc_outside.specs.Causes.{HasCauseOf};
-ghost use Rattle.pull_adapters.specs.Shelves.{is_shelf_name};
+ghost use Rattle.shelf_layout.specs.Layout.{is_shelf_name};
 ghost use Rattle.pull_outside.specs.Shelf.{Leaves};
 
-use crate::last_digest::LastDigest;
+use crate::last_items::LastItems;
 use crate::shelf_folder::ShelfFolder;
 use pull_outside::{Shelf, ShelfError};
 use std::marker::Model;
@@ -26,15 +26,15 @@ use std::rt::Files;
 /// Nothing is touched before the first call, and each look reads its file anew: what an administrator puts in place counts from
 /// the next call on. Put a file in place by a rename, so that none is seen that is half written. All that is kept from one call
 /// to the next is the digest that was computed last of an item of at most 8,388,608 bytes, and of a larger one, each with a copy
-/// of the item; it is given again for equal bytes alone. A clause sees a shelf as the number of its calls that failed.
+/// of the item, in `LastItems`; it is given again for equal bytes alone. A clause sees a shelf as the number of its calls that failed.
 #[derive(Drop)]
-pub struct FolderShelf<R: Files> {
+pub struct FolderShelf<'i, R: Files> {
     folder: ShelfFolder<R>,
-    last: LastDigest,
+    last: &'i LastItems,
     faults: u64,
 }
 
-impl<R: Files> Model for FolderShelf<R> {
+impl<'i, R: Files> Model for FolderShelf<'i, R> {
     ghost use Rattle.std.specs.Prelude.{ℕ};
 
     ghost Value = { ℕ };
@@ -42,14 +42,14 @@ impl<R: Files> Model for FolderShelf<R> {
     ghost view = { λ s. s.faults };
 }
 
-impl<R: Files> FolderShelf<R> {
-    /// The shelf in the folder of that path. An empty path is that of no folder: nothing is there.
-    pub fn new(rt: R, folder: String) -> FolderShelf<R>
+impl<'i, R: Files> FolderShelf<'i, R> {
+    /// The shelf in the folder of that path, and the items that it gave last. An empty path is that of no folder: nothing is there.
+    pub fn new(rt: R, folder: String, last: &'i LastItems) -> FolderShelf<'i, R>
         ensures { result ≡ 0 }
     {
         FolderShelf {
             folder: ShelfFolder { rt, path: folder },
-            last: LastDigest::new(),
+            last,
             faults: 0,
         }
     }
@@ -66,7 +66,7 @@ impl<R: Files> FolderShelf<R> {
     }
 }
 
-impl<R: Files> Shelf for FolderShelf<R> {
+impl<'i, R: Files> Shelf for FolderShelf<'i, R> {
     ghost holds = { λ s. None };
 
     ghost faults = { λ s. s };

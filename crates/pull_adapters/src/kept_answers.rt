@@ -1,4 +1,5 @@
 //! What peers have not taken yet of their answers.
+use crate::unsent::Unsent;
 use std::alloc::Global;
 
 /// Answers, or the bodies of answers, each with how many connections use it. Equal ones are kept once.
@@ -12,7 +13,7 @@ pub struct KeptAnswers {
 struct KeptAnswer {
     number: u64,
     users: usize,
-    bytes: Vec<u8>,
+    bytes: Unsent,
 }
 
 impl KeptAnswers {
@@ -33,7 +34,7 @@ impl KeptAnswers {
     }
 
     /// Keeps the bytes for one more connection, and gives the number under which they are found; none out of memory.
-    pub fn keep(&mut self, bytes: Vec<u8>) -> Option<u64> {
+    pub fn keep(&mut self, bytes: Unsent) -> Option<u64> {
         if let Some(number) = share(&mut self.list, &bytes) {
             return Some(number);
         }
@@ -54,7 +55,7 @@ impl KeptAnswers {
     pub fn bytes_of(&self, number: Option<u64>) -> &[u8] {
         for kept in &self.list {
             if Some(kept.number) == number {
-                return &kept.bytes;
+                return kept.bytes.as_slice();
             }
         }
         &[]
@@ -80,9 +81,9 @@ impl KeptAnswers {
 }
 
 // Counts one more user of the answer with these bytes.
-fn share(list: &mut [KeptAnswer], bytes: &[u8]) -> Option<u64> {
+fn share(list: &mut [KeptAnswer], bytes: &Unsent) -> Option<u64> {
     for kept in list {
-        if kept.bytes.as_slice() == bytes {
+        if kept.bytes.is_same(bytes) {
             kept.users = kept.users.saturating_add(1);
             return Some(kept.number);
         }

@@ -8,14 +8,14 @@
 //! `Arrivals`, until its request has come, to a `PollConn` that is given out, and from there to `Departures`.
 //!
 //! Where a thing is:
-//! - where a folder that is a shelf keeps what it holds, and which names it can have: `specs/Shelves.antt`,
-//!   `src/places.rt`; how a file is read `src/item_files.rt`; which digest is kept `src/last_digest.rt`; which keys a
-//!   text has `specs/Keys.antt`, `src/keys.rt`
+//! - where a folder that is a shelf keeps what it holds, which names it can have, and which keys a text has: the crate
+//!   `shelf_layout`; how a file is read `src/item_files.rt`; which items are kept with their digests
+//!   `src/last_items.rt`
 //! - how many connections wait, for how long, and which is given out: `src/poll_door.rt`, `src/event_loop.rt`; what has
 //!   come of a request `src/arrivals.rt`, `src/incoming.rt`; which requests are put off for others
 //!   `src/large_answers.rt`; errors of `accept` `src/listening.rt`
 //! - what is read and written of a connection that is served: `src/poll_conn.rt`; how its answer reaches a slow peer,
-//!   and how it is ended `src/departures.rt`, `src/outgoing.rt`, `src/kept_answers.rt`
+//!   and how it is ended `src/departures.rt`, `src/outgoing.rt`, `src/kept_answers.rt`, `src/unsent.rt`
 #![tactic(auto)]
 
 mod arrivals;
@@ -25,16 +25,16 @@ mod folder_shelf;
 mod incoming;
 mod item_files;
 mod kept_answers;
-mod keys;
 mod large_answers;
-mod last_digest;
+mod last_items;
 mod listening;
 mod outgoing;
-mod places;
 mod poll_conn;
 mod poll_door;
 mod shelf_folder;
+mod unsent;
 
 pub use folder_shelf::FolderShelf;
+pub use last_items::LastItems;
 pub use poll_conn::PollConn;
 pub use poll_door::{DoorLimits, LINGER_SECONDS, PATIENCE_SECONDS, PollDoor, WHOLE_SECONDS};

@@ -1,9 +1,13 @@
 //! A listener that is asked only where a connection may be there.
 use dsc_outside::Failed;
 use std::io::{Error, ErrorKind};
-use std::net::OpenListener;
-use std::os::fd::{AsRawFd, RawFd};
+use std::net::{OpenListener, TcpStream};
+use std::os::fd::{AsFd, AsRawFd, RawFd};
 use std::time::{Clock, Duration};
+
+/// For how long the next connection is waited for that comes soon, in milliseconds; the system takes two ticks of its clock for
+/// one that is shorter.
+pub const SOON_MILLIS: u64 = 1;
 
 // How long no connection is taken after the system refused one, in milliseconds.
 const PAUSE_MILLIS: u64 = 100;
@@ -27,8 +31,14 @@ const NO_SOCKET: i32 = 88;
 pub struct Listening<L: Drop> {
     listener: L,
 
+    // Another descriptor of its socket. The longest time for which that waits is set by it, since a listener has no call for this.
+    socket: TcpStream,
+
     // Whether it waits where no connection is there.
     blocks: bool,
+
+    // Whether it then waits for a moment at most.
+    limited: bool,
 
     // Whether a connection may be there. It is reported only once.
     may_accept: bool,
@@ -46,15 +56,20 @@ enum Taken<S> {
     Refused,
 }
 
-impl<L: OpenListener + AsRawFd + Drop> Listening<L> {
+impl<L: OpenListener + AsFd + AsRawFd + Drop> Listening<L> {
     /// Over a listener that blocks.
-    pub fn new(listener: L) -> Listening<L> {
-        Listening {
+    pub fn new(listener: L) -> Result<Listening<L>, Failed> {
+        let Ok(socket) = listener.as_fd().try_clone_to_owned() else {
+            return Err(Failed);
+        };
+        Ok(Listening {
             listener,
+            socket: TcpStream::from(socket),
             blocks: true,
+            limited: false,
             may_accept: true,
             resume: Duration::ZERO,
-        }
+        })
     }
 
     pub fn fd(&self) -> RawFd {
@@ -89,6 +104,17 @@ impl<L: OpenListener + AsRawFd + Drop> Listening<L> {
         }
         self.resume = Duration::ZERO;
         self.set_blocking(false)?;
+        self.take_or_pause(now)
+    }
+
+    /// The same, but waits for the next connection where it comes soon.
+    pub fn accept_soon(&mut self, now: Duration) -> Result<Option<L::Stream>, Failed> {
+        self.set_limited(true)?;
+        self.set_blocking(true)?;
+        self.take_or_pause(now)
+    }
+
+    fn take_or_pause(&mut self, now: Duration) -> Result<Option<L::Stream>, Failed> {
         match self.take()? {
             Taken::Stream(stream) => Ok(Some(stream)),
             Taken::Nothing => Ok(None),
@@ -101,6 +127,7 @@ impl<L: OpenListener + AsRawFd + Drop> Listening<L> {
 
     /// The same, but waits for the next connection as long as it takes.
     pub fn accept_waiting<R: Clock>(&mut self, rt: &R) -> Result<Option<L::Stream>, Failed> {
+        self.set_limited(false)?;
         self.set_blocking(true)?;
         match self.take()? {
             Taken::Stream(stream) => Ok(Some(stream)),
@@ -145,6 +172,18 @@ impl<L: OpenListener + AsRawFd + Drop> Listening<L> {
             }
             self.blocks = blocks;
             self.may_accept = true;
+        }
+        Ok(())
+    }
+
+    fn set_limited(&mut self, limited: bool) -> Result<(), Failed> {
+        if self.limited != limited {
+            let longest = Duration::from_millis(SOON_MILLIS);
+            let time = if limited { Some(longest) } else { None };
+            if self.socket.set_read_timeout(time).is_err() {
+                return Err(Failed);
+            }
+            self.limited = limited;
         }
         Ok(())
     }

@@ -5,8 +5,10 @@ ghost use Rattle.std.specs.Io.KnownBytes.{ReadConsumes, WriteAppends};
 ghost use Rattle.dsc_outside.specs.Causes.{HasCause};
 
 use crate::incoming::{Incoming, Progress};
+use crate::last_items::LastItems;
 use crate::outgoing::{Outgoing, Step};
 use crate::poll_door::DoorLimits;
+use crate::unsent::Unsent;
 use dsc_outside::{Ends, Failed, Sink, Source};
 use std::alloc::Global;
 use std::io::{ErrorKind, Read, Write};
@@ -19,12 +21,15 @@ use std::time::{Clock, Duration};
 pub const MOST_QUEUED: u64 = 65_536;
 
 /// A connection whose request has come. A read gives what came, and fails where nothing more is known of it. What the peer
-/// does not take at once of the answer is kept, and the door sends it on once the connection is handed back. Where no more can
+/// does not take at once of the answer is kept, an item of the shelf without a copy of its own, and the door sends it on once the
+/// connection is handed back. Where no more can
 /// be kept, a write waits for the peer, at most as long as the connection may be used. A clause sees a connection as the
 /// number of its calls that failed.
 #[derive(Drop)]
 pub struct PollConn<'r, R: Net + Clock> {
     rt: &'r R,
+    alloc: Global,
+    items: &'r LastItems,
     limits: DoorLimits,
     stream: R::Stream,
     registered: bool,
@@ -32,7 +37,7 @@ pub struct PollConn<'r, R: Net + Clock> {
     read: usize,
     ended: bool,
     lost: bool,
-    kept: Vec<u8>,
+    kept: Unsent,
     sent: usize,
     written: u64,
     capacity: usize,
@@ -53,6 +58,7 @@ impl<'r, R: Net + Clock> PollConn<'r, R> {
     pub(crate) fn new(
         rt: &'r R,
         alloc: Global,
+        items: &'r LastItems,
         incoming: Incoming<R::Stream>,
         limits: DoorLimits,
         capacity: usize,
@@ -70,6 +76,8 @@ impl<'r, R: Net + Clock> PollConn<'r, R> {
         } = incoming;
         PollConn {
             rt,
+            alloc,
+            items,
             limits,
             stream,
             registered,
@@ -77,7 +85,7 @@ impl<'r, R: Net + Clock> PollConn<'r, R> {
             read: 0,
             ended,
             lost: progress == Progress::Lost,
-            kept: Vec::new(alloc),
+            kept: Unsent::new(alloc),
             sent: 0,
             written: 0,
             capacity,
@@ -111,7 +119,7 @@ impl<'r, R: Net + Clock> PollConn<'r, R> {
     }
 
     /// What is left to do, and what is left of the answer.
-    pub(crate) fn into_outgoing(self, now: Duration) -> (Outgoing<R::Stream>, Vec<u8>) {
+    pub(crate) fn into_outgoing(self, now: Duration) -> (Outgoing<R::Stream>, Unsent) {
         let small = self.is_small();
         let PollConn {
             limits,
@@ -211,10 +219,7 @@ impl<'r, R: Net + Clock> PollConn<'r, R> {
         ensures { self.new ≡ self.old }
     {
         let after = self.kept.len().saturating_add(piece.len());
-        if self.capacity < after
-            || self.kept.reserve_exact(piece.len()).is_err()
-            || self.kept.extend_from_slice(piece).is_err()
-        {
+        if self.capacity < after || self.kept.append(self.alloc, self.items, piece).is_err() {
             return false;
         }
         self.sent = self.sent.saturating_add(taken);
@@ -225,8 +230,9 @@ impl<'r, R: Net + Clock> PollConn<'r, R> {
     fn flush(&mut self) -> Result<(), Failed>
         ensures { self.new ≡ self.old }
     {
-        let kept = mem::replace(&mut self.kept, Vec::new(*self.came.allocator()));
-        let rest = &kept[self.sent.min(kept.len())..];
+        let kept = mem::replace(&mut self.kept, Unsent::new(self.alloc));
+        let bytes = kept.as_slice();
+        let rest = &bytes[self.sent.min(bytes.len())..];
         self.sent = 0;
         self.end = send_waiting(self.rt, &mut self.stream, rest, self.limits, self.end)?;
         Ok(())

@@ -5,12 +5,14 @@ ghost use Rattle.pull_adapters.specs.Doors.{none_shown, none_shown_back};
 ghost use Rattle.pull_outside.specs.Door.{TakesFirst};
 
 use crate::event_loop::EventLoop;
+use crate::last_items::LastItems;
 use crate::poll_conn::PollConn;
 use dsc_outside::Failed;
 use pull_outside::{Door, Parting};
 use std::alloc::Global;
 use std::marker::Model;
 use std::net::Net;
+use std::os::fd::AsFd;
 use std::time::{Clock, Duration};
 
 /// How long a connection may send or take nothing, in seconds.
@@ -69,16 +71,20 @@ impl<'r, R: Net + Clock> Model for PollDoor<'r, R> {
     ghost view = { λ d. record { out = d.out; faults = d.faults } };
 }
 
-impl<'r, R: Net + Clock> PollDoor<'r, R> {
+impl<'r, R: Net + Clock> PollDoor<'r, R>
+where
+    R::Listener: AsFd,
+{
     /// The door at an address, `HOST:PORT`, whose connections take at most 30 seconds and a second more for each megabyte
-    /// that the peer takes, and 10 of these with nothing that comes or is taken.
-    pub fn new(rt: &'r R, alloc: Global, address: String) -> PollDoor<'r, R>
+    /// that the peer takes, and 10 of these with nothing that comes or is taken. The items are those that a shelf gave last.
+    pub fn new(rt: &'r R, alloc: Global, address: String, items: &'r LastItems) -> PollDoor<'r, R>
         ensures { result ≡ record { out = 0; faults = 0 } }
     {
         PollDoor::with_limits(
             rt,
             alloc,
             address,
+            items,
             DoorLimits {
                 patience: Duration::from_secs(PATIENCE_SECONDS),
                 whole: Duration::from_secs(WHOLE_SECONDS),
@@ -92,6 +98,7 @@ impl<'r, R: Net + Clock> PollDoor<'r, R> {
         rt: &'r R,
         alloc: Global,
         address: String,
+        items: &'r LastItems,
         limits: DoorLimits,
     ) -> PollDoor<'r, R>
         ensures { result ≡ record { out = 0; faults = 0 } }
@@ -101,6 +108,7 @@ impl<'r, R: Net + Clock> PollDoor<'r, R> {
                 rt,
                 alloc,
                 address,
+                items,
                 limits,
                 event_loop: None,
             },
@@ -121,7 +129,10 @@ impl<'r, R: Net + Clock> PollDoor<'r, R> {
     }
 }
 
-impl<'r, R: Net + Clock> Door for PollDoor<'r, R> {
+impl<'r, R: Net + Clock> Door for PollDoor<'r, R>
+where
+    R::Listener: AsFd,
+{
     type Conn = PollConn<'r, R>;
 
     ghost coming = { λ d. none_shown };
@@ -166,18 +177,22 @@ struct Port<'r, R: Net + Clock> {
     rt: &'r R,
     alloc: Global,
     address: String,
+    items: &'r LastItems,
     limits: DoorLimits,
     event_loop: Option<EventLoop<R>>,
 }
 
-impl<'r, R: Net + Clock> Port<'r, R> {
+impl<'r, R: Net + Clock> Port<'r, R>
+where
+    R::Listener: AsFd,
+{
     fn take(&mut self, out: usize) -> Result<PollConn<'r, R>, Failed> {
         let rt = self.rt;
-        let (alloc, limits) = (self.alloc, self.limits);
+        let (alloc, items, limits) = (self.alloc, self.items, self.limits);
         let event_loop = self.opened()?;
         let incoming = event_loop.next(rt, out)?;
         let capacity = event_loop.capacity();
-        Ok(PollConn::new(rt, alloc, incoming, limits, capacity))
+        Ok(PollConn::new(rt, alloc, items, incoming, limits, capacity))
     }
 
     fn opened(&mut self) -> Result<&mut EventLoop<R>, Failed> {

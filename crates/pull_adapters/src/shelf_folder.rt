@@ -1,12 +1,11 @@
 //! A folder with what a server hands out.
 ghost use Rattle.std.specs.Prelude.{◌≡◌, Ok, false};
-ghost use Rattle.pull_adapters.specs.Shelves.{is_shelf_name};
+ghost use Rattle.shelf_layout.specs.Layout.{is_shelf_name};
 ghost use Rattle.pull_outside.specs.Shelf.{Leaves};
 
 use crate::item_files::append_item;
-use crate::keys::key_at;
-use crate::places::{configuration_place, is_shelf_name, keys_place, package_place};
 use pull_outside::ShelfError;
+use shelf_layout::{configuration_place, is_shelf_name, key_at, keys_place, package_place};
 use std::alloc::Global;
 use std::rt::Files;
 

@@ -11,7 +11,7 @@
 use dsc_outside::{Failed, Sink, write_all};
 use fleet_view::serve_fleet;
 use mof_values::Memory;
-use pull_adapters::{FolderShelf, PollDoor};
+use pull_adapters::{FolderShelf, LastItems, PollDoor};
 use pull_serving::ServeStatus;
 use real_outside::{FileDisk, OutSink, arguments, hold_standard_descriptors};
 use serve_words::{ServeWords, WordsError, serve_words};
@@ -39,8 +39,9 @@ fn run_server(rt: &HostRuntime, arguments: &[String]) -> ServeStatus {
         Err(Memory) => return ServeStatus::Memory,
     };
     let mut disk = FileDisk::new(rt, places.store);
-    let mut shelf = FolderShelf::new(rt, places.shelf);
-    let mut door = PollDoor::new(rt, rt.alloc(), places.listen);
+    let items = LastItems::new();
+    let mut shelf = FolderShelf::new(rt, places.shelf, &items);
+    let mut door = PollDoor::new(rt, rt.alloc(), places.listen, &items);
     let mut output = OutSink::new(rt);
     let status = serve_fleet(
         rt.alloc(),

@@ -7,7 +7,7 @@ use Rattle.std.proofs.lemmas.List.Splits.{length-slice_split, slice_split_first,
 use Rattle.std.proofs.lemmas.List.Sums.{fails_before_first, position_or_len_is}
 use Rattle.std.specs.List.{position, position_or_len, slice_split}
 use Rattle.std.specs.Str.Lines.{lines_of_parts, strip_carriage_return}
-use Rattle.pull_adapters.specs.Keys.{is_line_feed, keys_in, keys_of, with_line}
+use Rattle.shelf_layout.specs.Keys.{is_line_feed, keys_in, keys_of, with_line}
 
 -- where a part stands after it, a part is a line that ends with a line feed
 lines_before : (line : List ℕ) (parts : List (List ℕ)) → 0 < length parts → lines_of_parts (line ∷ parts) ≡ strip_carriage_return line ∷ lines_of_parts parts

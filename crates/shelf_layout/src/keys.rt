@@ -3,7 +3,7 @@ ghost use Rattle.std.specs.Prelude.{◌≡◌, ◌≤◌, ◌-◌, IfSome, lengt
 ghost use Rattle.std.specs.List.{position};
 ghost use Rattle.std.specs.Option.{option_copied};
 ghost use Rattle.std.specs.Str.Lines.{strip_carriage_return};
-ghost use Rattle.pull_adapters.specs.Keys.{is_line_feed, keys_in, with_line};
+ghost use Rattle.shelf_layout.specs.Keys.{is_line_feed, keys_in, with_line};
 
 /// The key of that index, counted from 0: the lines that are not empty are the keys. A line ends with a line feed, before
 /// which one carriage return is left out, or with the text.

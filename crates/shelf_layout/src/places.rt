@@ -1,19 +1,19 @@
 //! Where a folder that is a shelf keeps what it holds.
 ghost use Rattle.std.specs.Prelude.{◌≡◌, IfOk};
 ghost use Rattle.std.specs.Path.{path_buf_bytes};
-ghost use Rattle.pull_adapters.specs.Shelves.{configuration_place, is_shelf_name, keys_place, package_place};
+ghost use Rattle.shelf_layout.specs.Layout.{configuration_place, is_shelf_name, keys_place, package_place};
 
 use std::alloc::{AllocError, Global};
 use std::path::PathBuf;
 
-/// The folder with a file for each configuration.
-pub const CONFIGURATIONS: &str = "configurations";
+// The folder with a file for each configuration.
+const CONFIGURATIONS: &str = "configurations";
 
-/// The folder with a file for each package of a module.
-pub const MODULES: &str = "modules";
+// The folder with a file for each package of a module.
+const MODULES: &str = "modules";
 
-/// The text with a key on each line that is not empty.
-pub const KEYS: &str = "keys";
+// The text with a key on each line that is not empty.
+const KEYS: &str = "keys";
 
 /// Answers whether something on a shelf can have the name. Another one could lead out of its folder, or is hidden there.
 pub fn is_shelf_name(name: &str) -> bool

@@ -1,9 +1,9 @@
 -- The first line of the text is before its first line feed, or the whole text.
 use Rattle.std.proofs.Common.{◌∙◌, ◌+◌, ◌-◌, sym, ap, length, drop, arith, length-drop}
 use Rattle.std.proofs.lemmas.List.{take_all}
-use Rattle.pull_adapters.proofs.KeyLines.{keys_at, keys_of_line}
-use Rattle.pull_adapters.specs.Keys.{keys_in, with_line}
-use Rattle.pull_adapters.proofs.keys.split_line.Goals as goal
+use Rattle.shelf_layout.proofs.KeyLines.{keys_at, keys_of_line}
+use Rattle.shelf_layout.specs.Keys.{keys_in, with_line}
+use Rattle.shelf_layout.proofs.keys.split_line.Goals as goal
 
 pub returns-in-None-clause-keys : goal.returns-in-None-clause-keys
 returns-in-None-clause-keys c = keys_of_line c.args.text.now (sym c.line_feed.ensures ∙ c.in-None.is)

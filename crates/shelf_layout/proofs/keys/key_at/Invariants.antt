@@ -1,7 +1,7 @@
 use Rattle.std.proofs.Common.{◌≡◌, ◌≤◌, ◌+◌, length}
 use Rattle.std.specs.Prelude.{slice_get}
-use Rattle.pull_adapters.specs.Keys.{keys_in}
-use Rattle.pull_adapters.proofs.keys.key_at.Given as goal
+use Rattle.shelf_layout.specs.Keys.{keys_in}
+use Rattle.shelf_layout.proofs.keys.key_at.Given as goal
 
 abbrev pub invariant-loop : goal.invariant-loop
 invariant-loop l = record {
