@@ -1,5 +1,5 @@
 -- Bytes that are compared piece by piece with what a reader gives.
-use Rattle.std.proofs.Common.{◌≡◌, ◌==◌, ◌++◌, Bool, true, false, [], ◌∷◌, length, take, drop, List, ℕ, Option, Some, None, IfSome, sym, ap, ◌∙◌, arith, append_assoc}
+use Rattle.std.proofs.Common.{◌≡◌, ◌==◌, ◌++◌, Bool, true, false, [], ◌∷◌, length, take, drop, List, ℕ, Option, Some, None, IfSome, Result, Ok, Err, IfOk, sym, ap, refl, ◌∙◌, arith, append_assoc, length-append}
 use Rattle.std.specs.Io.KnownBytes.{Consumes, IsAtEnd}
 use Rattle.std.specs.Str.{bytes_eq}
 use Rattle.std.proofs.KnownBytes.{Consumes-trans, Consumes-whole}
@@ -46,3 +46,45 @@ pub moved : (gone piece bytes rest after : List ℕ) → bytes ≡ gone ++ rest 
     → bytes ≡ (gone ++ piece) ++ after
 moved gone piece bytes rest after split same left =
     split ∙ ap (λ l. gone ++ l) (sym (take-append-drop (length piece) rest) ∙ ap (λ l. l ++ drop (length piece) rest) ((bytes_eq-Decides (take (length piece) rest) piece).0 same) ∙ ap (λ l. piece ++ l) (sym left)) ∙ sym (append_assoc gone piece after)
+
+-- what is so of all that a reader gives is so where that has a length
+pub sized : (a : Option (List ℕ)) (size : ℕ) (P : List ℕ → Type 0) → IfSome a P → IfSome a (λ all. length all ≡ size → P all)
+sized None size P all = tt
+sized (Some all) size P is = λ _. is
+
+-- what gave the bytes gave no other where it has as many
+pub same_sized : (a b : Option (List ℕ)) (piece bytes rest : List ℕ) (size : ℕ) → Consumes a b piece → bytes_eq (take (length piece) bytes) piece ≡ true
+    → rest ≡ drop (length piece) bytes → length rest ≡ 0 → length bytes ≡ size → IfSome a (λ all. length all ≡ size → true ≡ bytes_eq all bytes)
+same_sized a b piece bytes rest size gave same left none is = from a b rest gave (moved [] piece bytes bytes rest refl same left) none
+  where
+    equal : (more rest : List ℕ) → bytes ≡ piece ++ rest → length rest ≡ 0 → length (piece ++ more) ≡ size → piece ++ more ≡ bytes
+    equal [] [] split none whole = sym split
+    equal (x ∷ more) [] split none whole =
+        absurd (omega (arith, length-append piece (x ∷ more), length-append piece [], ap length split, whole, is))
+    equal more (x ∷ rest) split none whole = absurd (omega (arith, none))
+
+    from : (a b : Option (List ℕ)) (rest : List ℕ) → Consumes a b piece → bytes ≡ piece ++ rest → length rest ≡ 0
+        → IfSome a (λ all. length all ≡ size → true ≡ bytes_eq all bytes)
+    from None b rest gave split none = tt
+    from (Some all) None rest gave split none = absurd gave
+    from (Some all) (Some more) rest gave split none = λ whole.
+        sym ((bytes_eq-Decides all bytes).1 (gave ∙ equal more rest split none (sym (ap length gave) ∙ whole)))
+
+-- where a piece is the front of the bytes, the rest decides
+pub rest_decides : {E : Type 0} (r : Result Bool E) (a b : Option (List ℕ)) (piece bytes rest : List ℕ) (size : ℕ) → Consumes a b piece
+    → bytes_eq (take (length piece) bytes) piece ≡ true → rest ≡ drop (length piece) bytes → IfOk r (λ same. IfSome b (λ left. same ≡ bytes_eq left rest))
+    → IfOk r (λ same. IfSome a (λ all. length all ≡ size → same ≡ bytes_eq all bytes))
+rest_decides (Err e) a b piece bytes rest size gave front left decides = tt
+rest_decides (Ok same) a b piece bytes rest size gave front left decides = sized a size (λ all. same ≡ bytes_eq all bytes) (from a b gave decides)
+  where
+    split : bytes ≡ piece ++ rest
+    split = moved [] piece bytes bytes rest refl front left
+
+    from : (a b : Option (List ℕ)) → Consumes a b piece → IfSome b (λ left. same ≡ bytes_eq left rest) → IfSome a (λ all. same ≡ bytes_eq all bytes)
+    from None b gave decides = tt
+    from (Some all) None gave decides = absurd gave
+    from (Some all) (Some more) gave decides = same_from_decides same (bytes_eq all bytes) (
+      λ is. gave ∙ ap (λ l. piece ++ l) ((bytes_eq-Decides more rest).0 (sym decides ∙ is)) ∙ sym split,
+      λ equal. decides ∙ (bytes_eq-Decides more rest).1 (append_cancel_left piece more rest (sym gave ∙ equal ∙ split)),
+    )
+        (bytes_eq-Decides all bytes)

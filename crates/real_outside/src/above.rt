@@ -58,6 +58,7 @@ where
 {
     /// Walks to the folders of that path. Those that are held and stand as they were found before stay so.
     pub(super) fn walk(&mut self, folders: &str) -> Result<Above, HostError> {
+        self.written = None;
         let kept = self.count_kept(folders)?;
         self.ancestors.keep(kept);
         for name in folders.split('/').skip(self.ancestors.len()) {

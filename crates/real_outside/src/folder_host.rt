@@ -35,7 +35,8 @@ use std::rt::Files;
 /// too, there or above, is opened and not read. A file in the folders of the last path is looked at and opened by its whole path, and is
 /// read where the system has what was opened at that path. Any other that was changed in the ten seconds before the host was begun,
 /// or later, is looked at again while it is open. A pipe that comes there is waited for until somebody writes to it: what calls
-/// the host has a limit of its own.
+/// the host has a limit of its own. A file that a call placed where no file was stays open until the next call, but for a question
+/// about reboots: where that compares it, and finds it at its path, the file is read as it is open.
 ///
 /// A removal takes away what the last look at that path found and nothing else, and a folder that was found empty only
 /// while it is; what another user put there since then is a failure. So is anything but the written file in the place of a

@@ -97,7 +97,15 @@ where
         self.place(place.as_str(), bytes, None)
     }
 
-    pub fn reboot_wanted(&self, id: &str) -> Result<bool, HostError> {
+    pub fn reboot_wanted(&mut self, id: &str) -> Result<bool, HostError> {
+        let outcome = self.has_reboot(id);
+        if !matches!(outcome, Ok(false)) {
+            self.written = None;
+        }
+        outcome
+    }
+
+    fn has_reboot(&self, id: &str) -> Result<bool, HostError> {
         let mut text = Vec::new(self.alloc());
         if let Some(host) = self.hold_host_of_reboots()? {
             let spot = host.look(&self.rt, self.alloc(), REBOOT)?;

@@ -44,6 +44,10 @@ where
     // A name that a file was given in the folder of that identity.
     pub(super) placed: Option<(Identity, String)>,
 
+    // The file that the last call placed at a path, where it has the mode of a new one: nobody runs that, which the system would
+    // refuse as long as it is open. Whether anybody wants a reboot may be asked in between.
+    pub(super) written: Option<R::File>,
+
     // The folder in which a file was placed last.
     synced: Option<OpenFolder<R::File>>,
 
@@ -76,6 +80,7 @@ where
             is_found: false,
             last_look: None,
             placed: None,
+            written: None,
             synced: None,
             marks: Marks::new(),
             cleared: Vec::new(alloc),
@@ -120,6 +125,17 @@ where
         bytes: &[u8],
         own: Option<Identity>,
     ) -> Result<(), HostError> {
+        let _file = self.place_open(path, bytes, own)?;
+        Ok(())
+    }
+
+    /// The same, and hands on the file, still open, where it has the mode of a new one.
+    pub(super) fn place_open(
+        &mut self,
+        path: &str,
+        bytes: &[u8],
+        own: Option<Identity>,
+    ) -> Result<Option<R::File>, HostError> {
         let Some((folders, name)) = split_path(path) else {
             return Err(HostError::Failed);
         };
@@ -132,9 +148,10 @@ where
             let _ = fs::remove_file(&self.rt, staged.place.as_str());
         }
         outcome?;
-        drop(staged);
+        let file = staged.into_new();
         self.remember_placed(name)?;
-        self.sync_last_folder()
+        self.sync_last_folder()?;
+        Ok(file)
     }
 
     // Writes a file for that name beside it in the last folder, under a name with that mark.

@@ -43,6 +43,18 @@ impl<F: OpenFile + Drop> Staged<F> {
     }
 }
 
+impl<F: Drop> Staged<F> {
+    /// The file, where it did not get the mode of another one.
+    pub fn into_new(self) -> Option<F> {
+        let Staged { spot, file, .. } = self;
+        if replaced_file(&spot).is_some() {
+            None
+        } else {
+            Some(file)
+        }
+    }
+}
+
 /// Writes a file with these bytes beside the spot, under a name with that mark, and syncs it. Its name there is one that
 /// nobody else knows before. It has the mode of a file that stands at the spot, and its owner and group where they may be
 /// set. A folder at the spot is a failure. Where it fails nothing is left.
@@ -79,7 +91,7 @@ where
     R::File: AsFd,
 {
     let mut options = OpenOptions::new();
-    options.write(true).create_new(true);
+    options.read(true).write(true).create_new(true);
     if replaced.is_some() {
         options.mode(PRIVATE);
     }

@@ -4,7 +4,7 @@ ghost use Rattle.host_layout.specs.Layout.{is_plain_path};
 ghost use Rattle.dsc_outside.specs.declared.host.HostError.TheVariants as errors;
 
 use crate::above::{Above, split_path};
-use crate::comparing::gives_exactly;
+use crate::comparing::{gives_at_once, gives_sized};
 use crate::emptiness::is_inhabited;
 use crate::identity::Identity;
 use crate::last_look::LastLook;
@@ -29,17 +29,52 @@ where
     {
         let place = root_path(self.alloc(), path)?;
         self.last_look = None;
+        self.written = None;
         if let Some(identity) = self.held_with_a_name(place.as_str())? {
             self.last_look = Some(LastLook::new(place, PathState::Folder, Some(identity)));
             return Ok(PathState::Folder);
         }
-        let spot = self.look_for(place.as_str())?;
+        let spot = match self.seen_in_last(place.as_str())? {
+            Some(spot) => Some(spot),
+            None => self.look_for(place.as_str())?,
+        };
         let (state, identity) = match &spot {
             Some(spot) => (self.state_of(spot)?, spot.identity()),
             None => (PathState::Nothing, None),
         };
         self.last_look = Some(LastLook::new(place, state, identity));
         Ok(state)
+    }
+
+    // What stands at that place, where that is no folder, and the folders above it are those above the last path: it is looked at by its
+    // whole path, and the last of them must be where that leads.
+    fn seen_in_last(&self, place: &str) -> Result<Option<Spot>, HostError> {
+        match self.look_in_last(place)? {
+            Some(spot) if spot.kind() != Kind::Folder => {
+                let is_standing = self.stands_above(place)?;
+                Ok(is_standing.then_some(spot))
+            }
+            _ => Ok(None),
+        }
+    }
+
+    // Looks at that place by its whole path, where the folders above it are those above the last path by their names.
+    fn look_in_last(&self, place: &str) -> Result<Option<Spot>, HostError> {
+        let Some((folders, _)) = split_path(place) else {
+            return Ok(None);
+        };
+        if !self.ancestors.are(folders) {
+            return Ok(None);
+        }
+        Ok(Spot::look(&self.rt, self.place_in_host(place)?).ok())
+    }
+
+    // Answers whether the system has the last folder at the path that is above that place.
+    fn stands_above(&self, place: &str) -> Result<bool, HostError> {
+        match split_path(place) {
+            Some((folders, _)) => self.stands(folders, self.ancestors.len()),
+            None => Ok(false),
+        }
     }
 
     // Which folder stands at that place, where it is one that is held, and has a name in it that it had before.
@@ -84,7 +119,8 @@ where
         ensures { is_plain_path path.now ≡ false → result ≡ Err errors.Failed }
     {
         let place = root_path(self.alloc(), path)?;
-        if let Some(answer) = self.equals_in_last(place.as_str(), bytes)? {
+        let written = self.written.take();
+        if let Some(answer) = self.equals_in_last(place.as_str(), &written, bytes)? {
             return Ok(answer);
         }
         match self.look_for(place.as_str())? {
@@ -105,22 +141,47 @@ where
 
     // The same of a file in the folders above the last path: what is found is opened by its whole path, and is the file that stands
     // there where the system has it at that path. There is no answer where that does not tell.
-    fn equals_in_last(&self, place: &str, bytes: &[u8]) -> Result<Option<bool>, HostError> {
-        let Some((folders, _)) = split_path(place) else {
+    fn equals_in_last(
+        &self,
+        place: &str,
+        written: &Option<R::File>,
+        bytes: &[u8],
+    ) -> Result<Option<bool>, HostError> {
+        let Some(spot) = self.look_in_last(place)? else {
             return Ok(None);
         };
-        if !self.ancestors.are(folders) {
-            return Ok(None);
+        if self.has_written(place, &spot, written, bytes)? {
+            return Ok(Some(true));
         }
-        let path = self.place_in_host(place)?;
-        match Spot::look(&self.rt, path) {
-            Ok(spot) if spot.kind() == Kind::File => self.standing_equals(place, &spot, bytes),
-            Ok(spot) if spot.kind() == Kind::Nothing => {
-                let is_standing = self.stands(folders, self.ancestors.len())?;
+        match spot.kind() {
+            Kind::File => self.standing_equals(place, &spot, bytes),
+            Kind::Nothing => {
+                let is_standing = self.stands_above(place)?;
                 Ok(is_standing.then_some(false))
             }
             _ => Ok(None),
         }
+    }
+
+    // Answers whether what was seen at that place is the file that was written last, which is still open, and has these bytes. A file
+    // that is open has its number alone.
+    fn has_written(
+        &self,
+        place: &str,
+        spot: &Spot,
+        written: &Option<R::File>,
+        bytes: &[u8],
+    ) -> Result<bool, HostError> {
+        let Some(file) = written else {
+            return Ok(false);
+        };
+        let found = file.metadata()?;
+        let number = file.as_fd().as_raw_fd();
+        Ok(
+            spot.is(&found)
+                && self.is_at(number, place)?
+                && gives_at_once(number, found.len(), bytes),
+        )
     }
 
     fn standing_equals(
@@ -132,10 +193,11 @@ where
         let Ok(mut file) = fs::open(&self.rt, spot.place.as_str()) else {
             return Ok(None);
         };
-        if !file.metadata()?.is_file() || !self.is_at(file.as_fd().as_raw_fd(), place)? {
+        let found = file.metadata()?;
+        if !found.is_file() || !self.is_at(file.as_fd().as_raw_fd(), place)? {
             return Ok(None);
         }
-        Ok(Some(gives_exactly(&mut file, bytes)?))
+        Ok(Some(gives_sized(&mut file, found.len(), bytes)?))
     }
 
     pub fn put_file(&mut self, path: &str, bytes: &[u8]) -> Result<(), HostError>
@@ -144,7 +206,8 @@ where
         let place = root_path(self.alloc(), path)?;
         self.last_look = None;
         let own = self.own_folder()?;
-        self.place(place.as_str(), bytes, own)
+        self.written = self.place_open(place.as_str(), bytes, own)?;
+        Ok(())
     }
 
     pub fn make_dir(&mut self, path: &str) -> Result<(), HostError>

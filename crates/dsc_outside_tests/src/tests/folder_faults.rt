@@ -411,6 +411,11 @@ const ROWS: &[Row<'_>] = &[
     (Same("a/file", b"old"), Yes),
     (State("b"), Folder),
     (Put("a/other", b"new"), Done),
+    (Same("a/other", b"new"), Yes),
+    (Same("a/other", b"new"), Yes),
+    (Remove("a/other"), Done),
+    (Put("a/other", b"new"), Done),
+    (Same("a/other", b"neu"), No),
     (State("a"), Folder),
     (Same("a/none", b""), No),
     (State("a/none"), Nothing),
@@ -423,14 +428,20 @@ const ROWS: &[Row<'_>] = &[
 
 const HELD: &[SystemCall] = &[
     Look, Find, Locate, Look, Find, Look, // The folders are held: what is opened by the whole path is where the file is to be.
-    Look, Open, Compare, Locate, Read, Read, // The first of them is held, and looked at again.
+    Look, Open, Compare, Locate, Read, // The first of them is held, and looked at again.
     Look, Look, List, // Both stand: the path leads to the last one, and no link is in it.
     Look, Locate, List, Look, Create, Write, Write, Sync, Rename, Locate, Open, SyncFolder,
+    // What was placed is still open, and stands at its path.
+    Look, Compare, Locate, // It is open no more.
+    Look, Open, Compare, Locate, Read, // It is taken away, and placed once more.
+    Look, Locate, Look, Unlink, Open, SyncFolder, Look, Locate, Look, Create, Write, Write, Sync,
+    Rename, Locate, SyncFolder, // It has other bytes than these, as it is read by its path.
+    Look, Compare, Locate, Open, Compare, Locate, Read,
     // A name that the folder had is there, and the folder is where it was.
     Look, Locate, // Nothing is there.
-    Look, Locate, Look, Locate, Look, // The folder is open, and is synced as it is.
+    Look, Locate, Look, Locate, // The folder is open, and is synced as it is.
     Look, Locate, Look, Create, Write, Sync, Compare, Mode, Rename, Locate, SyncFolder, Look, Open,
-    Compare, Locate, Read, Read, // Another folder takes the place of the second one.
+    Compare, Locate, Read, // Another folder takes the place of the second one.
     Look, Look, Find, Look, List, Look, Locate, Look, Find, Look, Locate,
 ];
 
