@@ -10,6 +10,7 @@ use Rattle.node_state.specs.Table.{Steps}
 use Rattle.node_state.proofs.SlotSteps.{parts_come_from_stages}
 use Rattle.node_state.proofs.SoundSteps.{steps_are_sound}
 use Rattle.node_store.specs.Store.{IsKept, StoreTerm}
+use Rattle.node_store.proofs.Formats.{leads_in}
 use Rattle.node_store.proofs.Ranges.{leads_sound}
 use Rattle.dsc_node.specs.Headline.{AreSound}
 use Rattle.dsc_node.specs.Path.{IsOnTheWay}
@@ -22,7 +23,7 @@ steps_sound old new (event ∷ work) (mid, step, more) sound = steps_sound mid n
 
 -- the node of a store is sound
 pub kept_sound : {D : Type 0} (d : disks.Ghosts D) (disk : D) (store : StoreTerm) → IsKept d disk store → Sound store.node
-kept_sound d disk store kept = leads_sound kept.bodies store.node kept.leads
+kept_sound d disk store kept = leads_sound kept.bodies store.node (leads_in store.blobs kept.bodies store.node kept.leads)
 
 pub are_sound : {D : Type 0} (d : disks.Ghosts D) (begin : D) (from : Node) (work : List Event) → Sound from → AreSound d begin from work
 are_sound d begin from work sound node (inl stood) = leads_sound stood.stands.bodies node stood.stands.leads

@@ -10,6 +10,7 @@ use Rattle.node_state.specs.declared.event.Event.{Event}
 use Rattle.node_state.specs.Table.{Step, Steps}
 use Rattle.node_store.specs.Stands.{BeforeOrAfter, Stands}
 use Rattle.node_store.specs.Store.{IsKept, StoreTerm}
+use Rattle.node_store.proofs.Formats.{leads_in}
 use Rattle.dsc_node.specs.Path.{IsOnTheWay}
 
 pub steps-append : (old mid new : Node) (first second : List Event) → Steps old first mid → Steps mid second new → Steps old (first ++ second) new
@@ -45,7 +46,7 @@ kept_stands d disk store kept = λ c there. record {
   stands = record {
     bodies = kept.bodies;
     gives = subst (λ (s : Shape). Gives s c kept.bodies) kept.shape (text_gives store.log.shape store.log.second store.log.closed c kept.bodies (kept.of.each c there));
-    leads = kept.leads;
+    leads = leads_in store.blobs kept.bodies store.node kept.leads;
   };
   has = refl;
 }

@@ -30,7 +30,7 @@ use Rattle.rehearsal.specs.Objects as rehearsals
 use Rattle.rehearsal.specs.Objects.{disk_ghosts, stopped_ghosts}
 use Rattle.rehearsal.specs.Playing.{Ends, EndsOrStops, HasUnfailed}
 use Rattle.rehearsal.specs.Rows.{ending_of}
-use Rattle.rehearsal.specs.World.{World}
+use Rattle.rehearsal.specs.World.{HasLasted, World}
 use Rattle.rehearsal.specs.declared.row.Ending.{Ending}
 use Rattle.rehearsal.specs.declared.row.Ending.TheVariants.{Named, Stopped}
 use Rattle.rehearsal.specs.declared.row.Row.{Row}
@@ -57,7 +57,7 @@ use Rattle.lcm_program.specs.Started.{outside_of}
 use Rattle.lcm_program.specs.StartsOrRests.{IsNodeStart, IsStartBy}
 use Rattle.lcm_program.specs.Words.{IsForm}
 use Rattle.lcm_program.proofs.StartsOrRests.{goes}
-use Rattle.lcm_program.proofs.TrueTraces.{IsTold, never_rose, of_command, rests}
+use Rattle.lcm_program.proofs.TrueTraces.{IsTold, never_rose, of_command, rested}
 
 -- ---- the node that a start leaves, where its disk crosses from one world to the next
 
@@ -143,11 +143,14 @@ module _ {K D H : Type 0} (source : ends.Ghosts (List ℕ)) (sink : ends.Ghosts 
   abbrev objects_after : Objects (List ℕ) K D (Kinds H) rehearsals.Link ℕ
   objects_after = with_output done.new after
 
-  told : IsTold host world.host next.host before.machine after.machine
+  abbrev Told : Type 0
+  Told = IsTold source sink disk host link clock world.host next.host words done.status objects_before objects_after fresh held holds
+
+  told : Told
   told = by done.did.asked where
-    by : (((command : Command) × IsForm command words) ⊎ ((command : Command) → IsForm command words → ⊥)) → IsTold host world.host next.host before.machine after.machine
-    by (inl (command, form)) = of_command source sink disk host link clock world.host next.host done.status objects_before objects_after fresh held holds command (done.did.did command form)
-    by (inr none) = rests source sink disk host link clock world.host next.host done.status objects_before objects_after fresh held holds (done.did.nothing none).untouched.machine
+    by : (((command : Command) × IsForm command words) ⊎ ((command : Command) → IsForm command words → ⊥)) → Told
+    by (inl (command, form)) = of_command source sink disk host link clock world.host next.host words done.status objects_before objects_after fresh held holds command form (done.did.did command form)
+    by (inr none) = rested source sink disk host link clock world.host next.host words done.status objects_before objects_after fresh held holds (done.did.nothing none).untouched.machine
 
   pub goes_by : (By : Node → List Event → Node → Type 0)
       → ((node later : Node) → Stands world.image node → Stands next.image later → (is : IsNodeStart o objects_before objects_after) → By node (work_of o.outside is.one) later)
@@ -165,13 +168,14 @@ module _ {K D H : Type 0} (source : ends.Ghosts (List ℕ)) (sink : ends.Ghosts 
   pub goes_to_prefix : StartsDoPrefixes o.outside → Goes o further AfterPrefix words before after world next
   goes_to_prefix prefix = goes_by AfterPrefix (λ node later begins leaves is. does_prefix o objects_before objects_after world next crosses meaning node later begins leaves is prefix)
 
-  pub goes_unfailed : StartsDoAllWork o.outside → (row : Row) → row.ending ≡ Named name → NoneRose o objects_before objects_after → host.faults (host_of after.machine) ≡ 0
+  pub goes_unfailed : StartsDoAllWork o.outside → (row : Row) → row.ending ≡ Named name → NoneRose o objects_before objects_after → HasLasted after.link.disk → host.faults (host_of after.machine) ≡ 0
       → GoesUnfailed o further words before after world next row
   unfolding goes_by
-  goes_unfailed all row says counts none = record {
+  goes_unfailed all row says counts served none = record {
     goes = goes_by Steps (λ node later begins leaves is. does_all o objects_before objects_after world next crosses meaning node later begins leaves is all counts.disk);
     says = says ∙ ap (λ (text : List ℕ). Named text) done.named;
     counts = counts;
+    server = never_rose (disk_ghosts.faults before.link.disk) (disk_ghosts.faults after.link.disk) served.unfailed;
     entries = told.blames none;
   }
 
@@ -213,7 +217,7 @@ module _ {P K : Type 0} (source : ends.Ghosts (List ℕ)) (sink : ends.Ghosts K)
         (shows (host_of start.after.machine) ∙ ap (λ (w : World). Some w.host) (sym start.leaves))
         all row start.tells.ends
         (none_rose disk_ghosts host (with_output done.old start.before) (with_output done.new start.after) start.disk.unfailed (host_none (host_of start.after.machine)))
-        (host_none (host_of start.after.machine))
+        start.server (host_none (host_of start.after.machine))
 
   -- those with a stop
   module _ (host : hosts.Ghosts HostToStop) (shows : (h : HostToStop) → host.shown h ≡ Some (shown_of h.host)) (counts : (h : HostToStop) → host.faults h ≡ h.host.calls.faults) where
@@ -239,7 +243,7 @@ module _ {P K : Type 0} (source : ends.Ghosts (List ℕ)) (sink : ends.Ghosts K)
               let unfailed = start.unstopped named.0 in
               let none = counts (host_of start.after.machine) ∙ unfailed.of_host in
               goes_unfailed source sink stopped_ghosts host link clock meaning words start.name start.before start.after world next done crosses start.runs.begins.unasked held holds all row named.1
-              (none_rose stopped_ghosts host (with_output done.old start.before) (with_output done.new start.after) unfailed.of_disk none) none,
+              (none_rose stopped_ghosts host (with_output done.old start.before) (with_output done.new start.after) unfailed.of_disk none) start.server none,
         )
 
 -- ---- over the forms in memory

@@ -29,7 +29,7 @@ use Rattle.pull_client.specs.declared.error.PeerError.{PeerError}
 use Rattle.pull_client.specs.Content.{GivesBody, GivesPart, IsPartOf, checked_body, content_of}
 use Rattle.pull_client.specs.Requests.{host_text}
 use Rattle.pull_client.specs.Heard.{Heard, accepted, link_failed, no_answer, no_memory, not_accepted, too_long}
-use Rattle.pull_outside.specs.Shelf.{Contents, configuration_of}
+use Rattle.pull_outside.specs.Shelf.{Contents, configuration_of, package_of}
 use Rattle.pull_outside.specs.declared.shelf.Shelf as shelves
 use Rattle.pull_store.specs.declared.row.Row.{Row}
 use Rattle.pull_store.specs.Store.{StoreTerm}
@@ -45,8 +45,8 @@ use Rattle.pull_server.specs.Table.{item_for, names}
 use Rattle.pull_serving.specs.Heard.{AreAnswered, IsAnsweredIn, IsHeard, IsReplied, LinksAreHeard}
 use Rattle.pull_serving.specs.ServerLink.{state_of}
 use Rattle.pull_serving.specs.Turn.{IsReply, OutsideRose, State, Turn}
-use Rattle.link_laws.specs.ShelfContents.{AreOfShelf, AsksForContent, ContentsAreOfTheShelf, IsGivenIn, IsItem}
-use Rattle.link_laws.proofs.SendableContents.{Graphic, content_is_sendable, content_message, host_is_graphic, is_graphic}
+use Rattle.link_laws.specs.ShelfContents.{AreOfShelf, AsksFor, AsksForContent, AsksForPackage, ContentsAreOfTheShelf, IsGivenIn, IsItem}
+use Rattle.link_laws.proofs.SendableContents.{Graphic, host_is_graphic, is_graphic, target_is_sendable, target_message}
 use Rattle.link_laws.proofs.SentContents.{checked_is_body, content_is_checked, no_answer_in_nothing, unsummed_is_not_checked}
 
 -- ---- what is taken of an outcome
@@ -153,13 +153,12 @@ item_aimed_at store shelf request aim reply is_aim one = record {
   is = one.is;
 }
 
--- the request for a content is sendable
-asked_is_sendable : (server : Server) (agent : ℕ) (name : List ℕ) (e : Exchange) → AsksForContent server agent name e
-    → IsSendable (content_message server.prefix agent name) (host_text server.peer)
-asked_is_sendable server agent name e asks =
+-- the request for what a target names is sendable
+asked_is_sendable : (server : Server) (target : Target) (e : Exchange) → AsksFor server target e → IsSendable (target_message server.prefix target) (host_text server.peer)
+asked_is_sendable server target e asks =
     let path : Graphic server.prefix = subst Graphic (sym asks.path) (AllPass-from_list_all is_graphic (codes "/PSDSCPullServer.svc") refl) in
     let long : length server.prefix ≡ 20 = ap length asks.path in
-    content_is_sendable server.peer.host server.prefix server.peer.port agent name (host_is_graphic server.peer.host asks.host) path asks.short (omega (arith, long)) asks.port
+    target_is_sendable server.peer.host server.prefix server.peer.port target (host_is_graphic server.peer.host asks.host) path asks.short (omega (arith, long)) asks.port
     asks.ranges asks.values
 
 module _ (items : ChecksumsAreOfItems) (shelf : Contents) where
@@ -186,30 +185,35 @@ module _ (items : ChecksumsAreOfItems) (shelf : Contents) where
       → outcomes.Answered text ≡ outcomes.Answered (answer_text (content_reply bytes))
   given_as text content bytes reply written is same = ap (λ (b : List ℕ). outcomes.Answered b) (written ∙ ap answer_text (is ∙ ap content_reply same))
 
-  -- what a request that asks for a content is read as
-  module _ (back : RequestsReadBack) (e : Exchange) (server : Server) (agent : ℕ) (name : List ℕ) (asks : AsksForContent server agent name e) where
+  -- what a request that asks for what a target names is read as
+  module _ (back : RequestsReadBack) (e : Exchange) (server : Server) (wanted : Target) (asks : AsksFor server wanted e) where
     abbrev Sent : Request
-    Sent = sent (content_message server.prefix agent name) (host_text server.peer)
+    Sent = sent (target_message server.prefix wanted) (host_text server.peer)
 
     read_as : (request : Request) → BeginsWithRequest e.request request → request ≡ Sent
     read_as request begins =
-        let message = content_message server.prefix agent name in
+        let message = target_message server.prefix wanted in
         let host = host_text server.peer in
-        sent_alone message request host (back message host (asked_is_sendable server agent name e asks)) (subst (λ (b : List ℕ). BeginsWithRequest b request) asks.request begins)
+        sent_alone message request host (back message host (asked_is_sendable server wanted e asks)) (subst (λ (b : List ℕ). BeginsWithRequest b request) asks.request begins)
 
-    target_is : (request : Request) (target : Target) → BeginsWithRequest e.request request → IsTarget request.target target → target ≡ Content agent name
+    target_is : (request : Request) (target : Target) → BeginsWithRequest e.request request → IsTarget request.target target → target ≡ wanted
     target_is request target begins aimed =
-        let text : request.target ≡ target_text (codes "/PSDSCPullServer.svc") (Content agent name) =
-        ap (λ (r : Request). r.target) (read_as request begins) ∙ ap (λ (prefix : List ℕ). target_text prefix (Content agent name)) asks.path in
-        one_target (target_text (codes "/PSDSCPullServer.svc") (Content agent name)) target (Content agent name)
-        (subst (λ (l : List ℕ). IsTarget l target) text aimed) (written_target (Content agent name) asks.ranges asks.values)
+        let text : request.target ≡ target_text (codes "/PSDSCPullServer.svc") wanted =
+        ap (λ (r : Request). r.target) (read_as request begins) ∙ ap (λ (prefix : List ℕ). target_text prefix wanted) asks.path in
+        one_target (target_text (codes "/PSDSCPullServer.svc") wanted) target wanted
+        (subst (λ (l : List ℕ). IsTarget l target) text aimed) (written_target wanted asks.ranges asks.values)
 
-    named_of : (got : Received) (reply : Reply) (bytes : List ℕ) → IsReceived e.request got → (of : IsOfShelf shelf got reply) → of.bytes ≡ bytes → configuration_of (encode_utf8_all name) shelf ≡ Some bytes
-    named_of got reply bytes came of same =
+    -- so the reply is of the item that the target names
+    item_is : (got : Received) (reply : Reply) (bytes : List ℕ) → IsReceived e.request got → (of : IsOfShelf shelf got reply) → of.bytes ≡ bytes → item_for shelf of.own wanted ≡ Some bytes
+    item_is got reply bytes came of same =
         let begins : BeginsWithRequest e.request of.request = subst (IsReceived e.request) of.received_is came in
-        let there : item_for shelf of.own (Content agent name) ≡ Some of.bytes =
-        subst (λ (target : Target). item_for shelf of.own target ≡ Some of.bytes) (target_is of.request of.target begins of.aimed) of.there in
-        if_named (has_name name of.own) (configuration_of (encode_utf8_all name) shelf) of.bytes there ∙ ap (λ (b : List ℕ). Some b) same
+        subst (λ (target : Target). item_for shelf of.own target ≡ Some of.bytes) (target_is of.request of.target begins of.aimed) of.there
+        ∙ ap (λ (b : List ℕ). Some b) same
+
+  named_of : RequestsReadBack → (e : Exchange) (server : Server) (agent : ℕ) (name : List ℕ) → AsksForContent server agent name e → (got : Received) (reply : Reply) (bytes : List ℕ)
+      → IsReceived e.request got → (of : IsOfShelf shelf got reply) → of.bytes ≡ bytes → configuration_of (encode_utf8_all name) shelf ≡ Some bytes
+  named_of back e server agent name asks got reply bytes came of same =
+      if_named (has_name name of.own) (configuration_of (encode_utf8_all name) shelf) bytes (item_is back e server (Content agent name) asks got reply bytes came of same)
 
   -- the answer says that its body, under its digest, is this
   module _ (back : RequestsReadBack) {T : Type 0} (Says : Reply → Result T PeerError → Type 0) (value : T) (bytes : List ℕ)
@@ -219,6 +223,8 @@ module _ (items : ChecksumsAreOfItems) (shelf : Contents) where
       item : IsItem shelf bytes
       given : outcome ≡ outcomes.Answered (answer_text (content_reply bytes))
       named : (server : Server) (agent : ℕ) (name : List ℕ) → AsksForContent server agent name e → configuration_of (encode_utf8_all name) shelf ≡ Some bytes
+      packaged : (server : Server) (name version : List ℕ) → AsksForPackage server name version e
+          → package_of (encode_utf8_all name) (encode_utf8_all version) shelf ≡ Some bytes
 
     replied_of_shelf : (t : Turn) (e : Exchange) (text : List ℕ) → IsReceived e.request t.received → IsReplied shelf t text → Takes Says (outcomes.Answered text) (Ok value)
         → Given e (outcomes.Answered text)
@@ -240,6 +246,7 @@ module _ (items : ChecksumsAreOfItems) (shelf : Contents) where
               item = subst (IsItem shelf) same (item_on_shelf shelf of.own of.target of.bytes of.there);
               given = given_as text of.bytes bytes replied.reply replied.written of.is same;
               named = λ server agent name asks. named_of back e server agent name asks t.received replied.reply bytes came of same;
+              packaged = λ server name version asks. item_is back e server (Module name version) asks t.received replied.reply bytes came of same;
             }
 
     nothing_taken : (text : List ℕ) → text ≡ [] → Takes Says (outcomes.Answered text) (Ok value) → ⊥
@@ -254,7 +261,7 @@ module _ (items : ChecksumsAreOfItems) (shelf : Contents) where
     given_in : (t : Turn) (e : Exchange) (last : State) → IsAnsweredIn shelf t e last → Heard Says e.outcome (Ok value) → IsGivenIn shelf e bytes
     given_in t e last one says =
         let given = heard_of_shelf t e e.outcome one.received one.heard (taken_of e.outcome (Ok value) says) in
-        record { item = given.item; given = given.given; named = given.named }
+        record { item = given.item; given = given.given; named = given.named; packaged = given.packaged }
 
   exchange_of_shelf : RequestsReadBack → (t : Turn) (e : Exchange) (last : State) → IsAnsweredIn shelf t e last → AreOfShelf shelf e
   exchange_of_shelf back t e last one = record {

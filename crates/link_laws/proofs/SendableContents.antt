@@ -1,4 +1,4 @@
--- A request for a content is sendable.
+-- A request for what a target names is sendable.
 use Rattle.std.proofs.Common.{◌≡◌, ℕ, suc, ◌+◌, ◌*◌, ◌/◌, ◌%◌, ◌<◌, ◌≤◌, ◌^◌, ◌-◌, ◌&&◌, ◌==◌, nat_le, nat_lt, Bool, true, false, List, [], ◌∷◌, ◌++◌, length, take, drop, get_or, reverse, refl, sym, ◌∙◌, ap, subst, arith, length-append, codes, bytes_eq, cond, if◌then◌else◌, IsUtf8}
 use Rattle.std.specs.Prelude.{All, IsTrue, encode_utf8_all}
 use Rattle.std.specs.Char.{IsScalar, is_ascii_digit}
@@ -22,8 +22,9 @@ use Rattle.http_frames.specs.Writing.{crlf, header_line, header_text, host_value
 use Rattle.http_frames.proofs.SentLines.{digits_pass, own, token_by}
 use Rattle.meta_config.specs.Urls.{is_host_char}
 use Rattle.pull_client.specs.Requests.{protocol_version}
-use Rattle.pull_messages.specs.declared.target_kinds.Target.TheVariants.{Content}
-use Rattle.pull_messages.specs.Targets.{HasValues, IsValue, doubled}
+use Rattle.pull_messages.specs.declared.target_kinds.Target.{Target}
+use Rattle.pull_messages.specs.declared.target_kinds.Target.TheVariants.{Node, Action, Content, Module, SendReport}
+use Rattle.pull_messages.specs.Targets.{HasValues, doubled}
 use Rattle.pull_messages.specs.TargetText.{HasRanges, agent_path, escaped, escaped_all, is_unreserved, path_of, target_text, upper_digit, value_text}
 use Rattle.pull_messages.specs.Writing.{id_text}
 use Rattle.uuid.specs.Text.{is_hex_digit, is_hyphen_place}
@@ -227,25 +228,69 @@ content_start = codes "/Configurations(ConfigurationName='"
 abbrev content_end : List ℕ
 content_end = codes "')/ConfigurationContent"
 
-content_graphic : (prefix : List ℕ) (id : ℕ) (name : List ℕ) → Graphic prefix → id < 2 ^ 128 → All IsScalar name → Graphic (target_text prefix (Content id name))
-unfolding target_text
-content_graphic prefix id name path fits scalars =
-    graphic_on (encode_utf8_all prefix) (path_of (Content id name)) (subst Graphic (sym (graphic_bytes prefix path)) path)
-    (graphic_on (agent_path id content_start ++ value_text name) content_end
-    (graphic_on (agent_path id content_start) (value_text name) (agent_graphic id content_start fits (graphic_word content_start refl)) (value_graphic name scalars))
-    (graphic_word content_end refl))
+abbrev package_start : List ℕ
+package_start = codes "/Modules(ModuleName='"
 
-content_size : (prefix : List ℕ) (id : ℕ) (name : List ℕ) → Graphic prefix → id < 2 ^ 128 → IsValue name
-    → (0 < length (target_text prefix (Content id name))) × (length (target_text prefix (Content id name)) ≤ length prefix + 1700)
-unfolding target_text
-content_size prefix id name path fits value =
-    let whole = length-append (encode_utf8_all prefix) (path_of (Content id name)) in
+abbrev package_mid : List ℕ
+package_mid = codes "',ModuleVersion='"
+
+abbrev package_end : List ℕ
+package_end = codes "')/ModuleContent"
+
+path_graphic : (target : Target) → HasRanges target → Graphic (path_of target)
+path_graphic (Node id) fits = agent_graphic id [] fits (graphic_word [] refl)
+path_graphic (Action id) fits = agent_graphic id (codes "/GetDscAction") fits (graphic_word (codes "/GetDscAction") refl)
+path_graphic (SendReport id) fits = agent_graphic id (codes "/SendReport") fits (graphic_word (codes "/SendReport") refl)
+path_graphic (Content id name) ranges =
+    graphic_on (agent_path id content_start ++ value_text name) content_end
+    (graphic_on (agent_path id content_start) (value_text name) (agent_graphic id content_start ranges.0 (graphic_word content_start refl)) (value_graphic name ranges.1))
+    (graphic_word content_end refl)
+path_graphic (Module name version) ranges =
+    let named = graphic_on package_start (value_text name) (graphic_word package_start refl) (value_graphic name ranges.0) in
+    graphic_on (((package_start ++ value_text name) ++ package_mid) ++ value_text version) package_end
+    (graphic_on ((package_start ++ value_text name) ++ package_mid) (value_text version)
+    (graphic_on (package_start ++ value_text name) package_mid named (graphic_word package_mid refl)) (value_graphic version ranges.1))
+    (graphic_word package_end refl)
+
+path_size : (target : Target) → HasRanges target → HasValues target → (0 < length (path_of target)) × (length (path_of target) ≤ 3300)
+path_size (Node id) fits values = let size = agent_size id [] fits in (omega (arith, size), omega (arith, size))
+path_size (Action id) fits values =
+    let size = agent_size id (codes "/GetDscAction") fits in
+    let end : length (codes "/GetDscAction") ≡ 13 = refl in
+    (omega (arith, size, end), omega (arith, size, end))
+path_size (SendReport id) fits values =
+    let size = agent_size id (codes "/SendReport") fits in
+    let end : length (codes "/SendReport") ≡ 11 = refl in
+    (omega (arith, size, end), omega (arith, size, end))
+path_size (Content id name) ranges value =
     let front = length-append (agent_path id content_start ++ value_text name) content_end in
     let joined = length-append (agent_path id content_start) (value_text name) in
-    let agent = agent_size id content_start fits in
+    let agent = agent_size id content_start ranges.0 in
     let sizes : length content_start + length content_end ≡ 58 = refl in
+    (omega (arith, front, joined, agent, sizes), omega (arith, front, joined, agent, sizes, value_size name, value.1))
+path_size (Module name version) ranges value =
+    let whole = length-append (((package_start ++ value_text name) ++ package_mid) ++ value_text version) package_end in
+    let versioned = length-append ((package_start ++ value_text name) ++ package_mid) (value_text version) in
+    let mid = length-append (package_start ++ value_text name) package_mid in
+    let named = length-append package_start (value_text name) in
+    let sizes : length package_start + length package_mid + length package_end ≡ 54 = refl in (
+      omega (arith, whole, versioned, mid, named, sizes),
+      omega (arith, whole, versioned, mid, named, sizes, value_size name, value_size version, value.0.1, value.1.1),
+    )
+
+target_graphic : (prefix : List ℕ) (target : Target) → Graphic prefix → HasRanges target → Graphic (target_text prefix target)
+unfolding target_text
+target_graphic prefix target path ranges =
+    graphic_on (encode_utf8_all prefix) (path_of target) (subst Graphic (sym (graphic_bytes prefix path)) path) (path_graphic target ranges)
+
+target_size : (prefix : List ℕ) (target : Target) → Graphic prefix → HasRanges target → HasValues target
+    → (0 < length (target_text prefix target)) × (length (target_text prefix target) ≤ length prefix + 3300)
+unfolding target_text
+target_size prefix target path ranges values =
+    let whole = length-append (encode_utf8_all prefix) (path_of target) in
+    let own = path_size target ranges values in
     let bytes = ap length (graphic_bytes prefix path) in
-    (omega (arith, whole, front, joined, agent, sizes), omega (arith, whole, front, joined, agent, sizes, bytes, value_size name, value.1))
+    (omega (arith, whole, own.0), omega (arith, whole, own.1, bytes))
 
 -- ---- the host
 
@@ -314,9 +359,9 @@ get_token = token_by (codes "GET") (omega arith) refl
 abbrev get_of : List ℕ → Request
 get_of target = record { method = codes "GET"; target = target; headers = protocol_version ∷ []; body = [] }
 
--- the message that asks for the content of a name
-abbrev pub content_message : List ℕ → ℕ → List ℕ → Request
-content_message prefix agent name = get_of (target_text prefix (Content agent name))
+-- the message that asks for what the target names
+abbrev pub target_message : List ℕ → Target → Request
+target_message prefix target = get_of (target_text prefix target)
 
 joined_size : (r h c f l : List ℕ) (b d : List ℕ) → length (r ++ h ++ c ++ f ++ l ++ (b ++ d)) ≡ length r + length h + length c + length f + length l + (length b + length d)
 joined_size r h c f l b d = simp length-append
@@ -345,17 +390,17 @@ request_size target host short few =
 graphic_ascii : (v : List ℕ) → Graphic v → IsUtf8 v
 graphic_ascii v pass = IsUtf8-from_ascii v (IsAscii-from_all v (λ k d within. graphic_small (get_or v k d) (pass k d within)))
 
-pub content_is_sendable : (host prefix : List ℕ) (port id : ℕ) (name : List ℕ) → Graphic host → Graphic prefix → length host ≤ 2048 → length prefix ≤ 2048 → port < 2 ^ 16
-    → HasRanges (Content id name) → HasValues (Content id name) → IsSendable (content_message prefix id name) (host_of host port)
-content_is_sendable host prefix port id name named path host_short path_short small ranges value =
-    let target = target_text prefix (Content id name) in
-    let graphic = content_graphic prefix id name path ranges.0 ranges.1 in
-    let size = content_size prefix id name path ranges.0 value in
+pub target_is_sendable : (host prefix : List ℕ) (port : ℕ) (target : Target) → Graphic host → Graphic prefix → length host ≤ 2048 → length prefix ≤ 2048 → port < 2 ^ 16
+    → HasRanges target → HasValues target → IsSendable (target_message prefix target) (host_of host port)
+target_is_sendable host prefix port target named path host_short path_short small ranges values =
+    let text = target_text prefix target in
+    let graphic = target_graphic prefix target path ranges in
+    let size = target_size prefix target path ranges values in
     let host_size = host_value_size host port named small in
     record {
       method = get_token;
-      target = (size.0, All-weaker (λ x. IsTrue (is_graphic x)) (λ x. IsTrue (is_uri_byte x)) graphic_uri target graphic);
-      target_text = graphic_ascii target graphic;
+      target = (size.0, All-weaker (λ x. IsTrue (is_graphic x)) (λ x. IsTrue (is_uri_byte x)) graphic_uri text graphic);
+      target_text = graphic_ascii text graphic;
       host_plain = graphic_is_plain (host_value (host_of host port)) (host_value_graphic host port named (omega (arith, small)));
       headers_plain = All-cons IsPlainHeader protocol_version [] (record {
         name = version_token;
@@ -365,7 +410,7 @@ content_is_sendable host prefix port id name named path host_short path_short sm
       no_transfer = refl;
       no_content = refl;
       lines = omega arith;
-      short = omega (arith, request_size target (host_of host port) (omega (arith, size.1, path_short)) (omega (arith, host_size, host_short)));
+      short = omega (arith, request_size text (host_of host port) (omega (arith, size.1, path_short)) (omega (arith, host_size, host_short)));
       body = omega arith;
       bodied = λ none. refl;
     }

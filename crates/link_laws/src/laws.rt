@@ -8,8 +8,8 @@ use pull_outside::Shelf;
 use pull_server::replies_are_of_the_shelf;
 use pull_serving::links_are_heard;
 
-/// A content that is taken of an exchange with a server in memory is an item of its shelf, where that shows what it holds, and the server gave
-/// it under its checksum.
+/// A content or a package that is taken of an exchange with a server in memory is an item of its shelf, where that shows what it holds, and the
+/// server gave it under its checksum; below the path of a pull server it is the one that was asked for.
 pub fn contents_are_of_the_shelf<D: Disk, F: Shelf>()
     ensures { ContentsAreOfTheShelf D.Disk F.Shelf }
 {

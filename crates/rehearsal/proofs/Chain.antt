@@ -134,13 +134,13 @@ module _ {S : Type 0} (program : starters.Ghosts S) where
     pub plays_are_starts : PlaysAreStarts program
     plays_are_starts steps text played =
         let begins = subst (λ (image : List ℕ). Stands image new_node) (sym played.begins.image) nothing_stands in
-        let c = chained played.first played.first new_node steps played.rows played.last (between_same played.first) begins played.plays in
+        let c = chained played.first played.first new_node steps played.from.rows played.from.last (between_same played.first) begins played.from.plays in
         record {
           first = played.first;
           begins = played.begins;
           starts = c.starts;
           asked = c.asked;
-          last = played.last;
+          last = played.from.last;
           chain = c.chain;
-          is = played.is ∙ ap (flat_map row_line) c.rows_are ∙ flat_map-map row_line (λ (one : PlayedStart program). one.row) c.starts;
+          is = played.from.is ∙ ap (flat_map row_line) c.rows_are ∙ flat_map-map row_line (λ (one : PlayedStart program). one.row) c.starts;
         }

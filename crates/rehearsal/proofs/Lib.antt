@@ -1,5 +1,6 @@
 pub mod CallWords
 pub mod Chain
+pub mod Heard
 pub mod Lists
 pub mod OneLine
 pub mod OneReading

@@ -2,10 +2,10 @@
 use Rattle.std.proofs.Common.{◌≡◌, ℕ, ◌+◌, ◌-◌, ◌<◌, ◌≤◌, length, take, drop, get_or, take_all, List, [], ◌∷◌, ◌++◌, Option, Some, None, refl, sym, ap, ◌∙◌, subst, arith, append_assoc, append-nil}
 use Rattle.std.specs.List.{flat_map}
 use Rattle.std.proofs.lemmas.Grind.{flat_map-append}
-use Rattle.rehearsal.specs.Playing.{IsPlayed, Plays, Starts, StepLeads, TakesStep, input_of}
+use Rattle.rehearsal.specs.Playing.{IsPlayedFrom, Plays, Starts, StepLeads, TakesStep, input_of}
 use Rattle.rehearsal.specs.Rows.{row_line}
 use Rattle.pull_outside.specs.ReliableShelf.{with_configuration}
-use Rattle.rehearsal.specs.World.{IsFirst, World, with_shelf}
+use Rattle.rehearsal.specs.World.{World, with_shelf}
 use Rattle.rehearsal.specs.declared.row.Row.{Row}
 use Rattle.rehearsal.specs.declared.starter.Starter as starters
 use Rattle.rehearsal.specs.declared.step.Step.{Step}
@@ -13,34 +13,25 @@ use Rattle.rehearsal.specs.declared.step.Step.TheVariants.{Shelf, Key, Wants, St
 use Rattle.rehearsal.specs.declared.step.StopAt.{StopAt}
 
 -- the text is the lines so far, and what the steps that are left come to is what all come to
-pub record IsPlayedTo {S : Type 0} (program : starters.Ghosts S) (steps : List Step) (world : World) (left : List Step) (out : List ℕ) : Type 0 where
-  pub first : World
+pub record IsPlayedTo {S : Type 0} (program : starters.Ghosts S) (first : World) (steps : List Step) (world : World) (left : List Step) (out : List ℕ) : Type 0 where
   pub rows : List Row
-  pub begins : IsFirst first
   pub plays : (more : List Row) (last : World) → Plays program world left more last → Plays program first steps (rows ++ more) last
   pub is : out ≡ flat_map row_line rows
 
 module _ {S : Type 0} (program : starters.Ghosts S) where
-  pub played_first : (steps : List Step) (world : World) → IsFirst world → IsPlayedTo program steps world steps []
-  played_first steps world first = record { first = world; rows = []; begins = first; plays = λ more last plays. plays; is = refl }
-
-  pub played_on : (steps left : List Step) (step : Step) (world next : World) (out more : List ℕ) → IsPlayedTo program steps world (step ∷ left) out → StepLeads program step world out next more
-      → IsPlayedTo program steps next left more
-  played_on steps left step world next out more t leads = record {
-    first = t.first;
+  pub played_on : (first : World) (steps left : List Step) (step : Step) (world next : World) (out more : List ℕ) → IsPlayedTo program first steps world (step ∷ left) out
+      → StepLeads program step world out next more → IsPlayedTo program first steps next left more
+  played_on first steps left step world next out more t leads = record {
     rows = t.rows ++ leads.0;
-    begins = t.begins;
-    plays = λ others last plays. subst (λ (l : List Row). Plays program t.first steps l last) (sym (append_assoc t.rows leads.0 others))
+    plays = λ others last plays. subst (λ (l : List Row). Plays program first steps l last) (sym (append_assoc t.rows leads.0 others))
         (t.plays (leads.0 ++ others) last (leads.0, others, next, refl, leads.1, plays));
     is = leads.2 ∙ ap (λ (l : List ℕ). l ++ flat_map row_line leads.0) t.is ∙ sym (flat_map-append row_line t.rows leads.0);
   }
 
-  pub played : (steps : List Step) (world : World) (out : List ℕ) → IsPlayedTo program steps world [] out → IsPlayed program steps out
-  played steps world out t = record {
-    first = t.first;
+  pub played : (first : World) (steps : List Step) (world : World) (out : List ℕ) → IsPlayedTo program first steps world [] out → IsPlayedFrom program first steps out
+  played first steps world out t = record {
     last = world;
     rows = t.rows ++ [];
-    begins = t.begins;
     plays = t.plays [] world (refl, refl);
     is = t.is ∙ ap (flat_map row_line) (sym (append-nil t.rows));
   }

@@ -1,5 +1,5 @@
 -- What the images of the disks stand for between two starts.
-use Rattle.std.proofs.Common.{◌≡◌, ℕ, List, [], ◌∷◌, length, refl, sym, ap, ◌∙◌, subst, arith}
+use Rattle.std.proofs.Common.{◌≡◌, inl, ℕ, List, [], ◌∷◌, length, refl, sym, ap, ◌∙◌, subst, arith}
 use Rattle.std.proofs.lemmas.Option.{same_Some}
 use Rattle.dsc_outside.specs.Disk.{Each, Only}
 use Rattle.dsc_outside.specs.Images.{IsImage, settled}
@@ -11,7 +11,7 @@ use Rattle.memory_outside.specs.ReliableDisk.{fresh_disk}
 use Rattle.node_state.specs.Table.{new_node}
 use Rattle.node_state.specs.declared.node.Node.{Node}
 use Rattle.node_store.specs.Laws.{FailingStandForNone}
-use Rattle.node_store.specs.Stands.{FailsAt, Stands}
+use Rattle.node_store.specs.Stands.{FailsAt, LeadsInFull, Stands}
 use Rattle.node_store.specs.Store.{Unopened}
 use Rattle.node_store.specs.declared.error.StoreError.{StoreError}
 use Rattle.node_store.specs.declared.error.StoreError.TheVariants as errors
@@ -23,11 +23,9 @@ use Rattle.dsc_terms.specs.Counts.{Rose}
 
 -- the image of no bytes stands for a new node
 pub nothing_stands : Stands [] new_node
-nothing_stands = record {
-  bodies = [];
-  gives = fresh (omega arith);
-  leads = record { front = []; events = []; first = new_node; is = refl; builds = refl; steps = refl; pieces = tt; ranges = tt };
-}
+nothing_stands =
+    let leads : LeadsInFull [] new_node = record { front = []; events = []; first = new_node; is = refl; builds = refl; steps = refl; pieces = tt; ranges = tt } in
+    record { bodies = []; gives = fresh (omega arith); leads = inl leads }
 
 new_stands : StandsFor Stands Any []
 new_stands = record { value = new_node; stands = nothing_stands; has = tt }

@@ -1,5 +1,6 @@
 -- what the layer above cites
 pub mod Chain
+pub mod Heard
 pub mod Laws
 pub mod Objects
 pub mod OneReading

@@ -136,11 +136,15 @@ abbrev pub StepLeads : {S : Type 0} → starters.Ghosts S → Step → World →
 StepLeads program step world text next text_after =
     (rows : List Row) × TakesStep program step world rows next × (text_after ≡ text ++ flat_map row_line rows)
 
--- the text is the lines of these steps, from the first world on
-pub record IsPlayed {S : Type 0} (program : starters.Ghosts S) (steps : List Step) (text : List ℕ) : Type 0 where
-  pub first : World
+-- the text is the lines of these steps, from that world on
+pub record IsPlayedFrom {S : Type 0} (program : starters.Ghosts S) (first : World) (steps : List Step) (text : List ℕ) : Type 0 where
   pub last : World
   pub rows : List Row
-  pub begins : IsFirst first
   pub plays : Plays program first steps rows last
   pub is : text ≡ flat_map row_line rows
+
+-- it is that from the first world on
+pub record IsPlayed {S : Type 0} (program : starters.Ghosts S) (steps : List Step) (text : List ℕ) : Type 0 where
+  pub first : World
+  pub begins : IsFirst first
+  pub from : IsPlayedFrom program first steps text

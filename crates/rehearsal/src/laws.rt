@@ -1,10 +1,14 @@
 //! Laws of the definitions. The calls do nothing but call laws; their clauses are the laws.
 ghost use Rattle.rehearsal.specs.Chain.{EndsCross, PlaysAreStarts, StopsCross};
+ghost use Rattle.rehearsal.specs.Heard.{PlaysHearTheTable};
 ghost use Rattle.rehearsal.specs.Laws.{OnlyStopsStop, PlaysInParts, RowsTellNodes, ShelvesAreOfLines};
 ghost use Rattle.rehearsal.specs.OneReading.{FailuresAreOne, NeverBoth, StepsAreOne};
 
 use crate::starter::Starter;
+use memory_outside::ReliableDisk;
 use node_store::images_have_one_meaning;
+use pull_outside::ReliableShelf;
+use pull_serving::links_are_heard;
 
 /// A script is read to one list of steps at most, or fails at one line at most, and never both.
 pub fn one_reading()
@@ -40,4 +44,12 @@ pub fn plays_are_starts<S: Starter>()
     ensures { PlaysAreStarts S.Starter }
 {
     images_have_one_meaning();
+}
+
+/// What a start of a play hears are the replies of the server's table to what it sent, each over the rows that the exchange before it left, from
+/// none on, and over the shelf that the lines above the start made; and nothing failed at the server.
+pub fn plays_hear_the_table<S: Starter>()
+    ensures { PlaysHearTheTable S.Starter }
+{
+    links_are_heard::<ReliableDisk, ReliableShelf>();
 }

@@ -11,7 +11,8 @@
 //! - its reading: `src/script.rt`, line by line `src/line.rt`, `src/start_line.rt`, `src/text_lines.rt`; a step
 //!   `src/step.rt`; words and texts `src/words.rt`, `src/texts.rt`; its limit `src/limits.rt`
 //! - what the steps come to: `specs/Playing.antt`, its laws `specs/Laws.antt`, as a chain of starts `specs/Chain.antt`,
-//!   `src/laws.rt`; the loop over them `src/playing.rt`, one start `src/starting.rt` over `src/running.rt`
+//!   `src/laws.rt`; what its starts hear of the server `specs/Heard.antt`; the loop over them `src/playing.rt`, one
+//!   start `src/starting.rt` over `src/running.rt`
 //! - what a start works with, and the program: `specs/Objects.antt`, `src/starter.rt`
 //! - what there is between two starts: `specs/World.antt`, `src/world.rt`, `src/server.rt`
 //! - a row and its line: `specs/Rows.antt`, `src/row.rt`; what the node holds `src/slots.rt`; whether memory lasted
@@ -38,7 +39,9 @@ mod texts;
 mod words;
 mod world;
 
-pub use laws::{images_cross, one_reading, plays_are_starts, rows_are_true, steps_follow};
+pub use laws::{
+    images_cross, one_reading, plays_are_starts, plays_hear_the_table, rows_are_true, steps_follow,
+};
 pub use limits::MAX_SCRIPT;
 pub use playing::play;
 pub use row::{Ending, Row, Slots};

@@ -1,7 +1,7 @@
 //! The play of a rehearsal.
-ghost use Rattle.std.specs.Prelude.{◌≡◌, ◌<◌, ◌≤◌, IfOk, length, string_bytes};
+ghost use Rattle.std.specs.Prelude.{◌≡◌, ◌+◌, ◌<◌, ◌≤◌, IfOk, length, string_bytes};
 ghost use Rattle.rehearsal.specs.Living.{IsBetween, world_of};
-ghost use Rattle.rehearsal.specs.Playing.{IsPlayed, Starts, StepLeads, input_of};
+ghost use Rattle.rehearsal.specs.Playing.{IsPlayed, IsPlayedFrom, Starts, StepLeads, input_of};
 ghost use Rattle.rehearsal.specs.declared.limits.TheConstants.{MAX_SCRIPT};
 
 use crate::row::push_row;
@@ -23,8 +23,23 @@ pub fn play<S: Starter>(alloc: Global, steps: &[Step<'_>]) -> Result<String, Mem
     requires { length steps.now ≤ MAX_SCRIPT }
     ensures { IfOk result (λ text. IsPlayed S.Starter steps.now (string_bytes text)) }
 {
+    let first = LiveWorld::new(alloc)?;
+    play_from::<S>(alloc, first, steps)
+}
+
+// Plays the steps in that world.
+fn play_from<S: Starter>(
+    alloc: Global,
+    first: LiveWorld,
+    steps: &[Step<'_>],
+) -> Result<String, Memory>
+    requires between { IsBetween first }
+    requires few { first.starts + length steps.now ≤ MAX_SCRIPT }
+    ensures { IfOk result (λ text. IsPlayedFrom S.Starter (world_of first) steps.now
+        (string_bytes text)) }
+{
     let mut text = String::new(alloc);
-    let mut live = LiveWorld::new(alloc)?;
+    let mut live = first;
     let mut left = steps;
     while let [step, more @ ..] = left {
         live = take_step::<S>(alloc, live, step, &mut text)?;

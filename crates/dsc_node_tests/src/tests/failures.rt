@@ -1,5 +1,5 @@
 //! Starts in which one call of the disk, the host, the link or the clock fails, each in turn, and the start after each.
-use crate::{Left, Outcome, Trouble, answered};
+use crate::{Left, Outcome, Trouble, answered, started};
 use dsc_node::Status;
 use memory_outside::HostContents;
 use mof_values::Memory;
@@ -439,5 +439,44 @@ fn each_call_of_an_object_may_fail(rt: HostRuntime) -> Result<(), Fail> {
     ] {
         assert_eq!(rt; first_wrong_call(rt.alloc(), word, steps)?, None, "{word}");
     }
+    Ok(())
+}
+
+// ---- a document without resources
+
+const EMPTY: &str = "instance of OMI_ConfigurationDocument { };\n";
+
+// The greatest number, from 1, of a call of the disk whose failure ends the push of it to a new node with DiskFault. `checks/rehearse`
+// has the same number: that of the last call in which this push can stop.
+const LAST_CALL: u64 = 17;
+
+// Whether the push to this store ends so where this call fails, counted from 0.
+fn push_fails(alloc: Global, store: &[u8], call: u64) -> Result<bool, Memory> {
+    let left = Left {
+        store: store.to_vec(alloc)?,
+        host: HostContents::empty(alloc),
+    };
+    let (end, _) = started(alloc, left, "push", EMPTY, &failing(Object::Disk, &[call]))?;
+    Ok(matches!(end.status, Status::DiskFault))
+}
+
+fn last_call_that_fails(alloc: Global) -> Result<u64, Memory> {
+    let left = Left {
+        store: Vec::new(alloc),
+        host: HostContents::empty(alloc),
+    };
+    let store = left_after(alloc, left, "init", "")?.store;
+    let mut last = 0;
+    for call in 0..2 * LAST_CALL {
+        if push_fails(alloc, &store, call)? {
+            last = call.saturating_add(1);
+        }
+    }
+    Ok(last)
+}
+
+#[test]
+fn a_push_without_resources_makes_so_many_calls_of_its_disk(rt: HostRuntime) -> Result<(), Fail> {
+    assert_eq!(rt; last_call_that_fails(rt.alloc())?, LAST_CALL);
     Ok(())
 }

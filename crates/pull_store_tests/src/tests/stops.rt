@@ -95,7 +95,8 @@ fn count_of_calls(alloc: Global, bytes: &[u8], word: &str) -> Result<u64, PullEr
     }
 }
 
-// Whether this is so for the first two calls of the disk and the last six ones, and there are that many calls.
+// Whether this is so for the first two calls of the disk and the last six ones, and each 512th of those between them, which write zeros; and
+// there are that many calls.
 fn is_safe(
     alloc: Global,
     words: &str,
@@ -109,7 +110,8 @@ fn is_safe(
     let end = count_of_calls(alloc, &bytes, word)?;
     for call in first..end {
         let is_zeros = call > first.saturating_add(1) && call.saturating_add(6) < end;
-        if !is_zeros && !are_either(alloc, &bytes, call, word, before, after)? {
+        let is_tried = !is_zeros || call % 512 == 0;
+        if is_tried && !are_either(alloc, &bytes, call, word, before, after)? {
             return Ok(false);
         }
     }
