@@ -5,7 +5,8 @@
 
 writes FOLDER/cases, a line for each case, with tabs between: the file of its input, the file of the lines that must come, the
 exit status, the seconds of processor time that it may take, the words, and its name. A push and a meta are done on a new node; with + in front
-of the words the node and its machine are those that the case before left, and +drift takes the machine's variables away.
+of the words the node and its machine are those that the case before left, and +drift takes the machine's variables away; with = the input is the
+node's store.
 What must come is worked out here, by the rules of the README, and not by the program.
 """
 import hashlib
@@ -503,6 +504,68 @@ def scripts():
     compiled("no character after 8 MB", bad, 3, f"refused Compile NotText {len(bad) - 1}\n")
 
 
+# ---- stores in which documents stand once, under their digests, as no program writes them yet
+
+NO_FILES = """registered no
+mode ApplyAndMonitor Push
+frequencies 15 30
+reboot policy no
+after ContinueConfiguration
+overwrite no
+server none
+reboot no
+job 1
+"""
+AGENT = 16
+INIT = b"\x01" + AGENT.to_bytes(16, "big")
+FORMAT = b"\x0f\x02"
+
+
+def of_size(size, mark="x"):
+    """A document without resources that has so many bytes, the last of them in a comment."""
+    return (HEADER + "//" + mark * (size - len(HEADER) - 2)).encode()
+
+
+def blob(content, digest=None):
+    return b"\x10" + (digest or hashlib.sha256(content).digest()) + content
+
+
+def staged(content):
+    """A Stage of one document, by its digest: a count, an empty name, and the digest."""
+    return b"\x11\x01\x00\x00" + hashlib.sha256(content).digest()
+
+
+def store_of(bodies):
+    return b"DSCSTOR1" + b"".join(b"\xa5" + len(body).to_bytes(4, "big") + body for body in bodies) + b"\x00"
+
+
+def shown(content):
+    """What get prints of a node on which this document was staged alone."""
+    digest = hashlib.sha256(content).hexdigest().upper()
+    return f'agent 00000000-0000-0000-0000-0000000000{AGENT:02x}\n{NO_FILES}pending "" {digest}\ncurrent -\nprevious -\n'
+
+
+def stored():
+    """Stores of one document in many sizes, of many Stages and of many documents, and what is pushed on such a store."""
+    front = [FORMAT, INIT]
+    for size in (len(HEADER) + 2, 100, 4_096, 65_535, 65_536, 65_537, 1_000_000, LONG, LIMIT - 1, LIMIT):
+        content = of_size(size)
+        case(f"a stored document of {size} bytes", "=get", store_of([*front, blob(content), staged(content)]), 0, shown(content))
+        case(f"a push after a stored document of {size} bytes", "+push", HEADER, 0, answered([], "end promoted"), PUSHED)
+        before = store_of([*front])[:-1]
+        wrong = store_of([*front, blob(content, b"\x00" * 32), staged(content)])
+        case(f"a stored document of {size} bytes under another digest", "=get", wrong, 5, f"refused NotAStore {len(before) + 5}\n")
+    content = of_size(LIMIT + 1)
+    place = len(store_of([*front, blob(content)])) - 1 + 5
+    case("a stored document that is one byte too long", "=get", store_of([*front, blob(content), staged(content)]), 5, f"refused NotAStore {place}\n")
+    a, b = of_size(LONG), of_size(LONG, "y")
+    case("a document that was staged 500 times", "=get", store_of([*front, blob(a)] + [staged(a)] * 500), 0, shown(a))
+    case("two documents that were staged in turns, 100 times", "=get", store_of([*front, blob(a), blob(b)] + [staged(a), staged(b)] * 100), 0, shown(b), PUSHED)
+    many = [of_size(100, chr(97 + n % 26))[:-8] + b"%08d" % n for n in range(5_000)]
+    bodies = [body for content in many for body in (blob(content), staged(content))]
+    case("5,000 documents, each staged once", "=get", store_of([*front, *bodies]), 0, shown(many[-1]), PUSHED)
+
+
 documents()
 starts()
 metas()
@@ -514,4 +577,5 @@ utf16()
 hostile()
 generated()
 scripts()
+stored()
 cases.close()

@@ -630,21 +630,42 @@ def a_second_package():
     check('it alone was fetched', [line for line in relay.asked() if 'Modules' in line], [fetch])
     server.kill()
 
-# An output that takes nothing leaves what was done: each command ends for it, and for nothing else.
+FILE_LIMIT = 1 << 20  # far above what a file of these nodes has
+
+# Starts the node with an output that takes so many bytes, as many as a file up to the limit has left: what it took, its errors and its status.
+def does_into(node, free, *words, text=''):
+    path = node.folder + '/output'
+    limited = ['sh', '-c', 'trap "" XFSZ && ulimit -f "$0" && exec "$@"', str(FILE_LIMIT // 512)]
+    with open(path, 'wb') as output:
+        output.truncate(FILE_LIMIT - free)
+        output.seek(0, os.SEEK_END)
+        process = subprocess.Popen([*limited, program, node.store, node.host, *words], stdin=node.input(text), stdout=output, stderr=subprocess.PIPE)
+        errors = process.communicate()[1]
+    with open(path, 'rb') as output:
+        output.seek(FILE_LIMIT - free)
+        return output.read().decode(), errors, process.returncode
+
+# An output that takes a part of the lines, or all of them: what was done stays, and a command ends for a line that is not taken, and for
+# nothing else.
 def full_outputs():
     server = Server()
     pushed, pulled = variable('A', '1') + HEADER, variable('A', '2') + HEADER
     server.configure('Web', pulled)
-    node = new_node(meta(server.url()))
-    check('a registration before full outputs', node.does('register', 'n'), ('ok\n', 0))
-    for words, text, value, document in (('push', pushed, '1', pushed), ('consistency', '', '1', pushed), ('pull', '', '2', pulled)):
-        if words == 'consistency':
-            node.variable('A', 'drift')
-        with open('/dev/full', 'wb') as output:
-            process = node.start(words, text=text, output=output)
-            check('a %s whose output is full' % words, (process.communicate()[1], process.returncode), (b'', 4))
-        check('what the %s made' % words, (node.variable('A'), current(node)), (value, [digest(document)]))
-    check('the reports of full outputs', (node.does('reports')[0].count(' sent\n'), server.jobs()), (3, [1, 2, 3]))
+    starts = (('push', pushed, 'promoted', '1', pushed), ('consistency', '', 'noted', '1', pushed), ('pull', '', 'promoted', '2', pulled))
+    free_of = (lambda size: 0, lambda size: 1, lambda size: size // 2, lambda size: size - 1, lambda size: size)
+    for free in free_of:
+        node = new_node(meta(server.url()))
+        check('a registration before full outputs', node.does('register', 'n'), ('ok\n', 0))
+        for job, (words, text, end, value, document) in enumerate(starts, 1):
+            if words == 'consistency':
+                node.variable('A', 'drift')
+            lines = said_no('A') + ends(1, end, job)
+            taken = lines[:free(len(lines))]
+            name = 'a %s whose output takes %d bytes of %d' % (words, len(taken), len(lines))
+            check(name, does_into(node, len(taken), words, text=text), (taken, b'', 0 if taken == lines else 4))
+            check('%s: what it made' % name, (node.variable('A'), current(node)), (value, [digest(document)]))
+        check('the reports of full outputs', node.does('reports')[0].count(' sent\n'), len(starts))
+    check('the reports of full outputs at the server', server.jobs(), [1, 2, 3] * len(free_of))
     server.kill()
 
 CLOCK = """

@@ -2,11 +2,14 @@
 //!
 //!     serve PORT COUNT FOLDER      serves COUNT connections: a GET is answered the configuration that it names, read and
 //!                                  hashed anew each time, anything else 204
+//!     reports PORT COUNT STORE     serves COUNT connections: the body of a POST is written after the last one, synced, marked as whole,
+//!                                  and synced again before it is answered 200, anything else 204
 //!     open STORE                   reads a store into a map of its agents, each with its newest four reports
 use std::collections::HashMap;
 use std::fs;
 use std::io::{Read, Write};
 use std::net::{TcpListener, TcpStream};
+use std::os::unix::fs::FileExt;
 
 const ROUNDS: [u32; 64] = [
     0x428a2f98, 0x71374491, 0xb5c0fbcf, 0xe9b5dba5, 0x3956c25b, 0x59f111f1, 0x923f82a4, 0xab1c5ed5, 0xd807aa98, 0x12835b01, 0x243185be,
@@ -54,8 +57,8 @@ fn sha256(bytes: &[u8]) -> String {
     state.iter().map(|word| format!("{word:08X}")).collect()
 }
 
-// The head, and how many bytes of a body it announces; what comes of the body with the head is passed over.
-fn read_request(conn: &mut TcpStream, buffer: &mut [u8]) -> Option<String> {
+// The head and the body.
+fn read_request(conn: &mut TcpStream, buffer: &mut [u8]) -> Option<(String, Vec<u8>)> {
     let mut count = 0;
     let end = loop {
         if let Some(at) = buffer[..count].windows(4).position(|x| x == b"\r\n\r\n") {
@@ -68,14 +71,14 @@ fn read_request(conn: &mut TcpStream, buffer: &mut [u8]) -> Option<String> {
     };
     let head = String::from_utf8_lossy(&buffer[..end]).into_owned();
     let length = head.split("Content-Length: ").nth(1).and_then(|x| x.split('\r').next()?.parse::<usize>().ok());
-    let mut left = length.unwrap_or(0).saturating_sub(count - end);
-    while left > 0 {
+    let mut body = buffer[end..count].to_vec();
+    while body.len() < length.unwrap_or(0) {
         match conn.read(buffer) {
             Ok(0) | Err(_) => return None,
-            Ok(more) => left -= more.min(left),
+            Ok(more) => body.extend_from_slice(&buffer[..more]),
         }
     }
-    Some(head)
+    Some((head, body))
 }
 
 fn answer(head: &str, folder: &str) -> Vec<u8> {
@@ -100,9 +103,38 @@ fn serve(port: u16, count: usize, folder: &str) {
     let mut buffer = vec![0; 65536];
     for conn in door.incoming().take(count) {
         let mut conn = conn.unwrap();
-        if let Some(head) = read_request(&mut conn, &mut buffer) {
+        if let Some((head, _)) = read_request(&mut conn, &mut buffer) {
             let _ = conn.write_all(&answer(&head, folder));
         }
+    }
+}
+
+fn keep(store: &fs::File, end: &mut u64, body: &[u8]) {
+    let mut cell = (body.len() as u32).to_be_bytes().to_vec();
+    cell.extend_from_slice(body);
+    cell.push(0);
+    store.write_all_at(&cell, *end + 1).unwrap();
+    store.sync_all().unwrap();
+    store.write_all_at(b"\xA5", *end).unwrap();
+    store.sync_all().unwrap();
+    *end += cell.len() as u64;
+}
+
+fn reports(port: u16, count: usize, path: &str) {
+    let store = fs::File::create(path).unwrap();
+    let mut end = 0;
+    let door = TcpListener::bind(("127.0.0.1", port)).unwrap();
+    let mut buffer = vec![0; 65536];
+    for conn in door.incoming().take(count) {
+        let mut conn = conn.unwrap();
+        let Some((head, body)) = read_request(&mut conn, &mut buffer) else {
+            continue;
+        };
+        let code = if head.starts_with("POST ") { "200 OK" } else { "204 No Content" };
+        if code == "200 OK" {
+            keep(&store, &mut end, &body);
+        }
+        let _ = conn.write_all(format!("HTTP/1.1 {code}\r\nConnection: close\r\nProtocolVersion: 2.0\r\nContent-Length: 0\r\n\r\n").as_bytes());
     }
 }
 
@@ -131,6 +163,7 @@ fn main() {
     let words: Vec<String> = std::env::args().collect();
     match words[1].as_str() {
         "serve" => serve(words[2].parse().unwrap(), words[3].parse().unwrap(), &words[4]),
+        "reports" => reports(words[2].parse().unwrap(), words[3].parse().unwrap(), &words[4]),
         _ => open(&words[2]),
     }
 }
