@@ -1,14 +1,13 @@
 //! A machine that also has commands.
 ghost use Rattle.std.specs.Prelude.{◌≡◌, []};
 
-use crate::keeping::{keep_set, keep_test};
 use crate::running::{set_command, test_command};
 use crate::spawner::Spawner;
 use crate::tables::is_command;
 use dsc_document::Document;
 use dsc_outside::HostError;
 use mof_values::Memory;
-use resource_kinds::{Entry, Machine, Resources, SetAnswer, TestAnswer};
+use resource_kinds::{Entry, Machine, Resources, SetAnswer, TestAnswer, keep_set, keep_test};
 use std::alloc::Global;
 
 /// A machine whose commands a spawner runs. It owns both, hands on to the machine what is no command, and keeps an entry of each

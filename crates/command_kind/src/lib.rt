@@ -18,7 +18,6 @@
 #![tactic(auto)]
 
 mod commands;
-mod keeping;
 mod laws;
 mod memory_spawner;
 mod program;

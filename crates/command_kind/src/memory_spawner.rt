@@ -5,7 +5,7 @@ ghost use Rattle.command_kind.specs.MemorySpawner.{RunsNext, unrun};
 ghost use Rattle.command_kind.specs.Spawning.{ran, run_of, with_runs};
 
 use crate::spawner::{Run, SpawnError, Spawner};
-use mof_values::{Bytes, Items, Text};
+use mof_values::{Bytes, Items, Text, copy_texts};
 use std::alloc::{AllocError, Global};
 use std::marker::Model;
 
@@ -87,13 +87,7 @@ fn run_with(
 {
     Ok(Run {
         program: Bytes::of(program.as_bytes().to_vec(alloc)?),
-        words: Items::of(copies(alloc, words)?),
+        words: Items::of(copy_texts(alloc, words)?),
         status,
     })
-}
-
-fn copies(alloc: Global, words: &[Text]) -> Result<Vec<Text>, AllocError>
-    ensures { IfOk result (λ copies. copies.items ≡ words.now) }
-{
-    words.to_vec(alloc)
 }

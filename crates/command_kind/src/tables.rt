@@ -3,11 +3,10 @@ ghost use Rattle.std.specs.Prelude.{◌≡◌, IfOk, find, is_some, not, option_
 ghost use Rattle.std.specs.List.{list_all, list_any};
 ghost use Rattle.std.specs.Option.{option_copied};
 ghost use Rattle.mof_values.specs.Fold.{same_name};
-ghost use Rattle.mof_values.specs.Ident.{IsIdent};
 ghost use Rattle.resource_kinds.specs.Tables.{common, fits_row, is_filled_text, is_null, may_stand};
 ghost use Rattle.command_kind.specs.Tables.{are_texts, command_rows, first_missing, first_wrong_of_command, is_command, name_of};
 
-use mof_values::{Ident, IdentError, Instance, Property, Scalar, Value};
+use mof_values::{Ident, Instance, Property, Scalar, Value};
 use std::alloc::{AllocError, Global};
 
 /// Returns whether the instance is of the class of commands.
@@ -45,20 +44,9 @@ pub fn name_of(alloc: Global, needed: Needed) -> Result<Ident, AllocError>
     ensures { IfOk result (λ name. name ≡ name_of needed) }
 {
     match needed {
-        Needed::Name => ident(alloc, b"Name"),
-        Needed::TestProgram => ident(alloc, b"TestProgram"),
-        Needed::SetProgram => ident(alloc, b"SetProgram"),
-    }
-}
-
-fn ident(alloc: Global, word: &[u8]) -> Result<Ident, AllocError>
-    requires { IsIdent word.now }
-    ensures { IfOk result (λ name. name ≡ word.now) }
-{
-    match Ident::from_latin1(alloc, word) {
-        Ok(name) => Ok(name),
-        Err(IdentError::Memory) => Err(AllocError),
-        Err(IdentError::NotAnIdent) => unreachable!(),
+        Needed::Name => Ident::of_ascii(alloc, "Name"),
+        Needed::TestProgram => Ident::of_ascii(alloc, "TestProgram"),
+        Needed::SetProgram => Ident::of_ascii(alloc, "SetProgram"),
     }
 }
 

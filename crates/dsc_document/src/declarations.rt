@@ -31,17 +31,6 @@ fn version_chars<'a>(header: &'a Instance) -> &'a [char]
     }
 }
 
-/// The first characters, at most `count` of them.
-pub fn front(chars: &[char], count: usize) -> &[char]
-    ensures { result.now ≡ take count chars.now }
-{
-    if chars.len() <= count {
-        chars
-    } else {
-        chars.split_at(count).0
-    }
-}
-
 /// The value of the ResourceID of a resource; no other instance has one.
 pub fn id_value<'a>(instance: &'a Instance) -> Option<&'a Value>
     ensures { option_copied result ≡ id_value instance.now }

@@ -6,15 +6,15 @@ use Rattle.dsc_outside.specs.declared.link.LinkError.TheVariants as errors
 use Rattle.dsc_outside.specs.declared.link.Peer.{Peer}
 use Rattle.dsc_outside.specs.declared.link.TheConstants.{ANSWER_LIMIT}
 use Rattle.dsc_outside.specs.declared.exchange.Exchange.{Exchange}
-use Rattle.dsc_outside.specs.declared.exchange.Outcome.{Outcome}
-use Rattle.dsc_outside.specs.declared.exchange.Outcome.TheVariants.{Answered, Failed, TooLong}
+use Rattle.dsc_outside.specs.declared.exchange.ExchangeOutcome.{ExchangeOutcome}
+use Rattle.dsc_outside.specs.declared.exchange.ExchangeOutcome.TheVariants.{Answered, Failed, TooLong}
 
 -- an answer has fewer bytes
 abbrev pub answer_limit : ℕ
 answer_limit = ANSWER_LIMIT
 
 -- the error is this outcome; `Memory` says nothing of it
-abbrev pub IsFault : LinkError → Outcome → Type 0
+abbrev pub IsFault : LinkError → ExchangeOutcome → Type 0
 IsFault errors.Failed Failed = ⊤
 IsFault errors.Failed (Answered bytes) = ⊥
 IsFault errors.Failed TooLong = ⊥
@@ -24,7 +24,7 @@ IsFault errors.TooLong Failed = ⊥
 IsFault errors.Memory outcome = ⊤
 
 -- what the call answered, and appended, is this outcome
-abbrev pub ComesTo : Result (Unit {0}) LinkError → List ℕ → List ℕ → Outcome → Type 0
+abbrev pub ComesTo : Result (Unit {0}) LinkError → List ℕ → List ℕ → ExchangeOutcome → Type 0
 ComesTo (Ok done) old new (Answered bytes) = new ≡ old ++ bytes
 ComesTo (Ok done) old new Failed = ⊥
 ComesTo (Ok done) old new TooLong = ⊥
@@ -35,7 +35,7 @@ ComesTo (Err error) old new outcome = IsFault error outcome
 abbrev pub AddsExchange : Option (List Exchange) → Option (List Exchange) → Peer → List ℕ → Result (Unit {0}) LinkError → List ℕ → List ℕ → Type 0
 AddsExchange None after to request result old new = after ≡ None
 AddsExchange (Some before) after to request result old new =
-    ((outcome : Outcome) × ComesTo result old new outcome × (after ≡ Some (before ++ record { peer = to; request = request; outcome = outcome } ∷ [])))
+    ((outcome : ExchangeOutcome) × ComesTo result old new outcome × (after ≡ Some (before ++ record { peer = to; request = request; outcome = outcome } ∷ [])))
     ⊎ (IsErrOf result errors.Memory × (after ≡ Some before))
 
 -- the buffer of an answer: its bytes stay, with the answer after them where there is one

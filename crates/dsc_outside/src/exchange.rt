@@ -4,7 +4,7 @@ use mof_values::Bytes;
 
 /// What came of a request.
 #[derive(Debug, Drop, PartialEq)]
-pub enum Outcome {
+pub enum ExchangeOutcome {
     /// All bytes that were answered.
     Answered(Bytes),
 
@@ -19,5 +19,5 @@ pub enum Outcome {
 pub struct Exchange {
     pub peer: Peer,
     pub request: Bytes,
-    pub outcome: Outcome,
+    pub outcome: ExchangeOutcome,
 }

@@ -33,7 +33,7 @@ pub use clock::{Clock, LAST_MOMENT};
 pub use disk::Disk;
 pub use ends::Ends;
 pub use entries::{LogEntry, Package};
-pub use exchange::{Exchange, Outcome};
+pub use exchange::{Exchange, ExchangeOutcome};
 pub use failed::Failed;
 pub use host::{Host, HostError, PathState};
 pub use link::{ANSWER_LIMIT, Link, LinkError, Peer};

@@ -5,7 +5,7 @@ ghost use Rattle.gate_log.specs.Log.{AtAnyMoment, capacity_in};
 ghost use Rattle.gate_log.specs.Kept.{Added, Counts, IsKeptAfter, IsKeptBy, LeadsAnew, LeavesEither, Replaced, WaitsAndCounts};
 
 use crate::error::LogError;
-use crate::kept::Kept;
+use crate::logged_state::LoggedState;
 use crate::log::Log;
 use crate::several::{append_all, rewrite_all};
 use crate::spelling::Spelling;
@@ -15,7 +15,7 @@ use dsc_outside::{Disk, Failed};
 ///
 /// A crash at any moment leaves the state before the change or after it; after `Ok` it leaves the state after it. After an error the
 /// log is spent.
-pub fn add<K: Kept, D: Disk>(log: &mut Log, disk: &mut D, body: &[u8]) -> Result<(), Failed>
+pub fn add<K: LoggedState, D: Disk>(log: &mut Log, disk: &mut D, body: &[u8]) -> Result<(), Failed>
     requires size { length body.now ≤ K.shape.largest }
     requires capacity { need_of body.now ≤ capacity_in log.old }
     requires kept { (state : K.State) × IsKeptBy D.Disk disk.old K.shape K.leads log.old state }
@@ -36,7 +36,7 @@ pub fn add<K: Kept, D: Disk>(log: &mut Log, disk: &mut D, body: &[u8]) -> Result
 }
 
 /// Adds a change of one body to the live bank, as `add` does, but without a copy of a long one: see `Log::append_in_place`.
-pub fn add_in_place<K: Kept, D: Disk>(
+pub fn add_in_place<K: LoggedState, D: Disk>(
     log: &mut Log,
     disk: &mut D,
     head: &mut [u8],
@@ -66,7 +66,7 @@ pub fn add_in_place<K: Kept, D: Disk>(
 /// Adds a change of several bodies to the live bank, of which only the last one makes it count.
 ///
 /// As `add`: a crash between two of them leaves the state before the change.
-pub fn add_all<K: Kept, D: Disk, S: Spelling>(
+pub fn add_all<K: LoggedState, D: Disk, S: Spelling>(
     log: &mut Log,
     disk: &mut D,
     buffer: &mut Vec<u8>,
@@ -97,7 +97,7 @@ pub fn add_all<K: Kept, D: Disk, S: Spelling>(
 /// Writes a whole state into the other bank and makes that bank live, in place of all bodies that the log has.
 ///
 /// A crash at any moment leaves the state before or that one; after `Ok` it leaves that one. After an error the log is spent.
-pub fn rewrite<K: Kept, D: Disk, S: Spelling>(
+pub fn rewrite<K: LoggedState, D: Disk, S: Spelling>(
     log: &mut Log,
     disk: &mut D,
     buffer: &mut Vec<u8>,

@@ -3,7 +3,7 @@ ghost use Rattle.std.specs.Prelude.{◌<◌, ◌^◌};
 ghost use Rattle.gate_log.specs.Kept.{FailingStandForNone, KeepSound, LeadFromFront, LeadToOne, StandForOne, StandForSound};
 ghost use Rattle.gate_log.specs.Laws.{OneList, NeverBoth, FrontGiven, AnswerExists};
 
-use crate::kept::Kept;
+use crate::logged_state::LoggedState;
 
 /// An image gives at most one list of bodies, an image that gives bodies does not fail anywhere, bodies that stand at the front
 /// of its live bank are the first of those that it gives, and bytes give bodies or fail.
@@ -16,7 +16,7 @@ pub fn image_laws()
 
 /// Where bodies lead to one state at most, and so do the first of them: an image stands for one state at most, and one that fails
 /// stands for none. Where each body keeps it sound, what an image stands for is sound.
-pub fn kept_laws<K: Kept>()
+pub fn kept_laws<K: LoggedState>()
     requires small { K.shape.largest < 2 ^ 32 }
     requires one { LeadToOne K.leads }
     requires fronts { LeadFromFront K.leads }

@@ -17,7 +17,7 @@
 //!   meaning is never refused: `never_refused` of `proofs/Both.antt`
 //! - the bytes that the calls leave: `specs/Bytes.antt`
 //! - what the images of a disk stand for, over any value: `specs/Standing.antt`
-//! - a state that is kept as bodies, and what spells these: the traits `Kept` in `src/kept.rt`, `Spelling` in
+//! - a state that is kept as bodies, and what spells these: the traits `LoggedState` in `src/logged_state.rt`, `Spelling` in
 //!   `src/spelling.rt`; what an image stands for then, what a change makes of the bodies, and the laws of both
 //!   `specs/Kept.antt`, proved in `proofs/Leading.antt`
 //! - a change that is added, and a whole state that is written anew: `src/keeping.rt`; several bodies, one after the
@@ -31,7 +31,7 @@ mod appending;
 mod bodies;
 mod error;
 mod keeping;
-mod kept;
+mod logged_state;
 mod laws;
 mod log;
 mod opening;
@@ -46,7 +46,7 @@ mod through;
 pub use bodies::Bodies;
 pub use error::LogError;
 pub use keeping::{add, add_all, add_in_place, rewrite};
-pub use kept::Kept;
+pub use logged_state::LoggedState;
 pub use laws::{image_laws, kept_laws};
 pub use log::Log;
 pub use opening::{open_kept, replay_log};

@@ -12,7 +12,7 @@ ghost use Rattle.gate_log.specs.Opening.{FailsInHead, Replayed, StillWhereRefuse
 ghost use Rattle.gate_log.specs.Steps.{Unread};
 
 use crate::error::LogError;
-use crate::kept::Kept;
+use crate::logged_state::LoggedState;
 use crate::log::Log;
 use crate::reading::read_cells;
 use crate::replay::Replay;
@@ -148,7 +148,7 @@ pub fn replay_log<D: Disk, R: Replay>(
 ///
 /// After `Ok` the store is of the disk, with the state that the disk read as; `NotAStore` comes where it stands for none. A crash at
 /// any moment leaves an image that stands for what one stood for before.
-pub fn open_kept<K: Kept, D: Disk, R: Replay>(
+pub fn open_kept<K: LoggedState, D: Disk, R: Replay>(
     alloc: Global,
     disk: &mut D,
     shape: Shape,
@@ -158,7 +158,8 @@ pub fn open_kept<K: Kept, D: Disk, R: Replay>(
     requires some { 1 ≤ shape.bank }
     requires bank { shape.bank ≤ 2 ^ 62 }
     requires first { R.took replay.old [] }
-    ensures opened { IfOk result (λ log. (state : K.State) → ReadsTo K.leads (R.took replay.new) state
+    ensures opened { IfOk result (λ log. (state : K.State)
+        → ReadsTo K.leads (R.took replay.new) state
         → IsOpenedBy D.Disk disk.old disk.new K.shape K.leads log state) }
     ensures cause { IfErr result (λ error. (state : K.State)
         → ReadsTo K.leads (R.took replay.new) state → RefusesOnly K.leads (R.refused replay.new)

@@ -9,7 +9,7 @@ ghost use Rattle.gate_log_tests.specs.Counter.{Counted, NotOpened};
 
 use dsc_outside::{Disk, Failed};
 use gate_log::{
-    Kept, Log, LogError, Replay, Shape, Spelling, TakeError, add_all, kept_laws, open_kept, rewrite,
+    LoggedState, Log, LogError, Replay, Shape, Spelling, TakeError, add_all, kept_laws, open_kept, rewrite,
 };
 use std::alloc::Global;
 use std::marker::Model;
@@ -17,7 +17,7 @@ use std::marker::Model;
 /// Counts.
 pub struct Counts;
 
-impl Kept for Counts {
+impl LoggedState for Counts {
     ghost use Rattle.gate_log_tests.specs.Counting.{LeadsToCount, count_shape};
 
     type State = u8;

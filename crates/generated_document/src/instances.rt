@@ -4,7 +4,7 @@ ghost use Rattle.std.specs.Fmt.{decimal};
 ghost use Rattle.mof_values.specs.Ident.{IsIdent};
 ghost use Rattle.generated_document.specs.Generated.{generated_header, generated_instances, generated_properties, generated_resource, id_of_number, text_property};
 
-use mof_values::{Ident, IdentError, Instance, Items, Property, Scalar, Text, Value};
+use mof_values::{Ident, Instance, Items, Property, Scalar, Text, Value};
 use std::alloc::{AllocError, Global};
 
 /// The resources of the numbers below the count, the greatest first, and then the header.
@@ -64,7 +64,7 @@ fn property(alloc: Global, name: &str, text: &str) -> Result<Property, AllocErro
     ensures { IfOk result (λ property. property ≡ text_property name.now text.now) }
 {
     Ok(Property {
-        name: ident(alloc, name)?,
+        name: Ident::of_ascii(alloc, name)?,
         value: Value::One(Scalar::Text(Text::from_latin1(alloc, text.as_bytes())?)),
     })
 }
@@ -75,19 +75,8 @@ fn instance(alloc: Global, class: &str, properties: Vec<Property>) -> Result<Ins
     ensures rest { IfOk result (λ instance. (instance.alias ≡ None) × (instance.properties ≡ properties.items)) }
 {
     Ok(Instance {
-        class: ident(alloc, class)?,
+        class: Ident::of_ascii(alloc, class)?,
         alias: None,
         properties: Items::of(properties),
     })
-}
-
-fn ident(alloc: Global, name: &str) -> Result<Ident, AllocError>
-    requires { IsIdent name.now }
-    ensures { IfOk result (λ ident. ident ≡ name.now) }
-{
-    match Ident::from_latin1(alloc, name.as_bytes()) {
-        Ok(ident) => Ok(ident),
-        Err(IdentError::Memory) => Err(AllocError),
-        Err(IdentError::NotAnIdent) => unreachable!(),
-    }
 }

@@ -6,8 +6,8 @@ use Rattle.std.proofs.lemmas.List.Sums.{AllPass-from_list_all}
 use Rattle.std.proofs.lemmas.Option.{same_Some}
 use Rattle.dsc_outside.specs.declared.disk.Disk as disks
 use Rattle.dsc_outside.specs.declared.exchange.Exchange.{Exchange}
-use Rattle.dsc_outside.specs.declared.exchange.Outcome.{Outcome}
-use Rattle.dsc_outside.specs.declared.exchange.Outcome.TheVariants as outcomes
+use Rattle.dsc_outside.specs.declared.exchange.ExchangeOutcome.{ExchangeOutcome}
+use Rattle.dsc_outside.specs.declared.exchange.ExchangeOutcome.TheVariants as outcomes
 use Rattle.http_frames.specs.declared.frame_error.FrameError.{FrameError}
 use Rattle.http_frames.specs.declared.frame_error.FrameError.TheVariants as frames
 use Rattle.http_frames.specs.declared.message.Reply.{Reply}
@@ -60,13 +60,13 @@ sent_alone : (message request : Request) (host : List ℕ) → RequestIsReadBack
 sent_alone message request host back begins = cc (back.alone (Ok (Some request)) begins)
 
 -- a value that is taken of an outcome is what a reply says that the bytes are read as
-abbrev Takes : {T : Type 0} → (Reply → Result T PeerError → Type 0) → Outcome → Result T PeerError → Type 0
+abbrev Takes : {T : Type 0} → (Reply → Result T PeerError → Type 0) → ExchangeOutcome → Result T PeerError → Type 0
 Takes says outcome (Err e) = Unit {0}
 Takes says outcomes.Failed (Ok value) = ⊥
 Takes says outcomes.TooLong (Ok value) = ⊥
 Takes says (outcomes.Answered bytes) (Ok value) = (reply : Reply) × IsAnswerFrame bytes reply × says reply (Ok value)
 
-taken_of : {T : Type 0} {says : Reply → Result T PeerError → Type 0} (outcome : Outcome) (result : Result T PeerError) → Heard says outcome result → Takes says outcome result
+taken_of : {T : Type 0} {says : Reply → Result T PeerError → Type 0} (outcome : ExchangeOutcome) (result : Result T PeerError) → Heard says outcome result → Takes says outcome result
 taken_of outcome result link_failed = tt
 taken_of outcome result too_long = tt
 taken_of outcome result (no_answer bytes e refused) = tt
@@ -219,7 +219,7 @@ module _ (items : ChecksumsAreOfItems) (shelf : Contents) where
   module _ (back : RequestsReadBack) {T : Type 0} (Says : Reply → Result T PeerError → Type 0) (value : T) (bytes : List ℕ)
       (checked : (reply : Reply) → Says reply (Ok value) → checked_body reply ≡ Ok bytes) where
     -- of an outcome of this exchange
-    record Given (e : Exchange) (outcome : Outcome) : Type 0 where
+    record Given (e : Exchange) (outcome : ExchangeOutcome) : Type 0 where
       item : IsItem shelf bytes
       given : outcome ≡ outcomes.Answered (answer_text (content_reply bytes))
       named : (server : Server) (agent : ℕ) (name : List ℕ) → AsksForContent server agent name e → configuration_of (encode_utf8_all name) shelf ≡ Some bytes
@@ -252,7 +252,7 @@ module _ (items : ChecksumsAreOfItems) (shelf : Contents) where
     nothing_taken : (text : List ℕ) → text ≡ [] → Takes Says (outcomes.Answered text) (Ok value) → ⊥
     nothing_taken text empty taken = no_answer_in_nothing taken.0 (subst (λ (b : List ℕ). IsAnswerFrame b taken.0) empty taken.1)
 
-    heard_of_shelf : (t : Turn) (e : Exchange) (outcome : Outcome) → IsReceived e.request t.received → IsHeard shelf t outcome → Takes Says outcome (Ok value) → Given e outcome
+    heard_of_shelf : (t : Turn) (e : Exchange) (outcome : ExchangeOutcome) → IsReceived e.request t.received → IsHeard shelf t outcome → Takes Says outcome (Ok value) → Given e outcome
     heard_of_shelf t e (outcomes.Answered text) came (inl replied) taken = replied_of_shelf t e text came replied taken
     heard_of_shelf t e (outcomes.Answered text) came (inr unanswered) taken = absurd (nothing_taken text unanswered.nothing taken)
     heard_of_shelf t e outcomes.TooLong came heard taken = absurd taken

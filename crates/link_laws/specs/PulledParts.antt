@@ -2,7 +2,7 @@
 use Rattle.std.specs.Prelude.{◌≡◌, ℕ, ◌≤◌, List, length, Contains, Some, codes, encode_utf8_all}
 use Rattle.dsc_outside.specs.declared.disk.Disk as disks
 use Rattle.dsc_outside.specs.declared.exchange.Exchange.{Exchange}
-use Rattle.dsc_outside.specs.declared.exchange.Outcome.TheVariants.{Answered}
+use Rattle.dsc_outside.specs.declared.exchange.ExchangeOutcome.TheVariants.{Answered}
 use Rattle.dsc_outside.specs.Link.{LinkView}
 use Rattle.http_frames.specs.Writing.{answer_text}
 use Rattle.meta_config.specs.declared.server.Server.{Server}

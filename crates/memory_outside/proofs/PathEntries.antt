@@ -9,15 +9,15 @@ use Rattle.memory_outside.proofs.Named.{bytes_own, bytes_same, bytes_swap, named
 use Rattle.memory_outside.specs.MemoryHost.{Adds, AreMissing, IsPushed, first_kind, folder_if, kind_at, kind_of, standing_at}
 use Rattle.dsc_outside.specs.Paths.{IsEmpty, IsInhabited, PathKind, Nothing, File, Folder, Other, file_put, filled, folder_made, is_below, is_nothing, is_within, removed}
 use Rattle.memory_outside.specs.declared.paths.PathEntry.{PathEntry}
-use Rattle.memory_outside.specs.declared.paths.Standing.{Standing}
-use Rattle.memory_outside.specs.declared.paths.Standing.TheVariants as standings
+use Rattle.memory_outside.specs.declared.paths.PathContent.{PathContent}
+use Rattle.memory_outside.specs.declared.paths.PathContent.TheVariants as standings
 
-pub stands : (s : Standing) → is_nothing (kind_of (Some s)) ≡ false
+pub stands : (s : PathContent) → is_nothing (kind_of (Some s)) ≡ false
 stands (standings.File bytes) = refl
 stands standings.Folder = refl
 stands standings.Other = refl
 
-pub not_nothing : (s : Standing) → kind_of (Some s) ≡ Nothing → ⊥
+pub not_nothing : (s : PathContent) → kind_of (Some s) ≡ Nothing → ⊥
 not_nothing s e = both_ways _ (stands s) (ap is_nothing e)
 
 pub kind_append : (xs ys : List PathEntry) (path : List ℕ) → kind_at (xs ++ ys) path ≡ first_kind (kind_at xs path) (kind_at ys path)
@@ -27,15 +27,15 @@ kind_append (x ∷ xs) ys path = elim (cases_Bool (bytes_eq x.path path)) [
   | inr apart ↦ rw apart (kind_append xs ys path)
 ]
 
-kind_alone : (b : Bool) (s : Standing) → kind_of (cond b (Some s) None) ≡ cond b (kind_of (Some s)) Nothing
+kind_alone : (b : Bool) (s : PathContent) → kind_of (cond b (Some s) None) ≡ cond b (kind_of (Some s)) Nothing
 kind_alone true s = refl
 kind_alone false s = refl
 
-pub kind_pushed : (e : PathEntry) (path : List ℕ) (stands : Standing) (old now : List PathEntry) → now ≡ old ++ e ∷ [] → e ≡ record { path = path; stands = stands } → IsPushed path (kind_of (Some stands)) old now
+pub kind_pushed : (e : PathEntry) (path : List ℕ) (stands : PathContent) (old now : List PathEntry) → now ≡ old ++ e ∷ [] → e ≡ record { path = path; stands = stands } → IsPushed path (kind_of (Some stands)) old now
 kind_pushed e path stands old now pushed is other =
     rw (pushed, is) (kind_append old (record { path = path; stands = stands } ∷ []) other ∙ ap (first_kind (kind_at old other)) (kind_alone (bytes_eq path other) stands))
 
-kind_gone : (gone : Bool) (o : Option Standing) → kind_of (cond gone None o) ≡ cond gone Nothing (kind_of o)
+kind_gone : (gone : Bool) (o : Option PathContent) → kind_of (cond gone None o) ≡ cond gone Nothing (kind_of o)
 kind_gone true o = refl
 kind_gone false o = refl
 

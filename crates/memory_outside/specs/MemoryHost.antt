@@ -12,8 +12,8 @@ use Rattle.dsc_outside.specs.declared.host.HostError.{HostError}
 use Rattle.dsc_outside.specs.declared.host.HostError.TheVariants as errors
 use Rattle.memory_outside.specs.declared.contents.HostContents.{HostContents}
 use Rattle.memory_outside.specs.declared.paths.PathEntry.{PathEntry}
-use Rattle.memory_outside.specs.declared.paths.Standing.{Standing}
-use Rattle.memory_outside.specs.declared.paths.Standing.TheVariants as standings
+use Rattle.memory_outside.specs.declared.paths.PathContent.{PathContent}
+use Rattle.memory_outside.specs.declared.paths.PathContent.TheVariants as standings
 use Rattle.memory_outside.specs.declared.stop.Course.{Course}
 use Rattle.memory_outside.specs.declared.stop.Course.TheVariants as courses
 use Rattle.memory_outside.specs.declared.stop.Stop.{Stop}
@@ -63,10 +63,10 @@ abbrev pub value_of : List Variable → List ℕ → Option (List ℕ)
 value_of = first_named (λ v. v.name) (λ v. v.value)
 
 -- what the first entry of that path says
-abbrev pub standing_at : List PathEntry → List ℕ → Option Standing
+abbrev pub standing_at : List PathEntry → List ℕ → Option PathContent
 standing_at = first_named (λ e. e.path) (λ e. e.stands)
 
-abbrev pub kind_of : Option Standing → PathKind
+abbrev pub kind_of : Option PathContent → PathKind
 kind_of None = kinds.Nothing
 kind_of (Some (standings.File bytes)) = kinds.File bytes
 kind_of (Some standings.Folder) = kinds.Folder

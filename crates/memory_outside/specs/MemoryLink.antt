@@ -6,8 +6,8 @@ use Rattle.dsc_outside.specs.declared.link.Peer.{Peer}
 use Rattle.dsc_outside.specs.declared.link.LinkError.{LinkError}
 use Rattle.dsc_outside.specs.declared.link.LinkError.TheVariants as errors
 use Rattle.dsc_outside.specs.declared.exchange.Exchange.{Exchange}
-use Rattle.dsc_outside.specs.declared.exchange.Outcome.{Outcome}
-use Rattle.dsc_outside.specs.declared.exchange.Outcome.TheVariants.{Answered, Failed, TooLong}
+use Rattle.dsc_outside.specs.declared.exchange.ExchangeOutcome.{ExchangeOutcome}
+use Rattle.dsc_outside.specs.declared.exchange.ExchangeOutcome.TheVariants.{Answered, Failed, TooLong}
 
 pub record LinkInMemory : Type 0 where
   -- the answers that are left, in order
@@ -21,16 +21,16 @@ abbrev pub unasked : List (List ℕ) → List ℕ → LinkInMemory
 unasked answers failing = record { answers = answers; exchanges = []; calls = uncalled failing }
 
 -- an answer that is too long is none
-abbrev pub answered : List ℕ → Outcome
+abbrev pub answered : List ℕ → ExchangeOutcome
 answered bytes = if nat_lt (length bytes) answer_limit then Answered bytes else TooLong
 
 -- what the first of the answers is
-abbrev pub first_outcome : List (List ℕ) → Outcome
+abbrev pub first_outcome : List (List ℕ) → ExchangeOutcome
 first_outcome [] = Failed
 first_outcome (bytes ∷ answers) = answered bytes
 
 -- what comes of the next request
-abbrev pub next_outcome : LinkInMemory → Outcome
+abbrev pub next_outcome : LinkInMemory → ExchangeOutcome
 next_outcome link = if is_to_fail link.calls then Failed else first_outcome link.answers
 
 abbrev pub has_answer : List (List ℕ) → Bool
@@ -52,13 +52,13 @@ exchanged link to request = record {
   calls = counted_with (has_answer link.answers) link.calls;
 }
 
-abbrev pub result_of : Outcome → Result (Unit {0}) LinkError
+abbrev pub result_of : ExchangeOutcome → Result (Unit {0}) LinkError
 result_of (Answered bytes) = Ok tt
 result_of Failed = Err errors.Failed
 result_of TooLong = Err errors.TooLong
 
 -- what was answered is appended
-abbrev pub Appends : Outcome → List ℕ → List ℕ → Type 0
+abbrev pub Appends : ExchangeOutcome → List ℕ → List ℕ → Type 0
 Appends (Answered bytes) old new = new ≡ old ++ bytes
 Appends Failed old new = new ≡ old
 Appends TooLong old new = new ≡ old

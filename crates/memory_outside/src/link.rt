@@ -7,7 +7,7 @@ ghost use Rattle.memory_outside.specs.Memory.{is_to_fail};
 ghost use Rattle.memory_outside.specs.MemoryLink.{Appends, Exchanges, MayBecome, answered, counted_with, first_outcome, has_answer, next_exchange, next_outcome, result_of, unasked};
 
 use crate::calls::Calls;
-use dsc_outside::{ANSWER_LIMIT, Exchange, Link, LinkError, Outcome, Peer};
+use dsc_outside::{ANSWER_LIMIT, Exchange, Link, LinkError, ExchangeOutcome, Peer};
 use mof_values::Bytes;
 use std::alloc::{AllocError, Global};
 use std::marker::Model;
@@ -77,15 +77,15 @@ impl MemoryLink {
         })
     }
 
-    fn next_outcome(&self, alloc: Global) -> Result<Outcome, AllocError>
+    fn next_outcome(&self, alloc: Global) -> Result<ExchangeOutcome, AllocError>
         ensures { IfOk result (λ outcome. outcome ≡ next_outcome self.now) }
     {
         if self.calls.is_to_fail() {
-            return Ok(Outcome::Failed);
+            return Ok(ExchangeOutcome::Failed);
         }
         match self.answers.get(self.at) {
             Some(answer) => outcome_of(alloc, answer.as_slice()),
-            None => Ok(Outcome::Failed),
+            None => Ok(ExchangeOutcome::Failed),
         }
     }
 
@@ -151,34 +151,34 @@ fn copy_of_peer(peer: &Peer) -> Result<Peer, AllocError>
     peer.clone()
 }
 
-fn outcome_of(alloc: Global, answer: &[u8]) -> Result<Outcome, AllocError>
+fn outcome_of(alloc: Global, answer: &[u8]) -> Result<ExchangeOutcome, AllocError>
     ensures { IfOk result (λ outcome. outcome ≡ answered answer.now) }
 {
     if answer.len() >= ANSWER_LIMIT {
-        return Ok(Outcome::TooLong);
+        return Ok(ExchangeOutcome::TooLong);
     }
-    Ok(Outcome::Answered(Bytes::of(answer.to_vec(alloc)?)))
+    Ok(ExchangeOutcome::Answered(Bytes::of(answer.to_vec(alloc)?)))
 }
 
 // Appends what was answered. Without memory the bytes stay.
-fn append(answer: &mut Vec<u8>, outcome: &Outcome) -> Result<(), AllocError>
+fn append(answer: &mut Vec<u8>, outcome: &ExchangeOutcome) -> Result<(), AllocError>
     ensures ok { OnOk result (Appends outcome.now answer.old.items answer.new.items) }
     ensures err { OnErr result (answer.new.items ≡ answer.old.items) }
 {
     match outcome {
-        Outcome::Answered(bytes) => answer.extend_from_slice(bytes.as_slice()),
-        Outcome::Failed => Ok(()),
-        Outcome::TooLong => Ok(()),
+        ExchangeOutcome::Answered(bytes) => answer.extend_from_slice(bytes.as_slice()),
+        ExchangeOutcome::Failed => Ok(()),
+        ExchangeOutcome::TooLong => Ok(()),
     }
 }
 
-fn result_of(outcome: &Outcome) -> Result<(), LinkError>
+fn result_of(outcome: &ExchangeOutcome) -> Result<(), LinkError>
     ensures { result ≡ result_of outcome.now }
 {
     match outcome {
-        Outcome::Answered(_) => Ok(()),
-        Outcome::Failed => Err(LinkError::Failed),
-        Outcome::TooLong => Err(LinkError::TooLong),
+        ExchangeOutcome::Answered(_) => Ok(()),
+        ExchangeOutcome::Failed => Err(LinkError::Failed),
+        ExchangeOutcome::TooLong => Err(LinkError::TooLong),
     }
 }
 

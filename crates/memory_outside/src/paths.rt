@@ -5,7 +5,7 @@ ghost use Rattle.std.specs.List.{list_any};
 ghost use Rattle.std.specs.Option.{option_copied};
 ghost use Rattle.memory_outside.specs.MemoryHost.{Adds, AreMissing, IsPushed, first_kind, folder_if, kind_at, kind_of, standing_at};
 ghost use Rattle.dsc_outside.specs.Paths.{Folder, IsStateAt, Nothing, file_put, folder_made, is_below, is_file_of, is_nothing, is_within, removed};
-ghost use Rattle.memory_outside.specs.declared.paths.Standing.TheVariants as standings;
+ghost use Rattle.memory_outside.specs.declared.paths.PathContent.TheVariants as standings;
 
 use dsc_outside::PathState;
 use mof_values::Bytes;
@@ -13,7 +13,7 @@ use std::alloc::{AllocError, Global};
 
 /// What stands at a path.
 #[derive(Debug, Drop, PartialEq)]
-pub enum Standing {
+pub enum PathContent {
     File(Bytes),
     Folder,
 
@@ -27,7 +27,7 @@ pub struct PathEntry {
     /// In UTF-8.
     pub path: Bytes,
 
-    pub stands: Standing,
+    pub stands: PathContent,
 }
 
 /// The state of the path.
@@ -36,9 +36,9 @@ pub fn state_at(paths: &[PathEntry], path: &[u8]) -> PathState
 {
     match find_standing(paths, path) {
         None => PathState::Nothing,
-        Some(Standing::File(_)) => PathState::File,
-        Some(Standing::Folder) => folder_state(paths, path),
-        Some(Standing::Other) => PathState::Other,
+        Some(PathContent::File(_)) => PathState::File,
+        Some(PathContent::Folder) => folder_state(paths, path),
+        Some(PathContent::Other) => PathState::Other,
     }
 }
 
@@ -47,7 +47,7 @@ pub fn is_file(paths: &[PathEntry], path: &[u8], bytes: &[u8]) -> bool
     ensures { result ≡ is_file_of (kind_at paths.now path.now) bytes.now }
 {
     match find_standing(paths, path) {
-        Some(Standing::File(held)) => held.as_slice() == bytes,
+        Some(PathContent::File(held)) => held.as_slice() == bytes,
         _ => false,
     }
 }
@@ -74,7 +74,7 @@ pub fn make_folder(paths: &mut Vec<PathEntry>, path: &[u8]) -> Result<(), AllocE
     ensures err { OnErr result (paths.new.items ≡ paths.old.items) }
 {
     let alloc = *paths.allocator();
-    let mut added = with_missing_above(alloc, paths, path, Standing::Folder)?;
+    let mut added = with_missing_above(alloc, paths, path, PathContent::Folder)?;
     paths.reserve(added.len())?;
     paths.retain(|entry| entry.path.as_slice() != path);
     append(paths, &mut added);
@@ -90,10 +90,10 @@ pub fn remove(paths: &mut Vec<PathEntry>, path: &[u8])
     paths.retain(|entry| !stands_within(path, entry.path.as_slice()));
 }
 
-fn new_file(alloc: Global, bytes: &[u8]) -> Result<Standing, AllocError>
+fn new_file(alloc: Global, bytes: &[u8]) -> Result<PathContent, AllocError>
     ensures { IfOk result (λ s. s ≡ standings.File bytes.now) }
 {
-    Ok(Standing::File(Bytes::of(bytes.to_vec(alloc)?)))
+    Ok(PathContent::File(Bytes::of(bytes.to_vec(alloc)?)))
 }
 
 // The folders above the path that are missing, and after them the path itself.
@@ -101,7 +101,7 @@ fn with_missing_above(
     alloc: Global,
     paths: &[PathEntry],
     path: &[u8],
-    stands: Standing,
+    stands: PathContent,
 ) -> Result<Vec<PathEntry>, AllocError>
     ensures { IfOk result (λ added. Adds path.now paths.now (kind_of (Some stands)) added.items) }
 {
@@ -138,13 +138,13 @@ fn push_missing(
         (bytes_eq folder.now other && is_nothing (kind_at paths.now other)))) }
 {
     if is_free(paths, folder) {
-        return push(missing, folder, Standing::Folder);
+        return push(missing, folder, PathContent::Folder);
     }
     Ok(())
 }
 
 // Adds an entry at the end.
-fn push(entries: &mut Vec<PathEntry>, path: &[u8], stands: Standing) -> Result<(), AllocError>
+fn push(entries: &mut Vec<PathEntry>, path: &[u8], stands: PathContent) -> Result<(), AllocError>
     ensures { OnOk result (IsPushed path.now (kind_of (Some stands))
         entries.old.items entries.new.items) }
 {
@@ -188,13 +188,13 @@ fn is_free(paths: &[PathEntry], path: &[u8]) -> bool
 {
     match find_standing(paths, path) {
         None => true,
-        Some(Standing::File(_)) => false,
-        Some(Standing::Folder) => false,
-        Some(Standing::Other) => false,
+        Some(PathContent::File(_)) => false,
+        Some(PathContent::Folder) => false,
+        Some(PathContent::Other) => false,
     }
 }
 
-fn find_standing<'a>(paths: &'a [PathEntry], path: &[u8]) -> Option<&'a Standing>
+fn find_standing<'a>(paths: &'a [PathEntry], path: &[u8]) -> Option<&'a PathContent>
     ensures { option_copied result ≡ standing_at paths.now path.now }
 {
     for entry in paths {

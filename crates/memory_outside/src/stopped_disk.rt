@@ -168,7 +168,8 @@ impl Disk for StoppedDisk {
     }
 
     fn cut(&mut self, to: u64) -> Result<(), Failed>
-        ensures cut { Makes (take to) (exposed_bytes self.old.disk) (exposed_bytes self.new.disk) result }
+        ensures cut { Makes (take to) (exposed_bytes self.old.disk) (exposed_bytes self.new.disk)
+            result }
         ensures crash { Follows (Cut to) (images_of self.old.disk) (images_of self.new.disk) }
         ensures time { TimePasses moment_of left_at images_of self.old.disk self.new.disk }
         ensures cause { HasCause self.old.disk.count.faults self.new.disk.count.faults result }

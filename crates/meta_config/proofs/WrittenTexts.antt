@@ -12,6 +12,7 @@ use Rattle.mof_syntax.specs.Limits.{IsInRange, InstanceFits, PropertyFits, Scala
 use Rattle.mof_syntax.specs.Refusals.{Reads}
 use Rattle.mof_codec.specs.Written.{AreChars, InstanceIsValid, IsName, PropertyIsValid, ScalarIsValid, ValueIsValid}
 use Rattle.mof_codec.proofs.CanonicalBytes.{canonical_reads}
+use Rattle.mof_values.specs.declared.limits.TheConstants.{MAX_IDENTIFIER}
 use Rattle.meta_config.specs.declared.meta.Meta.{Meta}
 use Rattle.meta_config.specs.declared.meta.Partial.{Partial}
 use Rattle.meta_config.specs.declared.modes.ConfigMode.{ConfigMode}
@@ -45,14 +46,14 @@ properties_fit : (ps : List Property) → AllByRecursion PropertyIsGood ps → A
 properties_fit [] all = tt
 properties_fit (p ∷ ps) all = (all.0.fits, properties_fit ps all.1)
 
-good_instance : (class : List ℕ) (ps : List Property) → IsName class → length class ≤ 255 → length ps ≤ 256 → AllByRecursion PropertyIsGood ps
+good_instance : (class : List ℕ) (ps : List Property) → IsName class → length class ≤ MAX_IDENTIFIER → length ps ≤ 256 → AllByRecursion PropertyIsGood ps
     → InstanceIsGood (record { class = class; alias = None; properties = ps })
 good_instance class ps name short few all = record {
   valid = record { class = name; alias = tt; each = properties_valid ps all };
   fits = record { class = short; alias = tt; count = few; each = properties_fit ps all };
 }
 
-good : (name : List ℕ) (value : Value) → IsName name → length name ≤ 255 → ValueIsValid value → ValueFits value → PropertyIsGood (record { name = name; value = value })
+good : (name : List ℕ) (value : Value) → IsName name → length name ≤ MAX_IDENTIFIER → ValueIsValid value → ValueFits value → PropertyIsGood (record { name = name; value = value })
 good name value is short valid fits = record {
   valid = record { name = is; value = valid };
   fits = record { name = short; value = fits };

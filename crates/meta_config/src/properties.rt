@@ -1,14 +1,12 @@
 //! The properties of an instance that have a value.
-ghost use Rattle.std.specs.Prelude.{◌≡◌, IfOk};
+ghost use Rattle.std.specs.Prelude.{◌≡◌};
 ghost use Rattle.std.specs.Option.{option_copied};
-ghost use Rattle.mof_values.specs.Ident.{IsIdent};
 ghost use Rattle.mof_values.specs.Fold.{same_name};
 ghost use Rattle.mof_values.specs.Values.{scalars_of, text_of};
 ghost use Rattle.meta_config.specs.Making.{text_given};
 ghost use Rattle.meta_config.specs.Properties.{first_name, from_given, given, is_given, is_given_as};
 
-use mof_values::{Ident, IdentError, Property, Scalar, Text, Value};
-use std::alloc::{AllocError, Global};
+use mof_values::{Ident, Property, Scalar, Text, Value};
 
 /// The properties from the first one of this name on that has a value.
 pub fn from_given<'a>(properties: &'a [Property], name: &str) -> &'a [Property]
@@ -63,17 +61,5 @@ pub fn text_given<'a>(properties: &'a [Property], name: &str) -> Option<&'a Text
     match given(properties, name) {
         Some(value) => value.as_text(),
         None => None,
-    }
-}
-
-/// The name that an identifier spells.
-pub fn ident(alloc: Global, name: &str) -> Result<Ident, AllocError>
-    requires { IsIdent name.now }
-    ensures { IfOk result (λ ident. ident ≡ name.now) }
-{
-    match Ident::from_latin1(alloc, name.as_bytes()) {
-        Ok(ident) => Ok(ident),
-        Err(IdentError::Memory) => Err(AllocError),
-        Err(IdentError::NotAnIdent) => unreachable!(),
     }
 }

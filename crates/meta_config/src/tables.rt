@@ -3,7 +3,7 @@ ghost use Rattle.std.specs.Prelude.{◌≡◌, IfOk};
 ghost use Rattle.std.specs.Option.{option_copied, option_or};
 ghost use Rattle.meta_config.specs.Tables.{Row, class_name, download_rows, first_wrong, is_manager, is_of, partial_rows, report_rows, resource_rows, row, settings_rows, wrong_from, wrong_in, wrong_in_partial, wrong_in_row};
 
-use crate::properties::{first_name, from_given, given, ident};
+use crate::properties::{first_name, from_given, given};
 use crate::words::fits;
 use mof_values::{Ident, Instance, Property};
 use std::alloc::{AllocError, Global};
@@ -144,7 +144,7 @@ fn wrong_in_partial(alloc: Global, properties: &[Property]) -> Result<Option<Ide
     ensures { IfOk result (λ wrong. wrong ≡ wrong_in_partial properties.now) }
 {
     if given(properties, "ResourceID").is_none() {
-        return Ok(Some(ident(alloc, "ResourceID")?));
+        return Ok(Some(Ident::of_ascii(alloc, "ResourceID")?));
     }
     copied(wrong_in_parts(properties))
 }

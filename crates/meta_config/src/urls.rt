@@ -6,9 +6,9 @@ ghost use Rattle.meta_config.specs.Urls.{default_port, if_short, is_host_char, i
 
 use crate::Site;
 use crate::limits::MAX_URL;
-use crate::words::{after, front};
+use crate::words::after;
 use dsc_outside::Peer;
-use mof_values::{Text, is_named};
+use mof_values::{Text, front, is_named};
 use std::alloc::{AllocError, Global};
 
 /// The site of a URL that has at most `MAX_URL` bytes, as it is given and as it is written.

@@ -9,7 +9,7 @@ ghost use Rattle.meta_config.specs.Words.{after_named, after_of, boolean_of, fit
 
 use crate::tables::Domain;
 use crate::{AfterReboot, ConfigMode, RefreshMode};
-use mof_values::{MAX_NAME_BYTES, Scalar, Value, fits_utf8, is_named};
+use mof_values::{MAX_NAME_BYTES, Scalar, Value, fits_utf8, front, is_named};
 
 /// Returns whether the value may stand where the domain is asked.
 pub fn fits(domain: Domain, value: &Value) -> bool
@@ -194,17 +194,6 @@ fn has_word(chars: &[char], word: &str) -> bool
     ensures { result ≡ same_name chars.now word.now }
 {
     is_named(chars, word)
-}
-
-/// The first `count` characters, or all where there are fewer.
-pub fn front(chars: &[char], count: usize) -> &[char]
-    ensures { result.now ≡ take count chars.now }
-{
-    if chars.len() <= count {
-        chars
-    } else {
-        chars.split_at(count).0
-    }
 }
 
 /// The characters but the first `count`.

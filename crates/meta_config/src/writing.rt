@@ -5,12 +5,11 @@ ghost use Rattle.mof_values.specs.Ident.{IsIdent};
 ghost use Rattle.meta_config.specs.Words.{refresh_name};
 ghost use Rattle.meta_config.specs.Writing.{boolean_property, download_instance, instance, instances_of, integer_property, key_property, list_property, manager_instances, managers_of, partial_instance, property, reference_to, refresh_properties, report_instance, resource_instance, settings_instance, site_at_server, text_of_meta, text_property, text_scalar, url_property};
 
-use crate::properties::ident;
 use crate::tables::Class;
 use crate::urls::{push_ascii, url_of};
 use crate::{Meta, Partial, RefreshMode, Server};
 use mof_codec::write;
-use mof_values::{Instance, Items, Memory, Property, Scalar, Text, Value};
+use mof_values::{Ident, Instance, Items, Memory, Property, Scalar, Text, Value};
 use std::alloc::{AllocError, Global};
 
 /// The canonical text of the meta-configuration.
@@ -233,7 +232,7 @@ fn property(alloc: Global, name: &str, value: Value) -> Result<Property, AllocEr
     ensures { IfOk result (λ p. p ≡ property name.now value) }
 {
     Ok(Property {
-        name: ident(alloc, name)?,
+        name: Ident::of_ascii(alloc, name)?,
         value,
     })
 }
@@ -242,7 +241,7 @@ fn instance(alloc: Global, class: Class, properties: Vec<Property>) -> Result<In
     ensures { IfOk result (λ i. i ≡ instance class properties.items) }
 {
     Ok(Instance {
-        class: ident(alloc, class.name())?,
+        class: Ident::of_ascii(alloc, class.name())?,
         alias: None,
         properties: Items::of(properties),
     })

@@ -111,6 +111,18 @@ impl Ident {
         Ok(Ident { chars })
     }
 
+    /// The identifier that a word of ASCII spells.
+    pub fn of_ascii(alloc: Global, word: &str) -> Result<Ident, AllocError>
+        requires { IsIdent word.now }
+        ensures { IfOk result (λ ident. ident ≡ word.now) }
+    {
+        match Ident::from_latin1(alloc, word.as_bytes()) {
+            Ok(ident) => Ok(ident),
+            Err(IdentError::Memory) => Err(AllocError),
+            Err(IdentError::NotAnIdent) => unreachable!(),
+        }
+    }
+
     pub fn as_slice(&self) -> &[char]
         ensures value { result.now ≡ self.now }
         ensures valid { IsIdent self.now }

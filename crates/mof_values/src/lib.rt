@@ -28,5 +28,5 @@ pub use instance::{Instance, Property};
 pub use items::Items;
 pub use limits::{MAX_IDENTIFIER, MAX_NAME_BYTES};
 pub use memory::Memory;
-pub use text::{Text, char_count, fits_utf8};
+pub use text::{Text, char_count, copy_texts, fits_utf8, front};
 pub use value::{Scalar, Value};

@@ -1,5 +1,5 @@
 //! A list of characters, from and to its bytes in UTF-8.
-ghost use Rattle.std.specs.Prelude.{◌≡◌, ◌<◌, ◌≤◌, ◌↔◌, ℕ, All, IfOk, IsTrue, length, slice_index, encode_utf8_all, string_bytes};
+ghost use Rattle.std.specs.Prelude.{◌≡◌, ◌<◌, ◌≤◌, ◌↔◌, ℕ, All, IfOk, IsTrue, length, slice_index, take, encode_utf8_all, string_bytes};
 ghost use Rattle.std.specs.Char.{IsScalar};
 ghost use Rattle.std.specs.Str.{chars};
 
@@ -42,7 +42,8 @@ impl Text {
 
     /// The characters of a text in UTF-8.
     pub fn from_utf8(alloc: Global, text: &str) -> Result<Text, AllocError>
-        ensures { IfOk result (λ t. t ≡ chars text.now) }
+        ensures chars { IfOk result (λ t. t ≡ chars text.now) }
+        ensures bytes { IfOk result (λ t. encode_utf8_all t ≡ text.now) }
     {
         Ok(Text::of(text.chars().collect(alloc)?))
     }
@@ -104,6 +105,24 @@ pub fn char_count(text: &str) -> usize
     ensures { result ≡ length (chars text.now) }
 {
     text.chars().count()
+}
+
+/// The first characters, at most `count` of them.
+pub fn front(chars: &[char], count: usize) -> &[char]
+    ensures { result.now ≡ take count chars.now }
+{
+    if chars.len() <= count {
+        chars
+    } else {
+        chars.split_at(count).0
+    }
+}
+
+/// The same texts once more.
+pub fn copy_texts(alloc: Global, texts: &[Text]) -> Result<Vec<Text>, AllocError>
+    ensures { IfOk result (λ copies. copies.items ≡ texts.now) }
+{
+    texts.to_vec(alloc)
 }
 
 // Reads each character, so that it is known to be a scalar value.

@@ -5,7 +5,7 @@ use Rattle.dsc_terms.specs.Counts.{Rose}
 use Rattle.dsc_outside.specs.Link.{GoesOn, LinkView}
 use Rattle.dsc_outside.specs.declared.entries.Package.{Package}
 use Rattle.dsc_outside.specs.declared.exchange.Exchange.{Exchange}
-use Rattle.dsc_outside.specs.declared.exchange.Outcome.{Outcome}
+use Rattle.dsc_outside.specs.declared.exchange.ExchangeOutcome.{ExchangeOutcome}
 use Rattle.http_frames.specs.declared.message.Reply.{Reply}
 use Rattle.meta_config.specs.declared.meta.Meta.{Meta}
 use Rattle.meta_config.specs.declared.server.Server.{Server}
@@ -75,7 +75,7 @@ refused_since {T} server sent Says before after error http other asks old is = s
 
 -- no outcome means a value and this error
 abbrev Excludes : {T : Type 0} → (Reply → Result T PeerError → Type 0) → PeerError → Type 0
-Excludes {T} Says error = (outcome : Outcome) (value : T) → Heard Says outcome (Ok value) → Heard Says outcome (Err error) → ⊥
+Excludes {T} Says error = (outcome : ExchangeOutcome) (value : T) → Heard Says outcome (Ok value) → Heard Says outcome (Err error) → ⊥
 
 shown_some : (shown : Option (List Exchange)) → IsSome shown → (old : List Exchange) × (shown ≡ Some old)
 shown_some None is = absurd (cc is)

@@ -6,7 +6,7 @@ ghost use Rattle.node_pull.specs.Names.{AreNamesAt, ArePartNames, asked_of, is_a
 
 use depend_order::OrderError;
 use meta_config::{Meta, Partial, parts_order};
-use mof_values::{Memory, Text};
+use mof_values::{Memory, Text, copy_texts};
 use std::alloc::{AllocError, Global};
 
 /// The names that a node registers: its ConfigurationNames, then each name of a partial configuration that is not among them.
@@ -14,7 +14,7 @@ pub(crate) fn registered_names(alloc: Global, meta: &Meta) -> Result<Vec<Text>, 
     ensures { IfOk result (λ names. names.items ≡ registered_names meta.now) }
 {
     let own = meta.names.as_slice();
-    let mut names = copies(alloc, own)?;
+    let mut names = copy_texts(alloc, own)?;
     let mut left = meta.partials.as_slice();
     while let [partial, rest @ ..] = left {
         if !is_among(own, &partial.name) {
@@ -39,7 +39,7 @@ pub(crate) fn part_names(alloc: Global, meta: &Meta) -> Result<Vec<Text>, Memory
 {
     let partials = meta.partials.as_slice();
     if partials.is_empty() {
-        return Ok(copies(alloc, meta.names.as_slice())?);
+        return Ok(copy_texts(alloc, meta.names.as_slice())?);
     }
     let order = order_of(alloc, meta)?;
     Ok(names_at(alloc, partials, &order)?)
@@ -67,12 +67,6 @@ fn names_at(alloc: Global, partials: &[Partial], places: &[u32]) -> Result<Vec<T
         names.push(partials[*place as usize].name.copy()?)?;
     }
     Ok(names)
-}
-
-fn copies(alloc: Global, texts: &[Text]) -> Result<Vec<Text>, AllocError>
-    ensures { IfOk result (λ copies. copies.items ≡ texts.now) }
-{
-    texts.to_vec(alloc)
 }
 
 /// Those of the names that the server is asked about: all whose parts are pulled.

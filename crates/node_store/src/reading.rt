@@ -19,7 +19,7 @@ use node_state::{Event, Kept, Piece, Stage, Staged, stored};
 use partial_merge::Part;
 use report_log::{PartMark, Report};
 use std::alloc::Global;
-use store_fields::{FieldError, Fields, Form, put_list, put_u64, put_u128, read_list};
+use store_fields::{FieldError, Fields, FieldForm, put_list, put_u64, put_u128, read_list};
 
 /// The event or piece of which the bytes are the body.
 ///
@@ -266,7 +266,7 @@ fn read_staged(alloc: Global, bytes: &[u8]) -> Result<Staged, FieldError>
 }
 
 /// The value of which these are all the bytes.
-pub(crate) fn read_whole<F: Form<T>, T: Drop>(alloc: Global, bytes: &[u8]) -> Result<T, FieldError>
+pub(crate) fn read_whole<F: FieldForm<T>, T: Drop>(alloc: Global, bytes: &[u8]) -> Result<T, FieldError>
     ensures found { IfOk result (λ value. IsWhole F.bytes_of F.is_in_range bytes.now value) }
     ensures wrong { IfErr result (λ e. e ≡ FieldError.Wrong → (value : T) → IsWhole F.bytes_of F.is_in_range bytes.now value → ⊥) }
 {
@@ -282,7 +282,7 @@ pub(crate) fn read_whole<F: Form<T>, T: Drop>(alloc: Global, bytes: &[u8]) -> Re
     }
 }
 
-impl Form<u128> for NodeForm {
+impl FieldForm<u128> for NodeForm {
     ghost use Rattle.std.specs.Prelude.{⊤};
     ghost use Rattle.std.specs.Int.{w128};
     ghost use Rattle.store_fields.specs.Fields.{bytes_of_number, IsNumber};
@@ -302,7 +302,7 @@ impl Form<u128> for NodeForm {
     }
 }
 
-impl Form<u64> for NodeForm {
+impl FieldForm<u64> for NodeForm {
     ghost use Rattle.std.specs.Prelude.{⊤};
     ghost use Rattle.std.specs.Int.{w64};
     ghost use Rattle.store_fields.specs.Fields.{bytes_of_number, IsNumber};
@@ -322,7 +322,7 @@ impl Form<u64> for NodeForm {
     }
 }
 
-impl Form<Stage> for NodeForm {
+impl FieldForm<Stage> for NodeForm {
     ghost use Rattle.std.specs.Prelude.{⊤};
     ghost use Rattle.node_store.specs.Bodies.{bytes_of_stage};
 
@@ -341,7 +341,7 @@ impl Form<Stage> for NodeForm {
     }
 }
 
-impl Form<Report> for NodeForm {
+impl FieldForm<Report> for NodeForm {
     ghost use Rattle.report_log.specs.Sizes.{ReportInSize};
     ghost use Rattle.node_store.specs.Reports.{bytes_of_report, IsReport};
 
@@ -360,7 +360,7 @@ impl Form<Report> for NodeForm {
     }
 }
 
-impl Form<Items<Part>> for NodeForm {
+impl FieldForm<Items<Part>> for NodeForm {
     ghost use Rattle.node_state.specs.Lists.{IsStaged};
     ghost use Rattle.node_store.specs.Parts.{bytes_of_parts, AreParts};
 
@@ -379,7 +379,7 @@ impl Form<Items<Part>> for NodeForm {
     }
 }
 
-impl Form<Items<PartMark>> for NodeForm {
+impl FieldForm<Items<PartMark>> for NodeForm {
     ghost use Rattle.std.specs.Prelude.{◌<◌, ◌≤◌, length, encode_utf8_all};
     ghost use Rattle.std.specs.List.{AllByRecursion};
     ghost use Rattle.store_fields.specs.Fields.{IsList};

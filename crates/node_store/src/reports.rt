@@ -14,7 +14,7 @@ use mof_values::{Items, Memory, Text};
 use report_log::{FailureKind, Missed, Outcome, PartMark, Reason, Report, is_in_size};
 use std::alloc::Global;
 use store_fields::{
-    FieldError, Fields, Form, MAX_TEXT, put_byte, put_digest, put_flag, put_list, put_text,
+    FieldError, Fields, FieldForm, MAX_TEXT, put_byte, put_digest, put_flag, put_list, put_text,
     put_u32, put_u64, read_list,
 };
 
@@ -202,7 +202,7 @@ fn reason_byte(reason: Reason) -> u8
     }
 }
 
-impl Form<Missed> for NodeForm {
+impl FieldForm<Missed> for NodeForm {
     ghost use Rattle.std.specs.Prelude.{◌≤◌, length, encode_utf8_all};
     ghost use Rattle.store_fields.specs.declared.limits.TheConstants.{MAX_TEXT};
     ghost use Rattle.node_store.specs.Reports.{bytes_of_missed, IsMissed};
@@ -225,7 +225,7 @@ impl Form<Missed> for NodeForm {
     }
 }
 
-impl Form<PartMark> for NodeForm {
+impl FieldForm<PartMark> for NodeForm {
     ghost use Rattle.std.specs.Prelude.{◌≤◌, length, encode_utf8_all};
     ghost use Rattle.store_fields.specs.declared.limits.TheConstants.{MAX_TEXT};
     ghost use Rattle.node_store.specs.Reports.{bytes_of_mark, IsMark};

@@ -14,7 +14,7 @@ use crate::spelling::stage_byte;
 use mof_values::{Items, Memory};
 use report_log::PartMark;
 use std::alloc::Global;
-use store_fields::{FieldError, Fields, Form, put_blob};
+use store_fields::{FieldError, Fields, FieldForm, put_blob};
 
 /// What a Stage by digests says in full.
 ///
@@ -115,6 +115,6 @@ fn put_found(into: &mut Vec<u8>, mark: &PartMark, bytes: &[u8]) -> Result<(), Me
     requires bytes { IsBlob bytes.now }
     ensures { OnOk result (into.new.items ≡ into.old.items ++ (bytes_of_mark mark.now ++ bytes_of_blob bytes.now)) }
 {
-    <NodeForm as Form<PartMark>>::write(mark, into)?;
+    <NodeForm as FieldForm<PartMark>>::write(mark, into)?;
     put_blob(into, bytes)
 }

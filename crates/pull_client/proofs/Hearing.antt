@@ -9,8 +9,8 @@ use Rattle.dsc_outside.specs.declared.link.Peer.{Peer}
 use Rattle.dsc_outside.specs.declared.link.LinkError.{LinkError}
 use Rattle.dsc_outside.specs.declared.link.LinkError.TheVariants as errors
 use Rattle.dsc_outside.specs.declared.exchange.Exchange.{Exchange}
-use Rattle.dsc_outside.specs.declared.exchange.Outcome.{Outcome}
-use Rattle.dsc_outside.specs.declared.exchange.Outcome.TheVariants as outcomes
+use Rattle.dsc_outside.specs.declared.exchange.ExchangeOutcome.{ExchangeOutcome}
+use Rattle.dsc_outside.specs.declared.exchange.ExchangeOutcome.TheVariants as outcomes
 use Rattle.meta_config.specs.declared.server.Server.{Server}
 use Rattle.http_frames.specs.declared.message.Reply.{Reply}
 use Rattle.http_frames.specs.declared.frame_error.FrameError.{FrameError}
@@ -28,12 +28,12 @@ told_as errors.Failed = Link
 told_as errors.TooLong = TooLong
 told_as errors.Memory = Memory
 
-answered_in : (bytes : List ℕ) (outcome : Outcome) → ComesTo (Ok tt) [] bytes outcome → outcome ≡ outcomes.Answered bytes
+answered_in : (bytes : List ℕ) (outcome : ExchangeOutcome) → ComesTo (Ok tt) [] bytes outcome → outcome ≡ outcomes.Answered bytes
 answered_in bytes (outcomes.Answered more) is = ap outcomes.Answered (sym is)
 answered_in bytes outcomes.Failed is = absurd is
 answered_in bytes outcomes.TooLong is = absurd is
 
-fault_heard : (error : LinkError) (outcome : Outcome) → IsFault error outcome → Heard IsReply outcome (Err (told_as error))
+fault_heard : (error : LinkError) (outcome : ExchangeOutcome) → IsFault error outcome → Heard IsReply outcome (Err (told_as error))
 fault_heard errors.Failed outcomes.Failed is = link_failed
 fault_heard errors.Failed (outcomes.Answered bytes) is = absurd is
 fault_heard errors.Failed outcomes.TooLong is = absurd is
@@ -52,7 +52,7 @@ answered_at : (request bytes : List ℕ) (peer : Peer) (before : List Exchange) 
     → AddsExchange (Some before) after peer request (Ok tt) [] bytes → Heard IsReply (outcomes.Answered bytes) result
     → Exchanged peer request IsReply before after result
 answered_at request bytes peer before after result (inl (outcome, comes, now)) heard =
-    inl (outcome, subst (λ (o : Outcome). Heard IsReply o result) (sym (answered_in bytes outcome comes)) heard, now)
+    inl (outcome, subst (λ (o : ExchangeOutcome). Heard IsReply o result) (sym (answered_in bytes outcome comes)) heard, now)
 answered_at request bytes peer before after result (inr none) heard = absurd (subst Untroubled none.0 tt)
 
 exchange_answered : (request bytes : List ℕ) (peer : Peer) (shown after : Option (List Exchange)) (result : Result Reply PeerError) (before : List Exchange)
@@ -98,12 +98,12 @@ abbrev pub Serves : {T : Type 0} → Result T PeerError → Type 0
 Serves (Err Link) = ⊥
 Serves r = ⊤
 
-carry : {T : Type 0} {Says : Reply → Result T PeerError → Type 0} {reply : Reply} {result : Result T PeerError} (outcome : Outcome)
+carry : {T : Type 0} {Says : Reply → Result T PeerError → Type 0} {reply : Reply} {result : Result T PeerError} (outcome : ExchangeOutcome)
     → Heard IsReply outcome (Ok reply) → Says reply result → Heard Says outcome result
 carry {Says = Says} {reply = reply} {result = result} outcome (accepted bytes other given frame code is) says =
     accepted bytes other result frame code (subst (λ (r : Reply). Says r result) (sym (same_reply reply other is)) says)
 
-raise : {T : Type 0} {Says : Reply → Result T PeerError → Type 0} {e : PeerError} (outcome : Outcome)
+raise : {T : Type 0} {Says : Reply → Result T PeerError → Type 0} {e : PeerError} (outcome : ExchangeOutcome)
     → Heard IsReply outcome (Err e) → Heard Says outcome (Err e)
 raise outcome link_failed = link_failed
 raise outcome too_long = too_long
@@ -191,7 +191,7 @@ carried_of : {T : Type 0} {Says : Reply → Result T PeerError → Type 0} {requ
 carried_of {T} {Says} {request} {before} {after} {reply} {result} server is asks says =
     asks_of server is (not_served says.1) asks.unshown all asks.later (λ same. absurd (not_link says.1 same))
   where
-    said : (outcome : Outcome) → Heard IsReply outcome (Ok reply) → Says reply result ⊎ (result ≡ Err Memory) → Heard Says outcome result
+    said : (outcome : ExchangeOutcome) → Heard IsReply outcome (Ok reply) → Says reply result ⊎ (result ≡ Err Memory) → Heard Says outcome result
     said outcome heard (inl so) = carry outcome heard so
     said outcome heard (inr short) = rw short (no_memory outcome)
 

@@ -2,8 +2,8 @@
 use Rattle.std.specs.Prelude.{nat_le, length}
 use Rattle.std.proofs.Common.{◌≡◌, ◌≢◌, ◌⊎◌, inl, inr, ℕ, Bool, true, false, List, Some, Option, None, Result, Ok, Err, refl, sym, ap, subst, ◌∙◌}
 use Rattle.serde_json.specs.Data.{Data}
-use Rattle.dsc_outside.specs.declared.exchange.Outcome.{Outcome}
-use Rattle.dsc_outside.specs.declared.exchange.Outcome.TheVariants as outcomes
+use Rattle.dsc_outside.specs.declared.exchange.ExchangeOutcome.{ExchangeOutcome}
+use Rattle.dsc_outside.specs.declared.exchange.ExchangeOutcome.TheVariants as outcomes
 use Rattle.http_frames.specs.declared.message.Reply.{Reply}
 use Rattle.http_frames.specs.declared.frame_error.FrameError.{FrameError}
 use Rattle.http_frames.specs.OneAnswer.{OneReplyAnswer, ReplyAnswer}
@@ -32,12 +32,12 @@ abbrev pub FrameMeans : {T : Type 0} → (Reply → Result T PeerError → Type 
 FrameMeans says (Ok reply) result = CodeMeans says (is_accepted reply.code) reply result
 FrameMeans says (Err e) result = result ≡ Err (Frame e)
 
-abbrev pub Means : {T : Type 0} → (Reply → Result T PeerError → Type 0) → Outcome → Result T PeerError → Type 0
+abbrev pub Means : {T : Type 0} → (Reply → Result T PeerError → Type 0) → ExchangeOutcome → Result T PeerError → Type 0
 Means says outcomes.Failed result = result ≡ Err Link
 Means says outcomes.TooLong result = result ≡ Err TooLong
 Means says (outcomes.Answered bytes) result = (frame : Result Reply FrameError) × ReplyAnswer bytes frame × FrameMeans says frame result
 
-meant : {T : Type 0} {says : Reply → Result T PeerError → Type 0} (outcome : Outcome) (result : Result T PeerError)
+meant : {T : Type 0} {says : Reply → Result T PeerError → Type 0} (outcome : ExchangeOutcome) (result : Result T PeerError)
     → result ≢ Err Memory → Heard says outcome result → Means says outcome result
 meant outcome result not link_failed = refl
 meant outcome result not too_long = refl
@@ -74,7 +74,7 @@ one_frame says Same same one (Ok reply) a b m n x y = one_code says Same same on
 one_frame says Same same one (Err e) a b m n x y = both_errors Same (Frame e) a b same x y
 
 one_of : {T : Type 0} (says : Reply → Result T PeerError → Type 0) (Same : Result T PeerError → Result T PeerError → Type 0)
-    → OneReplyAnswer → SameErrors Same → SaysOne says Same → (outcome : Outcome) (a b : Result T PeerError) → a ≢ Err Memory → b ≢ Err Memory
+    → OneReplyAnswer → SameErrors Same → SaysOne says Same → (outcome : ExchangeOutcome) (a b : Result T PeerError) → a ≢ Err Memory → b ≢ Err Memory
     → Means says outcome a → Means says outcome b → Same a b
 one_of says Same frames same one outcomes.Failed a b m n x y = both_errors Same Link a b same x y
 one_of says Same frames same one outcomes.TooLong a b m n x y = both_errors Same TooLong a b same x y

@@ -3,7 +3,7 @@ use Rattle.std.specs.Prelude.{◌≡◌, ◌≢◌, ◌⊎◌, ℕ, ◌≤◌, t
 use Rattle.dsc_terms.specs.Counts.{Rose}
 use Rattle.dsc_outside.specs.declared.link.Peer.{Peer}
 use Rattle.dsc_outside.specs.declared.exchange.Exchange.{Exchange}
-use Rattle.dsc_outside.specs.declared.exchange.Outcome.{Outcome}
+use Rattle.dsc_outside.specs.declared.exchange.ExchangeOutcome.{ExchangeOutcome}
 use Rattle.dsc_outside.specs.Link.{LinkView}
 use Rattle.meta_config.specs.declared.server.Server.{Server}
 use Rattle.http_frames.specs.declared.message.Reply.{Reply}
@@ -14,7 +14,7 @@ use Rattle.pull_client.specs.Heard.{Heard}
 -- one exchange was added, the request to the peer, and its outcome means the answer; out of memory, at most it was
 abbrev pub Exchanged : {T : Type 0} → Peer → List ℕ → (Reply → Result T PeerError → Type 0) → List Exchange → Option (List Exchange) → Result T PeerError → Type 0
 Exchanged peer request Says before after result =
-    ((outcome : Outcome) × Heard Says outcome result
+    ((outcome : ExchangeOutcome) × Heard Says outcome result
     × (after ≡ Some (before ++ record { peer = peer; request = request; outcome = outcome } ∷ [])))
     ⊎ ((result ≡ Err Memory) × (after ≡ Some before))
 

@@ -1,7 +1,7 @@
 -- What came of a request, and what it means.
 use Rattle.std.specs.Prelude.{◌≡◌, ◌⊎◌, ⊤, ℕ, Bool, true, false, ◌||◌, ◌==◌, List, Result, Ok, Err}
-use Rattle.dsc_outside.specs.declared.exchange.Outcome.{Outcome}
-use Rattle.dsc_outside.specs.declared.exchange.Outcome.TheVariants as outcomes
+use Rattle.dsc_outside.specs.declared.exchange.ExchangeOutcome.{ExchangeOutcome}
+use Rattle.dsc_outside.specs.declared.exchange.ExchangeOutcome.TheVariants as outcomes
 use Rattle.http_frames.specs.declared.message.Reply.{Reply}
 use Rattle.http_frames.specs.declared.frame_error.FrameError.{FrameError}
 use Rattle.http_frames.specs.declared.frame_error.FrameError.TheVariants as frames
@@ -16,7 +16,7 @@ is_accepted code = code == 200 || (code == 201 || code == 204)
 
 -- what an outcome means, given what an accepted reply says: each row in the order in which the causes win. Memory may
 -- have been refused in the place of each
-pub data Heard {T : Type 0} (Says : Reply → Result T PeerError → Type 0) : Outcome → Result T PeerError → Type 0 where
+pub data Heard {T : Type 0} (Says : Reply → Result T PeerError → Type 0) : ExchangeOutcome → Result T PeerError → Type 0 where
   link_failed : Heard Says outcomes.Failed (Err Link)
   too_long : Heard Says outcomes.TooLong (Err TooLong)
   no_answer : (bytes : List ℕ) (e : FrameError) → ReplyAnswer bytes (Err e) → Heard Says (outcomes.Answered bytes) (Err (Frame e))
@@ -24,7 +24,7 @@ pub data Heard {T : Type 0} (Says : Reply → Result T PeerError → Type 0) : O
       → Heard Says (outcomes.Answered bytes) (Err (Status reply.code))
   accepted : (bytes : List ℕ) (reply : Reply) (result : Result T PeerError) → IsAnswerFrame bytes reply → is_accepted reply.code ≡ true
       → Says reply result → Heard Says (outcomes.Answered bytes) result
-  no_memory : (outcome : Outcome) → Heard Says outcome (Err Memory)
+  no_memory : (outcome : ExchangeOutcome) → Heard Says outcome (Err Memory)
 
 -- the reply itself
 abbrev pub IsReply : Reply → Result Reply PeerError → Type 0

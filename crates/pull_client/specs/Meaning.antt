@@ -1,6 +1,6 @@
 -- What comes of a request means one answer.
 use Rattle.std.specs.Prelude.{◌≡◌, ◌≢◌, ℕ, List, Result, Ok, Err}
-use Rattle.dsc_outside.specs.declared.exchange.Outcome.{Outcome}
+use Rattle.dsc_outside.specs.declared.exchange.ExchangeOutcome.{ExchangeOutcome}
 use Rattle.http_frames.specs.declared.message.Reply.{Reply}
 use Rattle.partial_merge.specs.declared.part.Part.{Part}
 use Rattle.report_log.specs.declared.report.PartMark.{PartMark}
@@ -13,7 +13,7 @@ use Rattle.pull_client.specs.Queries.{Tells}
 -- of the same outcome two answers are the same, where memory ran out in neither
 abbrev pub MeansOne : {T : Type 0} → (Reply → Result T PeerError → Type 0) → (Result T PeerError → Result T PeerError → Type 0) → Type 0
 MeansOne {T} Says Same =
-    (outcome : Outcome) (a b : Result T PeerError) → a ≢ Err Memory → b ≢ Err Memory
+    (outcome : ExchangeOutcome) (a b : Result T PeerError) → a ≢ Err Memory → b ≢ Err Memory
     → Heard Says outcome a → Heard Says outcome b → Same a b
 
 -- parts of one name and the same bytes, or one error; that a part's digest is the digest of its bytes is a fact of every part

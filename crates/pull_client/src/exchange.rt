@@ -1,6 +1,6 @@
 //! One exchange with a server.
 ghost use Rattle.std.specs.Prelude.{◌≡◌, ◌||◌, ◌==◌, true, false, IfErr};
-ghost use Rattle.dsc_outside.specs.declared.exchange.Outcome.TheVariants.{Answered};
+ghost use Rattle.dsc_outside.specs.declared.exchange.ExchangeOutcome.TheVariants.{Answered};
 ghost use Rattle.http_frames.specs.OneAnswer.{ReplyAnswer};
 ghost use Rattle.dsc_outside.specs.LinkView.{view_of};
 ghost use Rattle.pull_client.specs.Asks.{Asks};

@@ -8,7 +8,7 @@ use crate::queries::query_of;
 use dsc_outside::Peer;
 use http_frames::{Header, Request, write_request};
 use meta_config::Server;
-use mof_values::{Bytes, Items, Memory, Text};
+use mof_values::{Bytes, Items, Memory, Text, copy_texts};
 use pull_messages::{
     Registration, ReportMessage, Target, write_query, write_registration, write_report,
     write_target,
@@ -131,14 +131,8 @@ fn registration_of(
         lcm_version,
         node_name,
         ip_address,
-        names: Items::of(copies(alloc, names)?),
+        names: Items::of(copy_texts(alloc, names)?),
     })
-}
-
-fn copies(alloc: Global, texts: &[Text]) -> Result<Vec<Text>, AllocError>
-    ensures { IfOk result (λ copies. copies.items ≡ texts.now) }
-{
-    texts.to_vec(alloc)
 }
 
 fn put(

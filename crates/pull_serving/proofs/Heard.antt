@@ -7,8 +7,8 @@ use Rattle.std.specs.Io.KnownBytes.{Appends}
 use Rattle.dsc_terms.specs.Counts.{Rose}
 use Rattle.dsc_outside.specs.declared.disk.Disk as disks
 use Rattle.dsc_outside.specs.declared.exchange.Exchange.{Exchange}
-use Rattle.dsc_outside.specs.declared.exchange.Outcome.{Outcome}
-use Rattle.dsc_outside.specs.declared.exchange.Outcome.TheVariants.{Answered, Failed, TooLong}
+use Rattle.dsc_outside.specs.declared.exchange.ExchangeOutcome.{ExchangeOutcome}
+use Rattle.dsc_outside.specs.declared.exchange.ExchangeOutcome.TheVariants.{Answered, Failed, TooLong}
 use Rattle.dsc_outside.specs.Link.{answer_limit}
 use Rattle.http_frames.specs.declared.frame_error.FrameError.{FrameError}
 use Rattle.http_frames.specs.declared.frame_error.FrameError.TheVariants as frames
@@ -104,7 +104,7 @@ module _ (sendable : RepliesAreSendable) where
     ended bytes same small none ends.WriteFault is some = absurd (not_risen t.came.faults t.went.faults none is.rose)
     ended bytes same small none ends.Memory is some = absurd (some refl)
 
-    heard_of : (outcome : Outcome) → Gives t of.taken outcome → IsHeard shelf t outcome
+    heard_of : (outcome : ExchangeOutcome) → Gives t of.taken outcome → IsHeard shelf t outcome
     heard_of (Answered bytes) gives = ended bytes gives.1 gives.2 gives.0.1 t.end turn.end gives.0.0
     heard_of TooLong gives = tt
     heard_of Failed gives = tt

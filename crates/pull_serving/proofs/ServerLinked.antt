@@ -2,8 +2,8 @@
 use Rattle.std.proofs.Common.{◌≡◌, ℕ, ◌≤◌, ◌<◌, List, [], ◌∷◌, ◌++◌, length, Some, Result, Ok, Err, IfOk, refl, ◌∙◌, subst}
 use Rattle.dsc_outside.specs.declared.disk.Disk as disks
 use Rattle.dsc_outside.specs.declared.exchange.Exchange.{Exchange}
-use Rattle.dsc_outside.specs.declared.exchange.Outcome.{Outcome}
-use Rattle.dsc_outside.specs.declared.exchange.Outcome.TheVariants.{Answered, Failed, TooLong}
+use Rattle.dsc_outside.specs.declared.exchange.ExchangeOutcome.{ExchangeOutcome}
+use Rattle.dsc_outside.specs.declared.exchange.ExchangeOutcome.TheVariants.{Answered, Failed, TooLong}
 use Rattle.dsc_outside.specs.Link.{answer_limit}
 use Rattle.mof_values.specs.declared.memory.Memory.{Memory}
 use Rattle.pull_outside.specs.Door.{Known}
@@ -14,7 +14,7 @@ use Rattle.pull_serving.specs.ServerLink.{Becomes, Gives, IsOutcomeOf, ServerInM
 use Rattle.pull_serving.specs.Turn.{IsServed, Turn}
 
 -- what was taken of the connection, or it ran out of memory
-gives_of : (t : Turn) (held : List ℕ) (taken : Result (List ℕ) Memory) (outcome : Outcome) → IfOk taken (λ bytes. TookAll t.end t.went.faults × (bytes ≡ held)) → IsOutcomeOf taken outcome
+gives_of : (t : Turn) (held : List ℕ) (taken : Result (List ℕ) Memory) (outcome : ExchangeOutcome) → IfOk taken (λ bytes. TookAll t.end t.went.faults × (bytes ≡ held)) → IsOutcomeOf taken outcome
     → Gives t held outcome
 gives_of t held (Ok bytes) (Answered given) took is = (took.0, is.0 ∙ took.1, subst (λ (l : List ℕ). length l < answer_limit) took.1 is.1)
 gives_of t held (Ok bytes) TooLong took long = (took.0, subst (λ (l : List ℕ). answer_limit ≤ length l) took.1 long)

@@ -3,8 +3,8 @@ use Rattle.std.specs.Prelude.{◌≡◌, ◌⊎◌, ℕ, List, [], ◌∷◌, So
 use Rattle.dsc_terms.specs.Counts.{Rose}
 use Rattle.dsc_outside.specs.declared.disk.Disk as disks
 use Rattle.dsc_outside.specs.declared.exchange.Exchange.{Exchange}
-use Rattle.dsc_outside.specs.declared.exchange.Outcome.{Outcome}
-use Rattle.dsc_outside.specs.declared.exchange.Outcome.TheVariants.{Answered, Failed, TooLong}
+use Rattle.dsc_outside.specs.declared.exchange.ExchangeOutcome.{ExchangeOutcome}
+use Rattle.dsc_outside.specs.declared.exchange.ExchangeOutcome.TheVariants.{Answered, Failed, TooLong}
 use Rattle.http_frames.specs.declared.message.Reply.{Reply}
 use Rattle.http_frames.specs.declared.message.Request.{Request}
 use Rattle.http_frames.specs.ReadBack.{ReplyIsReadBack}
@@ -32,7 +32,7 @@ pub record IsUnanswered (t : Turn) (bytes : List ℕ) : Type 0 where
   pub nothing : bytes ≡ []
 
 -- what is heard of the turn
-abbrev pub IsHeard : Contents → Turn → Outcome → Type 0
+abbrev pub IsHeard : Contents → Turn → ExchangeOutcome → Type 0
 IsHeard shelf t (Answered bytes) = IsReplied shelf t bytes ⊎ IsUnanswered t bytes
 IsHeard shelf t TooLong = ⊤
 IsHeard shelf t Failed = ⊤

@@ -3,8 +3,8 @@ use Rattle.std.specs.Prelude.{◌≡◌, ◌≢◌, ◌≤◌, ◌<◌, ℕ, tru
 use Rattle.dsc_terms.specs.Counts.{Rose}
 use Rattle.dsc_outside.specs.declared.disk.Disk as disks
 use Rattle.dsc_outside.specs.declared.exchange.Exchange.{Exchange}
-use Rattle.dsc_outside.specs.declared.exchange.Outcome.{Outcome}
-use Rattle.dsc_outside.specs.declared.exchange.Outcome.TheVariants.{Answered, Failed, TooLong}
+use Rattle.dsc_outside.specs.declared.exchange.ExchangeOutcome.{ExchangeOutcome}
+use Rattle.dsc_outside.specs.declared.exchange.ExchangeOutcome.TheVariants.{Answered, Failed, TooLong}
 use Rattle.dsc_outside.specs.Link.{answer_limit}
 use Rattle.mof_values.specs.declared.memory.Memory.{Memory}
 use Rattle.pull_outside.specs.Shelf.{Contents}
@@ -31,13 +31,13 @@ abbrev pub TookAll : ConnectionEnd → ℕ → Type 0
 TookAll end faults = (end ≢ ends.Memory) × (faults ≡ 0)
 
 -- what comes of a turn whose connection took these bytes: they are the answer, or too many for one, or memory ran out
-abbrev pub Gives : Turn → List ℕ → Outcome → Type 0
+abbrev pub Gives : Turn → List ℕ → ExchangeOutcome → Type 0
 Gives t taken (Answered bytes) = TookAll t.end t.went.faults × (bytes ≡ taken) × (length taken < answer_limit)
 Gives t taken TooLong = TookAll t.end t.went.faults × (answer_limit ≤ length taken)
 Gives t taken Failed = ⊤
 
 -- the outcome of an exchange of which these bytes were taken, or which ran out of memory
-abbrev pub IsOutcomeOf : Result (List ℕ) Memory → Outcome → Type 0
+abbrev pub IsOutcomeOf : Result (List ℕ) Memory → ExchangeOutcome → Type 0
 IsOutcomeOf (Ok taken) (Answered bytes) = (bytes ≡ taken) × (length taken < answer_limit)
 IsOutcomeOf (Ok taken) TooLong = answer_limit ≤ length taken
 IsOutcomeOf (Ok taken) Failed = ⊤

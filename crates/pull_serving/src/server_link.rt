@@ -6,7 +6,7 @@ ghost use Rattle.pull_store.specs.Store.{IsReady};
 ghost use Rattle.pull_serving.specs.ServerLink.{Becomes, IsOutcomeOf, TookAll};
 
 use crate::connection::{ConnectionEnd, serve_connection};
-use dsc_outside::{ANSWER_LIMIT, Disk, Exchange, Link, LinkError, Outcome, Peer};
+use dsc_outside::{ANSWER_LIMIT, Disk, Exchange, Link, LinkError, ExchangeOutcome, Peer};
 use mof_values::{Bytes, Memory};
 use pull_outside::{MemoryConn, Shelf};
 use pull_store::PullStore;
@@ -176,7 +176,7 @@ fn whole(end: ConnectionEnd, conn: &MemoryConn) -> Result<&[u8], Memory>
 }
 
 // What comes of the exchange, and what is answered: these bytes are appended, unless they are too many or it runs out of memory.
-fn give(answer: &mut Vec<u8>, bytes: Result<Bytes, Memory>) -> (Outcome, Result<(), LinkError>)
+fn give(answer: &mut Vec<u8>, bytes: Result<Bytes, Memory>) -> (ExchangeOutcome, Result<(), LinkError>)
     ensures outcome { IsOutcomeOf bytes result.0 }
     ensures comes { ComesTo result.1 answer.old.items answer.new.items result.0 }
     ensures leaves { LeavesAnswer result.1 answer.old.items answer.new.items }
@@ -184,22 +184,22 @@ fn give(answer: &mut Vec<u8>, bytes: Result<Bytes, Memory>) -> (Outcome, Result<
 {
     match bytes {
         Ok(bytes) => give_bytes(answer, bytes),
-        Err(Memory) => (Outcome::Failed, Err(LinkError::Memory)),
+        Err(Memory) => (ExchangeOutcome::Failed, Err(LinkError::Memory)),
     }
 }
 
-fn give_bytes(answer: &mut Vec<u8>, bytes: Bytes) -> (Outcome, Result<(), LinkError>)
+fn give_bytes(answer: &mut Vec<u8>, bytes: Bytes) -> (ExchangeOutcome, Result<(), LinkError>)
     ensures outcome { IsOutcomeOf (Ok bytes) result.0 }
     ensures comes { ComesTo result.1 answer.old.items answer.new.items result.0 }
     ensures leaves { LeavesAnswer result.1 answer.old.items answer.new.items }
     ensures cause { HasCauseOf LinkError.Failed 0 0 result.1 }
 {
     if bytes.as_slice().len() >= ANSWER_LIMIT {
-        return (Outcome::TooLong, Err(LinkError::TooLong));
+        return (ExchangeOutcome::TooLong, Err(LinkError::TooLong));
     }
     match answer.extend_from_slice(bytes.as_slice()) {
-        Ok(()) => (Outcome::Answered(bytes), Ok(())),
-        Err(AllocError) => (Outcome::Failed, Err(LinkError::Memory)),
+        Ok(()) => (ExchangeOutcome::Answered(bytes), Ok(())),
+        Err(AllocError) => (ExchangeOutcome::Failed, Err(LinkError::Memory)),
     }
 }
 

@@ -1,7 +1,7 @@
 //! The rows, as the bodies of a log keep them.
 use crate::limits::{BANK, MAX_BODY};
 use crate::row::Row;
-use gate_log::{Kept, Shape};
+use gate_log::{LoggedState, Shape};
 use mof_values::Items;
 
 /// The sizes of a store.
@@ -13,7 +13,7 @@ pub const SHAPE: Shape = Shape {
 /// Rows, to which registrations and reports lead.
 pub struct KeptRows;
 
-impl Kept for KeptRows {
+impl LoggedState for KeptRows {
     ghost use Rattle.pull_store.specs.Sound.{AreRows};
     ghost use Rattle.pull_store.specs.Stands.{Leads, pull_shape};
 

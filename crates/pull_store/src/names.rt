@@ -1,12 +1,12 @@
 //! The names of a registration, in a body.
 use mof_values::{MAX_NAME_BYTES, Memory, Text};
 use std::alloc::Global;
-use store_fields::{FieldError, Fields, Form, put_text};
+use store_fields::{FieldError, Fields, FieldForm, put_text};
 
 /// Texts of 1 to 255 bytes in UTF-8.
 pub struct NameForm;
 
-impl Form<Text> for NameForm {
+impl FieldForm<Text> for NameForm {
     ghost use Rattle.store_fields.specs.Fields.{bytes_of_text};
     ghost use Rattle.pull_messages.specs.Sizes.{IsName};
     ghost use Rattle.pull_store.specs.Sound.{IsNameText};

@@ -20,6 +20,7 @@
 //!   `proofs/ClearHosts.antt`
 //! - what a Set keeps, and what holds at the end of a run: `specs/Laws.antt`, `src/laws.rt`; `proofs/SetLaws.antt`,
 //!   `proofs/RunLaws.antt`
+//! - the entry that each call adds to the trace: `src/keeping.rt`
 //! - what a run calls: the trait in `src/resources.rt`; `src/kinds.rt` is that trait over a host
 #![tactic(auto)]
 
@@ -46,6 +47,7 @@ mod wanted;
 
 pub use entries::entry_laws;
 pub use entry::{Entry, Failure, SetAnswer, TestAnswer};
+pub use keeping::{keep_set, keep_test};
 pub use kinds::Kinds;
 pub use laws::{holding_laws, set_laws};
 pub use machine::Machine;

@@ -3,13 +3,12 @@ ghost use Rattle.std.specs.Prelude.{◌≡◌, ◌≢◌, IfOk, not, find};
 ghost use Rattle.std.specs.List.{list_any};
 ghost use Rattle.std.specs.Option.{option_copied};
 ghost use Rattle.mof_values.specs.Fold.{same_name};
-ghost use Rattle.mof_values.specs.Ident.{IsIdent};
 ghost use Rattle.resource_kinds.specs.Tables.{common, directory_rows, environment_rows, first_wrong, fits_row, key_of, kind_of, may_stand, rows_in, rows_of};
 
 use crate::values::{
     is_filled_text, is_kind_of_file, is_null, is_presence, is_text, is_truth_value, says,
 };
-use mof_values::{Ident, IdentError, Instance, Property};
+use mof_values::{Ident, Instance, Property};
 use std::alloc::{AllocError, Global};
 
 /// The kinds of resources, each with a table of its properties.
@@ -53,20 +52,9 @@ pub fn key_name(alloc: Global, kind: Kind) -> Result<Ident, AllocError>
     ensures { IfOk result (λ name. name ≡ key_of kind) }
 {
     match kind {
-        Kind::File => ident(alloc, b"DestinationPath"),
-        Kind::Environment => ident(alloc, b"Name"),
-        Kind::Log => ident(alloc, b"Message"),
-    }
-}
-
-fn ident(alloc: Global, word: &[u8]) -> Result<Ident, AllocError>
-    requires { IsIdent word.now }
-    ensures { IfOk result (λ name. name ≡ word.now) }
-{
-    match Ident::from_latin1(alloc, word) {
-        Ok(name) => Ok(name),
-        Err(IdentError::Memory) => Err(AllocError),
-        Err(IdentError::NotAnIdent) => unreachable!(),
+        Kind::File => Ident::of_ascii(alloc, "DestinationPath"),
+        Kind::Environment => Ident::of_ascii(alloc, "Name"),
+        Kind::Log => Ident::of_ascii(alloc, "Message"),
     }
 }
 

@@ -20,13 +20,7 @@ pub(crate) fn text_of(
     let Some(value) = matches.get_str(name) else {
         unreachable!();
     };
-    text_from(alloc, value)
-}
-
-fn text_from(alloc: Global, value: &str) -> Result<Text, AllocError>
-    ensures { IfOk result (λ text. encode_utf8_all text ≡ value.now) }
-{
-    Ok(Text::of(value.chars().collect(alloc)?))
+    Text::from_utf8(alloc, value)
 }
 
 /// The number of connections.

@@ -20,7 +20,7 @@ mod writing;
 pub use error::FieldError;
 pub use laws::bytes_are_of_one_value;
 pub use limits::MAX_TEXT;
-pub use lists::{Form, TextForm, put_list, read_list};
+pub use lists::{FieldForm, TextForm, put_list, read_list};
 pub use reading::Fields;
 pub use writing::{
     put_blob, put_byte, put_bytes, put_digest, put_flag, put_text, put_u16, put_u32, put_u64,

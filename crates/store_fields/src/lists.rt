@@ -13,7 +13,7 @@ use mof_values::{Items, Memory, Text};
 use std::alloc::Global;
 
 /// How the values of a type stand in a body.
-pub trait Form<T: Drop> {
+pub trait FieldForm<T: Drop> {
     /// The bytes of a value.
     ghost bytes_of: { T → List ℕ };
 
@@ -35,7 +35,7 @@ pub trait Form<T: Drop> {
 }
 
 /// A count byte, and that many values.
-pub fn read_list<F: Form<T>, T: Drop>(
+pub fn read_list<F: FieldForm<T>, T: Drop>(
     alloc: Global,
     fields: &mut Fields<'_>,
 ) -> Result<Items<T>, FieldError>
@@ -50,7 +50,7 @@ pub fn read_list<F: Form<T>, T: Drop>(
 }
 
 /// Appends a count byte, and each of the values.
-pub fn put_list<F: Form<T>, T: Drop>(into: &mut Vec<u8>, items: &[T]) -> Result<(), Memory>
+pub fn put_list<F: FieldForm<T>, T: Drop>(into: &mut Vec<u8>, items: &[T]) -> Result<(), Memory>
     requires few { length items.now < 256 }
     requires fits { AllByRecursion F.fits items.now }
     ensures writes { Writes (bytes_of_list F.bytes_of items.now) into.old into.new result }
@@ -60,7 +60,7 @@ pub fn put_list<F: Form<T>, T: Drop>(into: &mut Vec<u8>, items: &[T]) -> Result<
     put_each::<F, T>(into, items)
 }
 
-fn put_each<F: Form<T>, T: Drop>(into: &mut Vec<u8>, items: &[T]) -> Result<(), Memory>
+fn put_each<F: FieldForm<T>, T: Drop>(into: &mut Vec<u8>, items: &[T]) -> Result<(), Memory>
     requires fits { AllByRecursion F.fits items.now }
     ensures writes { Writes (flat_map F.bytes_of items.now) into.old into.new result }
     ensures in_range { OnOk result (AllByRecursion F.is_in_range items.now) }
@@ -76,7 +76,7 @@ fn put_each<F: Form<T>, T: Drop>(into: &mut Vec<u8>, items: &[T]) -> Result<(), 
 /// Texts of at most 65,535 bytes in UTF-8.
 pub struct TextForm;
 
-impl Form<Text> for TextForm {
+impl FieldForm<Text> for TextForm {
     ghost use Rattle.std.specs.Prelude.{◌≤◌, length, encode_utf8_all};
     ghost use Rattle.store_fields.specs.declared.limits.TheConstants.{MAX_TEXT};
     ghost use Rattle.store_fields.specs.Fields.{bytes_of_text, IsText};

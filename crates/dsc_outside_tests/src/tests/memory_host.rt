@@ -5,7 +5,7 @@ use super::host_calls::Call::{
 };
 use super::host_calls::{Row, expect, expect_of};
 use memory_outside::{
-    Done as Part, HostContents, MemoryHost, PathEntry, ReliableHost, Standing, Stop,
+    Done as Part, HostContents, MemoryHost, PathEntry, ReliableHost, PathContent, Stop,
 };
 use mof_values::Bytes;
 use std::alloc::{AllocError, Global};
@@ -17,7 +17,7 @@ fn bytes(alloc: Global, text: &str) -> Result<Bytes, AllocError> {
 
 fn put_link(alloc: Global, paths: &mut Vec<PathEntry>) -> Result<(), AllocError> {
     let path = bytes(alloc, "link")?;
-    let stands = Standing::Other;
+    let stands = PathContent::Other;
     paths.push(PathEntry { path, stands })?;
     Ok(())
 }

@@ -1,7 +1,7 @@
 //! Machines written as words: `p/` is a folder, `p:hi` a file, `p?` something else at a path; `$name=value` a variable,
 //! `#id=message` an entry of the log, `!id` a wish for a reboot.
 use dsc_outside::LogEntry;
-use memory_outside::{HostContents, MemoryHost, PathEntry, Standing, Variable};
+use memory_outside::{HostContents, MemoryHost, PathEntry, PathContent, Variable};
 use mof_values::Bytes;
 use std::test::Fail;
 
@@ -9,14 +9,14 @@ fn bytes(rt: &impl AllocGlobal, word: &str) -> Result<Bytes, Fail> {
     Ok(Bytes::of(word.as_bytes().to_vec(rt.alloc())?))
 }
 
-fn path_entry(rt: &impl AllocGlobal, path: &str, stands: Standing) -> Result<PathEntry, Fail> {
+fn path_entry(rt: &impl AllocGlobal, path: &str, stands: PathContent) -> Result<PathEntry, Fail> {
     let path = bytes(rt, path)?;
     Ok(PathEntry { path, stands })
 }
 
 fn file_entry(rt: &impl AllocGlobal, path: &str, held: &str) -> Result<PathEntry, Fail> {
     let held = bytes(rt, held)?;
-    path_entry(rt, path, Standing::File(held))
+    path_entry(rt, path, PathContent::File(held))
 }
 
 // What stands at a path.
@@ -25,8 +25,8 @@ fn entry(rt: &impl AllocGlobal, word: &str) -> Result<PathEntry, Fail> {
         return file_entry(rt, path, held);
     }
     match word.strip_suffix('?') {
-        Some(path) => path_entry(rt, path, Standing::Other),
-        None => path_entry(rt, word.trim_end_matches('/'), Standing::Folder),
+        Some(path) => path_entry(rt, path, PathContent::Other),
+        None => path_entry(rt, word.trim_end_matches('/'), PathContent::Folder),
     }
 }
 

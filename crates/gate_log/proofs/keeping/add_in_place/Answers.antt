@@ -5,16 +5,16 @@ use Rattle.gate_log.proofs.keeping.add_in_place.Goals as goal
 
 pub returns-in-Ok-clause-kept : goal.returns-in-Ok-clause-kept
 returns-in-Ok-clause-kept g c = λ old new kept counts.
-    kept_grown g.K.Kept.shape g.K.Kept.leads g.D.Disk c.args.disk.now c.append_in_place.new.disk c.args.log.now c.append_in_place.new.self (body_in c.args.head.now c.args.tail.now ∷ []) old new kept counts c.in-Ok.ensures.answer
+    kept_grown g.K.LoggedState.shape g.K.LoggedState.leads g.D.Disk c.args.disk.now c.append_in_place.new.disk c.args.log.now c.append_in_place.new.self (body_in c.args.head.now c.args.tail.now ∷ []) old new kept counts c.in-Ok.ensures.answer
     (c.in-Ok.ensures.ok kept.bodies kept.of)
 
 pub returns-in-Ok-clause-any_moment : goal.returns-in-Ok-clause-any_moment
 returns-in-Ok-clause-any_moment g c = λ old new kept counts.
-    moment_one_by g.K.Kept.shape g.K.Kept.leads g.D.Disk c.args.disk.now c.append_in_place.new.disk c.args.log.now (body_in c.args.head.now c.args.tail.now) old new kept counts (c.append_in_place.ensures.any_moment kept.bodies kept.of)
+    moment_one_by g.K.LoggedState.shape g.K.LoggedState.leads g.D.Disk c.args.disk.now c.append_in_place.new.disk c.args.log.now (body_in c.args.head.now c.args.tail.now) old new kept counts (c.append_in_place.ensures.any_moment kept.bodies kept.of)
 
 pub returns-in-Err-Disk-clause-any_moment : goal.returns-in-Err-Disk-clause-any_moment
 returns-in-Err-Disk-clause-any_moment g c = λ old new kept counts.
-    moment_one_by g.K.Kept.shape g.K.Kept.leads g.D.Disk c.args.disk.now c.append_in_place.new.disk c.args.log.now (body_in c.args.head.now c.args.tail.now) old new kept counts (c.append_in_place.ensures.any_moment kept.bodies kept.of)
+    moment_one_by g.K.LoggedState.shape g.K.LoggedState.leads g.D.Disk c.args.disk.now c.append_in_place.new.disk c.args.log.now (body_in c.args.head.now c.args.tail.now) old new kept counts (c.append_in_place.ensures.any_moment kept.bodies kept.of)
 
 pub returns-in-Ok-clause-same_bank : goal.returns-in-Ok-clause-same_bank
 returns-in-Ok-clause-same_bank g c = c.append_in_place.ensures.same_bank c.requires.kept.1.bodies c.requires.kept.1.of

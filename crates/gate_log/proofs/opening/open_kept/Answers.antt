@@ -21,15 +21,15 @@ module _ {D X : Type 0} (shape : Shape) (Leads : List (List ℕ) → X → Type 
 
 pub returns-clause-opened : goal.returns-clause-opened
 returns-clause-opened g c =
-    opened_if g.K.Kept.shape g.K.Kept.leads g.D.Disk c.args.disk.now c.replay_log.new.disk (g.R.Replay.took c.replay_log.new.replay) (g.R.Replay.refused c.replay_log.new.replay) c.replay_log.result
+    opened_if g.K.LoggedState.shape g.K.LoggedState.leads g.D.Disk c.args.disk.now c.replay_log.new.disk (g.R.Replay.took c.replay_log.new.replay) (g.R.Replay.refused c.replay_log.new.replay) c.replay_log.result
     (subst (λ (s : Shape). IfOk c.replay_log.result (Opened g.D.Disk c.args.disk.now c.replay_log.new.disk s (g.R.Replay.took c.replay_log.new.replay))) (sym c.requires.shape) c.replay_log.ensures.ok)
 
 pub returns-clause-cause : goal.returns-clause-cause
 returns-clause-cause g c =
-    unopened_if g.K.Kept.shape g.K.Kept.leads g.D.Disk c.args.disk.now c.replay_log.new.disk (g.R.Replay.took c.replay_log.new.replay) (g.R.Replay.refused c.replay_log.new.replay) c.replay_log.result
+    unopened_if g.K.LoggedState.shape g.K.LoggedState.leads g.D.Disk c.args.disk.now c.replay_log.new.disk (g.R.Replay.took c.replay_log.new.replay) (g.R.Replay.refused c.replay_log.new.replay) c.replay_log.result
     (subst (λ (s : Shape). IfErr c.replay_log.result (Unopened g.D.Disk c.args.disk.now c.replay_log.new.disk s (g.R.Replay.took c.replay_log.new.replay) (g.R.Replay.refused c.replay_log.new.replay))) (sym c.requires.shape) c.replay_log.ensures.refused)
 
 pub returns-clause-any_moment : goal.returns-clause-any_moment
 returns-clause-any_moment g c =
-    keeps_by g.K.Kept.shape g.K.Kept.leads g.D.Disk c.args.disk.now c.replay_log.new.disk
+    keeps_by g.K.LoggedState.shape g.K.LoggedState.leads g.D.Disk c.args.disk.now c.replay_log.new.disk
     (subst (λ (s : Shape). AtAnyMoment g.D.Disk c.args.disk.now c.replay_log.new.disk (From (Keeps s) (g.D.Disk.images c.args.disk.now))) (sym c.requires.shape) c.replay_log.ensures.any_moment)

@@ -70,7 +70,7 @@ returns-in-Ok-from_utf8-clause-did g c =
     ran_tool o before after (AnswersCompile node) (compile_decides node c.one_answer.ensures.never_both c.one_answer.ensures.one_reason) (λ text. text.items)
     c.read_compiled.result c.print_answer-in-Ok-from_utf8.result (record { offline = record { disk = refl; link = refl; clock = refl }; machine = refl })
     c.read_compiled.ensures.ok c.read_compiled.ensures.err c.print_answer-in-Ok-from_utf8.ensures.ok c.print_answer-in-Ok-from_utf8.ensures.err in
-    rw c.in-Compile.is (subst (λ (name : List ℕ). RanTool (AnswersCompile name) o c.print_answer-in-Ok-from_utf8.result before after) c.in-Ok-from_utf8.ensures ran)
+    rw c.in-Compile.is (subst (λ (name : List ℕ). RanTool (AnswersCompile name) o c.print_answer-in-Ok-from_utf8.result before after) c.in-Ok-from_utf8.ensures.chars ran)
 
 pub returns-in-Err-from_utf8-clause-did : goal.returns-in-Err-from_utf8-clause-did
 returns-in-Err-from_utf8-clause-did g c =

@@ -10,7 +10,7 @@ unfolding within
 returns-in_ok-from_utf8 c =
     let size = encodes-chars c.args.text.now c.utf8.text in
     let allowed : is_within c.args.limit (length c.args.text.now) ≡ true = cc in
-    let text : c.in_ok-from_utf8.field-0 ≡ chars c.args.text.now = c.in_ok-from_utf8.ensures in
+    let text : c.in_ok-from_utf8.field-0 ≡ chars c.args.text.now = c.in_ok-from_utf8.ensures.chars in
     rw (size, allowed, text) refl
 
 pub returns-else-allows : goal.returns-else-allows

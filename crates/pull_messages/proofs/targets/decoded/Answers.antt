@@ -9,7 +9,7 @@ pub returns-in-Ok : goal.returns-in-Ok
 returns-in-Ok c =
     let bytes = c.args.bytes.now in
     let whole = c.in-Ok.ensures.cases in
-    IfOk-weaker c.from_utf8-in-Ok.result _ _ (λ v is. subst (IsDecoded bytes) (sym is) (decoded_all bytes c.in-Ok.text.now whole.1 whole.0)) c.from_utf8-in-Ok.ensures
+    IfOk-weaker c.from_utf8-in-Ok.result _ _ (λ v is. subst (IsDecoded bytes) (sym is) (decoded_all bytes c.in-Ok.text.now whole.1 whole.0)) c.from_utf8-in-Ok.ensures.chars
 
 pub returns-in-Ok-from_utf8 : goal.returns-in-Ok-from_utf8
 returns-in-Ok-from_utf8 c =
@@ -19,4 +19,4 @@ returns-in-Ok-from_utf8 c =
     let size = c.valid_up_to.ensures in
     IfOk-weaker c.from_utf8-in-Ok-from_utf8.result _ _
     (λ v is. subst (IsDecoded bytes) (sym is) (decoded_front bytes c.in-Ok-from_utf8.text.now c.valid_up_to.result front.0 front.1 (subst (IsValidUpTo bytes) (sym size) valid)))
-    c.from_utf8-in-Ok-from_utf8.ensures
+    c.from_utf8-in-Ok-from_utf8.ensures.chars

@@ -13,4 +13,4 @@ unreachable-requires c =
 pub returns : goal.returns
 returns c =
     let found = sym (first_value-rows (found_of c.args.matches.now) c.args.name.now) ∙ sym c.get_str.ensures ∙ ap (option_map (λ s. s.now)) c.in-Some.is in
-    IfOk-weaker c.text_from.result _ _ (λ text is. found ∙ ap Some (sym is)) c.text_from.ensures
+    IfOk-weaker c.from_utf8.result _ _ (λ text is. found ∙ ap Some (sym is)) c.from_utf8.ensures.bytes

@@ -28,7 +28,7 @@ returns-clause-does g c =
           (subst (λ (s : Commands g.row.M.Denot g.row.P.Denot). machine.still before.machine s.machine) (sym w.self-is) (g.met.M.Resources.stays before.machine))
           (subst (λ (s : Commands g.row.M.Denot g.row.P.Denot). AddsRuns (spawner.runs before.spawner) (spawner.runs s.spawner) (SetOf (program_of purposes.Set resource.instance) c.if-is_command.answer)) (sym w.self-is)
           (subst (λ (a : SetAnswer). AddsRuns (spawner.runs before.spawner) (spawner.runs w.set_command-answer.new.spawner) (SetOf (program_of purposes.Set resource.instance) a)) (sym w.answer-is) w.set_command-answer.ensures.runs))
-          c.keep_set.ensures.kept
+          c.keep_set.ensures.shown
       | else-is_command w ↦ other_step machine spawner before _ c.args.document.now resource (Set c.args.place c.keep_set.result) found
           (sym c.is_command.ensures ∙ w.if-is_command.false)
           (record {
@@ -36,7 +36,7 @@ returns-clause-does g c =
               entry = Set c.args.place c.if-is_command.answer;
               step = subst (λ (s : Commands g.row.M.Denot g.row.P.Denot). machine.does before.machine c.args.document.now (Set c.args.place c.if-is_command.answer) s.machine) (sym w.self-is)
                   (subst (λ (a : SetAnswer). machine.does before.machine c.args.document.now (Set c.args.place a) w.set-answer.new.self) (sym w.answer-is) w.set-answer.ensures.does);
-              kept = (refl, c.keep_set.ensures.kept);
+              kept = (refl, c.keep_set.ensures.shown);
             };
             spawner = ap (λ (s : Commands g.row.M.Denot g.row.P.Denot). s.spawner) w.self-is;
           })

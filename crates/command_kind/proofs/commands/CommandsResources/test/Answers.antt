@@ -28,7 +28,7 @@ returns-clause-does g c =
           (subst (λ (s : Commands g.row.M.Denot g.row.P.Denot). machine.still before.machine s.machine) (sym w.self-is) (g.met.M.Resources.stays before.machine))
           (subst (λ (s : Commands g.row.M.Denot g.row.P.Denot). AddsRuns (spawner.runs before.spawner) (spawner.runs s.spawner) (TestOf (program_of purposes.Test resource.instance) c.if-is_command.answer)) (sym w.self-is)
           (subst (λ (a : TestAnswer). AddsRuns (spawner.runs before.spawner) (spawner.runs w.test_command-answer.new.spawner) (TestOf (program_of purposes.Test resource.instance) a)) (sym w.answer-is) w.test_command-answer.ensures.runs))
-          c.keep_test.ensures.kept
+          c.keep_test.ensures.shown
       | else-is_command w ↦ other_step machine spawner before _ c.args.document.now resource (Tested c.args.place c.keep_test.result) found
           (sym c.is_command.ensures ∙ w.if-is_command.false)
           (record {
@@ -36,7 +36,7 @@ returns-clause-does g c =
               entry = Tested c.args.place c.if-is_command.answer;
               step = subst (λ (s : Commands g.row.M.Denot g.row.P.Denot). machine.does before.machine c.args.document.now (Tested c.args.place c.if-is_command.answer) s.machine) (sym w.self-is)
                   (subst (λ (a : TestAnswer). machine.does before.machine c.args.document.now (Tested c.args.place a) w.test-answer.new.self) (sym w.answer-is) w.test-answer.ensures.does);
-              kept = (refl, c.keep_test.ensures.kept);
+              kept = (refl, c.keep_test.ensures.shown);
             };
             spawner = ap (λ (s : Commands g.row.M.Denot g.row.P.Denot). s.spawner) w.self-is;
           })

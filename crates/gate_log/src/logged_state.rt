@@ -3,7 +3,7 @@ ghost use Rattle.std.specs.Prelude.{List, ℕ};
 ghost use Rattle.gate_log.specs.declared.shape.Shape.{Shape};
 
 /// A state that is kept as the bodies of a log: a layer above says which bodies lead to it.
-pub trait Kept {
+pub trait LoggedState {
     /// What bodies lead to.
     type State;
 
