@@ -4,7 +4,7 @@ ghost use Rattle.mof_values.specs.Values.{text_named};
 ghost use Rattle.dsc_document.specs.Declarations.{is_header, version_of, id_value, id_of, depends_value};
 
 use crate::MAX_VERSION;
-use mof_values::{Instance, Text, Value};
+use mof_values::{Instance, Text, Value, front};
 use std::alloc::{AllocError, Global};
 
 /// Returns whether the instance is a header.

@@ -160,7 +160,7 @@ fn laid(
     ensures document { IfOk result (λ pair. IsDocumentOf (parts_of pair.0) pair.1) }
 {
     let name = partial.name.copy()?;
-    let part = part_of(name, bytes.into_vec());
+    let part = part_of(alloc, name, bytes)?;
     lay_push(alloc, &node.meta, part, held_of(node))
 }
 

@@ -86,7 +86,8 @@ fn staged_document(alloc: Global, bytes: Bytes) -> Result<(Staged, OrderedDocume
     ensures refused { IfErr result (Refused (unnamed_part bytes ∷ [])) }
 {
     let name = Text::of(Vec::new(alloc));
-    let parts = vec![in alloc; part_of(name, bytes.into_vec())]?;
+    let part = part_of(alloc, name, bytes)?;
+    let parts = vec![in alloc; part]?;
     match staged_in_order(alloc, &Meta::usual(alloc), parts) {
         Ok(pair) => Ok(pair),
         Err(StageError::Merge(error)) => Err(error),

@@ -8,7 +8,7 @@ ghost use Rattle.mof_syntax.specs.Canonical.{canonical_bytes};
 use crate::instances::instances;
 use dsc_document::{Document, MAX_RESOURCES};
 use mof_codec::write;
-use mof_values::{Memory, Text};
+use mof_values::{Bytes, Memory, Text};
 use partial_merge::{MergeError, Part, merge, part_of};
 use std::alloc::{AllocError, Global};
 
@@ -36,7 +36,7 @@ fn part(alloc: Global, count: u32) -> Result<Part, AllocError>
 {
     let instances = instances(alloc, count)?;
     match write(alloc, &instances) {
-        Ok(text) => Ok(part_of(Text::of(Vec::new(alloc)), text)),
+        Ok(text) => part_of(alloc, Text::of(Vec::new(alloc)), Bytes::of(text)),
         Err(Memory) => Err(AllocError),
     }
 }

@@ -86,7 +86,7 @@ fn add_package<H: Host>(
     text: &str,
 ) -> &'static str {
     match bytes_of(alloc, text) {
-        Some(bytes) => done(host.package_put(name, version, &bytes)),
+        Some(bytes) => outcome_text(host.package_put(name, version, &bytes)),
         None => "no text",
     }
 }
@@ -101,12 +101,12 @@ fn make_call<H: Host>(
     match call {
         "state" => state_of(host.path_state(subject)),
         "same" => yes_or_no(host.file_equals(subject, bytes)),
-        "put" => done(host.put_file(subject, bytes)),
-        "make" => done(host.make_dir(subject)),
-        "remove" => done(host.remove(subject)),
+        "put" => outcome_text(host.put_file(subject, bytes)),
+        "make" => outcome_text(host.make_dir(subject)),
+        "remove" => outcome_text(host.remove(subject)),
         "value" => has_value(host, subject, bytes, &mut Vec::new(alloc)),
-        "set" => done(host.env_put(subject, bytes)),
-        "unset" => done(host.env_remove(subject)),
+        "set" => outcome_text(host.env_put(subject, bytes)),
+        "unset" => outcome_text(host.env_remove(subject)),
         "wanting" => yes_or_no(host.reboot_wanted(subject)),
         _ => call_on_lists(host, call, subject, bytes),
     }
@@ -118,7 +118,7 @@ fn call_on_lists<H: Host>(host: &mut H, call: &str, subject: &str, bytes: &[u8])
         return "no text";
     };
     match call {
-        "log" => done(host.log_add(subject, text)),
+        "log" => outcome_text(host.log_add(subject, text)),
         "logged" => yes_or_no(host.log_has(subject, text)),
         "installed" => yes_or_no(host.package_has(subject, text)),
         _ => "no call",
@@ -140,7 +140,7 @@ fn state_of(outcome: Result<PathState, HostError>) -> &'static str {
         Ok(PathState::EmptyFolder) => "empty",
         Ok(PathState::Folder) => "folder",
         Ok(PathState::Other) => "other",
-        Err(error) => lost(error),
+        Err(error) => error_text(error),
     }
 }
 
@@ -148,18 +148,18 @@ fn yes_or_no(outcome: Result<bool, HostError>) -> &'static str {
     match outcome {
         Ok(true) => "yes",
         Ok(false) => "no",
-        Err(error) => lost(error),
+        Err(error) => error_text(error),
     }
 }
 
-fn done(outcome: Result<(), HostError>) -> &'static str {
+fn outcome_text(outcome: Result<(), HostError>) -> &'static str {
     match outcome {
         Ok(()) => "done",
-        Err(error) => lost(error),
+        Err(error) => error_text(error),
     }
 }
 
-fn lost(error: HostError) -> &'static str {
+fn error_text(error: HostError) -> &'static str {
     match error {
         HostError::Failed => "failed",
         HostError::Memory => "out of memory",

@@ -1,7 +1,7 @@
 //! Parts from files.
 ghost use Rattle.std.specs.Prelude.{◌≡◌, IfOk, length, vec_len};
 
-use mof_values::Text;
+use mof_values::{Bytes, Text};
 use partial_merge::{Part, part_of};
 use std::alloc::{AllocError, Global};
 use std::rt::Files;
@@ -14,7 +14,8 @@ pub fn read_parts<R: Files + AllocGlobal>(rt: &R, files: &[String]) -> io::Resul
     let mut parts = Vec::new(rt.alloc());
     for (number, file) in files.iter().enumerate() {
         let bytes = fs::read(rt, file.as_str())?;
-        parts.push(part_of(name_of(rt.alloc(), number)?, bytes))?;
+        let name = name_of(rt.alloc(), number)?;
+        parts.push(part_of(rt.alloc(), name, Bytes::of(bytes))?)?;
     }
     Ok(parts)
 }

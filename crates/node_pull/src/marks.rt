@@ -46,7 +46,7 @@ pub(crate) fn same_parts(others: &[Part], parts: &[Part]) -> bool
         let [part, later @ ..] = right else {
             return false;
         };
-        if other.name != part.name || other.bytes != part.bytes {
+        if other.name != part.name || other.bytes.as_slice() != part.bytes.as_slice() {
             return false;
         }
         (left, right) = (rest, later);

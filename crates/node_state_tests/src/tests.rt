@@ -3,7 +3,7 @@ mod fitting;
 
 use dsc_outside::Peer;
 use meta_config::{Meta, Server};
-use mof_values::{Items, Text};
+use mof_values::{Bytes, Items, Text};
 use node_state::*;
 use partial_merge::part_of;
 use report_log::{Outcome, Report};
@@ -51,7 +51,8 @@ fn meta_with_server(rt: &impl AllocGlobal) -> Meta {
 }
 
 fn staged_alone(rt: &impl AllocGlobal, name: &str) -> Result<Option<Staged>, Fail> {
-    let part = part_of(text(rt, name)?, HEADER.to_vec(rt.alloc())?);
+    let header = Bytes::of(HEADER.to_vec(rt.alloc())?);
+    let part = part_of(rt.alloc(), text(rt, name)?, header)?;
     Ok(stored(rt.alloc(), vec![in rt.alloc(); part]?)?)
 }
 

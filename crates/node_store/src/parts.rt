@@ -25,7 +25,7 @@ impl FieldForm<Part> for NodeForm {
         let name = fields.text(alloc, MAX_TEXT)?;
         let digest = fields.digest()?;
         let bytes = fields.blob(alloc)?;
-        let part = part_of(name, bytes.into_vec());
+        let part = part_of(alloc, name, bytes)?;
         if part.digest == digest {
             Ok(part)
         } else {

@@ -1,5 +1,5 @@
 //! Lists of large documents.
-use mof_values::Text;
+use mof_values::{Bytes, Text};
 use partial_merge::part_of;
 use std::alloc::{AllocError, Global};
 
@@ -25,7 +25,8 @@ pub fn push_name(body: &mut Vec<u8>, place: u8, size: usize) -> Result<(), Alloc
 
 /// The body that stages that many parts of the same document, with names and a document of that many bytes.
 pub fn staged(alloc: Global, count: u8, name: usize, size: usize) -> Result<Vec<u8>, AllocError> {
-    let part = part_of(Text::of(Vec::new(alloc)), document(alloc, size)?);
+    let text = Bytes::of(document(alloc, size)?);
+    let part = part_of(alloc, Text::of(Vec::new(alloc)), text)?;
     let length = u32::try_from(size).unwrap_or(u32::MAX);
     let mut body = vec![in alloc; 4u8]?;
     body.push(count)?;

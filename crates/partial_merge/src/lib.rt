@@ -18,6 +18,7 @@ mod laws;
 mod merging;
 mod part;
 mod part_names;
+mod shared_bytes;
 
 pub use depend_order::OrderedDocument;
 pub use dsc_document::Spot;
@@ -25,3 +26,4 @@ pub use error::{MergeError, PartFault};
 pub use laws::{merge_laws, one_part_laws};
 pub use merging::{check_text, merge, merge_ordered, merge_text};
 pub use part::{Part, part_of};
+pub use shared_bytes::SharedBytes;

@@ -2,9 +2,10 @@
 ghost use Rattle.std.specs.Prelude.{◌≡◌, IfOk};
 ghost use Rattle.sha2.specs.Sha256.{sha256};
 
+use crate::shared_bytes::SharedBytes;
 use mof_values::{Bytes, Memory, Text};
 use shared_key::digest;
-use std::alloc::AllocError;
+use std::alloc::{AllocError, Global};
 
 /// A part of a configuration: the text of a document, under a name.
 #[derive(Debug, Drop)]
@@ -15,39 +16,33 @@ pub struct Part {
     pub digest: [u8; 32],
 
     /// The document's text, in one of the encodings of a document.
-    pub bytes: Bytes,
+    pub bytes: SharedBytes,
 
     ghost whole: { digest ≡ sha256 bytes },
 }
 
-/// The part of this name and text; takes no memory.
-pub fn part_of(name: Text, bytes: Vec<u8>) -> Part
-    ensures name { result.name ≡ name }
-    ensures bytes { result.bytes ≡ bytes.items }
+/// The part of this name and text. The memory is that of a pointer and two counts, whatever the text.
+pub fn part_of(alloc: Global, name: Text, bytes: Bytes) -> Result<Part, AllocError>
+    ensures name { IfOk result (λ part. part.name ≡ name) }
+    ensures bytes { IfOk result (λ part. part.bytes ≡ bytes) }
 {
-    let digest = digest(&bytes);
-    Part {
+    let digest = digest(bytes.as_slice());
+    Ok(Part {
         name,
         digest,
-        bytes: Bytes::of(bytes),
-    }
+        bytes: SharedBytes::of(alloc, bytes)?,
+    })
 }
 
 impl Part {
-    /// An equal part.
+    /// An equal part, which shares the bytes.
     pub fn copy(&self) -> Result<Part, Memory>
         ensures { IfOk result (λ copy. copy ≡ self.now) }
     {
         Ok(Part {
             name: self.name.copy()?,
             digest: self.digest,
-            bytes: copy_of_bytes(&self.bytes)?,
+            bytes: self.bytes.share()?,
         })
     }
-}
-
-fn copy_of_bytes(bytes: &Bytes) -> Result<Bytes, AllocError>
-    ensures { IfOk result (λ copy. copy ≡ bytes.now) }
-{
-    bytes.clone()
 }

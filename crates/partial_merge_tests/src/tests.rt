@@ -1,7 +1,7 @@
 //! What ample memory answers: parts, and what lists of them are merged to or refused for.
 use dsc_document::DocError;
 use mof_codec::MofError;
-use mof_values::{Items, Text};
+use mof_values::{Bytes, Items, Text};
 use partial_merge::*;
 use std::alloc::Global;
 use std::test::Fail;
@@ -171,7 +171,7 @@ fn document(rt: &impl AllocGlobal, resources: Rows) -> Result<String, Fail> {
 // The part of this name and of these resources.
 fn part(rt: &impl AllocGlobal, name: &str, resources: Rows) -> Result<Part, Fail> {
     let bytes = document(rt, resources)?.as_bytes().to_vec(rt.alloc())?;
-    Ok(part_of(text(rt, name)?, bytes))
+    Ok(part_of(rt.alloc(), text(rt, name)?, Bytes::of(bytes))?)
 }
 
 fn parts(rt: &impl AllocGlobal, list: List) -> Result<Vec<Part>, Fail> {
@@ -195,7 +195,8 @@ fn numbered(rt: &impl AllocGlobal, number: usize, count: u32) -> Result<Part, Fa
     let mut name = String::new(rt.alloc());
     write!(name, "P{number}")?;
     let bytes = text.as_bytes().to_vec(rt.alloc())?;
-    Ok(part_of(Text::of(name.chars().collect(rt.alloc())?), bytes))
+    let name = Text::of(name.chars().collect(rt.alloc())?);
+    Ok(part_of(rt.alloc(), name, Bytes::of(bytes))?)
 }
 
 // The header, and then that many log resources, each of which depends on the next.
@@ -312,11 +313,14 @@ fn is_cycle(walk: &[u32], wanted: &Wanted) -> bool {
 fn a_part_has_the_digest_of_its_bytes(rt: HostRuntime) -> Result<(), Fail> {
     // FIPS 180-4's examples: no bytes, and `abc`
     for (bytes, first, last) in [(&b""[..], 0xe3, 0x55), (b"abc", 0xba, 0xad)] {
-        let part = part_of(text(&rt, "Base")?, bytes.to_vec(rt.alloc())?);
+        let bytes = Bytes::of(bytes.to_vec(rt.alloc())?);
+        let part = part_of(rt.alloc(), text(&rt, "Base")?, bytes)?;
         assert!(rt; part.digest[0] == first && part.digest[31] == last);
         let copy = part.copy()?;
         assert!(rt;
-            copy.name == part.name && copy.bytes == part.bytes && copy.digest == part.digest
+            copy.name == part.name
+                && copy.bytes.as_slice() == part.bytes.as_slice()
+                && copy.digest == part.digest
         );
     }
     Ok(())

@@ -10,14 +10,15 @@ use mof_syntax::MAX_DOCUMENT;
 use mof_values::{Bytes, Text};
 use partial_merge::{Part, part_of};
 use shared_key::{digest, read_checksum};
+use std::alloc::Global;
 
 /// The part of that name that a reply is.
-pub fn part_in(name: &Text, reply: Reply) -> Result<Part, PeerError>
+pub fn part_in(alloc: Global, name: &Text, reply: Reply) -> Result<Part, PeerError>
     ensures says { SaysOr (GivesPart name.now) reply result }
     ensures named { IfOk result (λ part. part.name ≡ name.now) }
 {
     match content_of(reply) {
-        Ok(content) => Ok(part_of(name.copy()?, content.into_vec())),
+        Ok(content) => Ok(part_of(alloc, name.copy()?, content)?),
         Err(error) => Err(error),
     }
 }

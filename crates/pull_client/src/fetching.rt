@@ -43,7 +43,7 @@ pub fn fetch<L: Link>(
     }
     let request = content_request(alloc, server, agent, name)?;
     match exchange(alloc, link, server, &request) {
-        Ok(reply) => part_in(name, reply),
+        Ok(reply) => part_in(alloc, name, reply),
         Err(error) => Err(error),
     }
 }

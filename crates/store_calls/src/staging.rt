@@ -4,7 +4,7 @@ ghost use Rattle.node_state.specs.Table.{IsWithin};
 ghost use Rattle.node_store.specs.Store.{IsReady};
 
 use dsc_outside::Disk;
-use mof_values::{Memory, Text};
+use mof_values::{Bytes, Memory, Text};
 use node_state::{Event, stored};
 use node_store::{NodeStore, StoreError};
 use partial_merge::{Part, part_of};
@@ -24,7 +24,8 @@ fn document(alloc: Global, size: u32) -> Result<Vec<u8>, AllocError> {
 
 // One part without a name.
 fn parts(alloc: Global, size: u32) -> Result<Vec<Part>, AllocError> {
-    let part = part_of(Text::of(Vec::new(alloc)), document(alloc, size)?);
+    let text = Bytes::of(document(alloc, size)?);
+    let part = part_of(alloc, Text::of(Vec::new(alloc)), text)?;
     let mut parts = Vec::new(alloc);
     parts.push(part)?;
     Ok(parts)

@@ -51,7 +51,7 @@ pub fn parts(alloc: Global, held: &[Held]) -> Result<Vec<Part>, AllocError> {
 
 pub fn part(alloc: Global, name: &str, content: &str) -> Result<Part, AllocError> {
     let bytes = content.as_bytes().to_vec(alloc)?;
-    Ok(part_of(text(alloc, name)?, bytes))
+    part_of(alloc, text(alloc, name)?, Bytes::of(bytes))
 }
 
 /// A link with these answers, whose calls of these numbers fail.

@@ -8,12 +8,12 @@ use Rattle.dsc_node.proofs.preparing.staged_document.Goals as goal
 
 pub returns-in-Ok-clause-ok : goal.returns-in-Ok-clause-ok
 returns-in-Ok-clause-ok c =
-    let part = part_is c.part_of.result [] c.args.bytes (c.part_of.ensures.name ∙ c.of-name.ensures ∙ c.new.ensures.items) (c.part_of.ensures.bytes ∙ c.into_vec.ensures) in
+    let part = part_is c.in_ok-part.part [] c.args.bytes (c.in_ok-part.ensures.name ∙ c.of-name.ensures ∙ c.new.ensures.items) c.in_ok-part.ensures.bytes in
     c.in-Ok.ensures.staged ∙ c.in_ok-parts.ensures.items ∙ ap (λ (p : Part). p ∷ []) part
 
 pub returns-in-Err-Merge-clause-refused : goal.returns-in-Err-Merge-clause-refused
 returns-in-Err-Merge-clause-refused c =
-    let part = part_is c.part_of.result [] c.args.bytes (c.part_of.ensures.name ∙ c.of-name.ensures ∙ c.new.ensures.items) (c.part_of.ensures.bytes ∙ c.into_vec.ensures) in
+    let part = part_is c.in_ok-part.part [] c.args.bytes (c.in_ok-part.ensures.name ∙ c.of-name.ensures ∙ c.new.ensures.items) c.in_ok-part.ensures.bytes in
     let parts : c.in_ok-parts.parts.items ≡ unnamed_part c.args.bytes ∷ [] = c.in_ok-parts.ensures.items ∙ ap (λ (p : Part). p ∷ []) part in
     subst (λ (ps : List Part). Refused ps c.in-Err-Merge.error) parts
     (refused_of c.usual.result c.in_ok-parts.parts.items c.staged_in_order.result c.in-Err-Merge.field-0 c.in-Err-Merge.error c.in-Err-Merge.is c.in-Err-Merge.field-0-is c.staged_in_order.ensures.refused)

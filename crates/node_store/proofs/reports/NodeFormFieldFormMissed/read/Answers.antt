@@ -2,7 +2,7 @@ use Rattle.std.proofs.Common.{◌∙◌, append_assoc}
 use Rattle.store_fields.specs.Fields.{bytes_of_text}
 use Rattle.store_fields.proofs.Composing.{exit}
 use Rattle.node_store.specs.Reports.{bytes_of_missed, bytes_of_reason, IsMissed}
-use Rattle.node_store.proofs.reports.NodeFormFormMissed.read.Goals as goal
+use Rattle.node_store.proofs.reports.NodeFormFieldFormMissed.read.Goals as goal
 
 pub returns-in_err-reason : goal.returns-in_err-reason
 returns-in_err-reason c =

@@ -6,7 +6,7 @@ use Rattle.store_fields.specs.Fields.{bytes_of_digest, bytes_of_blob, IsDigest, 
 use Rattle.store_fields.proofs.Composing.{exit}
 use Rattle.node_store.specs.Parts.{bytes_of_part, IsPart}
 use Rattle.node_store.proofs.PartsRead.{part_opened, part_taken, part_not_whole}
-use Rattle.node_store.proofs.parts.NodeFormFormPart.read.Goals as goal
+use Rattle.node_store.proofs.parts.NodeFormFieldFormPart.read.Goals as goal
 
 pub returns-in_err-digest : goal.returns-in_err-digest
 returns-in_err-digest c =
@@ -23,10 +23,10 @@ returns-in_err-bytes c =
 
 pub returns-then-eq : goal.returns-then-eq
 returns-then-eq c =
-    let bytes = c.part_of-part.ensures.bytes ∙ c.into_vec.ensures in
-    part_taken _ _ _ _ _ _ _ c.in_ok-name.ensures.reads c.in_ok-digest.ensures.reads c.in_ok-bytes.ensures.reads c.part_of-part.result c.part_of-part.ensures.name ((bytes_eq-Decides c.part_of-part.result.digest c.in_ok-digest.digest).0 (sym c.eq.ensures ∙ c.if-eq.true)) bytes
+    let bytes = c.in_ok-part.ensures.bytes in
+    part_taken _ _ _ _ _ _ _ c.in_ok-name.ensures.reads c.in_ok-digest.ensures.reads c.in_ok-bytes.ensures.reads c.in_ok-part.part c.in_ok-part.ensures.name ((bytes_eq-Decides c.in_ok-part.part.digest c.in_ok-digest.digest).0 (sym c.eq.ensures ∙ c.if-eq.true)) bytes
 
 pub returns-else-eq : goal.returns-else-eq
 returns-else-eq c =
-    let bytes = c.part_of-part.ensures.bytes ∙ c.into_vec.ensures in
-    part_not_whole _ _ _ _ _ _ _ c.in_ok-name.ensures.reads c.in_ok-digest.ensures.reads c.in_ok-bytes.ensures.reads (λ whole. never c.eq.result (c.eq.ensures ∙ (bytes_eq-Decides c.part_of-part.result.digest c.in_ok-digest.digest).1 (c.part_of-part.result.whole ∙ ap sha256 bytes ∙ sym whole)) c.if-eq.false)
+    let bytes = c.in_ok-part.ensures.bytes in
+    part_not_whole _ _ _ _ _ _ _ c.in_ok-name.ensures.reads c.in_ok-digest.ensures.reads c.in_ok-bytes.ensures.reads (λ whole. never c.eq.result (c.eq.ensures ∙ (bytes_eq-Decides c.in_ok-part.part.digest c.in_ok-digest.digest).1 (c.in_ok-part.part.whole ∙ ap sha256 bytes ∙ sym whole)) c.if-eq.false)
