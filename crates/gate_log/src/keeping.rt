@@ -5,8 +5,8 @@ ghost use Rattle.gate_log.specs.Log.{AtAnyMoment, capacity_in};
 ghost use Rattle.gate_log.specs.Kept.{Added, Counts, IsKeptAfter, IsKeptBy, LeadsAnew, LeavesEither, Replaced, WaitsAndCounts};
 
 use crate::error::LogError;
-use crate::logged_state::LoggedState;
 use crate::log::Log;
+use crate::logged_state::LoggedState;
 use crate::several::{append_all, rewrite_all};
 use crate::spelling::Spelling;
 use dsc_outside::{Disk, Failed};

@@ -17,9 +17,9 @@
 //!   meaning is never refused: `never_refused` of `proofs/Both.antt`
 //! - the bytes that the calls leave: `specs/Bytes.antt`
 //! - what the images of a disk stand for, over any value: `specs/Standing.antt`
-//! - a state that is kept as bodies, and what spells these: the traits `LoggedState` in `src/logged_state.rt`, `Spelling` in
-//!   `src/spelling.rt`; what an image stands for then, what a change makes of the bodies, and the laws of both
-//!   `specs/Kept.antt`, proved in `proofs/Leading.antt`
+//! - a state that is kept as bodies, and what spells these: the traits `LoggedState` in `src/logged_state.rt`,
+//!   `Spelling` in `src/spelling.rt`; what an image stands for then, what a change makes of the bodies, and the laws of
+//!   both `specs/Kept.antt`, proved in `proofs/Leading.antt`
 //! - a change that is added, and a whole state that is written anew: `src/keeping.rt`; several bodies, one after the
 //!   other, `src/several.rt`, `specs/Several.antt`, `proofs/OneByOne.antt`
 //! - how a cell is appended, how the other bank is written and made live, how a store is opened: `src/appending.rt`,
@@ -31,9 +31,9 @@ mod appending;
 mod bodies;
 mod error;
 mod keeping;
-mod logged_state;
 mod laws;
 mod log;
+mod logged_state;
 mod opening;
 mod reading;
 mod replay;
@@ -46,9 +46,9 @@ mod through;
 pub use bodies::Bodies;
 pub use error::LogError;
 pub use keeping::{add, add_all, add_in_place, rewrite};
-pub use logged_state::LoggedState;
 pub use laws::{image_laws, kept_laws};
 pub use log::Log;
+pub use logged_state::LoggedState;
 pub use opening::{open_kept, replay_log};
 pub use replay::{Replay, TakeError};
 pub use shape::{CELL_HEAD, Shape};

@@ -12,8 +12,8 @@ ghost use Rattle.gate_log.specs.Opening.{FailsInHead, Replayed, StillWhereRefuse
 ghost use Rattle.gate_log.specs.Steps.{Unread};
 
 use crate::error::LogError;
-use crate::logged_state::LoggedState;
 use crate::log::Log;
+use crate::logged_state::LoggedState;
 use crate::reading::read_cells;
 use crate::replay::Replay;
 use crate::shape::Shape;

@@ -9,7 +9,8 @@ ghost use Rattle.gate_log_tests.specs.Counter.{Counted, NotOpened};
 
 use dsc_outside::{Disk, Failed};
 use gate_log::{
-    LoggedState, Log, LogError, Replay, Shape, Spelling, TakeError, add_all, kept_laws, open_kept, rewrite,
+    Log, LogError, LoggedState, Replay, Shape, Spelling, TakeError, add_all, kept_laws, open_kept,
+    rewrite,
 };
 use std::alloc::Global;
 use std::marker::Model;

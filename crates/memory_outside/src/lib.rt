@@ -52,7 +52,7 @@ pub use fixed_clock::FixedClock;
 pub use host::MemoryHost;
 pub use link::MemoryLink;
 pub use null_sink::NullSink;
-pub use paths::{PathEntry, PathContent};
+pub use paths::{PathContent, PathEntry};
 pub use reliable::ReliableHost;
 pub use reliable_disk::ReliableDisk;
 pub use reliable_source::ReliableSource;

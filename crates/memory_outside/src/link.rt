@@ -7,7 +7,7 @@ ghost use Rattle.memory_outside.specs.Memory.{is_to_fail};
 ghost use Rattle.memory_outside.specs.MemoryLink.{Appends, Exchanges, MayBecome, answered, counted_with, first_outcome, has_answer, next_exchange, next_outcome, result_of, unasked};
 
 use crate::calls::Calls;
-use dsc_outside::{ANSWER_LIMIT, Exchange, Link, LinkError, ExchangeOutcome, Peer};
+use dsc_outside::{ANSWER_LIMIT, Exchange, ExchangeOutcome, Link, LinkError, Peer};
 use mof_values::Bytes;
 use std::alloc::{AllocError, Global};
 use std::marker::Model;

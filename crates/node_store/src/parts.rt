@@ -9,7 +9,9 @@ use crate::reports::NodeForm;
 use mof_values::Memory;
 use partial_merge::{Part, part_of};
 use std::alloc::Global;
-use store_fields::{FieldError, Fields, FieldForm, MAX_TEXT, put_blob, put_digest, put_text, put_u32};
+use store_fields::{
+    FieldError, FieldForm, Fields, MAX_TEXT, put_blob, put_digest, put_text, put_u32,
+};
 
 impl FieldForm<Part> for NodeForm {
     ghost use Rattle.node_store.specs.Parts.{bytes_of_part, FitsPart, IsPart};

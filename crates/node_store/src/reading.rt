@@ -19,7 +19,7 @@ use node_state::{Event, Kept, Piece, Stage, Staged, stored};
 use partial_merge::Part;
 use report_log::{PartMark, Report};
 use std::alloc::Global;
-use store_fields::{FieldError, Fields, FieldForm, put_list, put_u64, put_u128, read_list};
+use store_fields::{FieldError, FieldForm, Fields, put_list, put_u64, put_u128, read_list};
 
 /// The event or piece of which the bytes are the body.
 ///
@@ -266,7 +266,10 @@ fn read_staged(alloc: Global, bytes: &[u8]) -> Result<Staged, FieldError>
 }
 
 /// The value of which these are all the bytes.
-pub(crate) fn read_whole<F: FieldForm<T>, T: Drop>(alloc: Global, bytes: &[u8]) -> Result<T, FieldError>
+pub(crate) fn read_whole<F: FieldForm<T>, T: Drop>(
+    alloc: Global,
+    bytes: &[u8],
+) -> Result<T, FieldError>
     ensures found { IfOk result (λ value. IsWhole F.bytes_of F.is_in_range bytes.now value) }
     ensures wrong { IfErr result (λ e. e ≡ FieldError.Wrong → (value : T) → IsWhole F.bytes_of F.is_in_range bytes.now value → ⊥) }
 {

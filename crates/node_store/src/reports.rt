@@ -14,7 +14,7 @@ use mof_values::{Items, Memory, Text};
 use report_log::{FailureKind, Missed, Outcome, PartMark, Reason, Report, is_in_size};
 use std::alloc::Global;
 use store_fields::{
-    FieldError, Fields, FieldForm, MAX_TEXT, put_byte, put_digest, put_flag, put_list, put_text,
+    FieldError, FieldForm, Fields, MAX_TEXT, put_byte, put_digest, put_flag, put_list, put_text,
     put_u32, put_u64, read_list,
 };
 

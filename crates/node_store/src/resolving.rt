@@ -14,7 +14,7 @@ use crate::spelling::stage_byte;
 use mof_values::{Items, Memory};
 use report_log::PartMark;
 use std::alloc::Global;
-use store_fields::{FieldError, Fields, FieldForm, put_blob};
+use store_fields::{FieldError, FieldForm, Fields, put_blob};
 
 /// What a Stage by digests says in full.
 ///

@@ -6,7 +6,7 @@ ghost use Rattle.pull_store.specs.Store.{IsReady};
 ghost use Rattle.pull_serving.specs.ServerLink.{Becomes, IsOutcomeOf, TookAll};
 
 use crate::connection::{ConnectionEnd, serve_connection};
-use dsc_outside::{ANSWER_LIMIT, Disk, Exchange, Link, LinkError, ExchangeOutcome, Peer};
+use dsc_outside::{ANSWER_LIMIT, Disk, Exchange, ExchangeOutcome, Link, LinkError, Peer};
 use mof_values::{Bytes, Memory};
 use pull_outside::{MemoryConn, Shelf};
 use pull_store::PullStore;
@@ -176,7 +176,10 @@ fn whole(end: ConnectionEnd, conn: &MemoryConn) -> Result<&[u8], Memory>
 }
 
 // What comes of the exchange, and what is answered: these bytes are appended, unless they are too many or it runs out of memory.
-fn give(answer: &mut Vec<u8>, bytes: Result<Bytes, Memory>) -> (ExchangeOutcome, Result<(), LinkError>)
+fn give(
+    answer: &mut Vec<u8>,
+    bytes: Result<Bytes, Memory>,
+) -> (ExchangeOutcome, Result<(), LinkError>)
     ensures outcome { IsOutcomeOf bytes result.0 }
     ensures comes { ComesTo result.1 answer.old.items answer.new.items result.0 }
     ensures leaves { LeavesAnswer result.1 answer.old.items answer.new.items }

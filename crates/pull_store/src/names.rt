@@ -1,7 +1,7 @@
 //! The names of a registration, in a body.
 use mof_values::{MAX_NAME_BYTES, Memory, Text};
 use std::alloc::Global;
-use store_fields::{FieldError, Fields, FieldForm, put_text};
+use store_fields::{FieldError, FieldForm, Fields, put_text};
 
 /// Texts of 1 to 255 bytes in UTF-8.
 pub struct NameForm;

@@ -5,7 +5,7 @@ use super::host_calls::Call::{
 };
 use super::host_calls::{Row, expect, expect_of};
 use memory_outside::{
-    Done as Part, HostContents, MemoryHost, PathEntry, ReliableHost, PathContent, Stop,
+    Done as Part, HostContents, MemoryHost, PathContent, PathEntry, ReliableHost, Stop,
 };
 use mof_values::Bytes;
 use std::alloc::{AllocError, Global};

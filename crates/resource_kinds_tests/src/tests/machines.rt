@@ -1,7 +1,7 @@
 //! Machines written as words: `p/` is a folder, `p:hi` a file, `p?` something else at a path; `$name=value` a variable,
 //! `#id=message` an entry of the log, `!id` a wish for a reboot.
 use dsc_outside::LogEntry;
-use memory_outside::{HostContents, MemoryHost, PathEntry, PathContent, Variable};
+use memory_outside::{HostContents, MemoryHost, PathContent, PathEntry, Variable};
 use mof_values::Bytes;
 use std::test::Fail;
 
