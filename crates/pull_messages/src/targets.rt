@@ -49,8 +49,10 @@ pub fn target(alloc: Global, text: &[u8]) -> Result<Target, TargetError>
 /// Reads a target of the fleet: the path of a report of an agent, by its job, or of the summary; none where the text
 /// is neither. A text that is one is no other target.
 pub fn fleet_target(alloc: Global, text: &[u8]) -> Result<Option<FleetTarget>, Memory>
-    ensures found { IfOk result (λ found. (t : FleetTargetValue) → (found ≡ Some t) ↔ IsFleetTarget text.now t) }
-    ensures apart { IfOk result (λ found. IfSome found (λ _. (t : TargetValue) → IsTarget text.now t → ⊥)) }
+    ensures found { IfOk result (λ found. (t : FleetTargetValue) → (found ≡ Some t)
+        ↔ IsFleetTarget text.now t) }
+    ensures apart { IfOk result (λ found. IfSome found (λ _. (t : TargetValue)
+        → IsTarget text.now t → ⊥)) }
 {
     let Some(chars) = whole_chars(alloc, text)? else {
         return Ok(None);
