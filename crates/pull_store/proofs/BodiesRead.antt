@@ -10,6 +10,7 @@ use Rattle.store_fields.proofs.Composing.{taken}
 use Rattle.store_fields.proofs.Listed.{list_unique}
 use Rattle.store_fields.proofs.LongNumbers.{long_unique}
 use Rattle.store_fields.proofs.Texts.{text_unique}
+use Rattle.mof_values.specs.declared.limits.TheConstants.{MAX_NAME_BYTES}
 use Rattle.pull_messages.specs.declared.registration.Registration.{Registration}
 use Rattle.pull_store.specs.declared.change.Change.{Change}
 use Rattle.pull_store.specs.declared.change.Change.TheVariants.{Register, Report}
@@ -107,7 +108,7 @@ opened x rest =
     ∙ ap (λ (l : List ℕ). version ++ l) (append_assoc node address (names ++ rest))
 
 name_unique : IsUnique bytes_of_text IsNameText
-name_unique x y r s one other e = text_unique 255 (omega arith) x y r s one.text other.text e
+name_unique x y r s one other e = text_unique MAX_NAME_BYTES (omega arith) x y r s one.text other.text e
 
 made : List ℕ → List ℕ → List ℕ → List (List ℕ) → Registration
 made version node address names = record { lcm_version = version; node_name = node; ip_address = address; names = names }
