@@ -38,7 +38,7 @@ use Rattle.rehearsal.specs.Objects as rehearsals
 use Rattle.rehearsal.specs.Objects.{disk_ghosts, shelf_ghosts, stopped_ghosts}
 use Rattle.rehearsal.specs.Playing.{Plays, Starts, input_of}
 use Rattle.rehearsal.specs.World.{World, link_to}
-use Rattle.rehearsal.specs.declared.row.Row.{Row}
+use Rattle.rehearsal.specs.declared.row.StartRow.{StartRow}
 use Rattle.rehearsal.specs.declared.starter.Starter as starters
 use Rattle.rehearsal.specs.declared.step.Step.{Step}
 use Rattle.rehearsal.specs.declared.step.Step.TheVariants.{Shelf, Key, Wants, Start}
@@ -175,23 +175,23 @@ module _ {K D H : Type 0} (source : ends.Ghosts (List ℕ)) (sink : ends.Ghosts 
 module _ {P : Type 0} (program : starters.Ghosts P) (meaning : NodesAreOne) where
   -- a part that a start leaves was there, or it brought it
   abbrev StartsHadOrBring : Type 0
-  StartsHadOrBring = (stop : Option StopAt) (words : List (List ℕ)) (input : List ℕ) (world : World) (row : Row) (next : World) (start : Starts program stop words input world row next)
+  StartsHadOrBring = (stop : Option StopAt) (words : List (List ℕ)) (input : List ℕ) (world : World) (row : StartRow) (next : World) (start : Starts program stop words input world row next)
       (node later : Node) (part : Part) → HasNoPackage world → Stands world.image node → Stands next.image later → IsSlot later part
       → IsSlot node part ⊎ StartBrings program stop words input world row next start part
 
-  keeps_none : (stop : Option StopAt) (words : List (List ℕ)) (input : List ℕ) (world : World) (row : Row) (next : World) → Starts program stop words input world row next
+  keeps_none : (stop : Option StopAt) (words : List (List ℕ)) (input : List ℕ) (world : World) (row : StartRow) (next : World) → Starts program stop words input world row next
       → HasNoPackage world → HasNoPackage next
   keeps_none None words input world row next start none = ap (λ (w : World). w.server.shelf.packages) start.leaves ∙ none
   keeps_none (Some stop) words input world row next start none = ap (λ (w : World). w.server.shelf.packages) start.leaves ∙ none
 
-  left_by : (stop : Option StopAt) (words : List (List ℕ)) (input : List ℕ) (world : World) (row : Row) (next : World) → Starts program stop words input world row next
+  left_by : (stop : Option StopAt) (words : List (List ℕ)) (input : List ℕ) (world : World) (row : StartRow) (next : World) → Starts program stop words input world row next
       → (node : Node) × Stands next.image node
   left_by None words input world row next start = (start.tells.node, start.tells.stands)
   left_by (Some stop) words input world row next start = (start.tells.node, start.tells.stands)
 
   module _ (of_start : StartsHadOrBring) where
     -- a part that is left was there, or one of the starts brought it
-    had_or_plays : (world : World) (steps : List Step) (rows : List Row) (last : World) (plays : Plays program world steps rows last) (node later : Node) (part : Part)
+    had_or_plays : (world : World) (steps : List Step) (rows : List StartRow) (last : World) (plays : Plays program world steps rows last) (node later : Node) (part : Part)
         → HasNoPackage world → Stands world.image node → Stands last.image later → IsSlot later part → IsSlot node part ⊎ PlayBrings program world steps rows last plays part
     had_or_plays world [] rows last plays node later part none begins leaves slot =
         inl (subst (λ (n : Node). IsSlot n part) (meaning world.image later node (subst (λ (w : World). Stands w.image later) plays.1 leaves) begins) slot)

@@ -33,7 +33,7 @@ use Rattle.rehearsal.specs.Rows.{ending_of}
 use Rattle.rehearsal.specs.World.{HasLasted, World}
 use Rattle.rehearsal.specs.declared.row.Ending.{Ending}
 use Rattle.rehearsal.specs.declared.row.Ending.TheVariants.{Named, Stopped}
-use Rattle.rehearsal.specs.declared.row.Row.{Row}
+use Rattle.rehearsal.specs.declared.row.StartRow.{StartRow}
 use Rattle.rehearsal.specs.declared.starter.Starter as starters
 use Rattle.rehearsal.specs.declared.step.StopAt.{StopAt}
 use Rattle.rehearsal.specs.declared.step.StopPart.{StopPart}
@@ -168,7 +168,7 @@ module _ {K D H : Type 0} (source : ends.Ghosts (List ℕ)) (sink : ends.Ghosts 
   pub goes_to_prefix : StartsDoPrefixes o.outside → Goes o further AfterPrefix words before after world next
   goes_to_prefix prefix = goes_by AfterPrefix (λ node later begins leaves is. does_prefix o objects_before objects_after world next crosses meaning node later begins leaves is prefix)
 
-  pub goes_unfailed : StartsDoAllWork o.outside → (row : Row) → row.ending ≡ Named name → NoneRose o objects_before objects_after → HasLasted after.link.disk → host.faults (host_of after.machine) ≡ 0
+  pub goes_unfailed : StartsDoAllWork o.outside → (row : StartRow) → row.ending ≡ Named name → NoneRose o objects_before objects_after → HasLasted after.link.disk → host.faults (host_of after.machine) ≡ 0
       → GoesUnfailed o further words before after world next row
   unfolding goes_by
   goes_unfailed all row says counts served none = record {
@@ -225,7 +225,7 @@ module _ {P K : Type 0} (source : ends.Ghosts (List ℕ)) (sink : ends.Ghosts K)
     those = known source sink stopped_ghosts (kinds_of host) (machine_of host) link clock
 
     -- a row that does not say Stopped is of a start that no stop came in
-    unstopped : (row : Row) (name : List ℕ) (stopped : Bool) → row.ending ≡ ending_of stopped name → (row.ending ≡ Stopped → ⊥) → (stopped ≡ false) × (row.ending ≡ Named name)
+    unstopped : (row : StartRow) (name : List ℕ) (stopped : Bool) → row.ending ≡ ending_of stopped name → (row.ending ≡ Stopped → ⊥) → (stopped ≡ false) × (row.ending ≡ Named name)
     unstopped row name true is other = absurd (other is)
     unstopped row name false is other = (refl, is)
 

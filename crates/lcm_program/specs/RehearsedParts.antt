@@ -12,7 +12,7 @@ use Rattle.node_store.specs.Stands.{Stands}
 use Rattle.pull_outside.specs.Shelf.{Contents, configuration_of}
 use Rattle.rehearsal.specs.Playing.{Plays, Starts, input_of}
 use Rattle.rehearsal.specs.World.{IsFirst, World}
-use Rattle.rehearsal.specs.declared.row.Row.{Row}
+use Rattle.rehearsal.specs.declared.row.StartRow.{StartRow}
 use Rattle.rehearsal.specs.declared.starter.Starter as starters
 use Rattle.rehearsal.specs.declared.step.Step.{Step}
 use Rattle.rehearsal.specs.declared.step.Step.TheVariants.{Shelf, Key, Wants, Start}
@@ -33,13 +33,13 @@ pub data BringsPart (words : List (List ℕ)) (input : List ℕ) (world : World)
       → IsOnShelf world.server.shelf part.bytes → IsGivenOf world.server.shelf exchanges server part → BringsPart words input world exchanges part
 
 -- so it is of a start of a rehearsal, which begins without an exchange
-abbrev pub StartBrings : {P : Type 0} (program : starters.Ghosts P) (stop : Option StopAt) (words : List (List ℕ)) (input : List ℕ) (world : World) (row : Row) (next : World)
+abbrev pub StartBrings : {P : Type 0} (program : starters.Ghosts P) (stop : Option StopAt) (words : List (List ℕ)) (input : List ℕ) (world : World) (row : StartRow) (next : World)
     → Starts program stop words input world row next → Part → Type 0
 StartBrings program None words input world row next start = BringsPart words input world start.after.link.exchanges
 StartBrings program (Some stop) words input world row next start = BringsPart words input world start.after.link.exchanges
 
 -- one of the starts of a play brought the part
-abbrev pub PlayBrings : {P : Type 0} (program : starters.Ghosts P) (world : World) (steps : List Step) (rows : List Row) (last : World)
+abbrev pub PlayBrings : {P : Type 0} (program : starters.Ghosts P) (world : World) (steps : List Step) (rows : List StartRow) (last : World)
     → Plays program world steps rows last → Part → Type 0
 PlayBrings program world [] rows last plays part = ⊥
 PlayBrings program world (Shelf configuration content ∷ steps) rows last (own, more, next, is, takes, plays) part = PlayBrings program next steps more last plays part
@@ -51,5 +51,5 @@ PlayBrings program world (Start words input stop ∷ steps) rows last (own, more
 -- so it is with each part of the node that a play leaves, from the first world on
 abbrev pub PartsAreOfStarts : {P : Type 0} → starters.Ghosts P → Type 0
 PartsAreOfStarts program =
-    (first : World) (steps : List Step) (rows : List Row) (last : World) → IsFirst first → (plays : Plays program first steps rows last)
+    (first : World) (steps : List Step) (rows : List StartRow) (last : World) → IsFirst first → (plays : Plays program first steps rows last)
     → (node : Node) (part : Part) → Stands last.image node → IsSlot node part → PlayBrings program first steps rows last plays part

@@ -14,7 +14,7 @@ use Rattle.rehearsal.specs.Objects.{disk_ghosts}
 use Rattle.rehearsal.specs.Playing.{Ends, EndsOrStops}
 use Rattle.rehearsal.specs.World.{World}
 use Rattle.rehearsal.specs.declared.row.Ending.TheVariants.{Named, Stopped}
-use Rattle.rehearsal.specs.declared.row.Row.{Row}
+use Rattle.rehearsal.specs.declared.row.StartRow.{StartRow}
 use Rattle.rehearsal.specs.declared.starter.Starter as starters
 use Rattle.rehearsal.specs.declared.step.StopPart.{StopPart}
 use Rattle.resource_kinds.specs.declared.entry.Entry.{Entry}
@@ -125,7 +125,7 @@ pub record Goes {K D H : Type 0} (o : Known (List ℕ) K D (Kinds H) rehearsals.
 -- The same, to the node after all the work. Its row says the name of that status, no count of faults rose, nor that of the server's disk, and no entry says
 -- that the host failed.
 pub record GoesUnfailed {K D H : Type 0} (o : Known (List ℕ) K D (Kinds H) rehearsals.Link ℕ) (further : Further D (Kinds H) ℕ)
-    (words : List (List ℕ)) (before after : rehearsals.Objects D H) (world next : World) (row : Row) : Type 0 where
+    (words : List (List ℕ)) (before after : rehearsals.Objects D H) (world next : World) (row : StartRow) : Type 0 where
   pub goes : Goes o further Steps words before after world next
   pub says : row.ending ≡ Named (name_of goes.status)
   pub counts : NoneRose o (with_output goes.old before) (with_output goes.new after)
@@ -135,12 +135,12 @@ pub record GoesUnfailed {K D H : Type 0} (o : Known (List ℕ) K D (Kinds H) reh
 -- a start without a stop goes so
 abbrev pub EndsGo : {P K : Type 0} → starters.Ghosts P → Known (List ℕ) K DiskInMemory (Kinds HostContents) rehearsals.Link ℕ → Further DiskInMemory (Kinds HostContents) ℕ → Type 0
 EndsGo program o further =
-    (words : List (List ℕ)) (input : List ℕ) (world : World) (row : Row) (next : World) (start : Ends program words input world row next)
+    (words : List (List ℕ)) (input : List ℕ) (world : World) (row : StartRow) (next : World) (start : Ends program words input world row next)
     → GoesUnfailed o further words start.before start.after world next row
 
 -- and one with a stop, unless its row says Stopped; whatever it says, the node goes to one after a prefix of the work
 abbrev pub StopsGo : {P K : Type 0} → starters.Ghosts P → Known (List ℕ) K DiskToStop (Kinds HostToStop) rehearsals.Link ℕ → Further DiskToStop (Kinds HostToStop) ℕ → Type 0
 StopsGo program o further =
-    (part : StopPart) (words : List (List ℕ)) (input : List ℕ) (world : World) (row : Row) (next : World) (start : EndsOrStops program part words input world row next)
+    (part : StopPart) (words : List (List ℕ)) (input : List ℕ) (world : World) (row : StartRow) (next : World) (start : EndsOrStops program part words input world row next)
     → Goes o further AfterPrefix words start.before start.after world next
     × ((row.ending ≡ Stopped → ⊥) → GoesUnfailed o further words start.before start.after world next row)

@@ -20,7 +20,7 @@ use Rattle.rehearsal.specs.Chain.{Chain, EndsCross, LiesBetween, PlayedStart, Pl
 use Rattle.rehearsal.specs.Playing.{Plays, Starts, disk_part, input_of}
 use Rattle.rehearsal.specs.Rows.{row_line, slots_of}
 use Rattle.rehearsal.specs.World.{World, with_shelf, with_wish}
-use Rattle.rehearsal.specs.declared.row.Row.{Row}
+use Rattle.rehearsal.specs.declared.row.StartRow.{StartRow}
 use Rattle.rehearsal.specs.declared.server.Server.{Server}
 use Rattle.rehearsal.specs.declared.starter.Starter as starters
 use Rattle.rehearsal.specs.declared.step.Step.{Step}
@@ -78,28 +78,28 @@ module _ {S : Type 0} (program : starters.Ghosts S) where
   -- ---- the starts of a play
 
   -- the node that a start leaves, and its row tells of
-  record Tells (row : Row) (next : World) : Type 0 where
+  record Tells (row : StartRow) (next : World) : Type 0 where
     node : Node
     stands : Stands next.image node
     slots : row.slots ≡ slots_of node
 
-  told_by : (stop : Option StopAt) (words : List (List ℕ)) (input : List ℕ) (world : World) (row : Row) (next : World) → Starts program stop words input world row next → Tells row next
+  told_by : (stop : Option StopAt) (words : List (List ℕ)) (input : List ℕ) (world : World) (row : StartRow) (next : World) → Starts program stop words input world row next → Tells row next
   told_by None words input world row next start = record { node = start.tells.node; stands = start.tells.stands; slots = start.tells.slots }
   told_by (Some stop) words input world row next start = record { node = start.tells.node; stands = start.tells.stands; slots = start.tells.slots }
 
   -- the starts of these steps, from what lies behind the last one on
-  record Chained (begin : World) (node : Node) (steps : List Step) (rows : List Row) (last : World) : Type 0 where
+  record Chained (begin : World) (node : Node) (steps : List Step) (rows : List StartRow) (last : World) : Type 0 where
     starts : List (PlayedStart program)
     asked : map step_of starts ≡ starts_of steps
     chain : Chain begin node starts last
     rows_are : rows ≡ map (λ (one : PlayedStart program). one.row) starts
 
   -- a step that is no start
-  passed : (begin : World) (node : Node) (steps : List Step) (rows own more : List Row) (last : World) → rows ≡ own ++ more → own ≡ [] → Chained begin node steps more last → Chained begin node steps rows last
-  passed begin node steps rows own more last is none c = subst (λ (l : List Row). Chained begin node steps l last) (sym (is ∙ ap (λ (l : List Row). l ++ more) none)) c
+  passed : (begin : World) (node : Node) (steps : List Step) (rows own more : List StartRow) (last : World) → rows ≡ own ++ more → own ≡ [] → Chained begin node steps more last → Chained begin node steps rows last
+  passed begin node steps rows own more last is none c = subst (λ (l : List StartRow). Chained begin node steps l last) (sym (is ∙ ap (λ (l : List StartRow). l ++ more) none)) c
 
   module _ (sound : NodesAreSound) where
-    chained : (begin world : World) (node : Node) (steps : List Step) (rows : List Row) (last : World) → LiesBetween begin world → Stands begin.image node → Plays program world steps rows last
+    chained : (begin world : World) (node : Node) (steps : List Step) (rows : List StartRow) (last : World) → LiesBetween begin world → Stands begin.image node → Plays program world steps rows last
         → Chained begin node steps rows last
     chained begin world node [] rows last between stands plays = record {
       starts = [];
@@ -128,7 +128,7 @@ module _ {S : Type 0} (program : starters.Ghosts S) where
           starts = one ∷ c.starts;
           asked = ap (λ (l : List Step). Start words input stop ∷ l) c.asked;
           chain = (between, here, sound world.image node here, (after.node, after.stands, sound next.image after.node after.stands, after.slots, c.chain));
-          rows_are = is ∙ ap (λ (l : List Row). l ++ more) alone ∙ ap (λ (l : List Row). row ∷ l) c.rows_are;
+          rows_are = is ∙ ap (λ (l : List StartRow). l ++ more) alone ∙ ap (λ (l : List StartRow). row ∷ l) c.rows_are;
         }
 
     pub plays_are_starts : PlaysAreStarts program

@@ -13,7 +13,7 @@ use Rattle.rehearsal.specs.Heard.{HearsTable, PlayHears, PlaysHearTheTable, exch
 use Rattle.rehearsal.specs.Objects.{Link, disk_ghosts, shelf_ghosts}
 use Rattle.rehearsal.specs.Playing.{Plays, Starts, input_of}
 use Rattle.rehearsal.specs.World.{HasLasted, IsFirst, World, after_start, link_to, with_shelf, with_wish}
-use Rattle.rehearsal.specs.declared.row.Row.{Row}
+use Rattle.rehearsal.specs.declared.row.StartRow.{StartRow}
 use Rattle.rehearsal.specs.declared.server.Server.{Server}
 use Rattle.rehearsal.specs.declared.starter.Starter as starters
 use Rattle.rehearsal.specs.declared.step.Step.{Step}
@@ -49,7 +49,7 @@ heard_over heard before after server next begins becomes is lasted =
     here = record { answered = answered; unfailed = unfailed }
 
 module _ {S : Type 0} (program : starters.Ghosts S) (heard : LinksAreHeard disk_ghosts shelf_ghosts) where
-  start_hears : (stop : Option StopAt) (words : List (List ℕ)) (input : List ℕ) (world : World) (row : Row) (next : World) (start : Starts program stop words input world row next)
+  start_hears : (stop : Option StopAt) (words : List (List ℕ)) (input : List ℕ) (world : World) (row : StartRow) (next : World) (start : Starts program stop words input world row next)
       → HearsTable world.server.shelf (serving world.server) (exchanges_of program stop words input world row next start) (serving next.server)
   start_hears None words input world row next start =
       heard_over heard start.before.link start.after.link world.server next.server start.runs.begins.link start.runs.becomes (ap (λ (w : World). w.server) start.leaves) start.server
@@ -57,14 +57,14 @@ module _ {S : Type 0} (program : starters.Ghosts S) (heard : LinksAreHeard disk_
       heard_over heard start.before.link start.after.link world.server next.server start.runs.begins.link start.runs.becomes (ap (λ (w : World). w.server) start.leaves) start.server
 
   -- a start leaves the shelf
-  keeps_shelf : (stop : Option StopAt) (words : List (List ℕ)) (input : List ℕ) (world : World) (row : Row) (next : World) → Starts program stop words input world row next
+  keeps_shelf : (stop : Option StopAt) (words : List (List ℕ)) (input : List ℕ) (world : World) (row : StartRow) (next : World) → Starts program stop words input world row next
       → next.server.shelf ≡ world.server.shelf
   keeps_shelf None words input world row next start = ap (λ (w : World). w.server.shelf) start.leaves
   keeps_shelf (Some stop) words input world row next start = ap (λ (w : World). w.server.shelf) start.leaves
 
   -- ---- all of them
 
-  play_hears : (world : World) (steps : List Step) (rows : List Row) (last : World) (plays : Plays program world steps rows last) (shelf : Contents) (state : State)
+  play_hears : (world : World) (steps : List Step) (rows : List StartRow) (last : World) (plays : Plays program world steps rows last) (shelf : Contents) (state : State)
       → world.server.shelf ≡ shelf → serving world.server ≡ state → PlayHears program world steps rows last plays shelf state
   play_hears world [] rows last plays shelf state same served = tt
   play_hears world (Shelf configuration content ∷ steps) rows last (own, more, next, is, takes, plays) shelf state same served =

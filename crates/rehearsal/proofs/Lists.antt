@@ -9,7 +9,7 @@ use Rattle.rehearsal.specs.Playing.{Starts}
 use Rattle.rehearsal.specs.Rows.{IsRow, slots_of}
 use Rattle.rehearsal.specs.World.{World}
 use Rattle.rehearsal.specs.declared.row.Ending.{Ending}
-use Rattle.rehearsal.specs.declared.row.Row.{Row}
+use Rattle.rehearsal.specs.declared.row.StartRow.{StartRow}
 use Rattle.rehearsal.specs.declared.starter.Starter as starters
 use Rattle.rehearsal.specs.declared.step.Step.TheVariants.{Shelf, Key, Wants, Start}
 use Rattle.rehearsal.specs.declared.step.StopAt.{StopAt}
@@ -22,13 +22,13 @@ module _ {S : Type 0} (program : starters.Ghosts S) where
         rest.0,
         own ++ rest.1,
         rest.2,
-        is ∙ ap (λ (l : List Row). own ++ l) rest.3 ∙ sym (append_assoc own rest.1 rest.2),
+        is ∙ ap (λ (l : List StartRow). own ++ l) rest.3 ∙ sym (append_assoc own rest.1 rest.2),
         (own, rest.1, next, refl, takes, rest.4),
         rest.5,
       )
 
   -- a start leaves the shelf
-  same_shelf : (stop : Option StopAt) (words : List (List ℕ)) (input : List ℕ) (world : World) (row : Row) (next : World) → Starts program stop words input world row next → next.server.shelf ≡ world.server.shelf
+  same_shelf : (stop : Option StopAt) (words : List (List ℕ)) (input : List ℕ) (world : World) (row : StartRow) (next : World) → Starts program stop words input world row next → next.server.shelf ≡ world.server.shelf
   same_shelf None words input world row next ends = ap (λ (w : World). w.server.shelf) ends.leaves
   same_shelf (Some stop) words input world row next ends = ap (λ (w : World). w.server.shelf) ends.leaves
 
@@ -47,7 +47,7 @@ module _ {S : Type 0} (program : starters.Ghosts S) where
   only_stops_stop words input world row next ends stopped = absurd (cc (ends.tells.ends, stopped))
 
   module _ (one : NodesAreOne) where
-    row_tells : (ending : Ending) (row : Row) (next : World) → IsRow ending next row → (node : Node) → Stands next.image node → row.slots ≡ slots_of node
+    row_tells : (ending : Ending) (row : StartRow) (next : World) → IsRow ending next row → (node : Node) → Stands next.image node → row.slots ≡ slots_of node
     row_tells ending row next is node stands = is.slots ∙ ap slots_of (one next.image is.node node is.stands stands)
 
     pub rows_tell_nodes : RowsTellNodes program

@@ -6,7 +6,7 @@ use Rattle.rehearsal.specs.Playing.{IsPlayedFrom, Plays, Starts, StepLeads, Take
 use Rattle.rehearsal.specs.Rows.{row_line}
 use Rattle.pull_outside.specs.ReliableShelf.{with_configuration}
 use Rattle.rehearsal.specs.World.{World, with_shelf}
-use Rattle.rehearsal.specs.declared.row.Row.{Row}
+use Rattle.rehearsal.specs.declared.row.StartRow.{StartRow}
 use Rattle.rehearsal.specs.declared.starter.Starter as starters
 use Rattle.rehearsal.specs.declared.step.Step.{Step}
 use Rattle.rehearsal.specs.declared.step.Step.TheVariants.{Shelf, Key, Wants, Start}
@@ -14,8 +14,8 @@ use Rattle.rehearsal.specs.declared.step.StopAt.{StopAt}
 
 -- the text is the lines so far, and what the steps that are left come to is what all come to
 pub record IsPlayedTo {S : Type 0} (program : starters.Ghosts S) (first : World) (steps : List Step) (world : World) (left : List Step) (out : List ℕ) : Type 0 where
-  pub rows : List Row
-  pub plays : (more : List Row) (last : World) → Plays program world left more last → Plays program first steps (rows ++ more) last
+  pub rows : List StartRow
+  pub plays : (more : List StartRow) (last : World) → Plays program world left more last → Plays program first steps (rows ++ more) last
   pub is : out ≡ flat_map row_line rows
 
 module _ {S : Type 0} (program : starters.Ghosts S) where
@@ -23,7 +23,7 @@ module _ {S : Type 0} (program : starters.Ghosts S) where
       → StepLeads program step world out next more → IsPlayedTo program first steps next left more
   played_on first steps left step world next out more t leads = record {
     rows = t.rows ++ leads.0;
-    plays = λ others last plays. subst (λ (l : List Row). Plays program first steps l last) (sym (append_assoc t.rows leads.0 others))
+    plays = λ others last plays. subst (λ (l : List StartRow). Plays program first steps l last) (sym (append_assoc t.rows leads.0 others))
         (t.plays (leads.0 ++ others) last (leads.0, others, next, refl, leads.1, plays));
     is = leads.2 ∙ ap (λ (l : List ℕ). l ++ flat_map row_line leads.0) t.is ∙ sym (flat_map-append row_line t.rows leads.0);
   }
@@ -40,17 +40,17 @@ module _ {S : Type 0} (program : starters.Ghosts S) where
   pub no_row : (step : Step) (world next : World) (out : List ℕ) → TakesStep program step world [] next → StepLeads program step world out next out
   no_row step world next out takes = ([], takes, sym (append-nil out))
 
-  pub one_row : (words : List (List ℕ)) (input : Option (List ℕ)) (stop : Option StopAt) (world next : World) (row : Row) (out more : List ℕ) → Starts program stop words (input_of input) world row next
+  pub one_row : (words : List (List ℕ)) (input : Option (List ℕ)) (stop : Option StopAt) (world next : World) (row : StartRow) (out more : List ℕ) → Starts program stop words (input_of input) world row next
       → more ≡ out ++ row_line row → StepLeads program (Start words input stop) world out next more
   one_row words input stop world next row out more starts is =
       (row ∷ [], (row, refl, starts), is ∙ ap (λ (l : List ℕ). out ++ l) (sym (append-nil (row_line row))))
 
-  rises : (stop : Option StopAt) (words : List (List ℕ)) (text : List ℕ) (world next : World) (row : Row) → Starts program stop words text world row next → next.starts ≡ world.starts + 1
+  rises : (stop : Option StopAt) (words : List (List ℕ)) (text : List ℕ) (world next : World) (row : StartRow) → Starts program stop words text world row next → next.starts ≡ world.starts + 1
   rises None words text world next row starts = ap (λ (w : World). w.starts) starts.leaves
   rises (Some stop) words text world next row starts = ap (λ (w : World). w.starts) starts.leaves
 
   -- a step is one start at most
-  pub few_starts : (step : Step) (world next : World) (rows : List Row) → TakesStep program step world rows next → next.starts ≤ world.starts + 1
+  pub few_starts : (step : Step) (world next : World) (rows : List StartRow) → TakesStep program step world rows next → next.starts ≤ world.starts + 1
   few_starts (Shelf configuration content) world next rows takes = omega (arith, ap (λ (w : World). w.starts) takes.1)
   few_starts (Key key) world next rows takes = omega (arith, ap (λ (w : World). w.starts) takes.1)
   few_starts (Wants id) world next rows takes = omega (arith, ap (λ (w : World). w.starts) takes.1)
@@ -64,7 +64,7 @@ module _ {S : Type 0} (program : starters.Ghosts S) where
       (refl, put ∙ ap (λ (n : List ℕ). with_shelf (with_configuration n text) world) named ∙ ap (λ (t : List ℕ). with_shelf (with_configuration configuration t) world) same))
 
   -- a line that starts the node
-  pub start_step : (step : Step) (words given : List (List ℕ)) (input : Option (List ℕ)) (text : List ℕ) (stop : Option StopAt) (world next : World) (row : Row) (out more : List ℕ)
+  pub start_step : (step : Step) (words given : List (List ℕ)) (input : Option (List ℕ)) (text : List ℕ) (stop : Option StopAt) (world next : World) (row : StartRow) (out more : List ℕ)
       → step ≡ Start words input stop → given ≡ words → text ≡ input_of input → Starts program stop given text world row next → more ≡ out ++ row_line row → StepLeads program step world out next more
   start_step step words given input text stop world next row out more is asked same starts told =
       subst (λ (s : Step). StepLeads program s world out next more) (sym is)

@@ -19,7 +19,7 @@ use Rattle.rehearsal.specs.Rows.{IsRow, ending_of}
 use Rattle.rehearsal.specs.World.{HasLasted, World, after_start, link_to}
 use Rattle.rehearsal.specs.declared.row.Ending.{Ending}
 use Rattle.rehearsal.specs.declared.row.Ending.TheVariants.{Named}
-use Rattle.rehearsal.specs.declared.row.Row.{Row}
+use Rattle.rehearsal.specs.declared.row.StartRow.{StartRow}
 use Rattle.rehearsal.specs.declared.server.Server.{Server}
 use Rattle.rehearsal.specs.declared.starter.Starter as starters
 use Rattle.rehearsal.specs.declared.step.StopPart.{StopPart}
@@ -36,7 +36,7 @@ left_is image host number world link before after same next begins becomes =
     ∙ ap (λ (n : ℕ). left_world image host after n) next
     ∙ ap (with_store image host after (world.starts + 1)) (same_Some _ _ becomes.shelf ∙ ap (λ (l : Link). l.shelf) begins)
 
-module _ {S : Type 0} (program : starters.Ghosts S) (words given : List (List ℕ)) (text input : List ℕ) (live : LiveWorld) (number : ℕ) (name : List ℕ) (link : Link) (next : World) (row : Row)
+module _ {S : Type 0} (program : starters.Ghosts S) (words given : List (List ℕ)) (text input : List ℕ) (live : LiveWorld) (number : ℕ) (name : List ℕ) (link : Link) (next : World) (row : StartRow)
     (between : IsBetween live) (same : given ≡ words) (copied : input ≡ text) (counts : number ≡ live.starts + 1) (served : HasLasted link.disk) where
   pub ends : (disk : DiskInMemory) (host : HostContents) (ending : Ending) → HasRun program.does given input live.disk live.host live.server number name disk host link → HasLasted disk
       → next ≡ left_world (held_by disk) (shown_by host) link number → ending ≡ Named name → IsRow ending next row → Ends program words text (world_of live) row next

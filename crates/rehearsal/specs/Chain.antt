@@ -10,7 +10,7 @@ use Rattle.rehearsal.specs.Objects.{disk_ghosts, stopped_ghosts}
 use Rattle.rehearsal.specs.Playing.{Ends, EndsOrStops, IsPlayed, Starts, input_of}
 use Rattle.rehearsal.specs.Rows.{row_line, slots_of}
 use Rattle.rehearsal.specs.World.{IsFirst, World}
-use Rattle.rehearsal.specs.declared.row.Row.{Row}
+use Rattle.rehearsal.specs.declared.row.StartRow.{StartRow}
 use Rattle.rehearsal.specs.declared.starter.Starter as starters
 use Rattle.rehearsal.specs.declared.step.Step.{Step}
 use Rattle.rehearsal.specs.declared.step.Step.TheVariants.{Shelf, Key, Wants, Start}
@@ -27,12 +27,12 @@ pub record Crosses {D : Type 0} (d : disks.Ghosts D) (before after : D) (world n
 -- so it is with each start, without a stop and with one, wherever it was stopped
 abbrev pub EndsCross : {S : Type 0} → starters.Ghosts S → Type 0
 EndsCross program =
-    (words : List (List ℕ)) (input : List ℕ) (world : World) (row : Row) (next : World) (start : Ends program words input world row next)
+    (words : List (List ℕ)) (input : List ℕ) (world : World) (row : StartRow) (next : World) (start : Ends program words input world row next)
     → Crosses disk_ghosts start.before.disk start.after.disk world next
 
 abbrev pub StopsCross : {S : Type 0} → starters.Ghosts S → Type 0
 StopsCross program =
-    (stop : StopAt) (words : List (List ℕ)) (input : List ℕ) (world : World) (row : Row) (next : World) (start : EndsOrStops program stop.part words input world row next)
+    (stop : StopAt) (words : List (List ℕ)) (input : List ℕ) (world : World) (row : StartRow) (next : World) (start : EndsOrStops program stop.part words input world row next)
     → Crosses stopped_ghosts start.before.disk start.after.disk world next
 
 -- ---- the starts of a play
@@ -43,7 +43,7 @@ pub record PlayedStart {S : Type 0} (program : starters.Ghosts S) : Type 0 where
   pub input : Option (List ℕ)
   pub stop : Option StopAt
   pub world : World
-  pub row : Row
+  pub row : StartRow
   pub next : World
   pub starts : Starts program stop words (input_of input) world row next
 

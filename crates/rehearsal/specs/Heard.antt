@@ -9,7 +9,7 @@ use Rattle.pull_serving.specs.Turn.{State}
 use Rattle.rehearsal.specs.Objects.{disk_ghosts, shelf_ghosts}
 use Rattle.rehearsal.specs.Playing.{Plays, Starts, input_of}
 use Rattle.rehearsal.specs.World.{IsFirst, World, link_to}
-use Rattle.rehearsal.specs.declared.row.Row.{Row}
+use Rattle.rehearsal.specs.declared.row.StartRow.{StartRow}
 use Rattle.rehearsal.specs.declared.server.Server.{Server}
 use Rattle.rehearsal.specs.declared.starter.Starter as starters
 use Rattle.rehearsal.specs.declared.step.Step.{Step}
@@ -21,7 +21,7 @@ abbrev pub serving : Server → State
 serving server = state_of disk_ghosts shelf_ghosts (link_to server)
 
 -- the exchanges of a start, which begins without one
-abbrev pub exchanges_of : {S : Type 0} (program : starters.Ghosts S) (stop : Option StopAt) (words : List (List ℕ)) (input : List ℕ) (world : World) (row : Row) (next : World)
+abbrev pub exchanges_of : {S : Type 0} (program : starters.Ghosts S) (stop : Option StopAt) (words : List (List ℕ)) (input : List ℕ) (world : World) (row : StartRow) (next : World)
     → Starts program stop words input world row next → List Exchange
 exchanges_of program None words input world row next start = start.after.link.exchanges
 exchanges_of program (Some stop) words input world row next start = start.after.link.exchanges
@@ -33,7 +33,7 @@ pub record HearsTable (shelf : Contents) (first : State) (exchanges : List Excha
   pub unfailed : (before : State) → AnyCountRose before last → ⊥
 
 -- so does each start of a play, over the shelf that the lines above it made of this one, and the rows that the start before it left
-abbrev pub PlayHears : {S : Type 0} (program : starters.Ghosts S) (world : World) (steps : List Step) (rows : List Row) (last : World)
+abbrev pub PlayHears : {S : Type 0} (program : starters.Ghosts S) (world : World) (steps : List Step) (rows : List StartRow) (last : World)
     → Plays program world steps rows last → Contents → State → Type 0
 PlayHears program world [] rows last plays shelf state = ⊤
 PlayHears program world (Shelf configuration content ∷ steps) rows last (own, more, next, is, takes, plays) shelf state =
@@ -48,5 +48,5 @@ PlayHears program world (Start words input stop ∷ steps) rows last (own, more,
 -- so it is from the first world on, with nothing on the shelf
 abbrev pub PlaysHearTheTable : {S : Type 0} → starters.Ghosts S → Type 0
 PlaysHearTheTable program =
-    (first : World) (steps : List Step) (rows : List Row) (last : World) → IsFirst first → (plays : Plays program first steps rows last)
+    (first : World) (steps : List Step) (rows : List StartRow) (last : World) → IsFirst first → (plays : Plays program first steps rows last)
     → PlayHears program first steps rows last plays empty_shelf (serving first.server)

@@ -22,7 +22,7 @@ use Rattle.rehearsal.specs.Objects.{Does, Objects, disk_ghosts, shelf_ghosts}
 use Rattle.rehearsal.specs.Rows.{IsRow, ending_of, row_line}
 use Rattle.rehearsal.specs.World.{HasLasted, IsFirst, World, after_start, link_to, with_shelf, with_wish}
 use Rattle.rehearsal.specs.declared.row.Ending.TheVariants.{Named}
-use Rattle.rehearsal.specs.declared.row.Row.{Row}
+use Rattle.rehearsal.specs.declared.row.StartRow.{StartRow}
 use Rattle.rehearsal.specs.declared.server.Server.{Server}
 use Rattle.rehearsal.specs.declared.starter.Starter as starters
 use Rattle.rehearsal.specs.declared.step.Step.{Step}
@@ -83,7 +83,7 @@ pub record Runs {D H : Type 0} (does : Does D H) (words : List (List ℕ)) (text
 -- ---- starts
 
 -- A start without a stop: it runs over the world as it is, no disk ran out of memory, and what the objects hold then is the next world.
-pub record Ends {S : Type 0} (program : starters.Ghosts S) (words : List (List ℕ)) (input : List ℕ) (world : World) (row : Row) (next : World) : Type 0 where
+pub record Ends {S : Type 0} (program : starters.Ghosts S) (words : List (List ℕ)) (input : List ℕ) (world : World) (row : StartRow) (next : World) : Type 0 where
   pub before : Objects DiskInMemory HostContents
   pub after : Objects DiskInMemory HostContents
   pub name : List ℕ
@@ -100,7 +100,7 @@ pub record HasUnfailed (disk : DiskToStop) (host : HostToStop) : Type 0 where
 
 -- A start with a stop: the same over objects that stop, and what the stop leaves is the next world. The row says Stopped exactly where the stop reached a
 -- call; elsewhere no call failed.
-pub record EndsOrStops {S : Type 0} (program : starters.Ghosts S) (part : StopPart) (words : List (List ℕ)) (input : List ℕ) (world : World) (row : Row) (next : World) : Type 0 where
+pub record EndsOrStops {S : Type 0} (program : starters.Ghosts S) (part : StopPart) (words : List (List ℕ)) (input : List ℕ) (world : World) (row : StartRow) (next : World) : Type 0 where
   pub before : Objects DiskToStop HostToStop
   pub after : Objects DiskToStop HostToStop
   pub name : List ℕ
@@ -112,34 +112,34 @@ pub record EndsOrStops {S : Type 0} (program : starters.Ghosts S) (part : StopPa
   pub leaves : next ≡ after_start (left_of after.disk (host_of after.machine) (disk_part part)) (shown_of (host_of after.machine).host) after.link world
   pub tells : IsRow (ending_of (is_stopped after.disk (host_of after.machine)) name) next row
 
-abbrev pub Starts : {S : Type 0} → starters.Ghosts S → Option StopAt → List (List ℕ) → List ℕ → World → Row → World → Type 0
+abbrev pub Starts : {S : Type 0} → starters.Ghosts S → Option StopAt → List (List ℕ) → List ℕ → World → StartRow → World → Type 0
 Starts program None words input world row next = Ends program words input world row next
 Starts program (Some stop) words input world row next = EndsOrStops program stop.part words input world row next
 
 -- ---- steps
 
 -- what a step makes of the world, and the rows that it gives: a row for each kind of step
-abbrev pub TakesStep : {S : Type 0} → starters.Ghosts S → Step → World → List Row → World → Type 0
+abbrev pub TakesStep : {S : Type 0} → starters.Ghosts S → Step → World → List StartRow → World → Type 0
 TakesStep program (Shelf configuration content) world rows next = (rows ≡ []) × (next ≡ with_shelf (with_configuration configuration content) world)
 TakesStep program (Key key) world rows next = (rows ≡ []) × (next ≡ with_shelf (with_key key) world)
 TakesStep program (Wants id) world rows next = (rows ≡ []) × (next ≡ with_wish (fold_case id) world)
-TakesStep program (Start words input stop) world rows next = (row : Row) × (rows ≡ row ∷ []) × Starts program stop words (input_of input) world row next
+TakesStep program (Start words input stop) world rows next = (row : StartRow) × (rows ≡ row ∷ []) × Starts program stop words (input_of input) world row next
 
 -- one step after the other, each in the world that the one before it left
-abbrev pub Plays : {S : Type 0} → starters.Ghosts S → World → List Step → List Row → World → Type 0
+abbrev pub Plays : {S : Type 0} → starters.Ghosts S → World → List Step → List StartRow → World → Type 0
 Plays program world [] rows last = (rows ≡ []) × (last ≡ world)
 Plays program world (step ∷ steps) rows last =
-    (own more : List Row) × (next : World) × (rows ≡ own ++ more) × TakesStep program step world own next × Plays program next steps more last
+    (own more : List StartRow) × (next : World) × (rows ≡ own ++ more) × TakesStep program step world own next × Plays program next steps more last
 
 -- one step, and the lines of its rows after those before
 abbrev pub StepLeads : {S : Type 0} → starters.Ghosts S → Step → World → List ℕ → World → List ℕ → Type 0
 StepLeads program step world text next text_after =
-    (rows : List Row) × TakesStep program step world rows next × (text_after ≡ text ++ flat_map row_line rows)
+    (rows : List StartRow) × TakesStep program step world rows next × (text_after ≡ text ++ flat_map row_line rows)
 
 -- the text is the lines of these steps, from that world on
 pub record IsPlayedFrom {S : Type 0} (program : starters.Ghosts S) (first : World) (steps : List Step) (text : List ℕ) : Type 0 where
   pub last : World
-  pub rows : List Row
+  pub rows : List StartRow
   pub plays : Plays program first steps rows last
   pub is : text ≡ flat_map row_line rows
 

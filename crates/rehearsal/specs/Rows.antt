@@ -6,7 +6,7 @@ use Rattle.node_store.specs.Stands.{Stands}
 use Rattle.rehearsal.specs.World.{World}
 use Rattle.rehearsal.specs.declared.row.Ending.{Ending}
 use Rattle.rehearsal.specs.declared.row.Ending.TheVariants.{Named, Stopped}
-use Rattle.rehearsal.specs.declared.row.Row.{Row}
+use Rattle.rehearsal.specs.declared.row.StartRow.{StartRow}
 use Rattle.rehearsal.specs.declared.row.Slots.{Slots}
 
 -- a start that the stop came in prints no status
@@ -22,7 +22,7 @@ slots_of node = record {
 }
 
 -- the row of the start that led to this world: the node is the one that the disk then holds
-pub record IsRow (ending : Ending) (world : World) (row : Row) : Type 0 where
+pub record IsRow (ending : Ending) (world : World) (row : StartRow) : Type 0 where
   pub number : row.number ≡ world.starts
   pub ends : row.ending ≡ ending
   pub node : Node
@@ -43,5 +43,5 @@ abbrev pub slots_words : Slots → List ℕ
 slots_words slots = slot_word slots.pending ++ codes " " ++ slot_word slots.current ++ codes " " ++ slot_word slots.previous
 
 -- as in `3 Done - 1 -`
-abbrev pub row_line : Row → List ℕ
+abbrev pub row_line : StartRow → List ℕ
 row_line row = decimal row.number ++ codes " " ++ ending_word row.ending ++ codes " " ++ slots_words row.slots ++ 10 ∷ []

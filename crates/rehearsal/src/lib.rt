@@ -44,7 +44,7 @@ pub use laws::{
 };
 pub use limits::MAX_SCRIPT;
 pub use playing::play;
-pub use row::{Ending, Row, Slots};
+pub use row::{Ending, Slots, StartRow};
 pub use script::{ScriptError, read_script};
 pub use starter::Starter;
 pub use step::{Step, StopAt, StopPart};

@@ -25,7 +25,7 @@ pub struct Slots {
 
 /// How a start ended, and what the node then holds.
 #[derive(Debug, Drop)]
-pub struct Row {
+pub struct StartRow {
     /// The number of the start, counted from 1.
     pub number: u32,
 
@@ -46,7 +46,7 @@ pub fn ending_of(stopped: bool, name: &'static str) -> Ending
 }
 
 /// Appends the line of the row.
-pub fn push_row(out: &mut String, row: &Row) -> Result<(), AllocError>
+pub fn push_row(out: &mut String, row: &StartRow) -> Result<(), AllocError>
     ensures { OnOk result (string_bytes out.new ≡ string_bytes out.old ++ row_line row.now) }
 {
     write!(out, "{} ", row.number)?;

@@ -6,7 +6,7 @@ ghost use Rattle.rehearsal.specs.Rows.{IsRow};
 ghost use Rattle.rehearsal.specs.declared.limits.TheConstants.{MAX_SCRIPT};
 
 use crate::lasting::{lasted_to_stop, stop_has_come};
-use crate::row::{Ending, Row, ending_of};
+use crate::row::{Ending, StartRow, ending_of};
 use crate::running::{asked_of, left_by, left_by_stop, run, run_to_stop, stopping};
 use crate::slots::read_slots;
 use crate::starter::Starter;
@@ -19,7 +19,7 @@ use std::alloc::Global;
 /// The row of a start, and what it left.
 #[derive(Drop)]
 pub struct Started {
-    pub row: Row,
+    pub row: StartRow,
     pub world: LiveWorld,
 }
 
@@ -69,12 +69,12 @@ pub fn start_to_stop<S: Starter>(
 }
 
 // The row of a start that ended so and left this world.
-fn row_of(alloc: Global, ending: Ending, live: &LiveWorld) -> Result<Row, Memory>
+fn row_of(alloc: Global, ending: Ending, live: &LiveWorld) -> Result<StartRow, Memory>
     requires { IsBetween live.now }
     ensures { IfOk result (IsRow ending (world_of live.now)) }
 {
     let slots = read_slots(alloc, live.disk.bytes())?;
-    Ok(Row {
+    Ok(StartRow {
         number: live.starts,
         ending,
         slots,
