@@ -96,7 +96,7 @@ class Fleet:
 
 
 def history(scratch):
-    """The reports of one machine over runs: four are kept, one of the same job is replaced, and a class has a begin."""
+    """The reports of one machine over runs: four are kept, one of the same job is replaced, and a class has a beginning."""
     fleet, now = Fleet(scratch), 1795000000
     path = f"{fleet.stores}/store-1"
     row = functools.partial(stores.row, path, 7, "web7")

@@ -27,14 +27,14 @@ pub record OneStart {D S C : Type 0} (o : Known D S C) : Type 0 where
 
 -- ---- the node that a start leaves
 
--- a node for which an image stood at its begin, or, where the store was opened, one after a prefix of its steps
+-- a node for which an image stood at its beginning, or, where the store was opened, one after a prefix of its steps
 abbrev pub MayLeave : {D S C : Type 0} (o : Known D S C) (command : Command) (before after : Outside D S C) (status : Status) (lines : List ℕ)
     → Start o command before after status lines → Node → Type 0
 MayLeave o command before after status lines (refused error unmerged same ends) = StoodFor o.disk before.disk Stands
 MayLeave o command before after status lines (unopened plan error is count cause quiet moments ends) = StoodFor o.disk before.disk Stands
 MayLeave o command before after status lines (opened start) = IsOnTheWay o.disk before.disk start.from (all_of start.ended.committed start.ended.broken)
 
--- one for which an image stood at its begin, or, where the store was opened, the one after what was committed, or, where a commit answered
+-- one for which an image stood at its beginning, or, where the store was opened, the one after what was committed, or, where a commit answered
 -- Disk, perhaps after that event too
 abbrev pub Leaves : {D S C : Type 0} (o : Known D S C) (command : Command) (before after : Outside D S C) (status : Status) (lines : List ℕ)
     → Start o command before after status lines → Node → Type 0
@@ -64,11 +64,11 @@ GoesBefore o one next = (image : List ℕ) → o.disk.images next.before.disk im
 abbrev pub EndsBefore : {D S C : Type 0} (o : Known D S C) → OneStart o → OneStart o → Type 0
 EndsBefore o one next = (image : List ℕ) → o.disk.images next.before.disk image → o.disk.images one.after.disk image
 
--- each image at its begin stands for a node
+-- each image at its beginning stands for a node
 abbrev pub BeginsWhole : {D S C : Type 0} (o : Known D S C) → OneStart o → Type 0
 BeginsWhole o one = AllStand o.disk one.before.disk Stands Any
 
--- the node that is found at its begin: an image stands for it
+-- the node that is found at its beginning: an image stands for it
 abbrev pub Finds : {D S C : Type 0} (o : Known D S C) → OneStart o → Node → Type 0
 Finds o one node = StoodFor o.disk one.before.disk Stands node
 

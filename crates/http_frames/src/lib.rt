@@ -1,9 +1,9 @@
 //! HTTP messages as bytes, both ways: heads, bodies by length and in chunks (RFC 9112).
 //!
-//! A layer above may rely on this: a request is read from exactly the bytes that are its frame, in whatever pieces they
-//! come; of the same bytes one answer comes, which stays where more bytes follow; and what is written is the frame of
-//! what was to be written. A head is the grammar of the crate `httparse`, refused at the first byte with which no
-//! continuation is one; inside a target that may wait for its end. What a head says of the body is judged once it is
+//! A layer above may rely on this: a request is read from exactly the bytes that are its frame, however they are cut
+//! into pieces; of the same bytes one answer comes, which stays where more bytes follow; and what is written is the
+//! frame of what was to be written. A head is the grammar of the crate `httparse`, refused at the first byte with which
+//! no continuation is one; inside a target that may wait for its end. What a head says of the body is judged once it is
 //! whole. A body in chunks is refused at the first byte with which no continuation is one within the limits.
 //!
 //! Where a thing is:

@@ -12,8 +12,8 @@
 //!   the text or the error; as `specs/Canon.antt` with `src/canon.rt`, `specs/Check.antt` with `src/check.rt`.
 //!   `ran_tool` of `proofs/Tools.antt` proves each
 //! - what a command promises that starts the node: `specs/Started.antt`, over the table and the headline of `dsc_node`,
-//!   and what is more over a host (`specs/Further.antt`), and with commands (`specs/FurtherCommands.antt`), which
-//!   `proofs/FurtherRows.antt` carries into each row; `src/starts.rt`; that it is not refused where its input is
+//!   and what holds besides over a host (`specs/Further.antt`), and with commands (`specs/FurtherCommands.antt`),
+//!   which `proofs/FurtherRows.antt` carries into each row; `src/starts.rt`; that it is not refused where its input is
 //!   valid and nothing failed: `specs/Complete.antt`, `proofs/Completing.antt`
 //! - with programs on, within how many starts what is Pending becomes Current: `specs/ConvergingCommands.antt`,
 //!   `src/laws.rt`, `proofs/ConvergingCommands.antt`

@@ -29,7 +29,7 @@ pub enum Event {
     /// Each resource of Pending succeeded.
     Promote(Report),
 
-    /// A run ended otherwise.
+    /// A run ended that does not promote Pending, and in which no resource asked for a reboot.
     Note(Report),
 
     /// A run ended with a resource that asked for a reboot.

@@ -38,7 +38,7 @@ pub enum SendEnd {
     Memory,
 }
 
-/// Reads one request, in whatever pieces its bytes come. Bytes after it do not count.
+/// Reads one request, however its bytes are cut into pieces. Bytes after it do not count.
 pub fn receive<X: Source>(alloc: Global, conn: &mut X) -> Received
     ensures received { IfSome (X.left conn.old) (λ all. IsReceived all result) }
     ensures sized { IsSized result }

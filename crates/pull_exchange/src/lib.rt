@@ -1,7 +1,7 @@
 //! One request of a connection, and one reply: what a server reads and writes, whatever it answers.
 //!
-//! A layer above may rely on this: a request is read from exactly the bytes that are its frame, in whatever pieces the
-//! connection gives them; bytes that are no request are refused by the fault of their shortest front that has one; and
+//! A layer above may rely on this: a request is read from exactly the bytes that are its frame, however the connection
+//! cuts them into pieces; bytes that are no request are refused by the fault of their shortest front that has one; and
 //! a reply is written as its text and nothing else, or where the connection fails a part from the front of it.
 //!
 //! Where a thing is:

@@ -172,7 +172,7 @@ const KEPT_CLOCK_FAULT: Ends = ("ClockFault", &[], &[NO, SET, YES, GOOD, NOTED, 
 type Row = (&'static str, Object, &'static [Ends]);
 
 // A run tests, sets, asks whether a reboot is wanted and tests again; before it a pull looks for the package and puts it there. A report
-// is one exchange; before it a pull asks, and fetches the content and the package. The clock is read at the begin and after the run, and
+// is one exchange; before it a pull asks, and fetches the content and the package. The clock is read at the beginning and after the run, and
 // where that reading fails the report ends when it began.
 const ROWS: &[Row] = &[
     (
