@@ -1,4 +1,4 @@
-//! The tests of `dsc_outside`: its forms in memory with ample memory, and its adapters on the real machine.
+//! The tests of `dsc_outside`, by its forms in memory with ample memory.
 #![tactic(auto)]
 
 #[cfg(test)]

@@ -1,12 +1,5 @@
-mod disk_calls;
-mod folder_faults;
-mod host_calls;
 mod memory_disk;
 mod memory_forms;
 mod memory_host;
-mod real_disk;
-mod real_things;
 mod reliable_forms;
-mod scratch;
 mod shared_stops;
-mod watched_files;

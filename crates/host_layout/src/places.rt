@@ -90,7 +90,8 @@ pub fn entry_path(alloc: Global, entry: &[u8]) -> Result<PathBuf, AllocError>
 
 /// The file of the package: the digest of its name, a line feed, and its version names it.
 pub fn package_path(alloc: Global, name: &str, version: &str) -> Result<PathBuf, HostError>
-    ensures place { IfOk result (λ place. path_buf_bytes place ≡ package_place name.now version.now) }
+    ensures place { IfOk result (λ place.
+        path_buf_bytes place ≡ package_place name.now version.now) }
     ensures refused { has_line_feed name.now ≡ true → result ≡ Err errors.Failed }
 {
     let both = join_lines(alloc, name, version)?;

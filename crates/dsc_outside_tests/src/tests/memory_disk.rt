@@ -1,10 +1,10 @@
 ghost use Rattle.memory_outside.specs.MemoryClock.{AreReadings};
 
-use super::disk_calls::Answer::{Bytes, Done, Lost, Number};
-use super::disk_calls::Ask::{Cut, Length, Read, Sync, Write};
-use super::disk_calls::{Answer, Ask, DiskRow, is_answered};
 use dsc_outside::{Clock, Failed, Memory};
 use memory_outside::{CallOutcome, DiskPart, DiskStop, MemoryClock, MemoryDisk};
+use outside_rows::disk_calls::Answer::{Bytes, Done, Lost, Number};
+use outside_rows::disk_calls::Ask::{Cut, Length, Read, Sync, Write};
+use outside_rows::disk_calls::{Answer, Ask, DiskRow, is_answered};
 use std::alloc::{AllocError, Global};
 use std::test::Fail;
 

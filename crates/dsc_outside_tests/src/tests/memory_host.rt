@@ -1,13 +1,15 @@
-use super::host_calls::Answer::{Done, Empty, Failed, File, Folder, No, Nothing, Other, Yes};
-use super::host_calls::Call::{
-    AddEntry, AddPackage, HasEntry, HasPackage, Make, Put, Remove, Same, Set, State, Unset, Value,
-    Wanting,
-};
-use super::host_calls::{Row, expect, expect_of};
 use memory_outside::{
     Done as Part, HostContents, MemoryHost, PathContent, PathEntry, ReliableHost, Stop,
 };
 use mof_values::Bytes;
+use outside_rows::host_calls::Answer::{
+    Done, Empty, Failed, File, Folder, No, Nothing, Other, Yes,
+};
+use outside_rows::host_calls::Call::{
+    AddEntry, AddPackage, HasEntry, HasPackage, Make, Put, Remove, Same, Set, State, Unset, Value,
+    Wanting,
+};
+use outside_rows::host_calls::{Row, expect, expect_of};
 use std::alloc::{AllocError, Global};
 use std::test::Fail;
 

@@ -1,9 +1,9 @@
 //! The forms in memory none of whose calls is to fail.
-use super::disk_calls::Answer::{Bytes, Done, Number};
-use super::disk_calls::Ask::{Cut, Length, Read, Sync, Write};
-use super::disk_calls::{DiskRow, is_answered};
 use dsc_outside::{Clock, Failed, Memory, Sink, Source};
 use memory_outside::{FixedClock, NullSink, ReliableDisk, ReliableSource};
+use outside_rows::disk_calls::Answer::{Bytes, Done, Number};
+use outside_rows::disk_calls::Ask::{Cut, Length, Read, Sync, Write};
+use outside_rows::disk_calls::{DiskRow, is_answered};
 use std::alloc::Global;
 use std::test::Fail;
 

@@ -1,10 +1,10 @@
 //! Stops that come in a call of a disk and a host together.
-use super::disk_calls::{Answer as DiskAnswer, Ask, is_answered};
-use super::host_calls::{Answer as HostAnswer, Call, Row, expect, expect_of};
 use dsc_outside::Memory;
 use memory_outside::{
     DiskPart, Done, HostContents, ReliableDisk, ReliableHost, StoppedDisk, StoppedHost,
 };
+use outside_rows::disk_calls::{Answer as DiskAnswer, Ask, is_answered};
+use outside_rows::host_calls::{Answer as HostAnswer, Call, Row, expect, expect_of};
 use std::alloc::Global;
 use std::cell::Cell;
 use std::rc::Rc;

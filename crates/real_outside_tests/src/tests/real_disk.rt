@@ -1,8 +1,8 @@
-use super::disk_calls::Answer::{Bytes, Done, Lost, Number};
-use super::disk_calls::Ask::{Cut, Length, Read, Sync, Write};
-use super::disk_calls::{DiskRow, is_answered};
 use super::scratch::make_folder;
 use dsc_outside::Clock;
+use outside_rows::disk_calls::Answer::{Bytes, Done, Lost, Number};
+use outside_rows::disk_calls::Ask::{Cut, Length, Read, Sync, Write};
+use outside_rows::disk_calls::{DiskRow, is_answered};
 use real_outside::{FileDisk, SystemClock};
 use std::alloc::{AllocError, Global};
 use std::fs::File;

@@ -8,7 +8,7 @@ fn make_numbered<R: Files + AllocGlobal>(
     temporary: &str,
     number: u32,
 ) -> io::Result<Option<String>> {
-    let folder = format!(in rt.alloc(); "{temporary}/dsc_outside_{number}")?;
+    let folder = format!(in rt.alloc(); "{temporary}/real_outside_{number}")?;
     let made = fs::create_dir(rt, folder.as_str());
     Ok(if made.is_ok() { Some(folder) } else { None })
 }

@@ -1,15 +1,15 @@
 //! A folder that is a host, over files of the system of which each call is counted, and one fails.
-use super::host_calls::Answer::{Done, Empty, Failed, File, Folder, No, Nothing, Yes};
-use super::host_calls::Call::{
-    AddEntry, AddPackage, HasEntry, HasPackage, Make, Put, Remove, Same, Set, State, Unset, Value,
-};
-use super::host_calls::{Row, expect_of, expect_one_of};
 use super::scratch::make_folder;
 use super::watched_files::SystemCall::{
     Compare, Create, Find, List, Locate, Look, MakeFolder, Mode, Mounts, Open, Read, RemoveFolder,
     Rename, Sync, SyncFolder, Unlink, Write,
 };
 use super::watched_files::{SystemCall, Watch, WatchedFiles};
+use outside_rows::host_calls::Answer::{Done, Empty, Failed, File, Folder, No, Nothing, Yes};
+use outside_rows::host_calls::Call::{
+    AddEntry, AddPackage, HasEntry, HasPackage, Make, Put, Remove, Same, Set, State, Unset, Value,
+};
+use outside_rows::host_calls::{Row, expect_of, expect_one_of};
 use real_outside::FolderHost;
 use std::alloc::{AllocError, Global};
 use std::io::ErrorKind;
