@@ -2,8 +2,9 @@
 ghost use Rattle.std.specs.Prelude.{◌≡◌, ◌≤◌, IfOk, IfSome, length};
 ghost use Rattle.dsc_outside.specs.Causes.{HasCause, count_after};
 
-use crate::looking::{byte_at, fill, length_of, open_seen};
+use crate::looking::{byte_at, length_of, open_seen};
 use dsc_outside::{Disk, Failed};
+use real_outside::fill;
 use std::alloc::{AllocError, Global};
 use std::fs::File;
 use std::marker::Model;

@@ -1,10 +1,8 @@
 //! A plain file that is opened to be read, and looks at it.
-ghost use Rattle.std.specs.Prelude.{◌≡◌, ◌≤◌, IfOk, length};
-
 use dsc_outside::Failed;
+use real_outside::fill;
 use std::fs::{self, File, Metadata, OpenOptions};
-use std::io::ErrorKind;
-use std::os::unix::fs::{FileExt, MetadataExt};
+use std::os::unix::fs::MetadataExt;
 use std::rt::Files;
 
 /// Opens the plain file that stands at the path, to be read; where a link, a folder or anything else stands there, or came there
@@ -39,24 +37,4 @@ pub(crate) fn byte_at(file: &File, at: u64) -> Result<Option<u8>, Failed> {
         return Ok(None);
     }
     Ok(Some(byte[0]))
-}
-
-/// Reads until the slice is full or the file ends.
-pub(crate) fn fill<F: FileExt>(file: &F, at: u64, into: &mut [u8]) -> Result<usize, Failed>
-    ensures size { IfOk result (λ n. n ≤ length into.new) }
-    ensures length { length into.new ≡ length into.old }
-{
-    let mut count = 0;
-    for _ in 0..u64::MAX {
-        if count >= into.len() {
-            return Ok(count);
-        }
-        match file.read_at(&mut into[count..], at.saturating_add(count as u64)) {
-            Ok(0) => return Ok(count),
-            Ok(more) => count += more,
-            Err(e) if e.kind() == ErrorKind::Interrupted => {}
-            Err(_) => return Err(Failed),
-        }
-    }
-    Err(Failed)
 }

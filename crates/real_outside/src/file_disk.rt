@@ -4,10 +4,10 @@ ghost use Rattle.dsc_outside.specs.Causes.{HasCause, count_after};
 
 use crate::held_folder::sync_folder;
 use crate::identity::Identity;
+use crate::reading::fill;
 use crate::spot::{folder_of, look_at};
 use dsc_outside::{Disk, Failed};
 use std::fs::{File, Metadata, OpenOptions, TryLockError};
-use std::io::ErrorKind;
 use std::marker::Model;
 use std::os::unix::fs::{FileExt, OpenOptionsExt};
 use std::rt::Files;
@@ -118,25 +118,6 @@ impl<R: Files<File = File>> Place<R> {
     fn sync(&mut self) -> Result<(), Failed> {
         Ok(self.opened()?.sync_all()?)
     }
-}
-
-// Reads until the slice is full or the file ends.
-fn fill<F: FileExt>(file: &F, at: u64, into: &mut [u8]) -> Result<usize, Failed>
-    ensures { IfOk result (λ n. n ≤ length into.new) }
-{
-    let mut count = 0;
-    for _ in 0..u64::MAX {
-        if count >= into.len() {
-            return Ok(count);
-        }
-        match file.read_at(&mut into[count..], at.saturating_add(count as u64)) {
-            Ok(0) => return Ok(count),
-            Ok(more) => count += more,
-            Err(e) if e.kind() == ErrorKind::Interrupted => {}
-            Err(_) => return Err(Failed),
-        }
-    }
-    Err(Failed)
 }
 
 // Opens the file that was seen at the path, or makes one where nothing was and one may be made. What has come there since then is

@@ -50,5 +50,6 @@ pub use folder_host::FolderHost;
 pub use in_source::InSource;
 pub use out_sink::OutSink;
 pub use program_arguments::arguments;
+pub use reading::fill;
 pub use standard_descriptors::{StandardDescriptors, hold_standard_descriptors};
 pub use system_clock::{SystemClock, moment};
