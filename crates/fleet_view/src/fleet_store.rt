@@ -51,10 +51,7 @@ pub fn open_fleet<D: Disk>(alloc: Global, disk: &mut D) -> Result<FleetStore, Pu
     ensures any_moment { AtAnyMoment D.Disk disk.old disk.new (From KeepsRows (D.images disk.old)) }
     ensures count { D.faults disk.old ≤ D.faults disk.new }
 {
-    let store = match open_pull(alloc, disk) {
-        Ok(store) => store,
-        Err(error) => return Err(error),
-    };
+    let store = open_pull(alloc, disk)?;
     let fleet = Fleet::of(alloc, store.rows())?;
     Ok(FleetStore { store, fleet })
 }

@@ -38,8 +38,6 @@ pub fn first_other_of(
 ) -> Result<Option<usize>, PullError> {
     let mut shelf = new_shelf(alloc)?;
     let mut disk = new_disk(alloc, failing)?;
-    match open_fleet(alloc, &mut disk) {
-        Ok(mut service) => Ok(first_other(alloc, &mut service, &mut disk, &mut shelf, exchanges)),
-        Err(error) => Err(error),
-    }
+    let mut service = open_fleet(alloc, &mut disk)?;
+    Ok(first_other(alloc, &mut service, &mut disk, &mut shelf, exchanges))
 }

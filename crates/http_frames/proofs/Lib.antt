@@ -10,6 +10,7 @@ pub mod Complete
 pub mod Bounds
 pub mod WalkBodies
 pub mod LineStarts
+pub mod PassedOn
 pub mod Refusals
 pub mod FrameLaws
 pub mod SentLines

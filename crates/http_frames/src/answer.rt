@@ -42,15 +42,14 @@ fn last_head(alloc: Global, bytes: &[u8]) -> Result<(AnswerHead, usize), FrameEr
 {
     let mut at = 0;
     'heads: loop {
-        match answer_head(alloc, bytes.split_at(at).1) {
-            Ok(Some(head)) => {
+        match answer_head(alloc, bytes.split_at(at).1)? {
+            Some(head) => {
                 if !is_interim(head.code) {
                     return Ok((head, at));
                 }
                 at += head.length;
             }
-            Ok(None) => return Err(torn(bytes)),
-            Err(error) => return Err(error),
+            None => return Err(torn(bytes)),
         }
     }
 }

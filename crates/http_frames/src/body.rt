@@ -71,13 +71,11 @@ fn read_chunked(
     requires walked { HasWalked limits.now front body.now walk }
     ensures { IsProgress limits.now front Framing.Chunked body.now result }
 {
-    match walk_over(limits, front, walk, body.split_at(walk.length as usize).1) {
-        Ok(reached) if is_done(reached.phase) => {
-            Ok(Progress::Joined(content(alloc, limits, front, body)?))
-        }
-        Ok(reached) => Ok(Progress::More(reached)),
-        Err(error) => Err(error),
+    let reached = walk_over(limits, front, walk, body.split_at(walk.length as usize).1)?;
+    if is_done(reached.phase) {
+        return Ok(Progress::Joined(content(alloc, limits, front, body)?));
     }
+    Ok(Progress::More(reached))
 }
 
 #[tactic(auto, unfolding(crate::specs::Bodies::body_reading))]

@@ -70,11 +70,10 @@ fn whole_head(alloc: Global, walk: HeadWalk, bytes: &[u8]) -> Result<HeadRead, F
     requires { IsWalkedHead bytes.now walk }
     ensures { IsHeadRead bytes.now result }
 {
-    match request_head(alloc, bytes) {
-        Ok(Some(head)) => Ok(HeadRead::Whole(head)),
-        Ok(None) => Ok(HeadRead::More(walk)),
-        Err(error) => Err(error),
-    }
+    Ok(match request_head(alloc, bytes)? {
+        Some(head) => HeadRead::Whole(head),
+        None => HeadRead::More(walk),
+    })
 }
 
 // Up to the end of the head or of the bytes, or to the first byte with which no continuation is a head.

@@ -179,14 +179,12 @@ fn start_body(head: RequestHead, bytes: &[u8]) -> Result<Started, FrameError>
     requires { IsRequestHeadOf bytes.now head }
     ensures { IsStart bytes.now result }
 {
-    match request_framing(head.method.as_slice(), head.headers.as_slice()) {
-        Ok(framing) => Ok(Started {
-            head,
-            framing,
-            walk: Walk::new(),
-        }),
-        Err(error) => Err(error),
-    }
+    let framing = request_framing(head.method.as_slice(), head.headers.as_slice())?;
+    Ok(Started {
+        head,
+        framing,
+        walk: Walk::new(),
+    })
 }
 
 impl Started {

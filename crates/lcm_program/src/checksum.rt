@@ -19,10 +19,7 @@ pub fn read_checksum<S: Source>(input: &mut S) -> Result<[u8; 65], Unread>
         IsRefused AnswersChecksum cause (S.left input.old) (S.faults input.old)
         (S.faults input.new)) }
 {
-    match read_digest(input) {
-        Ok(digest) => Ok(checksum_line(&digest)),
-        Err(unread) => Err(unread),
-    }
+    Ok(checksum_line(&read_digest(input)?))
 }
 
 // The digest of the input.

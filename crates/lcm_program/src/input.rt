@@ -69,10 +69,7 @@ pub fn read_ordered<S: Source>(alloc: Global, input: &mut S) -> Result<OrderedDo
     ensures err { IfErr result (λ e. IsUnread ReadsDocument e (S.left input.old)
         (S.faults input.old) (S.faults input.new)) }
 {
-    let bytes = match read_bytes(alloc, input) {
-        Ok(bytes) => bytes,
-        Err(unread) => return Err(unread),
-    };
+    let bytes = read_bytes(alloc, input)?;
     let name = Text::of(Vec::new(alloc));
     match merge_text(alloc, &name, &bytes) {
         Ok(ordered) => Ok(ordered),
@@ -92,10 +89,7 @@ pub fn read_document<S: Source>(alloc: Global, input: &mut S) -> Result<Document
     ensures err { IfErr result (λ e. IsUnread ReadsDocument e (S.left input.old)
         (S.faults input.old) (S.faults input.new)) }
 {
-    match read_ordered(alloc, input) {
-        Ok(ordered) => Ok(ordered.document),
-        Err(unread) => Err(unread),
-    }
+    Ok(read_ordered(alloc, input)?.document)
 }
 
 // What a refusal of the merge is here.
@@ -117,10 +111,7 @@ pub fn read_instances<S: Source>(alloc: Global, input: &mut S) -> Result<Vec<Ins
     ensures err { IfErr result (λ e. IsUnread ReadsInstances e (S.left input.old)
         (S.faults input.old) (S.faults input.new)) }
 {
-    let bytes = match read_bytes(alloc, input) {
-        Ok(bytes) => bytes,
-        Err(unread) => return Err(unread),
-    };
+    let bytes = read_bytes(alloc, input)?;
     match read(alloc, &bytes) {
         Ok(instances) => Ok(instances),
         Err(error) => Err(unspelled(error)),
@@ -134,10 +125,7 @@ pub fn read_meta<S: Source>(alloc: Global, input: &mut S) -> Result<Meta, Unread
     ensures err { IfErr result (λ e. IsUnread ReadsMeta e (S.left input.old) (S.faults input.old)
         (S.faults input.new)) }
 {
-    let bytes = match read_within(alloc, input, MAX_META_TEXT) {
-        Ok(bytes) => bytes,
-        Err(unread) => return Err(unread),
-    };
+    let bytes = read_within(alloc, input, MAX_META_TEXT)?;
     let meta = match meta_config::read_meta(alloc, &bytes) {
         Ok(meta) => meta,
         Err(error) => return Err(undeclared(error)),

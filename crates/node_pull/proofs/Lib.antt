@@ -1,6 +1,5 @@
 pub mod AcceptedParts
 pub mod AddedPackages
-pub mod Exits
 pub mod FoldSizes
 pub mod GoingOn
 pub mod LaidParts

@@ -39,10 +39,8 @@ pub(crate) fn listed<L: Link>(
     let names = part_names(alloc, meta)?;
     let asked = asked_of(alloc, meta, &names)?;
     let marks = marks_of(alloc, held)?;
-    match ask(alloc, link, server, agent, &marks, &asked) {
-        Ok(fetches) => fetched(alloc, link, server, agent, held, &names, &asked, &fetches),
-        Err(error) => Err(error),
-    }
+    let fetches = ask(alloc, link, server, agent, &marks, &asked)?;
+    fetched(alloc, link, server, agent, held, &names, &asked, &fetches)
 }
 
 // The contents that are to be fetched, laid over the parts that are held.
@@ -61,10 +59,8 @@ fn fetched<L: Link>(
     ensures becomes { L.may_become link.old link.new }
 {
     let wanted = to_fetch(alloc, asked, fetches)?;
-    match contents(alloc, link, server, agent, &wanted, Vec::new(alloc)) {
-        Ok(parts) => Ok(laid_over(alloc, names, &parts, held)?),
-        Err(error) => Err(error),
-    }
+    let parts = contents(alloc, link, server, agent, &wanted, Vec::new(alloc))?;
+    Ok(laid_over(alloc, names, &parts, held)?)
 }
 
 // Those of the names whose content is to be fetched.
@@ -98,10 +94,7 @@ fn contents<L: Link>(
     let [name, rest @ ..] = names else {
         return Ok(earlier);
     };
-    let part = match fetch(alloc, link, server, agent, name) {
-        Ok(part) => part,
-        Err(error) => return Err(error),
-    };
+    let part = fetch(alloc, link, server, agent, name)?;
     earlier.push(part)?;
     contents(alloc, link, server, agent, rest, earlier)
 }

@@ -30,10 +30,8 @@ pub(crate) fn packages<L: Link, M: Machine>(
     let [wanted, rest @ ..] = modules else {
         return Ok(());
     };
-    match one_package(alloc, link, machine, server, agent, wanted) {
-        Ok(()) => packages(alloc, link, machine, server, agent, rest),
-        Err(error) => Err(error),
-    }
+    one_package(alloc, link, machine, server, agent, wanted)?;
+    packages(alloc, link, machine, server, agent, rest)
 }
 
 // The package of one module.

@@ -107,10 +107,8 @@ fn brought<L: Link, M: Machine>(
         Err(error) => return Err(staging_error(error)),
     };
     let modules = modules_of(alloc, &document.document)?;
-    match packages(alloc, link, machine, server, agent, &modules) {
-        Ok(()) => Ok(brought_of(held, staged, document)),
-        Err(error) => Err(error),
-    }
+    packages(alloc, link, machine, server, agent, &modules)?;
+    Ok(brought_of(held, staged, document))
 }
 
 // The list and its document, where its names and digests are not those of the parts that are held; else the document, where it is theirs.

@@ -32,10 +32,8 @@ fn commit_body<D: Disk>(
     requires { IsReady D.Disk disk.old store.old }
     ensures { IsReady D.Disk disk.new store.new }
 {
-    match event_of(alloc, body) {
-        Ok(event) => store.commit(disk, event),
-        Err(error) => Err(error),
-    }
+    let event = event_of(alloc, body)?;
+    store.commit(disk, event)
 }
 
 // Commits the events of these bodies, up to the first that is not committed.
@@ -49,9 +47,7 @@ fn commit_all<D: Disk>(
     ensures { IsReady D.Disk disk.new store.new }
 {
     for body in bodies {
-        if let Err(error) = commit_body(alloc, store, disk, body) {
-            return Err(error);
-        }
+        commit_body(alloc, store, disk, body)?;
     }
     Ok(())
 }
@@ -63,10 +59,7 @@ fn committed<D: Disk>(
     disk: &mut D,
     bodies: &[Vec<u8>],
 ) -> Result<(Result<(), StoreError>, String), StoreError> {
-    let mut store = match open_store(alloc, disk) {
-        Ok(store) => store,
-        Err(error) => return Err(error),
-    };
+    let mut store = open_store(alloc, disk)?;
     let mut answer = commit_all(alloc, &mut store, disk, bodies);
     if store.is_spent() {
         answer = commit_all(alloc, &mut store, disk, bodies);
@@ -96,10 +89,7 @@ pub fn commit_to(
     mut disk: MemoryDisk,
     bodies: &[Vec<u8>],
 ) -> Result<Left, StoreError> {
-    let (answer, line) = match committed(alloc, &mut disk, bodies) {
-        Ok(done) => done,
-        Err(error) => return Err(error),
-    };
+    let (answer, line) = committed(alloc, &mut disk, bodies)?;
     let calls = disk.calls().len() as u64;
     Ok(Left {
         answer,
@@ -118,19 +108,15 @@ pub fn run(alloc: Global, words: &str, last: &str) -> Result<Left, StoreError> {
 
 /// The line of the node after these events.
 pub fn line_of(alloc: Global, words: &str, last: &str) -> Result<String, StoreError> {
-    match run(alloc, words, last) {
-        Ok(left) => Ok(left.line),
-        Err(error) => Err(error),
-    }
+    let left = run(alloc, words, last)?;
+    Ok(left.line)
 }
 
 /// What the store of these bytes keeps.
 pub fn kept_in(alloc: Global, bytes: Vec<u8>) -> Result<String, StoreError> {
     let disk = MemoryDisk::new(bytes, Vec::new(alloc))?;
-    match commit_to(alloc, disk, &[]) {
-        Ok(left) => Ok(left.line),
-        Err(error) => Err(error),
-    }
+    let left = commit_to(alloc, disk, &[])?;
+    Ok(left.line)
 }
 
 /// The node in a line: its agent, its meta-configuration's server, its marks, the names of the parts of each stage, the jobs of

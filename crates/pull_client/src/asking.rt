@@ -46,8 +46,6 @@ pub fn ask<L: Link>(
         return Err(PeerError::NotServed);
     }
     let request = query_request(alloc, server, agent, held, names)?;
-    match exchange(alloc, link, server, &request) {
-        Ok(reply) => fetches_in(alloc, &reply, held, names),
-        Err(error) => Err(error),
-    }
+    let reply = exchange(alloc, link, server, &request)?;
+    fetches_in(alloc, &reply, held, names)
 }

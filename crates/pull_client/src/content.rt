@@ -17,24 +17,19 @@ pub fn part_in(alloc: Global, name: &Text, reply: Reply) -> Result<Part, PeerErr
     ensures says { SaysOr (GivesPart name.now) reply result }
     ensures named { IfOk result (λ part. part.name ≡ name.now) }
 {
-    match content_of(reply) {
-        Ok(content) => Ok(part_of(alloc, name.copy()?, content)?),
-        Err(error) => Err(error),
-    }
+    let content = content_of(reply)?;
+    Ok(part_of(alloc, name.copy()?, content)?)
 }
 
 fn content_of(reply: Reply) -> Result<Bytes, PeerError>
     ensures value { result ≡ content_of reply }
     ensures answered { IsAnswered result }
 {
-    match checked_body(reply) {
-        Ok(body) => if body.as_slice().len() <= MAX_DOCUMENT {
-            Ok(body)
-        } else {
-            Err(PeerError::TooLong)
-        },
-        Err(error) => Err(error),
+    let body = checked_body(reply)?;
+    if body.as_slice().len() > MAX_DOCUMENT {
+        return Err(PeerError::TooLong);
     }
+    Ok(body)
 }
 
 /// The body of a reply, where its digest is that which its headers announce.

@@ -42,10 +42,8 @@ pub fn fetch<L: Link>(
         return Err(PeerError::NotServed);
     }
     let request = content_request(alloc, server, agent, name)?;
-    match exchange(alloc, link, server, &request) {
-        Ok(reply) => part_in(alloc, name, reply),
-        Err(error) => Err(error),
-    }
+    let reply = exchange(alloc, link, server, &request)?;
+    part_in(alloc, name, reply)
 }
 
 /// Asks the server for the package of the module of that name and version, and gives its bytes.
@@ -73,17 +71,12 @@ pub fn fetch_module<L: Link>(
         return Err(PeerError::NotServed);
     }
     let request = module_request(alloc, server, name, version)?;
-    match exchange(alloc, link, server, &request) {
-        Ok(reply) => body_in(reply),
-        Err(error) => Err(error),
-    }
+    let reply = exchange(alloc, link, server, &request)?;
+    body_in(reply)
 }
 
 fn body_in(reply: Reply) -> Result<Vec<u8>, PeerError>
     ensures { SaysOr GivesBody reply (items_in result (λ v. v.items)) }
 {
-    match checked_body(reply) {
-        Ok(body) => Ok(body.into_vec()),
-        Err(error) => Err(error),
-    }
+    Ok(checked_body(reply)?.into_vec())
 }

@@ -71,8 +71,6 @@ fn register_at<L: Link>(
         return Err(PeerError::NotServed);
     }
     let request = registration_request(alloc, server, agent, node_name, names, date)?;
-    match exchange(alloc, link, server, &request) {
-        Ok(_) => Ok(()),
-        Err(error) => Err(error),
-    }
+    exchange(alloc, link, server, &request)?;
+    Ok(())
 }

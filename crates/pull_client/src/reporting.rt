@@ -34,8 +34,6 @@ pub fn report<L: Link>(
         return Err(PeerError::NotServed);
     }
     let request = report_request(alloc, server, agent, message)?;
-    match exchange(alloc, link, server, &request) {
-        Ok(_) => Ok(()),
-        Err(error) => Err(error),
-    }
+    exchange(alloc, link, server, &request)?;
+    Ok(())
 }

@@ -88,14 +88,12 @@ fn fetches(
     let mut fetched = Vec::new(alloc);
     let mut left = names;
     while let [name, rest @ ..] = left {
-        match fetch_of(
+        let fetch = fetch_of(
             name,
             held_under(held, name).is_some(),
             status_of(answer, only, name),
-        ) {
-            Ok(fetch) => fetched.push(fetch)?,
-            Err(error) => return Err(error),
-        }
+        )?;
+        fetched.push(fetch)?;
         left = rest;
     }
     Ok(fetched)

@@ -37,10 +37,8 @@ pub fn first_other_of(
 ) -> Result<Option<usize>, PullError> {
     let mut shelf = new_shelf(alloc, failing)?;
     let mut disk = new_disk(alloc, &[])?;
-    match open_pull(alloc, &mut disk) {
-        Ok(mut store) => Ok(first_other(alloc, &mut store, &mut disk, &mut shelf, exchanges)),
-        Err(error) => Err(error),
-    }
+    let mut store = open_pull(alloc, &mut disk)?;
+    Ok(first_other(alloc, &mut store, &mut disk, &mut shelf, exchanges))
 }
 
 /// The codes of the answers of a new server to requests of these heads and bodies, where the call of that number of the disk fails.

@@ -159,10 +159,7 @@ fn connection(alloc: Global, request: &[u8]) -> Result<MemoryConn, AllocError>
 fn taken(alloc: Global, end: ConnectionEnd, conn: &MemoryConn) -> Result<Bytes, Memory>
     ensures { IfOk result (λ bytes. TookAll end conn.now.calls.faults × (bytes ≡ conn.now.held)) }
 {
-    match whole(end, conn) {
-        Ok(bytes) => Ok(Bytes::of(bytes.to_vec(alloc)?)),
-        Err(Memory) => Err(Memory),
-    }
+    Ok(Bytes::of(whole(end, conn)?.to_vec(alloc)?))
 }
 
 // What was written, where it is all; a connection in memory fails only where it is short of memory.

@@ -1,5 +1,5 @@
 -- Of which change bytes are the body.
-use Rattle.std.proofs.Common.{◌≡◌, ◌⊎◌, inl, inr, ℕ, ◌+◌, ◌*◌, ◌≤◌, List, [], ◌∷◌, ◌++◌, length, Ok, Err, refl, sym, ◌∙◌, ap, ap₂, subst, arith, append_assoc}
+use Rattle.std.proofs.Common.{◌≡◌, ◌⊎◌, inl, inr, ℕ, ◌+◌, ◌*◌, ◌≤◌, List, [], ◌∷◌, ◌++◌, length, Result, Ok, Err, IsErrAnd, refl, sym, ◌∙◌, ap, ap₂, subst, arith, append_assoc}
 use Rattle.std.specs.Int.{w128}
 use Rattle.std.proofs.lemmas.List.{append-nil}
 use Rattle.store_fields.specs.declared.error.FieldError.{FieldError}
@@ -21,6 +21,11 @@ use Rattle.pull_store.specs.Stands.{IsBody}
 use Rattle.pull_messages.specs.declared.limits.TheConstants.{MAX_LIST_ITEMS, MAX_TEXT_BYTES}
 use Rattle.pull_store.specs.declared.limits.TheConstants.{LENGTHS, MAX_BYTES}
 use Rattle.pull_store.proofs.Sizes.{length-registration}
+
+-- an error that is passed on as it is
+pub passed_on : {T E : Type 0} (error : E) (result : Result T E) → IsErrAnd result (λ same. same ≡ error) → result ≡ Err error
+passed_on error (Ok value) is = absurd is
+passed_on error (Err same) is = ap Err is
 
 -- ---- kinds
 

@@ -48,17 +48,12 @@ fn read_register(alloc: Global, rest: &[u8]) -> Result<Change, FieldError>
     ensures wrong { IfErr result (λ e. e ≡ FieldError.Wrong → (change : ChangeTerm) → IsBody (1 ∷ rest.now) change → ⊥) }
 {
     let mut fields = Fields::of(rest);
-    let agent = match fields.u128() {
-        Ok(agent) => agent,
-        Err(error) => return Err(error),
-    };
-    match read_registration(alloc, fields.rest()) {
-        Ok(registration) => Ok(Change::Register {
-            agent,
-            registration,
-        }),
-        Err(error) => Err(error),
-    }
+    let agent = fields.u128()?;
+    let registration = read_registration(alloc, fields.rest())?;
+    Ok(Change::Register {
+        agent,
+        registration,
+    })
 }
 
 fn read_report(alloc: Global, rest: &[u8]) -> Result<Change, FieldError>
@@ -66,10 +61,7 @@ fn read_report(alloc: Global, rest: &[u8]) -> Result<Change, FieldError>
     ensures wrong { IfErr result (λ e. e ≡ FieldError.Wrong → (change : ChangeTerm) → IsBody (2 ∷ rest.now) change → ⊥) }
 {
     let mut fields = Fields::of(rest);
-    let (agent, job) = match read_ids(&mut fields) {
-        Ok(ids) => ids,
-        Err(error) => return Err(error),
-    };
+    let (agent, job) = read_ids(&mut fields)?;
     let body = fields.rest();
     if body.len() > MAX_BYTES {
         return Err(FieldError::Wrong);
@@ -99,10 +91,7 @@ fn read_registration(alloc: Global, bytes: &[u8]) -> Result<Registration, FieldE
     ensures wrong { IfErr result (λ e. e ≡ FieldError.Wrong → (x : RegistrationTerm) → IsRegistration x → bytes.now ≡ bytes_of_registration x → ⊥) }
 {
     let mut fields = Fields::of(bytes);
-    let registration = match read_fields(alloc, &mut fields) {
-        Ok(registration) => registration,
-        Err(error) => return Err(error),
-    };
+    let registration = read_fields(alloc, &mut fields)?;
     let names = registration.names.as_slice().len();
     if fields.is_empty()
         && names <= MAX_LIST_ITEMS

@@ -135,9 +135,7 @@ pub fn call_all<D: Disk>(
         return Ok(());
     }
     for word in words.split(' ') {
-        if let Err(error) = call(alloc, store, disk, word) {
-            return Err(error);
-        }
+        call(alloc, store, disk, word)?;
     }
     Ok(())
 }

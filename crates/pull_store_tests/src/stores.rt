@@ -38,10 +38,7 @@ fn called<D: Disk>(
     disk: &mut D,
     words: &str,
 ) -> Result<(Result<(), PullError>, Kept), PullError> {
-    let mut store = match open_pull(alloc, disk) {
-        Ok(store) => store,
-        Err(error) => return Err(error),
-    };
+    let mut store = open_pull(alloc, disk)?;
     let mut answer = call_all(alloc, &mut store, disk, words);
     if store.is_spent() {
         answer = call_all(alloc, &mut store, disk, words);
@@ -55,10 +52,7 @@ fn called<D: Disk>(
 
 /// Opens the store of a disk and makes the calls of these words, up to the first that fails.
 pub fn call_over(alloc: Global, mut disk: GapDisk, words: &str) -> Result<Left, PullError> {
-    let (answer, kept) = match called(alloc, &mut disk, words) {
-        Ok(done) => done,
-        Err(error) => return Err(error),
-    };
+    let (answer, kept) = called(alloc, &mut disk, words)?;
     let calls = disk.kept.calls().len() as u64;
     Ok(Left {
         answer,
@@ -91,10 +85,8 @@ pub fn run(alloc: Global, words: &str) -> Result<Left, PullError> {
 
 /// The rows of the store of these bytes in a line.
 pub fn shown_in(alloc: Global, bytes: Vec<u8>) -> Result<String, PullError> {
-    match after(alloc, bytes, "") {
-        Ok(left) => Ok(left.kept.line),
-        Err(error) => Err(error),
-    }
+    let left = after(alloc, bytes, "")?;
+    Ok(left.kept.line)
 }
 
 // The rows of the agents 0 and A to H in a line: of each the agent, the name of its node, and after a colon each the job and the

@@ -60,10 +60,8 @@ pub fn new_link(
 ) -> Result<ServerLink<MemoryDisk, MemoryShelf>, PullError> {
     let mut disk = MemoryDisk::new(Vec::new(alloc), Vec::new(alloc))?;
     let shelf = shelf(alloc, content)?;
-    match open_pull(alloc, &mut disk) {
-        Ok(store) => Ok(ServerLink::new(alloc, store, disk, shelf)),
-        Err(error) => Err(error),
-    }
+    let store = open_pull(alloc, &mut disk)?;
+    Ok(ServerLink::new(alloc, store, disk, shelf))
 }
 
 fn server(alloc: Global) -> Result<Server, AllocError> {
@@ -88,10 +86,8 @@ pub fn outcome<L: Link>(alloc: Global, link: &mut L, call: Call) -> Result<Strin
 }
 
 fn done(alloc: Global, outcome: Result<(), PeerError>) -> Result<String, PeerError> {
-    match outcome {
-        Ok(()) => Ok(String::from_str(alloc, "done")?),
-        Err(error) => Err(error),
-    }
+    outcome?;
+    Ok(String::from_str(alloc, "done")?)
 }
 
 fn registered<L: Link>(alloc: Global, link: &mut L, server: &Server) -> Result<String, PeerError> {
@@ -119,10 +115,8 @@ fn asked<L: Link>(
     let mut held = Vec::new(alloc);
     held.push(PartMark { name, digest })?;
     let names = one_name(alloc)?;
-    match ask(alloc, link, server, AGENT, &held, &names) {
-        Ok(fetches) => Ok(format!(in alloc; "{:?}", fetches.as_slice())?),
-        Err(error) => Err(error),
-    }
+    let fetches = ask(alloc, link, server, AGENT, &held, &names)?;
+    Ok(format!(in alloc; "{:?}", fetches.as_slice())?)
 }
 
 fn fetched<L: Link>(
@@ -132,10 +126,8 @@ fn fetched<L: Link>(
     name: &str,
 ) -> Result<String, PeerError> {
     let asked = text(alloc, name)?;
-    match fetch(alloc, link, server, AGENT, &asked) {
-        Ok(part) => content(alloc, part.bytes.as_slice()),
-        Err(error) => Err(error),
-    }
+    let part = fetch(alloc, link, server, AGENT, &asked)?;
+    content(alloc, part.bytes.as_slice())
 }
 
 fn content(alloc: Global, bytes: &[u8]) -> Result<String, PeerError> {

@@ -54,19 +54,13 @@ fn read_arguments(rt: &HostRuntime) -> Option<(String, Ask)> {
 
 fn run(rt: &HostRuntime, file: String, ask: &Ask) -> Result<(), StoreError> {
     let mut disk = FileDisk::new(rt, file);
-    let mut store = match open_store(rt.alloc(), &mut disk) {
-        Ok(store) => store,
-        Err(error) => return Err(error),
-    };
+    let mut store = open_store(rt.alloc(), &mut disk)?;
     let (count, size, is_timed) = match ask {
         Ask::Open => return Ok(()),
         Ask::Stage { count, size } => (*count, *size, false),
         Ask::Time { count, size } => (*count, *size, true),
     };
-    let micros = match stage_all(rt, rt.alloc(), &mut store, &mut disk, count, size) {
-        Ok(micros) => micros,
-        Err(error) => return Err(error),
-    };
+    let micros = stage_all(rt, rt.alloc(), &mut store, &mut disk, count, size)?;
     if is_timed && println!(rt; "{micros}").is_err() {
         return Err(StoreError::Disk);
     }

@@ -58,19 +58,12 @@ pub fn stage_all<D: Disk, R: Clock>(
     requires { IsReady D.Disk disk.old store.old }
     ensures { IsReady D.Disk disk.new store.new }
 {
-    if let Err(error) = with_agent(store, disk) {
-        return Err(error);
-    }
+    with_agent(store, disk)?;
     let mut least = u128::MAX;
     for _ in 0..count {
-        let event = match stage_of(alloc, size) {
-            Ok(event) => event,
-            Err(error) => return Err(error),
-        };
+        let event = stage_of(alloc, size)?;
         let begin = micros_of(rt);
-        if let Err(error) = store.commit(disk, event) {
-            return Err(error);
-        }
+        store.commit(disk, event)?;
         least = least.min(micros_of(rt).saturating_sub(begin));
     }
     Ok(least)

@@ -50,9 +50,7 @@ fn register_below<D: Disk>(
     ensures { IsReady D.Disk disk.new store.new }
 {
     for agent in 0..count {
-        if let Err(error) = register(alloc, store, disk, agent) {
-            return Err(error);
-        }
+        register(alloc, store, disk, agent)?;
     }
     Ok(())
 }
@@ -60,16 +58,9 @@ fn register_below<D: Disk>(
 // A disk with the rows of that many agents.
 fn disk_of(alloc: Global, count: u128, reports: &[(u128, &[u8])]) -> Result<MemoryDisk, PullError> {
     let mut disk = new_disk(alloc, &[])?;
-    let mut store = match open_pull(alloc, &mut disk) {
-        Ok(store) => store,
-        Err(error) => return Err(error),
-    };
-    if let Err(error) = register_below(alloc, &mut store, &mut disk, count) {
-        return Err(error);
-    }
-    if let Err(error) = put_all(alloc, &mut store, &mut disk, reports) {
-        return Err(error);
-    }
+    let mut store = open_pull(alloc, &mut disk)?;
+    register_below(alloc, &mut store, &mut disk, count)?;
+    put_all(alloc, &mut store, &mut disk, reports)?;
     Ok(disk)
 }
 
@@ -83,9 +74,7 @@ fn put_all<D: Disk>(
     ensures { IsReady D.Disk disk.new store.new }
 {
     for (agent, body) in reports {
-        if let Err(error) = put(alloc, store, disk, *agent, body) {
-            return Err(error);
-        }
+        put(alloc, store, disk, *agent, body)?;
     }
     Ok(())
 }
@@ -119,15 +108,10 @@ fn first_other_over(
     reports: &[(u128, &[u8])],
     exchanges: &[Exchange],
 ) -> Result<Option<usize>, PullError> {
-    let mut disk = match disk_of(alloc, count, reports) {
-        Ok(disk) => disk,
-        Err(error) => return Err(error),
-    };
+    let mut disk = disk_of(alloc, count, reports)?;
     let mut shelf = new_shelf(alloc)?;
-    match open_fleet(alloc, &mut disk) {
-        Ok(mut service) => Ok(first_other(alloc, &mut service, &mut disk, &mut shelf, exchanges)),
-        Err(error) => Err(error),
-    }
+    let mut service = open_fleet(alloc, &mut disk)?;
+    Ok(first_other(alloc, &mut service, &mut disk, &mut shelf, exchanges))
 }
 
 #[test]

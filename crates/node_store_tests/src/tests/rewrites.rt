@@ -117,10 +117,8 @@ fn leaves(
 ) -> Result<bool, StoreError> {
     let disk = MemoryDisk::new(file, Vec::new(alloc))?;
     let body = last_of(alloc, words, word)?;
-    match commit_to(alloc, disk, &body) {
-        Ok(left) => is_left(alloc, left, wanted, &line_of(alloc, words, word)?),
-        Err(error) => Err(error),
-    }
+    let left = commit_to(alloc, disk, &body)?;
+    is_left(alloc, left, wanted, &line_of(alloc, words, word)?)
 }
 
 fn is_left(alloc: Global, left: Left, wanted: &[u8], line: &str) -> Result<bool, StoreError> {

@@ -57,10 +57,7 @@ fn is_taken(alloc: Global, words: &str, body: Vec<u8>, wanted: &str) -> Result<b
     let mut bodies = bodies_of(alloc, words, "")?;
     bodies.push(body)?;
     let disk = MemoryDisk::new(Vec::new(alloc), Vec::new(alloc))?;
-    let left = match commit_to(alloc, disk, &bodies) {
-        Ok(left) => left,
-        Err(error) => return Err(error),
-    };
+    let left = commit_to(alloc, disk, &bodies)?;
     let found = kept_in(alloc, left.bytes)?;
     Ok(left.answer == Ok(()) && left.line == found && found.as_str().starts_with(wanted))
 }
@@ -84,10 +81,7 @@ fn ample_memory_is_enough_for_each_size(rt: HostRuntime) -> Result<(), Fail> {
 fn is_reserved(alloc: Global, words: &str) -> Result<bool, StoreError> {
     let before = run(alloc, words, "")?;
     let mut disk = MemoryDisk::new(before.bytes, Vec::new(alloc))?;
-    let mut store = match open_store(alloc, &mut disk) {
-        Ok(store) => store,
-        Err(error) => return Err(error),
-    };
+    let mut store = open_store(alloc, &mut disk)?;
     let is_reserved = store.reserve().is_ok() && store.reserve().is_ok();
     Ok(is_reserved && shown(alloc, store.state())? == before.line)
 }

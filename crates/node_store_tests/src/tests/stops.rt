@@ -21,15 +21,9 @@ fn is_either(
     before: &str,
     after: &str,
 ) -> Result<bool, StoreError> {
-    let left = match commit_to(alloc, disk, body) {
-        Ok(left) => left,
-        Err(error) => return Err(error),
-    };
+    let left = commit_to(alloc, disk, body)?;
     let is_spent = left.answer == Err(StoreError::Spent) && left.line.as_str() == before;
-    let found = match kept_in(alloc, left.bytes) {
-        Ok(found) => found,
-        Err(error) => return Err(error),
-    };
+    let found = kept_in(alloc, left.bytes)?;
     Ok(is_spent && (found.as_str() == before || found.as_str() == after))
 }
 
@@ -60,10 +54,8 @@ fn are_either(
 // How many calls an opening of a disk with these bytes and commits of these bodies make.
 fn count_of_calls(alloc: Global, bytes: &[u8], bodies: &[Vec<u8>]) -> Result<u64, StoreError> {
     let disk = MemoryDisk::new(bytes.to_vec(alloc)?, Vec::new(alloc))?;
-    match commit_to(alloc, disk, bodies) {
-        Ok(left) => Ok(left.calls),
-        Err(error) => Err(error),
-    }
+    let left = commit_to(alloc, disk, bodies)?;
+    Ok(left.calls)
 }
 
 // How many calls a commit makes, where one that fails or stops in any of the last ones leaves the node before or after it.

@@ -58,10 +58,7 @@ fn copies_of(alloc: Global, bodies: &[&[u8]]) -> Result<Vec<Vec<u8>>, AllocError
 fn is_the_same(alloc: Global, bodies: &[&[u8]], wanted: &str) -> Result<bool, StoreError> {
     let bodies = copies_of(alloc, bodies)?;
     let disk = MemoryDisk::new(Vec::new(alloc), Vec::new(alloc))?;
-    let left = match commit_to(alloc, disk, &bodies) {
-        Ok(left) => left,
-        Err(error) => return Err(error),
-    };
+    let left = commit_to(alloc, disk, &bodies)?;
     let is_written = left.bytes == file_of(alloc, &bodies)?;
     let is_done = left.answer == Ok(()) && left.line.as_str() == wanted;
     Ok(is_written && is_done && kept_in(alloc, left.bytes)?.as_str() == wanted)

@@ -125,10 +125,8 @@ pub fn outcome(
 }
 
 fn done(alloc: Global, outcome: Result<(), PeerError>) -> Result<String, PeerError> {
-    match outcome {
-        Ok(()) => Ok(String::from_str(alloc, "done")?),
-        Err(error) => Err(error),
-    }
+    outcome?;
+    Ok(String::from_str(alloc, "done")?)
 }
 
 fn registered(alloc: Global, link: &mut MemoryLink, server: &Server) -> Result<String, PeerError> {
@@ -154,10 +152,8 @@ fn asked(
 ) -> Result<String, PeerError> {
     let held = held(alloc)?;
     let names = texts(alloc, names)?;
-    match ask(alloc, link, server, AGENT, &held, &names) {
-        Ok(fetches) => Ok(format!(in alloc; "{:?}", fetches.as_slice())?),
-        Err(error) => Err(error),
-    }
+    let fetches = ask(alloc, link, server, AGENT, &held, &names)?;
+    Ok(format!(in alloc; "{:?}", fetches.as_slice())?)
 }
 
 fn fetched(
@@ -167,20 +163,18 @@ fn fetched(
     name: &str,
 ) -> Result<String, PeerError> {
     let asked = text(alloc, name)?;
-    match fetch(alloc, link, server, AGENT, &asked) {
-        Ok(part) if part.name == asked => content(alloc, part.bytes.as_slice()),
-        Ok(_) => Ok(String::from_str(alloc, "another name")?),
-        Err(error) => Err(error),
+    let part = fetch(alloc, link, server, AGENT, &asked)?;
+    if part.name != asked {
+        return Ok(String::from_str(alloc, "another name")?);
     }
+    content(alloc, part.bytes.as_slice())
 }
 
 fn module(alloc: Global, link: &mut MemoryLink, server: &Server) -> Result<String, PeerError> {
     let name = text(alloc, "xWeb")?;
     let version = text(alloc, "1.0 b")?;
-    match fetch_module(alloc, link, server, AGENT, &name, &version) {
-        Ok(bytes) => content(alloc, &bytes),
-        Err(error) => Err(error),
-    }
+    let bytes = fetch_module(alloc, link, server, AGENT, &name, &version)?;
+    content(alloc, &bytes)
 }
 
 // The bytes as a text, or how many they are.

@@ -57,10 +57,8 @@ impl Message for ReportMessage {
 }
 
 fn again<M: Message>(alloc: Global, body: &[u8]) -> Result<Vec<u8>, MessageError> {
-    match M::read(alloc, body) {
-        Ok(message) => written(alloc, &message),
-        Err(error) => Err(error),
-    }
+    let message = M::read(alloc, body)?;
+    written(alloc, &message)
 }
 
 fn written<M: Message>(alloc: Global, message: &M) -> Result<Vec<u8>, MessageError> {

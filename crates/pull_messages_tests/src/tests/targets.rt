@@ -6,10 +6,8 @@ use std::alloc::Global;
 use std::test::Fail;
 
 fn again(alloc: Global, text: &[u8]) -> Result<Vec<u8>, TargetError> {
-    match target(alloc, text) {
-        Ok(target) => written(alloc, &target),
-        Err(error) => Err(error),
-    }
+    let target = target(alloc, text)?;
+    written(alloc, &target)
 }
 
 fn written(alloc: Global, target: &Target) -> Result<Vec<u8>, TargetError> {

@@ -126,10 +126,8 @@ fn first_other<D: Disk, S: Shelf>(
 fn first_other_of(alloc: Global) -> Result<Option<usize>, PullError> {
     let mut disk = FullDisk::new(alloc)?;
     let mut shelf = new_shelf(alloc, &[])?;
-    match open_pull(alloc, &mut disk) {
-        Ok(mut store) => Ok(first_other(alloc, &mut store, &mut disk, &mut shelf)?),
-        Err(error) => Err(error),
-    }
+    let mut store = open_pull(alloc, &mut disk)?;
+    Ok(first_other(alloc, &mut store, &mut disk, &mut shelf)?)
 }
 
 #[test]

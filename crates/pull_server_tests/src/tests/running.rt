@@ -193,10 +193,6 @@ pub fn first_other_over(
 ) -> Result<Option<usize>, PullError> {
     let mut shelf = shelf(alloc, shelved)?;
     let mut disk = new_disk(alloc, &[])?;
-    match open_pull(alloc, &mut disk) {
-        Ok(mut store) => Ok(first_other_in(
-            alloc, &mut store, &mut disk, &mut shelf, front, steps,
-        )?),
-        Err(error) => Err(error),
-    }
+    let mut store = open_pull(alloc, &mut disk)?;
+    Ok(first_other_in(alloc, &mut store, &mut disk, &mut shelf, front, steps)?)
 }

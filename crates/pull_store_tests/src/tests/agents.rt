@@ -42,15 +42,9 @@ fn is_so(
     answer: Result<(), PullError>,
     rows: usize,
 ) -> Result<bool, PullError> {
-    let left = match after(alloc, file_of_agents(alloc, count)?, words) {
-        Ok(left) => left,
-        Err(error) => return Err(error),
-    };
+    let left = after(alloc, file_of_agents(alloc, count)?, words)?;
     let is_so = left.answer == answer && left.kept.rows == rows;
-    let next = match after(alloc, left.bytes, "") {
-        Ok(next) => next,
-        Err(error) => return Err(error),
-    };
+    let next = after(alloc, left.bytes, "")?;
     Ok(is_so && next.kept.rows == rows && next.kept.line == left.kept.line)
 }
 

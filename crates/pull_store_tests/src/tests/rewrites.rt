@@ -53,12 +53,8 @@ fn rewritten(alloc: Global) -> Result<Vec<u8>, AllocError> {
 // Whether a call leaves two rows and these bytes of the disk.
 fn leaves(alloc: Global, bytes: Vec<u8>, word: &str, wanted: &[u8]) -> Result<bool, PullError> {
     let kept = MemoryDisk::new(bytes, Vec::new(alloc))?;
-    match call_over(alloc, full(alloc, kept)?, word) {
-        Ok(left) => Ok(
-            left.answer == Ok(()) && left.kept.rows == 2 && left.bytes.as_slice() == wanted,
-        ),
-        Err(error) => Err(error),
-    }
+    let left = call_over(alloc, full(alloc, kept)?, word)?;
+    Ok(left.answer == Ok(()) && left.kept.rows == 2 && left.bytes.as_slice() == wanted)
 }
 
 #[test]

@@ -64,14 +64,9 @@ fn keep<D: Disk>(
     message: &[u8],
     body: &[u8],
 ) -> Result<(), PullError> {
-    let mut store = match open_pull(alloc, disk) {
-        Ok(store) => store,
-        Err(error) => return Err(error),
-    };
-    match register(alloc, &mut store, disk, 65, message) {
-        Ok(()) => put(alloc, &mut store, disk, 65, 49, body),
-        Err(error) => Err(error),
-    }
+    let mut store = open_pull(alloc, disk)?;
+    register(alloc, &mut store, disk, 65, message)?;
+    put(alloc, &mut store, disk, 65, 49, body)
 }
 
 // The bytes of a new disk after such a registration and a report of that many bytes.
@@ -85,10 +80,8 @@ fn written(
     let message = message(alloc, text, count, name)?;
     let body = vec![in alloc; b'r'; size]?;
     let mut disk = MemoryDisk::new(Vec::new(alloc), Vec::new(alloc))?;
-    match keep(alloc, &mut disk, &message, &body) {
-        Ok(()) => Ok(disk.after_stop()?),
-        Err(error) => Err(error),
-    }
+    keep(alloc, &mut disk, &message, &body)?;
+    Ok(disk.after_stop()?)
 }
 
 // Whether these are the bytes of a file with both.

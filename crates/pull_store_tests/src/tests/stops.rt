@@ -52,15 +52,9 @@ fn is_either(
     before: &str,
     after: &str,
 ) -> Result<bool, PullError> {
-    let left = match call_over(alloc, disk, word) {
-        Ok(left) => left,
-        Err(error) => return Err(error),
-    };
+    let left = call_over(alloc, disk, word)?;
     let is_spent = left.answer == Err(PullError::Spent) && left.kept.line.as_str() == before;
-    let found = match shown_in(alloc, left.bytes) {
-        Ok(found) => found,
-        Err(error) => return Err(error),
-    };
+    let found = shown_in(alloc, left.bytes)?;
     Ok(is_spent && (found.as_str() == before || found.as_str() == after))
 }
 
@@ -89,10 +83,8 @@ fn are_either(
 
 // How many calls an opening of a disk with these bytes and the call of the word make.
 fn count_of_calls(alloc: Global, bytes: &[u8], word: &str) -> Result<u64, PullError> {
-    match after(alloc, bytes.to_vec(alloc)?, word) {
-        Ok(left) => Ok(left.calls),
-        Err(error) => Err(error),
-    }
+    let left = after(alloc, bytes.to_vec(alloc)?, word)?;
+    Ok(left.calls)
 }
 
 // Whether this is so for the first two calls of the disk and the last six ones, and each 512th of those between them, which write zeros; and

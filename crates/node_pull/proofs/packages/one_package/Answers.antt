@@ -1,15 +1,15 @@
 use Rattle.std.proofs.Common.{◌∙◌, refl}
 use Rattle.node_pull.specs.declared.error.PullFault.TheVariants.{Memory}
 use Rattle.node_pull.specs.Packages.{no_memory, not_given}
-use Rattle.node_pull.proofs.Exits.{out_of}
+use Rattle.http_frames.proofs.PassedOn.{passed_on}
 use Rattle.node_pull.proofs.PackageRows.{added, ended_looking, lacks, not_put, there}
 use Rattle.node_pull.proofs.packages.one_package.Goals as goal
 
 pub returns-in_err-name-clause-one : goal.returns-in_err-name-clause-one
-returns-in_err-name-clause-one g c = rw (out_of Memory c.from_residual.result c.from_residual.ensures.1) (no_memory _ _ _ refl)
+returns-in_err-name-clause-one g c = rw (passed_on Memory c.from_residual.result c.from_residual.ensures.1) (no_memory _ _ _ refl)
 
 pub returns-in_err-version-clause-one : goal.returns-in_err-version-clause-one
-returns-in_err-version-clause-one g c = rw (out_of Memory c.from_residual-in_err-version.result c.from_residual-in_err-version.ensures.1) (no_memory _ _ _ refl)
+returns-in_err-version-clause-one g c = rw (passed_on Memory c.from_residual-in_err-version.result c.from_residual-in_err-version.ensures.1) (no_memory _ _ _ refl)
 
 pub returns-in-Ok-true-clause-one : goal.returns-in-Ok-true-clause-one
 returns-in-Ok-true-clause-one g c =

@@ -9,13 +9,13 @@ never false yes_is no_is = absurd cc
 
 pub returns-then-bytes-names-clause-found : goal.returns-then-bytes-names-clause-found
 returns-then-bytes-names-clause-found c =
-    let kept = kept_registration c.of-fields.result c.read_fields.new.fields c.in-Ok.registration c.in-Ok.ensures.found.0 c.in-Ok.ensures.found.1 (c.is_empty.ensures.0 c.if-is_empty.true)
+    let kept = kept_registration c.of-fields.result c.read_fields.new.fields c.in_ok-registration.registration c.in_ok-registration.ensures.found.0 c.in_ok-registration.ensures.found.1 (c.is_empty.ensures.0 c.if-is_empty.true)
     (omega (arith, ap length c.as_slice-names.ensures, c.if-names-le-MAX_LIST_ITEMS.true)) (omega (arith, ap length c.of-fields.ensures, ap length c.as_slice-names.ensures, c.if-bytes-names.true)) in
     (kept.0, sym c.of-fields.ensures ∙ kept.1)
 
 pub returns-else-is_empty-clause-wrong : goal.returns-else-is_empty-clause-wrong
 returns-else-is_empty-clause-wrong c = λ same x is spells.
-    none_kept c.of-fields.result c.read_fields.new.fields c.in-Ok.registration x c.in-Ok.ensures
+    none_kept c.of-fields.result c.read_fields.new.fields c.in_ok-registration.registration x c.in_ok-registration.ensures
     (λ none few short. elim c.else-is_empty.branch [
       | else-is_empty-via-then-is_empty+then-names-le-MAX_LIST_ITEMS+else-bytes-names w ↦ omega (arith, short, ap length c.of-fields.ensures, ap length c.as_slice-names.ensures, w.if-bytes-names.false)
       | else-is_empty-via-then-is_empty+else-names-le-MAX_LIST_ITEMS w ↦ omega (arith, few, ap length c.as_slice-names.ensures, w.if-names-le-MAX_LIST_ITEMS.false)
