@@ -4,8 +4,8 @@ use Rattle.http_frames.proofs.PassedOn.{passed_on}
 use Rattle.http_frames.proofs.Walking.{resumed_at, reading_err, reading_done, reading_open, walked_on}
 use Rattle.http_frames.proofs.body.read_chunked.Goals as goal
 
-pub returns-in_ok-content : goal.returns-in_ok-content
-returns-in_ok-content c =
+pub returns-then-is_done : goal.returns-then-is_done
+returns-then-is_done c =
     let over = resumed_at c.args.limits.now c.args.front c.args.body.now c.args.walk _ _ _ c.requires.walked
     c.split_at.ensures.back c.walk_over.ensures.value c.in_ok-reached.was in
     reading_done c.args.limits.now c.args.front c.args.body.now c.in_ok-reached.reached over
