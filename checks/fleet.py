@@ -1,7 +1,7 @@
 """The program that reads the stores of servers, for checks/fleet, which says what is run. The arguments are the program and the server."""
 import datetime, fcntl, json, os, random, shutil, socket, subprocess, sys, tempfile, threading, time
 
-from fleet_reader import BANK, forgotten, gauges, rows_of, table, uuid
+from fleet_reader import BANK, forgotten, gauges, reports, rows_of, table, uuid
 from protocol import agent, free_port, query, register, report_body, request, node
 
 program, server = sys.argv[1:]
@@ -176,6 +176,45 @@ def forms(fine):
                   ('--prometheus',), ('--prometheus', fine, path, fine), ('--table', '--class', 'Good', fine), ('--prometheus', '--older', 'x', fine)):
         check('words %r' % (words,), run(*words)[:2], (2, b''))
 
+# ---- the reports that are kept
+
+# Agents with none, one, two and more reports than are kept; of one a report came again under its job, and another is none.
+def many_reports(name):
+    end = moment(1)
+    return store(name, registered(1, 'web1', ('Web', 'Base')), registered(2, ''), registered(3, 'a"\\\n\u00fc\U0001f600', ()), registered(4, 'late'), registered(5),
+        reported(1, 11, body(11, Status='Success', EndTime=end)), reported(1, 12, body(12, OperationType='Initial', Status='Failure', StartTime=moment(9),
+                                                                                    Errors=['[File]a: b: NotInDesiredState', 'none', ': '])),
+        reported(4, 41, body(41, Status='Failure', EndTime=end)), reported(1, 13, body(13, Status='InProgress')),
+        reported(3, 31, body(31, Status='FAILURE', EndTime='', Errors=['[Log]\u00e9\x1b: Skipped'], StatusData=[json.dumps({'NumberNotInDesiredState': 70})])),
+        reported(1, 14, b'no json'), reported(4, 42, body(42, Status='Success', EndTime=moment(30))), reported(5, 51, body(52, Status='InProgress')),
+        reported(1, 13, body(13, Status='success', StartTime='x', EndTime=end, Errors=[])), reported(1, 15, body(15, Status='Success', EndTime=end)))
+
+def kept_reports(fine):
+    path, other, missing = many_reports('reports'), store('others', registered(1), registered(2)), os.path.join(scratch, 'missing')
+    check('the reports', run('--reports', path), (1, reports(path), b''))
+    told = [json.loads(it) for it in run(path, '--reports')[1].splitlines()]
+    check('which they are', [(it['agent'], it['job'], it['class']) for it in told[:-1]],
+          [(agent(number), agent(job), said) for number, job, said in ((1, 12, 'Failed'), (1, 13, 'Compliant'), (1, 14, 'Other'), (1, 15, 'Compliant'), (3, 31, 'Failed'),
+                                                                      (4, 41, 'Failed'), (4, 42, 'Compliant'), (5, 51, 'Other'))])
+    last_ones = {it['agent']: {name: it[name] for name in it if name not in ('configurations', 'stale')} for it in map(json.loads, run(path)[1].splitlines()[:-1])}
+    check('the last of an agent is that of its line', {it['agent']: it for it in told[:-1]}, {it: row for it, row in last_ones.items() if row['job']})
+    check('the reports of all that is well', run('--reports', fine), (0, reports(fine), b''))
+    check('the reports of agents that sent none', run('--reports', other), (1, last(other, 2), b''))
+    check('the reports of a class', run('--reports', '--class', 'Compliant', path), (1, reports(path, ('Compliant',)), b''))
+    check('the reports of two classes', run('--class=Failed', path, '--class', 'Silent', '--reports'), (1, reports(path, ('Failed', 'Silent')), b''))
+    check('the reports, older', run('--reports', '--older', '2', path, '--class', 'Other'), (1, reports(path, ('Other',)), b''))
+    check('the reports of one that is stale', run('--reports', '--older', '2', fine), (1, reports(fine), b''))
+    check('the reports of stores', run('--reports', fine, path, fine), (1, reports(fine) + reports(path) + reports(fine), b''))
+    status, out, err = run('--reports', path, missing, fine)
+    check('the reports beside a store that is missing', (status, out), (4, reports(path) + reports(fine)))
+    second = store('reports, second', registered(1), reported(1, 1, body(1)), reported(1, 2, body(2)), second=True, behind=b'dead')
+    check('the reports of a second bank', run('--reports', second), (0, reports(second), b''))
+    with open('/dev/full', 'wb') as out:
+        check('an output that is full, --reports', subprocess.run([program, '--reports', fine], stdin=subprocess.DEVNULL, stdout=out, stderr=subprocess.PIPE).returncode, 4)
+    for words in (('--reports', '--table', fine), ('--prometheus', '--reports', fine), ('--reports', '--table', '--prometheus', fine), ('--reports', '--reports', fine),
+                  ('--reports=x', fine), ('--reports',), ('--reports', '--class', 'Good', fine), ('--reports', '--older', 'x', fine)):
+        check('words %r' % (words,), run(*words)[:2], (2, b''))
+
 # ---- agents that are forgotten
 
 def contents(path):
@@ -237,7 +276,8 @@ def forgetting(fine):
     check('an output that is full', (ended.returncode, 1 in rows_of(path)), (4, False))
     for words in (('--forget', fine), ('--forget', 'x', fine), ('--forget', agent(1)[:-1], fine), ('--forget', agent(1).replace('-', ''), fine),
                   ('--forget', '{%s}' % agent(1), fine), ('--forget', agent(1)), ('--forget', agent(1), fine, path), ('--forget', agent(1), '--table', fine),
-                  ('--forget', agent(1), '--prometheus', fine), ('--forget', agent(1), '--class', 'Failed', fine), ('--forget', agent(1), '--older', '1', fine),
+                  ('--forget', agent(1), '--prometheus', fine), ('--forget', agent(1), '--reports', fine), ('--forget-never-reported', '--reports', fine),
+                  ('--forget', agent(1), '--class', 'Failed', fine), ('--forget', agent(1), '--older', '1', fine),
                   ('--forget-silent', fine), ('--forget-silent', 'x', fine), ('--forget-silent', '-1', fine), ('--forget-silent', '4294967296', fine),
                   ('--forget-silent', '1', '--forget-silent', '2', fine), ('--forget-silent', '1', fine, path), ('--forget-silent', '1', '--table', fine),
                   ('--forget-never-reported',), ('--forget-never-reported', fine, path), ('--forget-never-reported', '--class', 'Silent', fine),
@@ -264,7 +304,8 @@ def no_stores(fine, said):
     with open('/dev/full', 'wb') as full:
         check('an output that is full', subprocess.run([program, fine], stdin=subprocess.DEVNULL, stdout=full, stderr=subprocess.PIPE).returncode, 4)
 
-# ---- beside a real server: reports 0, 1, 2 .. come in turn from each of the agents, so of one image the last ones of all agents are known
+# ---- beside a real server: reports 0, 1, 2 .. come in turn from each of the agents, so of one image the last ones of all agents are known, and
+# the last four
 
 AGENTS = 40
 
@@ -301,24 +342,27 @@ def beside_a_server():
             if b' 204 ' not in ask(port, register(number + 1))[:20]:
                 return check('registered', 'refused', 'taken')
         sent, taken, ending = [0], [0], threading.Event()
-        def reports():
+        def send():
             while not ending.is_set():
                 number = sent[0]
                 sent[0] += 1
                 told = report_body(1000 + number, 'Success', random.randrange(3000))
                 if b' 200 ' in ask(port, request('POST', node(number % AGENTS + 1, '/SendReport'), told))[:20]:
                     taken[0] += 1
-        client = threading.Thread(target=reports)
+        client = threading.Thread(target=send)
         client.start()
         wrong = 0
-        for _ in range(60):
+        for turn in range(60):
+            words, kept = (('--reports',), 4) if turn % 2 else ((), 1)
             least = taken[0]
-            status, out, err = run(path)
+            status, out, err = run(*words, path)
             most = sent[0]
-            rows = [json.loads(it) for it in out.splitlines()]
-            jobs = [-1 if it['job'] is None else int(it['job'].replace('-', ''), 16) - 1000 for it in rows[:-1]]
-            count = max(jobs, default=-1) + 1
-            wanted = [-1 if number >= count else (count - 1 - number) // AGENTS * AGENTS + number for number in range(AGENTS)]
+            jobs = [[] for _ in range(AGENTS)]
+            for it in map(json.loads, out.splitlines()[:-1]):
+                if it['job'] is not None:
+                    jobs[int(it['agent'].replace('-', ''), 16) - 1].append(int(it['job'].replace('-', ''), 16) - 1000)
+            count = max((job for each in jobs for job in each), default=-1) + 1
+            wanted = [[*range(number, count, AGENTS)][-kept:] for number in range(AGENTS)]
             if jobs != wanted or not least <= count <= most or err or status not in (0, 1):
                 wrong += 1
                 print('not one image:', status, err, least, count, most, jobs[:50], flush=True)
@@ -456,6 +500,7 @@ try:
     fine = statuses()
     no_stores(*fine)
     forms(fine[0])
+    kept_reports(fine[0])
     forgetting(fine[0])
     beside_a_server()
     served_again()

@@ -1,5 +1,5 @@
 """A reader of the stores of pull servers, written from their format (nimchout-store(5)) and from the messages of nodes, and what is to be printed
-of their rows as a table, as gauges and where agents are forgotten; for checks/fleet."""
+of their reports, of their rows as a table and as gauges, and where agents are forgotten; for checks/fleet."""
 import json
 
 BANK = 335544320  # the bytes of each half of a store
@@ -48,19 +48,24 @@ def texts_of(left):
     assert not left
     return texts
 
-# The last report of a row as a message; none where it is none.
-def message_of(row):
+# A report that was sent as a message; none where it is none.
+def message_in(body):
     try:
-        said = json.loads(row['reports'][-1][1])
+        said = json.loads(body)
         return said if isinstance(said, dict) and 'JobId' in said else None
-    except (IndexError, ValueError):
+    except ValueError:
         return None
 
-def class_of(row):
-    if not row['reports']:
-        return 'Silent'
-    said = message_of(row)
+# The last report of a row as a message.
+def message_of(row):
+    return message_in(row['reports'][-1][1]) if row['reports'] else None
+
+# The class that a message gives.
+def class_said(said):
     return {'success': 'Compliant', 'failure': 'Failed'}.get((said or {}).get('Status', '').lower(), 'Other')
+
+def class_of(row):
+    return class_said(message_of(row)) if row['reports'] else 'Silent'
 
 # The moment at which its last report says that it ended, in seconds; none where it says none. `moment` reads a text.
 def ended(row, moment):
@@ -85,6 +90,28 @@ def harmless(text):
     return ''.join('\ufffd' if ord(it) < 32 or 127 <= ord(it) < 160 or ord(it) in HIDDEN else it for it in text)
 
 # ---- what is printed
+
+def in_json(value):
+    return json.dumps(value, separators=(',', ':'), ensure_ascii=False)
+
+def last_line(path, agents):
+    return '{"store":%s,"agents":%d,"places":%d}\n' % (in_json(path), agents, PLACES)
+
+# An error of a report: what stands before its last colon that a space follows, and what stands after that.
+def unmet(error):
+    before, mark, after = error.rpartition(': ')
+    return {'id': before, 'reason': after} if mark else {'id': error, 'reason': ''}
+
+# A line for each report that is kept of the agents of these classes, the oldest of an agent first.
+def reports(path, classes=()):
+    rows, text = rows_of(path), ''
+    for agent, row in rows.items():
+        for job, sent in row['reports'] if not classes or class_of(row) in classes else ():
+            said = message_in(sent) or {}
+            times = {name: said.get(member) or None for name, member in (('operation', 'OperationType'), ('start', 'StartTime'), ('end', 'EndTime'))}
+            text += in_json({'store': path, 'agent': uuid(agent), 'node_name': row['texts'][1] or None, 'class': class_said(said), 'job': uuid(job), **times,
+                             'not_in_desired_state': [unmet(error) for error in said.get('Errors', ())], 'count': count_of(said)}) + '\n'
+    return (text + last_line(path, len(rows))).encode()
 
 def table(path, classes=(), since=None, moment=None):
     rows = rows_of(path)
@@ -126,7 +153,6 @@ def gauges(stores, classes=(), since=None, moment=None):
 
 # What is printed where these agents of the rows of a store are forgotten.
 def forgotten(path, rows, agents):
-    said = lambda value: json.dumps(value, ensure_ascii=False)
-    text = ''.join('{"store":%s,"forgotten":"%s","node_name":%s}\n' % (said(path), uuid(agent), said(row['texts'][1] or None))
+    text = ''.join('{"store":%s,"forgotten":"%s","node_name":%s}\n' % (in_json(path), uuid(agent), in_json(row['texts'][1] or None))
                    for agent, row in rows.items() if agent in agents)
-    return (text + '{"store":%s,"agents":%d,"places":%d}\n' % (said(path), len(rows) - len(agents), PLACES)).encode()
+    return (text + last_line(path, len(rows) - len(agents))).encode()

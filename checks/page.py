@@ -96,34 +96,56 @@ class Fleet:
 
 
 def history(scratch):
-    """The reports of one machine over runs: four are kept, one of the same job is replaced, and a class has a beginning."""
-    fleet, now = Fleet(scratch), 1795000000
-    path = f"{fleet.stores}/store-1"
-    row = functools.partial(stores.row, path, 7, "web7")
+    """The reports of one machine over runs: those of the store, which keeps four, also those that came between two runs; and since when it is in
+    its class."""
+    fleet, now, came = Fleet(scratch), 1795000000, []
+    row = functools.partial(stores.row, f"{fleet.stores}/store-1", 7, "web7")
 
     def seen(*rows):
-        fleet.put("store-1", rows, 3600 + len(fleet.seen))
-        fleet.seen.append(rows)
+        """The machine, once the writer has run after these reports of it."""
+        came.extend(rows)
+        fleet.put("store-1", [{**rows[-1], "earlier": came[:-1]}] if rows else [], 3600 + len(came))
         check("a run of the writer", fleet.write()[:2], (0, ""))
-        return fleet.machines()
+        for machine in fleet.machines():
+            check("its reports are those of the store", listed(fleet, machine), newest_first({**rows[-1], "earlier": came[:-1]}))
+            return machine
 
-    fleet.seen = []
-    check("a machine that sent none has no file", (seen(row("Silent", now, 0))[0]["last"], fleet.files()), (None, []))
-    machine = seen(row("Failed", now, 900, ["[File]A"], run=1))[0]
+    check("a machine that sent none has no file", (seen(row("Silent", now, 0))["last"], fleet.files()), (None, []))
+    machine = seen(row("Failed", now, 900, ["[File]A"], run=1))
     check("its first report", (machine["class"], machine["since"], machine["last"], machine["count"]), ("Failed", now - 900, now - 900, 1))
-    machine = seen(row("Failed", now, 600, ["[File]A", "[File]B"], run=2))[0]
+    machine = seen(row("Failed", now, 600, ["[File]A", "[File]B"], run=2))
     check("the class is since the report that first said so", (machine["since"], machine["last"], machine["count"]), (now - 900, now - 600, 2))
-    check("a later one of the same job", seen(row("Compliant", now, 500, run=2))[0]["since"], now - 500)
+    check("a later one of the same job", seen(row("Compliant", now, 500, run=2))["since"], now - 500)
     check("takes its place", [report["class"] for report in fleet.reports(machine)], ["Compliant", "Failed"])
-    for run in (3, 4, 5):
-        seen(row("Compliant", now, 500 - run, run=run))
-    check("four are kept, the newest first", [report["job"] for report in fleet.reports(machine)], [stores.job(7000 + run) for run in (5, 4, 3, 2)])
-    check("with their resources", fleet.reports(machine)[0]["not_in_desired_state"], [])
-    check("and their times", [report["ended"] for report in fleet.reports(machine)], [now - 495, now - 496, now - 497, now - 500])
-    check("one that has left has no file", (seen(), fleet.files()), ([], []))
+    check("the class is since one that came between", seen(row("Compliant", now, 490, run=3), row("Failed", now, 480, ["[File]C"], run=4), row("Compliant", now, 470, run=5))["since"], now - 470)
+    check("which is listed", [report["job"] for report in fleet.reports(machine)], [stores.job(7000 + run) for run in (5, 4, 3, 2)])
+    check("with its resources", fleet.reports(machine)[1]["not_in_desired_state"], [{"id": "[File]C", "reason": stores.reason("[File]C")}])
+    check("and its times", [(report["started"], report["ended"]) for report in fleet.reports(machine)], [(now - age - 7, now - age) for age in (470, 480, 490, 500)])
+    check("the class is since then", seen(row("Compliant", now, 460, run=6), row("Compliant", now, 450, run=7))["since"], now - 470)
+    check("also where more came than are kept", seen(*(row("Compliant", now, 440 - run, run=run) for run in (8, 9, 10, 11, 12)))["since"], now - 470)
+    came.clear()
+    check("one that was forgotten and came back has no file", (seen(row("Silent", now, 0))["class"], fleet.files()), ("Silent", []))
+    seen()
+    came.clear()
+    check("the first sight of one that sent many", seen(*(row("Failed", now, 440 - run, ["[File]D"], run=run) for run in (13, 14, 15, 16, 17)))["since"], now - 426)
+    seen()
+    check("one that has left has no file", (fleet.machines(), fleet.files()), ([], []))
+    came.clear()
     odd = {**row("Other", now, 0), "job": stores.job(1), "start": "yesterday", "end": "9" * 40}
-    machine = seen(odd)[0]
+    machine = seen(odd)
     check("a time that is none", (machine["last"], fleet.reports(machine)[0]["started"]), (None, None))
+
+
+def newest_first(row):
+    """The reports that the store keeps of a row's machine as the page has them, but for the times that are read of them."""
+    return [{name: value for name, value in report.items() if name not in ("store", "agent", "node_name")} for report in reversed(stores.kept(row))]
+
+
+def listed(fleet, machine):
+    """The reports of a machine, without the times that were read of them; a machine that has none has no file."""
+    if machine["class"] == "Silent":
+        return []
+    return [{name: value for name, value in report.items() if name not in ("started", "ended")} for report in fleet.reports(machine)]
 
 
 def reading(scratch):
@@ -133,11 +155,11 @@ def reading(scratch):
     two = stores.row(f"{fleet.stores}/store-2", 2, "web2", "Failed", now, 60, ["[File]A"])
     fleet.put("store-1", [one])
     fleet.put("store-2", [two])
-    first = [f"--older 24 {fleet.stores}/store-{number}" for number in (1, 2)]
+    first = [f"{words} {fleet.stores}/store-{number}" for number in (1, 2) for words in ("--reports", "--older 24")]
     check("each store is read", fleet.write(), (0, "", first))
     check("one that was not written to is not read again", fleet.write(), (0, "", []))
     fleet.put("store-2", [two, stores.row(f"{fleet.stores}/store-2", 3, "web3", "Silent", now, 0)], 1800)
-    check("one that was is", fleet.write(), (0, "", first[1:]))
+    check("one that was is", fleet.write(), (0, "", first[2:]))
     check("its machines are there", [(machine["name"], machine["class"]) for machine in fleet.machines()], [("web1", "Compliant"), ("web2", "Failed"), ("web3", "Silent")])
     whole = {path: open(path, encoding="utf-8").read() for path in fleet.files() + [f"{fleet.folder}/data/fleet.json"]}
     check("no file that is served has a whole id", [path for path, text in whole.items() if stores.agent(1) in text or stores.agent(2) in text], [])
@@ -156,7 +178,7 @@ def reading(scratch):
 
 
 def real_store(scratch):
-    """The real program over a store with three agents, in the form of nimchout-store(5)."""
+    """The real program over a store with three agents, in the form of nimchout-store(5). Of six reports of one, five are of different jobs."""
     if not os.access(REAL, os.X_OK) and not shutil.which(REAL):
         print("skipped: the real program over a real store, since NIMCHOUT_FLEET names none and crates/fleet_program is not built")
         return
@@ -169,14 +191,17 @@ def real_store(scratch):
         texts = b"".join(len(text).to_bytes(2, "big") + text for text in (b"2.0", b"web%d" % number, b"::1", ))
         return b"\1" + bytes(12) + number.to_bytes(4, "big") + texts + b"\1" + b"\0\3Web"
 
-    def reported(number, status):
-        return b"\2" + bytes(12) + number.to_bytes(4, "big") + bytes(12) + number.to_bytes(4, "big") + protocol.report_body(number, status)
+    def reported(number, job, status):
+        return b"\2" + bytes(12) + number.to_bytes(4, "big") + bytes(12) + job.to_bytes(4, "big") + protocol.report_body(job, status)
 
+    came = [(11, "Success"), (12, "Failure"), (13, "Failure"), (14, "InProgress"), (12, "Success"), (15, "Success")]
     with open(f"{fleet.stores}/store-1", "wb") as file:
-        file.write(b"DSCSTOR1" + b"".join(map(cell, [registered(1), registered(2), registered(3), reported(1, "Success"), reported(2, "Failure")])) + b"\0")
+        file.write(b"DSCSTOR1" + b"".join(map(cell, [registered(1), registered(2), registered(3), *(reported(1, *each) for each in came), reported(2, 21, "Failure")])) + b"\0")
     check("a real store is read", fleet.write(os.path.abspath(REAL) if os.path.exists(REAL) else REAL)[:2], (0, ""))
     check("its machines", [(machine["name"], machine["class"], machine["agent"]) for machine in fleet.machines()],
           [(f"web{number}", of_class, "00000000") for number, of_class in ((1, "Compliant"), (2, "Failed"), (3, "Silent"))])
+    check("their reports", [[(int(report["job"][-8:], 16), report["class"]) for report in fleet.reports(machine)] for machine in fleet.machines()[:2]],
+          [[(15, "Compliant"), (14, "Other"), (13, "Failed"), (12, "Compliant")], [(21, "Failed")]])
     check("its places", [(store["agents"], store["places"]) for store in fleet.table()["stores"]], [(3, 512)])
 
 
@@ -299,10 +324,19 @@ FAINT = """(() => { const bright = color => { const [r, g, b] = color.map(part =
 
 
 def shown(row):
-    """A row of the table as the page has to show it, for a machine of which one report was seen."""
-    moment = row["end"]
+    """A row of the table as the page has to show it, for a machine that was seen once."""
     ids = [missed["id"] for missed in row["not_in_desired_state"]]
-    return [row["node_name"] or "(no name)", row["agent"][:8], row["class"], row["stale"], moment, moment, str(row["count"]), ids[:3]]
+    return [row["node_name"] or "(no name)", row["agent"][:8], row["class"], row["stale"], since(row), row["end"], str(row["count"]), ids[:3]]
+
+
+def since(row):
+    """When the first of a machine's newest reports ended that are of its class."""
+    moment = None
+    for report in reversed(stores.kept(row)):
+        if report["class"] != row["class"]:
+            break
+        moment = report["end"]
+    return moment
 
 
 def by_name(row):
@@ -409,7 +443,8 @@ def more_reports(browser, fleet, now, rows, key):
     """Reports that come while the machine's are open: they are listed, the key stays where it is."""
     browser.value(f"document.querySelector('tr[data-key=\"{key}\"] button').focus()")
     for run in range(2, 7):
-        rows[0] = stores.row(f"{fleet.stores}/store-1", 1, "web1", "Failed", now, 4000 - run, [f"[File]{run}"], run=run)
+        before = [*rows[0].get("earlier", ()), rows[0]]
+        rows[0] = {**stores.row(f"{fleet.stores}/store-1", 1, "web1", "Failed", now, 4000 - run, [f"[File]{run}"], run=run), "earlier": before}
         fleet.put("store-1", rows, 3600 - run)
         fleet.write()
     # the page takes what was written in another second
@@ -456,6 +491,9 @@ def many_machines(browser, scratch):
     fleet, now = Fleet(scratch), int(time.time())
     rows = stores.made(fleet.stores, 5000, now)
     check("5,000 are written", fleet.write()[:2], (0, ""))
+    wanted = {row["agent"][:8]: newest_first(row) for row in rows}
+    check("the reports of each are those of its store", [machine["name"] for machine in fleet.machines() if listed(fleet, machine) != wanted[machine["agent"]]], [])
+    check("some have four", sum(len(reports) == 4 for reports in wanted.values()) > 1000)
     opened(browser, site_of(fleet))
     classes = {name: sum(row["class"] == name for row in rows) for name in stores.CLASSES}
     check("counts of 5,000", counted(browser), {**{name: f"{count:,}" for name, count in classes.items()}, "Stale": str(sum(row["stale"] for row in rows))})
@@ -483,7 +521,7 @@ def filters(browser, rows, now):
         check(f"{name}: how many", text_of(browser, "#found"), f"{len(wanted):,} of 5,000 machines" if len(wanted) < 5000 else "all 5,000 machines")
 
     def age(row):
-        return now - datetime.datetime.fromisoformat(row["end"]).timestamp() if row["end"] else 0
+        return now - datetime.datetime.fromisoformat(since(row)).timestamp() if row["end"] else 0
 
     click(browser, "[data-chip=Failed]")
     is_listed("failed", lambda row: row["class"] == "Failed")

@@ -1,6 +1,6 @@
 //! The message of the last report of an agent.
 ghost use Rattle.std.specs.Prelude.{◌≡◌, IfOk};
-ghost use Rattle.agent_class.specs.Classes.{class_of_row};
+ghost use Rattle.agent_class.specs.Classes.{class_of_body, class_of_row};
 ghost use Rattle.agent_class.specs.LastMessage.{last_message as message_of_row, message_of_body};
 
 use crate::class::{Class, class_told};
@@ -21,7 +21,6 @@ pub fn last_message(alloc: Global, row: &Row) -> Result<Option<ReportMessage>, M
 
 /// The class of the agent of a row, and the message of its last report, as `class_of_row` and `last_message` have them; that report
 /// is read once.
-#[tactic(auto, using(crate::proofs::Classed::told_class))]
 pub fn class_and_message(alloc: Global, row: &Row) -> Result<(Class, Option<ReportMessage>), Memory>
     ensures class { IfOk result (λ said. said.0 ≡ class_of_row row.now) }
     ensures message { IfOk result (λ said. said.1 ≡ message_of_row row.now) }
@@ -29,7 +28,19 @@ pub fn class_and_message(alloc: Global, row: &Row) -> Result<(Class, Option<Repo
     let Some(report) = row.reports.as_slice().last() else {
         return Ok((Class::Silent, None));
     };
-    let message = message_of(alloc, report.body.as_slice())?;
+    class_and_message_in(alloc, report.body.as_slice())
+}
+
+/// The class that a report gives which was sent with this body, and its message, where it is one; the body is read once.
+#[tactic(auto, using(crate::proofs::Classed::told_class))]
+pub fn class_and_message_in(
+    alloc: Global,
+    body: &[u8],
+) -> Result<(Class, Option<ReportMessage>), Memory>
+    ensures class { IfOk result (λ said. said.0 ≡ class_of_body body.now) }
+    ensures message { IfOk result (λ said. said.1 ≡ message_of_body body.now) }
+{
+    let message = message_of(alloc, body)?;
     Ok((class_told(&message), message))
 }
 

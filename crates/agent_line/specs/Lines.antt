@@ -1,4 +1,4 @@
--- The line of an agent, as JSON with its members in this order.
+-- The line of an agent, and that of one of its reports, as JSON with its members in this order.
 use Rattle.std.specs.Prelude.{ℕ, ◌-◌, Bool, true, false, List, [], ◌∷◌, ◌++◌, length, slice_get, codes, Option, Some, None, option_map}
 use Rattle.std.specs.Fmt.{decimal}
 use Rattle.serde_json.specs.Written.{compact_text}
@@ -43,20 +43,27 @@ id_or_null (Some id) = id_json id
 unfoldable pub who_of : List ℕ → Row → List ℕ
 who_of store row = codes "{\"store\":" ++ json_text store ++ key (codes "agent") ++ id_json row.agent
 
+-- the name that it registered with
+unfoldable pub named_of : Row → List ℕ
+named_of row = key (codes "node_name") ++ text_or_null row.registration.node_name
+
 -- what it said of itself when it registered
 unfoldable pub registered_of : Row → List ℕ
-registered_of row =
-    key (codes "node_name") ++ text_or_null row.registration.node_name ++ key (codes "configurations") ++ texts_json row.registration.names
+registered_of row = named_of row ++ key (codes "configurations") ++ texts_json row.registration.names
+
+-- the name of a class
+unfoldable pub class_part : List ℕ → List ℕ
+class_part class = key (codes "class") ++ word_json class
 
 -- the name of its class, and whether it is stale
 unfoldable pub standing_of : List ℕ → Bool → List ℕ
-standing_of class stale = key (codes "class") ++ word_json class ++ key (codes "stale") ++ truth stale
+standing_of class stale = class_part class ++ key (codes "stale") ++ truth stale
 
 -- the job of the newest report, which stands last
 abbrev pub job_of : Row → Option ℕ
 job_of row = option_map (λ report. report.job) (slice_get row.reports (length row.reports - 1))
 
--- ---- what that report says
+-- ---- what a report says
 
 unfoldable pub times_of : ReportMessage → List ℕ
 times_of message =
@@ -82,9 +89,15 @@ unfoldable pub line_of : List ℕ → Row → List ℕ → Bool → Option Repor
 line_of store row class stale message =
     who_of store row ++ registered_of row ++ standing_of class stale ++ key (codes "job") ++ id_or_null (job_of row) ++ run_of message
 
+-- ---- the line of a report
+
+-- of this agent, of that job, with the name of the class that it gives, and what it says
+unfoldable pub report_line : List ℕ → Row → ℕ → List ℕ → Option ReportMessage → List ℕ
+report_line store row job class message =
+    who_of store row ++ named_of row ++ class_part class ++ key (codes "job") ++ id_json job ++ run_of message
+
 -- ---- the line of an agent that is forgotten
 
 unfoldable pub forgotten_line : List ℕ → Row → List ℕ
 forgotten_line store row =
-    codes "{\"store\":" ++ json_text store ++ key (codes "forgotten") ++ id_json row.agent ++ key (codes "node_name")
-    ++ text_or_null row.registration.node_name ++ codes "}\n"
+    codes "{\"store\":" ++ json_text store ++ key (codes "forgotten") ++ id_json row.agent ++ named_of row ++ codes "}\n"

@@ -1,7 +1,7 @@
-//! The line of an agent.
+//! The line of an agent, and that of one of its reports.
 ghost use Rattle.std.specs.Prelude.{◌≡◌, ◌++◌, None, OnOk, codes, option_map};
 ghost use Rattle.std.specs.Fmt.{decimal};
-ghost use Rattle.agent_line.specs.Lines.{count_part, forgotten_line, id_json, id_or_null, job_of, key, line_of, registered_of, run_of, said_of, standing_of, times_of, truth, unmet_of, who_of, word_json};
+ghost use Rattle.agent_line.specs.Lines.{class_part, count_part, forgotten_line, id_json, id_or_null, job_of, key, line_of, named_of, registered_of, report_line, run_of, said_of, standing_of, times_of, truth, unmet_of, who_of, word_json};
 
 use crate::json::{push_text, push_text_or_null, push_texts};
 use crate::number::count_of;
@@ -25,14 +25,40 @@ pub fn push_line(
     stale: bool,
     message: Option<&ReportMessage>,
 ) -> Result<(), AllocError>
-    ensures { OnOk result (out.new.items
-        ≡ out.old.items ++ line_of store.now row.now class.now stale (option_map (λ m. m.now) message.entry)) }
+    ensures { let said = option_map (λ m. m.now) message.entry in
+        OnOk result (out.new.items
+        ≡ out.old.items ++ line_of store.now row.now class.now stale said) }
 {
     push_who(out, alloc, store, row)?;
     push_registered(out, alloc, row)?;
     push_standing(out, class, stale)?;
     push_key(out, "job")?;
     push_id_or_null(out, alloc, job_of(row))?;
+    push_run_of(out, alloc, message)?;
+    Ok(())
+}
+
+/// Adds the line of a report that the store at this path keeps of the agent of a row: of this job, with the name of the class that it
+/// gives, and its message, where it is one.
+#[tactic(auto, unfolding(crate::specs::Lines::report_line))]
+pub fn push_report(
+    out: &mut Vec<u8>,
+    alloc: Global,
+    store: &Text,
+    row: &Row,
+    job: u128,
+    class: &str,
+    message: Option<&ReportMessage>,
+) -> Result<(), AllocError>
+    ensures { let said = option_map (λ m. m.now) message.entry in
+        OnOk result (out.new.items
+        ≡ out.old.items ++ report_line store.now row.now job class.now said) }
+{
+    push_who(out, alloc, store, row)?;
+    push_named(out, alloc, row)?;
+    push_class(out, class)?;
+    push_key(out, "job")?;
+    push_id(out, alloc, job)?;
     push_run_of(out, alloc, message)?;
     Ok(())
 }
@@ -51,8 +77,7 @@ pub fn push_forgotten(
     push_text(out, alloc, store)?;
     push_key(out, "forgotten")?;
     push_id(out, alloc, row.agent)?;
-    push_key(out, "node_name")?;
-    push_text_or_null(out, alloc, &row.registration.node_name)?;
+    push_named(out, alloc, row)?;
     out.extend_from_slice(b"}\n")
 }
 
@@ -67,12 +92,20 @@ fn push_who(out: &mut Vec<u8>, alloc: Global, store: &Text, row: &Row) -> Result
     Ok(())
 }
 
+#[tactic(auto, unfolding(crate::specs::Lines::named_of))]
+fn push_named(out: &mut Vec<u8>, alloc: Global, row: &Row) -> Result<(), AllocError>
+    ensures { OnOk result (out.new.items ≡ out.old.items ++ named_of row.now) }
+{
+    push_key(out, "node_name")?;
+    push_text_or_null(out, alloc, &row.registration.node_name)?;
+    Ok(())
+}
+
 #[tactic(auto, unfolding(crate::specs::Lines::registered_of))]
 fn push_registered(out: &mut Vec<u8>, alloc: Global, row: &Row) -> Result<(), AllocError>
     ensures { OnOk result (out.new.items ≡ out.old.items ++ registered_of row.now) }
 {
-    push_key(out, "node_name")?;
-    push_text_or_null(out, alloc, &row.registration.node_name)?;
+    push_named(out, alloc, row)?;
     push_key(out, "configurations")?;
     push_texts(out, alloc, row.registration.names.as_slice())?;
     Ok(())
@@ -82,10 +115,18 @@ fn push_registered(out: &mut Vec<u8>, alloc: Global, row: &Row) -> Result<(), Al
 fn push_standing(out: &mut Vec<u8>, class: &str, stale: bool) -> Result<(), AllocError>
     ensures { OnOk result (out.new.items ≡ out.old.items ++ standing_of class.now stale) }
 {
-    push_key(out, "class")?;
-    push_word(out, class)?;
+    push_class(out, class)?;
     push_key(out, "stale")?;
     out.extend_from_slice(truth(stale).as_bytes())?;
+    Ok(())
+}
+
+#[tactic(auto, unfolding(crate::specs::Lines::class_part))]
+fn push_class(out: &mut Vec<u8>, class: &str) -> Result<(), AllocError>
+    ensures { OnOk result (out.new.items ≡ out.old.items ++ class_part class.now) }
+{
+    push_key(out, "class")?;
+    push_word(out, class)?;
     Ok(())
 }
 

@@ -1,14 +1,15 @@
 //! The program that reads the stores of pull servers while these run, and has a store forget agents.
 //!
-//! It prints a line of JSON for each agent of each store, and one for the store; or a table; or gauges for Prometheus;
-//! and ends with a number that says whether some machine failed, is silent or is stale. A store's rows are those that
-//! `open_pull` reads of one image of its file, which is opened to be read alone and not locked. What is printed of them
-//! has a definition in `store_lines`. Agents are forgotten by `PullStore::forget`, of a store that is opened and locked
-//! as its server does, while that does not run; which ones is a definition of `store_lines` too. `main` makes the real
-//! objects.
+//! It prints a line of JSON for each agent of each store, or for each of its reports, and one for the store; or a
+//! table; or gauges for Prometheus; and ends with a number that says whether some machine failed, is silent or is
+//! stale. A store's rows are those that `open_pull` reads of one image of its file, which is opened to be read alone
+//! and not locked. What is printed of them has a definition in `store_lines`. Agents are forgotten by
+//! `PullStore::forget`, of a store that is opened and locked as its server does, while that does not run; which ones
+//! is a definition of `store_lines` too. `main` makes the real objects.
 //!
 //! Where a thing is:
-//! - lines and tables: `src/looking.rt`; gauges: `src/gauging.rt`; agents that are forgotten: `src/forgetting.rt`
+//! - lines, reports and tables: `src/looking.rt`; gauges: `src/gauging.rt`; agents that are forgotten:
+//!   `src/forgetting.rt`
 //! - one image of a file that a server writes: `src/reading.rt`, over `image_file`
 #![tactic(auto)]
 
@@ -20,7 +21,7 @@ mod reading;
 
 use forgetting::forget_agents;
 use gauging::print_gauges;
-use looking::print_stores;
+use looking::{Form, print_stores};
 use mof_values::Text;
 use pull_store::PullError;
 use real_outside::{arguments, hold_standard_descriptors};
@@ -50,8 +51,9 @@ fn run(rt: &HostRuntime, arguments: &[String]) -> FleetStatus {
         Err(WordsError::Memory) => return FleetStatus::Memory,
     };
     match words.task {
-        Task::Lines => print_stores(rt, &words.options, false),
-        Task::Table => print_stores(rt, &words.options, true),
+        Task::Lines => print_stores(rt, &words.options, Form::Lines),
+        Task::Reports => print_stores(rt, &words.options, Form::Reports),
+        Task::Table => print_stores(rt, &words.options, Form::Table),
         Task::Gauges => print_gauges(rt, &words.options),
         Task::Forget => forget_agents(rt, &words.options),
     }

@@ -1,5 +1,6 @@
 pub mod Choice
 pub mod Gauges
+pub mod Reported
 pub mod Status
 pub mod Tabled
 pub mod Told

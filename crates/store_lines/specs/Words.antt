@@ -9,7 +9,7 @@ use Rattle.pull_messages.specs.Targets.{agent_of}
 use Rattle.agent_class.specs.declared.class.Class.{Class}
 use Rattle.store_lines.specs.declared.choice.Choice.{Choice}
 use Rattle.store_lines.specs.declared.task.Task.{Task}
-use Rattle.store_lines.specs.declared.task.Task.TheVariants.{Lines, Table, Gauges, Forget}
+use Rattle.store_lines.specs.declared.task.Task.TheVariants.{Lines, Reports, Table, Gauges, Forget}
 use Rattle.store_lines.specs.declared.task.FleetOptions.{FleetOptions}
 use Rattle.store_lines.specs.declared.words.FleetWords.{FleetWords}
 use Rattle.store_lines.specs.Told.{class_word}
@@ -40,7 +40,7 @@ abbrev pub looking_app : App
 looking_app = with_rule (with_rule (with_rule bare stores_rule) (many_rule (codes "class"))) (option_rule (codes "older"))
 
 abbrev pub printing_app : App
-printing_app = with_rule (with_rule looking_app (flag_rule (codes "table"))) (flag_rule (codes "prometheus"))
+printing_app = with_rule (with_rule (with_rule looking_app (flag_rule (codes "reports"))) (flag_rule (codes "table"))) (flag_rule (codes "prometheus"))
 
 unfoldable pub fleet_app : App
 fleet_app =
@@ -98,6 +98,7 @@ pub record AreOptions (rows : List Row) (options : FleetOptions) : Type 0 where
   pub stores : map encode_utf8_all options.stores ≡ texts_of (codes "store") rows
   pub classes : map class_word options.classes ≡ texts_of (codes "class") rows
   pub older : IsNumber (first_of (codes "older") rows) options.older
+  pub reports : IsFlag (first_of (codes "reports") rows) options.reports
   pub table : IsFlag (first_of (codes "table") rows) options.table
   pub prometheus : IsFlag (first_of (codes "prometheus") rows) options.prometheus
   pub choice : IsChoice rows options.choice
@@ -126,14 +127,16 @@ chooses choice = not (is_empty choice.agents) || is_some choice.silent_days || c
 
 -- no option says what is printed
 abbrev pub prints_nothing : FleetOptions → Bool
-prints_nothing options = not options.table && not options.prometheus && is_empty options.classes && is_none options.older
+prints_nothing options =
+    not options.reports && not options.table && not options.prometheus && is_empty options.classes && is_none options.older
 
 -- the form of what is printed: one at most is given
-abbrev pub form_of : Bool → Bool → Option Task
-form_of false false = Some Lines
-form_of true false = Some Table
-form_of false true = Some Gauges
-form_of true true = None
+abbrev pub form_of : Bool → Bool → Bool → Option Task
+form_of false false false = Some Lines
+form_of true false false = Some Reports
+form_of false true false = Some Table
+form_of false false true = Some Gauges
+form_of _ _ _ = None
 
 -- one of the texts stands twice
 abbrev pub is_repeated : List (List ℕ) → Bool
@@ -143,7 +146,7 @@ is_repeated (text ∷ texts) = list_any (bytes_eq text) texts || is_repeated tex
 -- of each store there is one sample of a gauge
 abbrev pub printed_form : FleetOptions → Option Task
 printed_form options =
-    if options.prometheus && is_repeated options.stores then None else form_of options.table options.prometheus
+    if options.prometheus && is_repeated options.stores then None else form_of options.reports options.table options.prometheus
 
 -- agents are forgotten of one store, and nothing else is asked then
 abbrev pub task_of : FleetOptions → Option Task

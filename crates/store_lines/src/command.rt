@@ -22,8 +22,9 @@ fn printing<'a>(alloc: Global) -> Result<Command<'a>, AllocError>
     ensures { IfOk result (λ command. app_of command ≡ printing_app) }
 {
     let one = looking(alloc)?;
-    let two = one.arg(flag(alloc, "table"))?;
-    two.arg(flag(alloc, "prometheus"))
+    let two = one.arg(flag(alloc, "reports"))?;
+    let three = two.arg(flag(alloc, "table"))?;
+    three.arg(flag(alloc, "prometheus"))
 }
 
 // Without those of a form, too.

@@ -11,6 +11,7 @@
 //!   which options go together `src/task.rt`
 //! - what is printed of a store, and what is an alarm: `specs/Told.antt`, `src/told.rt`; whether an agent is stale
 //!   `src/seen.rt`; the class and the last report of an agent are `agent_class`, its line is `agent_line`
+//! - the reports that a store keeps: `specs/Reported.antt`, `src/reported.rt`
 //! - the table of a store: `specs/Tabled.antt`, `src/tabled.rt`, over the cells of `agent_line`
 //! - gauges for Prometheus: `specs/Gauges.antt`, `src/gauges.rt`, of what `src/standing.rt` counts
 //! - which agents are to be forgotten: `specs/Choice.antt`, `src/choice.rt`
@@ -20,6 +21,7 @@
 mod choice;
 mod command;
 mod gauges;
+mod reported;
 mod seen;
 mod standing;
 mod status;
@@ -31,6 +33,7 @@ mod words;
 
 pub use choice::{Choice, Forgotten, choose, first_unknown};
 pub use gauges::gauges_text;
+pub use reported::store_reports;
 pub use seen::Seen;
 pub use standing::{Standing, StoreStandings, has_alarm, standings_of};
 pub use status::{FleetStatus, status_of};

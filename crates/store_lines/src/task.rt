@@ -13,6 +13,9 @@ pub enum Task {
     /// It prints a line for each agent.
     Lines,
 
+    /// It prints a line for each report that is kept.
+    Reports,
+
     /// It prints a table of the agents.
     Table,
 
@@ -34,6 +37,9 @@ pub struct FleetOptions {
 
     /// A machine is stale where its last report did not end within so many hours.
     pub older: Option<u32>,
+
+    /// The reports that are kept are to be printed.
+    pub reports: bool,
 
     /// A table is to be printed.
     pub table: bool,
@@ -68,7 +74,8 @@ fn chooses(choice: &Choice) -> bool
 fn prints_nothing(options: &FleetOptions) -> bool
     ensures { result ≡ prints_nothing options.now }
 {
-    !options.table
+    !options.reports
+        && !options.table
         && !options.prometheus
         && is_empty(options.classes.as_slice())
         && options.older.is_none()
@@ -80,7 +87,7 @@ fn printed_form(options: &FleetOptions) -> Option<Task>
     if options.prometheus && is_repeated(options.stores.as_slice()) {
         return None;
     }
-    form_of(options.table, options.prometheus)
+    form_of(options.reports, options.table, options.prometheus)
 }
 
 // Whether one of the texts stands twice.
@@ -103,14 +110,15 @@ fn is_among(texts: &[Text], text: &Text) -> bool
     texts.iter().any(|other| *text == *other)
 }
 
-fn form_of(table: bool, prometheus: bool) -> Option<Task>
-    ensures { result ≡ form_of table prometheus }
+fn form_of(reports: bool, table: bool, prometheus: bool) -> Option<Task>
+    ensures { result ≡ form_of reports table prometheus }
 {
-    match (table, prometheus) {
-        (false, false) => Some(Task::Lines),
-        (true, false) => Some(Task::Table),
-        (false, true) => Some(Task::Gauges),
-        (true, true) => None,
+    match (reports, table, prometheus) {
+        (false, false, false) => Some(Task::Lines),
+        (true, false, false) => Some(Task::Reports),
+        (false, true, false) => Some(Task::Table),
+        (false, false, true) => Some(Task::Gauges),
+        _ => None,
     }
 }
 

@@ -31,6 +31,7 @@ pub(crate) fn options_in(
         stores: Items::of(stores),
         classes: Items::of(classes),
         older,
+        reports: flag_in(matches, "reports"),
         table: flag_in(matches, "table"),
         prometheus: flag_in(matches, "prometheus"),
         choice,

@@ -50,7 +50,7 @@ impl<T: Drop> From<AllocFailed<T>> for WordsError {
 }
 
 /// The values of `STORE..`, with the options `--class NAME` and `--forget AGENT`, which may stand more than once, `--older HOURS`,
-/// `--table`, `--prometheus`, `--forget-silent DAYS` and `--forget-never-reported`, in any order.
+/// `--reports`, `--table`, `--prometheus`, `--forget-silent DAYS` and `--forget-never-reported`, in any order.
 pub fn fleet_words(alloc: Global, arguments: &[String]) -> Result<FleetWords, WordsError>
     ensures usage { IsErrOf result WordsError.Usage → IsRefused (map string_bytes arguments.now) }
     ensures taken { IfOk result (λ words. AreValues (map string_bytes arguments.now) words) }
