@@ -67,15 +67,9 @@ fn texts_from(alloc: Global, values: &[&str]) -> Result<Vec<Text>, AllocError>
 {
     let mut texts = Vec::new(alloc);
     for value in values {
-        texts.push(text_from(alloc, value)?)?;
+        texts.push(Text::from_utf8(alloc, value)?)?;
     }
     Ok(texts)
-}
-
-fn text_from(alloc: Global, value: &str) -> Result<Text, AllocError>
-    ensures { IfOk result (λ text. encode_utf8_all text ≡ value.now) }
-{
-    Ok(Text::of(value.chars().collect(alloc)?))
 }
 
 fn classes_in(alloc: Global, matches: &ArgMatches<'_>) -> Result<Vec<Class>, WordsError>
