@@ -15,7 +15,10 @@ pub fn read_canonical<S: Source>(alloc: Global, input: &mut S) -> Result<Vec<u8>
     ensures err { IfErr result (λ e. IsUnread AnswersCanon e (S.left input.old) (S.faults input.old)
         (S.faults input.new)) }
 {
-    let instances = read_instances(alloc, input)?;
+    let instances = match read_instances(alloc, input) {
+        Ok(instances) => instances,
+        Err(unread) => return Err(unread),
+    };
     match write(alloc, &instances) {
         Ok(text) => Ok(text),
         Err(Memory) => Err(Unread::Memory),

@@ -13,7 +13,10 @@ pub fn read_count<S: Source>(alloc: Global, input: &mut S) -> Result<Vec<u8>, Un
     ensures err { IfErr result (λ e. IsUnread AnswersCheck e (S.left input.old) (S.faults input.old)
         (S.faults input.new)) }
 {
-    let document = read_document(alloc, input)?;
+    let document = match read_document(alloc, input) {
+        Ok(document) => document,
+        Err(unread) => return Err(unread),
+    };
     let count = document.resources.as_slice().len();
     let mut text = String::new(alloc);
     write!(text, "ok {count}\n")?;

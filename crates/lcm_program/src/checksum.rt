@@ -19,7 +19,10 @@ pub fn read_checksum<S: Source>(input: &mut S) -> Result<[u8; 65], Unread>
         IsRefused AnswersChecksum cause (S.left input.old) (S.faults input.old)
         (S.faults input.new)) }
 {
-    Ok(checksum_line(&read_digest(input)?))
+    match read_digest(input) {
+        Ok(digest) => Ok(checksum_line(&digest)),
+        Err(unread) => Err(unread),
+    }
 }
 
 // The digest of the input.

@@ -21,7 +21,10 @@ pub fn read_compiled<S: Source>(
     ensures err { IfErr result (λ e. IsUnread (AnswersCompile node.now) e (S.left input.old)
         (S.faults input.old) (S.faults input.new)) }
 {
-    let bytes = read_within(alloc, input, MAX_SCRIPT)?;
+    let bytes = match read_within(alloc, input, MAX_SCRIPT) {
+        Ok(bytes) => bytes,
+        Err(unread) => return Err(unread),
+    };
     match compile(alloc, &bytes, node) {
         Ok(text) => Ok(text),
         Err(error) => Err(uncompiled(error)),

@@ -69,7 +69,10 @@ pub fn read_ordered<S: Source>(alloc: Global, input: &mut S) -> Result<OrderedDo
     ensures err { IfErr result (λ e. IsUnread ReadsDocument e (S.left input.old)
         (S.faults input.old) (S.faults input.new)) }
 {
-    let bytes = read_bytes(alloc, input)?;
+    let bytes = match read_bytes(alloc, input) {
+        Ok(bytes) => bytes,
+        Err(unread) => return Err(unread),
+    };
     let name = Text::of(Vec::new(alloc));
     match merge_text(alloc, &name, &bytes) {
         Ok(ordered) => Ok(ordered),
@@ -89,7 +92,10 @@ pub fn read_document<S: Source>(alloc: Global, input: &mut S) -> Result<Document
     ensures err { IfErr result (λ e. IsUnread ReadsDocument e (S.left input.old)
         (S.faults input.old) (S.faults input.new)) }
 {
-    Ok(read_ordered(alloc, input)?.document)
+    match read_ordered(alloc, input) {
+        Ok(ordered) => Ok(ordered.document),
+        Err(unread) => Err(unread),
+    }
 }
 
 // What a refusal of the merge is here.
@@ -111,7 +117,10 @@ pub fn read_instances<S: Source>(alloc: Global, input: &mut S) -> Result<Vec<Ins
     ensures err { IfErr result (λ e. IsUnread ReadsInstances e (S.left input.old)
         (S.faults input.old) (S.faults input.new)) }
 {
-    let bytes = read_bytes(alloc, input)?;
+    let bytes = match read_bytes(alloc, input) {
+        Ok(bytes) => bytes,
+        Err(unread) => return Err(unread),
+    };
     match read(alloc, &bytes) {
         Ok(instances) => Ok(instances),
         Err(error) => Err(unspelled(error)),
@@ -125,7 +134,10 @@ pub fn read_meta<S: Source>(alloc: Global, input: &mut S) -> Result<Meta, Unread
     ensures err { IfErr result (λ e. IsUnread ReadsMeta e (S.left input.old) (S.faults input.old)
         (S.faults input.new)) }
 {
-    let bytes = read_within(alloc, input, MAX_META_TEXT)?;
+    let bytes = match read_within(alloc, input, MAX_META_TEXT) {
+        Ok(bytes) => bytes,
+        Err(unread) => return Err(unread),
+    };
     let meta = match meta_config::read_meta(alloc, &bytes) {
         Ok(meta) => meta,
         Err(error) => return Err(undeclared(error)),

@@ -17,7 +17,10 @@ pub fn read_order<S: Source>(alloc: Global, input: &mut S) -> Result<Vec<u8>, Un
     ensures err { IfErr result (λ e. IsUnread AnswersOrder e (S.left input.old) (S.faults input.old)
         (S.faults input.new)) }
 {
-    let ordered = read_ordered(alloc, input)?;
+    let ordered = match read_ordered(alloc, input) {
+        Ok(ordered) => ordered,
+        Err(unread) => return Err(unread),
+    };
     let lines = id_lines(alloc, &ordered.document, ordered.order.as_slice())?;
     leave(ordered);
     Ok(lines.into_bytes())

@@ -53,7 +53,10 @@ pub fn read_and_play<S: Source>(alloc: Global, input: &mut S) -> Result<Vec<u8>,
     ensures err { IfErr result (λ e. IsUnread (AnswersRehearsal ⟦<NodeStarter as Starter>⟧) e
         (S.left input.old) (S.faults input.old) (S.faults input.new)) }
 {
-    let script = read_within(alloc, input, MAX_SCRIPT)?;
+    let script = match read_within(alloc, input, MAX_SCRIPT) {
+        Ok(script) => script,
+        Err(unread) => return Err(unread),
+    };
     let steps = match read_script(alloc, &script) {
         Ok(steps) => steps,
         Err(ScriptError::Line { line }) => {

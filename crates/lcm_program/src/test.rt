@@ -42,7 +42,10 @@ pub fn read_and_monitor<S: Source, M: Machine>(
     ensures err { IfErr result (λ e. IsUntested M.Resources nothing_further_of_runs e
         (S.left input.old) (S.faults input.old) (S.faults input.new) machine.old machine.new) }
 {
-    let ordered = read_ordered(alloc, input)?;
+    let ordered = match read_ordered(alloc, input) {
+        Ok(ordered) => ordered,
+        Err(unread) => return Err(unread),
+    };
     let outcome = monitor_document(alloc, &ordered, machine);
     leave(ordered);
     match outcome {
