@@ -12,10 +12,15 @@ use crate::spot::{Kind, Spot};
 use dsc_outside::HostError;
 use std::alloc::AllocError;
 use std::fs;
+use std::fs::Metadata;
 use std::io::ErrorKind;
 use std::os::fd::{AsFd, AsRawFd};
+use std::os::unix::fs::MetadataExt;
 use std::path::PathBuf;
 use std::rt::Files;
+
+// The bits of a mode by which others than the owner write.
+const WRITE_BITS: u32 = 0o022;
 
 /// What the folders above a path are.
 #[derive(Clone, Copy, Debug, PartialEq, Eq)]
@@ -59,6 +64,7 @@ where
     /// Walks to the folders of that path. Those that are held and stand as they were found before stay so.
     pub(super) fn walk(&mut self, folders: &str) -> Result<Above, HostError> {
         self.written = None;
+        self.is_free = false;
         let kept = self.count_kept(folders)?;
         self.ancestors.keep(kept);
         for name in folders.split('/').skip(self.ancestors.len()) {
@@ -75,7 +81,14 @@ where
     fn count_kept(&mut self, folders: &str) -> Result<usize, HostError> {
         let (count, end) = self.ancestors.shared(folders);
         let shared = folders.get(..end).unwrap_or("");
-        self.is_found = count > 1 && self.leads_to(shared, count)? && self.stands(shared, count)?;
+        let led = if count > 1 {
+            self.led_to(shared, count)?
+        } else {
+            None
+        };
+        self.is_found = led.is_some() && self.stands(shared, count)?;
+        self.is_kept = self.is_found && end == folders.len();
+        self.is_roots = self.is_kept && led.is_some_and(|folder| is_roots(&folder));
         if self.is_found || count == 0 {
             Ok(count)
         } else {
@@ -83,15 +96,15 @@ where
         }
     }
 
-    // Answers whether that path leads to the last of that many folders, which is held.
-    fn leads_to(&self, folders: &str, count: usize) -> Result<bool, HostError> {
+    // What that path leads to, where that is the last of that many folders, which is held.
+    fn led_to(&self, folders: &str, count: usize) -> Result<Option<Metadata>, HostError> {
         let Some(folder) = self.ancestors.held(count) else {
-            return Ok(false);
+            return Ok(None);
         };
         let place = self.place_in_host(folders)?;
         match fs::symlink_metadata(&self.rt, place.as_str()) {
-            Ok(seen) => Ok(seen.is_dir() && Identity::of(&seen) == folder.identity()),
-            Err(_) => Ok(false),
+            Ok(seen) if seen.is_dir() && Identity::of(&seen) == folder.identity() => Ok(Some(seen)),
+            _ => Ok(None),
         }
     }
 
@@ -258,6 +271,11 @@ where
             None => Ok(sync_folder(&self.rt, self.host.as_str())?),
         }
     }
+}
+
+// Answers whether nobody but root may change a name in the folder. A list of those who may besides shows in the bits of its group.
+fn is_roots(folder: &Metadata) -> bool {
+    folder.uid() == 0 && folder.mode() & WRITE_BITS == 0
 }
 
 // Makes a folder at the place, and answers whether nothing was there.

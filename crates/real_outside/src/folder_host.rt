@@ -40,7 +40,7 @@ use std::rt::Files;
 ///
 /// A removal takes away what the last look at that path found and nothing else, and a folder that was found empty only
 /// while it is; what another user put there since then is a failure. So is anything but the written file in the place of a
-/// file that was placed.
+/// file that was placed, in a folder in which others than root may change names, by its owner and its mode.
 ///
 /// A file is written beside its target, in one file system with it, under a name of `.nimchout-staged-` and 16 random
 /// digits, which other users of the folder cannot take first. Names that begin with `.nimchout-staged` are reserved: a call
@@ -48,8 +48,10 @@ use std::rt::Files;
 /// a folder it takes away what has such a name there, since a stop may have left it; what may not be taken away stays.
 ///
 /// A file is placed whole or not at all: it is written, synced, given the mode of the file that it replaces, and its
-/// owner and group where they may be set, and renamed. Each change then syncs the folders whose names it changed. Where
-/// that sync fails, the change was done, but the call failed. Access lists and extended attributes are not kept.
+/// owner and group where they may be set, and renamed. Where the call before was a look at its path that found nothing, it
+/// replaces none: what comes there since then is replaced as what comes while it is written. Each change then syncs the
+/// folders whose names it changed. Where that sync fails, the change was done, but the call failed. Access lists and
+/// extended attributes are not kept.
 ///
 /// A file or a folder that is missing means that what it would hold is not there; a change makes the folders that it
 /// needs, HOST too. Every other failure counts, and so does a link, a folder or anything else in the place of one of

@@ -98,6 +98,7 @@ where
     }
 
     pub fn reboot_wanted(&mut self, id: &str) -> Result<bool, HostError> {
+        self.is_free = false;
         let outcome = self.has_reboot(id);
         if !matches!(outcome, Ok(false)) {
             self.written = None;

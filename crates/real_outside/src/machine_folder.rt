@@ -5,8 +5,8 @@ use crate::held_folder::{sync_folder, sync_opened};
 use crate::identity::Identity;
 use crate::last_look::LastLook;
 use crate::placing::{Staged, stage_file};
-use crate::spot::folder_of;
-use crate::staging::{Mark, Marks, clear_staged};
+use crate::spot::{Spot, folder_of};
+use crate::staging::{Marks, clear_staged};
 use dsc_outside::HostError;
 use std::alloc::Global;
 use std::fs;
@@ -39,7 +39,16 @@ where
     // Whether the last walk found the last of them at its path below /proc.
     pub(super) is_found: bool,
 
+    // Whether that was the last of its path, and so no folder was opened.
+    pub(super) is_kept: bool,
+
+    // Whether it was so, and nobody but root may change a name in it.
+    pub(super) is_roots: bool,
+
     pub(super) last_look: Option<LastLook>,
+
+    // Whether the call before was that look, and it found nothing in the last folder.
+    pub(super) is_free: bool,
 
     // A name that a file was given in the folder of that identity.
     pub(super) placed: Option<(Identity, String)>,
@@ -78,7 +87,10 @@ where
             own: None,
             ancestors: Ancestors::new(alloc),
             is_found: false,
+            is_kept: false,
+            is_roots: false,
             last_look: None,
+            is_free: false,
             placed: None,
             written: None,
             synced: None,
@@ -125,16 +137,18 @@ where
         bytes: &[u8],
         own: Option<Identity>,
     ) -> Result<(), HostError> {
-        let _file = self.place_open(path, bytes, own)?;
+        let _file = self.place_open(path, bytes, own, false)?;
         Ok(())
     }
 
-    /// The same, and hands on the file, still open, where it has the mode of a new one.
+    /// The same, and hands on the file, still open, where it has the mode of a new one. Where nothing was seen at the path in the call
+    /// before, and the folders above it are still the same, it is not looked at once more.
     pub(super) fn place_open(
         &mut self,
         path: &str,
         bytes: &[u8],
         own: Option<Identity>,
+        is_free: bool,
     ) -> Result<Option<R::File>, HostError> {
         let Some((folders, name)) = split_path(path) else {
             return Err(HostError::Failed);
@@ -142,7 +156,8 @@ where
         self.walk_to_change(folders, own)?;
         self.clear_last_folder()?;
         let mark = self.marks.next()?;
-        let staged = self.stage(name, &mark, bytes)?;
+        let spot = self.spot_to_fill(name, is_free && self.is_kept)?;
+        let staged = stage_file(&self.rt, self.alloc(), spot, &mark, bytes)?;
         let outcome = self.put_in_place(path, &staged);
         if outcome.is_err() {
             let _ = fs::remove_file(&self.rt, staged.place.as_str());
@@ -154,17 +169,21 @@ where
         Ok(file)
     }
 
-    // Writes a file for that name beside it in the last folder, under a name with that mark.
-    fn stage(&self, name: &str, mark: &Mark, bytes: &[u8]) -> Result<Staged<R::File>, HostError> {
+    // What stands at that name in the last folder, or nothing where that is known.
+    fn spot_to_fill(&self, name: &str, is_free: bool) -> Result<Spot, HostError> {
         let folder = self.last_folder()?;
-        let spot = folder.look_inside(&self.rt, self.alloc(), name)?;
-        stage_file(&self.rt, self.alloc(), spot, mark, bytes)
+        if is_free {
+            let place = folder.place_of(self.alloc(), name)?;
+            return Ok(Spot { place, seen: None });
+        }
+        folder.look_inside(&self.rt, self.alloc(), name)
     }
 
-    // Has the staged file take its name. It is a failure where anything else than that file stands there then.
+    // Has the staged file take its name. It is a failure where anything else than that file stands there then, which only root could have
+    // done in a folder in which nobody else may change a name.
     fn put_in_place(&self, path: &str, staged: &Staged<R::File>) -> Result<(), HostError> {
         fs::rename(&self.rt, staged.place.as_str(), staged.spot.place.as_str())?;
-        if self.is_at(staged.file.as_fd().as_raw_fd(), path)? {
+        if self.is_roots || self.is_at(staged.file.as_fd().as_raw_fd(), path)? {
             return Ok(());
         }
         staged.expect_placed(&self.rt)

@@ -29,6 +29,7 @@ where
     {
         let place = root_path(self.alloc(), path)?;
         self.last_look = None;
+        self.is_free = false;
         self.written = None;
         if let Some(identity) = self.held_with_a_name(place.as_str())? {
             self.last_look = Some(LastLook::new(place, PathState::Folder, Some(identity)));
@@ -38,6 +39,7 @@ where
             Some(spot) => Some(spot),
             None => self.look_for(place.as_str())?,
         };
+        self.is_free = matches!(&spot, Some(spot) if spot.seen.is_none());
         let (state, identity) = match &spot {
             Some(spot) => (self.state_of(spot)?, spot.identity()),
             None => (PathState::Nothing, None),
@@ -119,6 +121,7 @@ where
         ensures { is_plain_path path.now ≡ false → result ≡ Err errors.Failed }
     {
         let place = root_path(self.alloc(), path)?;
+        self.is_free = false;
         let written = self.written.take();
         if let Some(answer) = self.equals_in_last(place.as_str(), &written, bytes)? {
             return Ok(answer);
@@ -204,10 +207,19 @@ where
         ensures { is_plain_path path.now ≡ false → result ≡ Err errors.Failed }
     {
         let place = root_path(self.alloc(), path)?;
+        let is_free = self.is_free && self.state_seen_at(place.as_str()).is_some();
         self.last_look = None;
         let own = self.own_folder()?;
-        self.written = self.place_open(place.as_str(), bytes, own)?;
+        self.written = self.place_open(place.as_str(), bytes, own, is_free)?;
         Ok(())
+    }
+
+    // What the last look found, where it was at that place.
+    fn state_seen_at(&self, place: &str) -> Option<PathState> {
+        match &self.last_look {
+            Some(look) => look.at(place),
+            None => None,
+        }
     }
 
     pub fn make_dir(&mut self, path: &str) -> Result<(), HostError>
@@ -249,10 +261,7 @@ where
     fn remove_name(&self, place: &str, name: &str, own: Option<Identity>) -> Result<(), HostError> {
         let folder = self.last_folder()?;
         let spot = folder.look(&self.rt, self.alloc(), name)?;
-        let looked = match &self.last_look {
-            Some(look) => look.at(place),
-            None => None,
-        };
+        let looked = self.state_seen_at(place);
         if looked.is_some() && !self.is_as_found(&spot) {
             return Err(HostError::Failed);
         }

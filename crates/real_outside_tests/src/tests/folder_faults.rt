@@ -12,8 +12,10 @@ use outside_rows::host_calls::Call::{
 use outside_rows::host_calls::{Row, expect_of, expect_one_of};
 use real_outside::FolderHost;
 use std::alloc::{AllocError, Global};
+use std::fs::Permissions;
 use std::io::ErrorKind;
 use std::os::fd::{AsFd, AsRawFd};
+use std::os::unix::fs::PermissionsExt;
 use std::rt::Files;
 use std::test::Fail;
 use std::{fs, io};
@@ -424,6 +426,8 @@ const ROWS: &[Row<'_>] = &[
     (State("b/c"), Empty),
     (Make("b/c"), Done),
     (State("b"), Folder),
+    (State("a/free"), Nothing),
+    (Put("a/free", b"1"), Done),
 ];
 
 const HELD: &[SystemCall] = &[
@@ -443,12 +447,17 @@ const HELD: &[SystemCall] = &[
     Look, Locate, Look, Create, Write, Sync, Compare, Mode, Rename, Locate, SyncFolder, Look, Open,
     Compare, Locate, Read, // Another folder takes the place of the second one.
     Look, Look, Find, Look, List, Look, Locate, Look, Find, Look, Locate,
+    // Nothing is there, and is not looked for once more by the next call.
+    Look, Look, Find, Look, Find, Look, Locate, Create, Write, Sync, Rename, Locate, SyncFolder,
 ];
 
+// Another user than root may change the names in the folder `a` too.
 fn expect_rows(rt: &HostRuntime, watch: &Watch<'_>) -> Result<(), Fail> {
     let scratch = make_folder(rt)?;
     make_before(rt, &scratch)?;
     let folder = folder_in(rt.alloc(), &scratch)?;
+    let shared = format!(in rt.alloc(); "{folder}/root/a")?;
+    fs::set_permissions(rt, shared, Permissions::from_mode(0o777))?;
     expect_in(rt.alloc(), WatchedFiles { rt, watch }, folder, ROWS)?;
     Ok(fs::remove_dir_all(rt, scratch)?)
 }
