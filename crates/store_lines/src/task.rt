@@ -118,7 +118,9 @@ fn form_of(reports: bool, table: bool, prometheus: bool) -> Option<Task>
         (true, false, false) => Some(Task::Reports),
         (false, true, false) => Some(Task::Table),
         (false, false, true) => Some(Task::Gauges),
-        _ => None,
+        (true, true, _) => None,
+        (true, false, true) => None,
+        (false, true, true) => None,
     }
 }
 
