@@ -3,7 +3,7 @@ use Rattle.node_pull.proofs.GoingOn.{stays}
 use Rattle.lcm_program.proofs.starts.register.Goals as goal
 
 pub returns-in-Ok-clause-ends : goal.returns-in-Ok-clause-ends
-returns-in-Ok-clause-ends g c = inl (rw c.in-Ok.ensures at c.start_node.ensures.starts)
+returns-in-Ok-clause-ends g c = inl (rw c.in-Ok.ensures.chars at c.start_node.ensures.starts)
 
 pub returns-in-Err-clause-ends : goal.returns-in-Err-clause-ends
 returns-in-Err-clause-ends g c = inr ((refl, refl), refl)
