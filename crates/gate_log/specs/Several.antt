@@ -63,7 +63,7 @@ Rewritten old whole before after (Err (NotAStore at)) new = ⊥
 Rewritten old whole before after (Err Memory) new = ⊥
 
 -- after Ok the log has these bodies in place of all that it had
-abbrev pub TakesBodies : {T D : Type 0} → Ghosts D → D → D → LogTerm → LogTerm → List (List ℕ) → Result T LogError → Type 0
+abbrev pub TakesBodies : {T E D : Type 0} → Ghosts D → D → D → LogTerm → LogTerm → List (List ℕ) → Result T E → Type 0
 TakesBodies d before now old new whole result =
     (bodies : List (List ℕ)) → IsLogOf d before old bodies → OnOk result (IsLogOf d now new whole)
 

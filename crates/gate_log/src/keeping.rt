@@ -3,6 +3,7 @@ ghost use Rattle.std.specs.Prelude.{◌≡◌, ◌+◌, ◌≤◌, [], ◌∷◌
 ghost use Rattle.gate_log.specs.Text.{AllFit, IsLive, after_gate, body_in, cells, need_of};
 ghost use Rattle.gate_log.specs.Log.{AtAnyMoment, capacity_in};
 ghost use Rattle.gate_log.specs.Kept.{Added, Counts, IsKeptAfter, IsKeptBy, LeadsAnew, LeavesEither, Replaced, WaitsAndCounts};
+ghost use Rattle.gate_log.specs.Several.{TakesBodies};
 
 use crate::error::LogError;
 use crate::log::Log;
@@ -96,7 +97,7 @@ pub fn add_all<K: LoggedState, D: Disk, S: Spelling>(
 
 /// Writes a whole state into the other bank and makes that bank live, in place of all bodies that the log has.
 ///
-/// A crash at any moment leaves the state before or that one; after `Ok` it leaves that one. After an error the log is spent.
+/// A crash at any moment leaves the state before or that one; after `Ok` it leaves that one, by these bodies. After an error the log is spent.
 pub fn rewrite<K: LoggedState, D: Disk, S: Spelling>(
     log: &mut Log,
     disk: &mut D,
@@ -114,6 +115,7 @@ pub fn rewrite<K: LoggedState, D: Disk, S: Spelling>(
         IsKeptAfter D.Disk disk.old disk.new K.shape K.leads to log.old log.new result }
     ensures any_moment { let to = LeadsAnew K.leads (S.rest whole.old) in
         LeavesEither D.Disk disk.old disk.new K.shape K.leads to log.old }
+    ensures bodies { TakesBodies D.Disk disk.old disk.new log.old log.new (S.rest whole.old) result }
     ensures count { D.faults disk.old ≤ D.faults disk.new }
     ensures buffer { vec_capacity buffer.old ≤ vec_capacity buffer.new }
 {

@@ -13,3 +13,6 @@ returns-in-Ok-clause-any_moment g c = λ old new kept leads.
 pub returns-in-Err-Disk-clause-any_moment : goal.returns-in-Err-Disk-clause-any_moment
 returns-in-Err-Disk-clause-any_moment g c = λ old new kept leads.
     moment_by g.K.LoggedState.shape g.K.LoggedState.leads g.D.Disk c.args.disk.now c.rewrite_all.new.disk c.args.log.now (g.S.Spelling.rest c.args.whole.now) old new kept leads (c.rewrite_all.ensures.any_moment kept.bodies kept.of)
+
+pub returns-in-Ok-clause-bodies : goal.returns-in-Ok-clause-bodies
+returns-in-Ok-clause-bodies g c = λ bodies of. c.in-Ok.ensures.ok bodies of
