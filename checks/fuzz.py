@@ -2,7 +2,7 @@
 import collections, json, multiprocessing, os, random, re, select, shutil, socket, subprocess, sys, tempfile, threading, time
 
 from fuzz_forks import Program
-from fuzz_inputs import BANK, BEGIN, BYTES, HEADER, TEXTS, changed, documents, made, metas, scripts, store_of, text_of
+from fuzz_inputs import BANK, BEGIN, BYTES, HEADER, TEXTS, changed, documents, in_full, made, metas, scripts, store_of, text_of
 from protocol import (PHRASES, answer, content, fetch, free_port, in_chunks, module, node, query, register, registration, report, request, statuses)
 
 AGENT = '00000000-0000-0000-0000-000000000010'
@@ -250,6 +250,7 @@ class Worker:
             self.run({0}, 'pull')
             self.pulling[name, 'pulled'] = bytes_of(self.store)
             self.stores += [self.pulling[name, stage] for stage in ('new', 'registered', 'pulled')]
+        self.stores += [in_full(store) for store in self.stores]
 
     @staticmethod
     def good_answers(name, texts):

@@ -185,6 +185,24 @@ def cells_of(store):
         at += 5 + size
     return found
 
+def in_full(store):
+    """The store in the format before: each document in full, and none under its digest."""
+    texts, bodies = {}, []
+    for body in cells_of(store):
+        if body[0] == 16:
+            texts[body[1:33]] = body[33:]
+        elif body[0] in (17, 18):
+            at = body[0] - 16
+            full, at = bytes([4 if at == 1 else 13]) + body[1:at + 1], at + 1
+            while at < len(body):
+                end = at + 34 + int.from_bytes(body[at:at + 2], 'big')
+                text = texts[body[end - 32:end]]
+                full, at = full + body[at:end] + len(text).to_bytes(4, 'big') + text, end
+            bodies.append(full)
+        elif body[0] != 15:
+            bodies.append(body)
+    return store_of_cells(bodies)
+
 def store_of_cells(bodies, end=b'\0'):
     return b'DSCSTOR1' + b''.join(b'\xa5' + len(body).to_bytes(4, 'big') + body for body in bodies) + end
 

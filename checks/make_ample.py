@@ -504,7 +504,7 @@ def scripts():
     compiled("no character after 8 MB", bad, 3, f"refused Compile NotText {len(bad) - 1}\n")
 
 
-# ---- stores in which documents stand once, under their digests, as no program writes them yet
+# ---- stores in which documents stand once, under their digests
 
 NO_FILES = """registered no
 mode ApplyAndMonitor Push

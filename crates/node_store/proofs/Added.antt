@@ -7,6 +7,7 @@ use Rattle.store_fields.specs.declared.error.FieldError.{FieldError}
 use Rattle.store_fields.specs.declared.error.FieldError.TheVariants.{Wrong}
 use Rattle.store_fields.specs.Fields.{bytes_of_digest, IsBlob, IsDigest}
 use Rattle.store_fields.specs.Reading.{Reads}
+use Rattle.node_store.specs.declared.blob.Blob.{Blob}
 use Rattle.node_store.specs.Digests.{AddsBlob, Blobs, IsAmong, blob_body, kind_of}
 use Rattle.node_store.specs.Resolving.{after_kind}
 use Rattle.node_store.proofs.Resolved.{by_kind}
@@ -41,11 +42,11 @@ module _ (blobs : Blobs) (body : List ℕ) where
     }
 
     -- a search for its digest found one
-    pub found_some : (found : Option (Bor (List ℕ))) → is_some found ≡ true
-        → MatchOption found ((bytes : List ℕ) → IsAmong blobs bytes → sha256 bytes ≢ named) (λ x. IsAmong blobs x.now × (named ≡ sha256 x.now) × IsBlob x.now)
+    pub found_some : (found : Option (Bor Blob)) → is_some found ≡ true
+        → MatchOption found ((bytes : List ℕ) → IsAmong blobs bytes → sha256 bytes ≢ named) (λ x. IsAmong blobs x.now.bytes × (named ≡ sha256 x.now.bytes) × IsBlob x.now.bytes)
         → (gathered : Blobs) → AddsBlob blobs body gathered → ⊥
     found_some None some found = absurd (cc some)
-    found_some (Some x) some found = found_before x.now found.0 found.1
+    found_some (Some x) some found = found_before x.now.bytes found.0 found.1
 
 pub not_unequal : (equal unequal : Bool) → unequal ≡ not equal → unequal ≡ true → equal ≡ true → ⊥
 not_unequal equal unequal is differs same = let none : false ≡ true = sym (is ∙ ap not same) ∙ differs in cc none

@@ -1,31 +1,34 @@
--- A Stage by digests is added, after the Blobs that the bank lacks.
+-- An event is added to a bank of format 2, after the Blobs that the bank lacks.
 use Rattle.std.proofs.Common.{◌≡◌, ◌⊎◌, inl, inr, ℕ, ◌+◌, ◌*◌, ◌≤◌, List, [], ◌∷◌, ◌++◌, map, length, refl, sym, ap, subst, arith, append_assoc, length-append}
 use Rattle.std.specs.List.{AllByRecursion}
 use Rattle.std.proofs.lemmas.List.{append-nil}
 use Rattle.std.proofs.lemmas.List.Sums.{sum_by-cons}
 use Rattle.sha2.specs.Sha256.{sha256}
 use Rattle.sha2.proofs.Facts256.{length-sha256}
-use Rattle.gate_log.specs.Text.{Gives, after_gate, cells}
-use Rattle.gate_log.specs.Several.{GivesFront}
-use Rattle.gate_log.specs.Standing.{StandsFor}
+use Rattle.gate_log.specs.Text.{after_gate, cells, need_of}
 use Rattle.gate_log.proofs.Cells.{length-after_gate}
 use Rattle.store_fields.specs.Fields.{IsBlob}
 use Rattle.partial_merge.specs.declared.part.Part.{Part}
+use Rattle.node_state.specs.declared.event.Event.{Event}
 use Rattle.node_state.specs.declared.event.Event.TheVariants as events
 use Rattle.node_state.specs.declared.list.Staged.{Staged}
 use Rattle.node_state.specs.declared.node.Node.{Node}
 use Rattle.node_state.specs.Lists.{bytes_of}
 use Rattle.node_state.specs.StagedParts.{parts_of}
-use Rattle.node_state.specs.Table.{Step}
-use Rattle.node_store.specs.Bodies.{body_of_event}
-use Rattle.node_store.specs.Digests.{Blobs, IsAmong, IsNew, Lack, blob_body, bytes_of_marks, mark_of, nothing_told, stage_body, staged_bodies, texts_of}
-use Rattle.node_store.specs.Growing.{AreNew}
+use Rattle.node_state.specs.Table.{IsWithin, Step}
+use Rattle.node_store.specs.Bodies.{HaveDigests, IsEventInRange, body_of_event}
+use Rattle.node_store.specs.Digests.{Blobs, IsAmong, IsNew, Lack, blob_body, bytes_of_marks, mark_of, nothing_told, stage_body, texts_of}
+use Rattle.node_store.specs.Growing.{AllAmong, AreNew, event_body, texts_of_event}
 use Rattle.node_store.specs.Parts.{AreParts, bytes_of_parts}
-use Rattle.node_store.specs.Stands.{BeforeOrAfter, LeadsByDigests, Stands, node_shape}
-use Rattle.node_store.proofs.Lacking.{lack_among, lack_new}
+use Rattle.node_store.specs.Stands.{Leads, LeadsByDigests}
+use Rattle.node_store.specs.declared.limits.TheConstants.{MAX_BODY}
+use Rattle.node_store.proofs.ByDigests.{stage_long}
+use Rattle.node_store.proofs.Lacking.{lack_all, lack_new, parts_among}
 use Rattle.node_store.proofs.Meaning.{told_as}
-use Rattle.node_store.proofs.Replay.{leads-push}
-use Rattle.node_store.proofs.Unfolded.{unfolds_push}
+use Rattle.node_store.proofs.Replay.{by_digests-push, leads-push}
+use Rattle.node_store.proofs.Sizes.{event_long}
+use Rattle.node_store.proofs.Unfolded.{first_or, unfolds_push}
+use Rattle.node_store.specs.Resolving.{after_kind}
 
 -- ---- bodies
 
@@ -77,30 +80,33 @@ stage-push blobs bodies old new staged among ranges step leads =
       leads = leads-push old new leads.said full (events.Stage staged) leads.leads refl ranges step;
     }
 
--- ---- all bodies of a Stage
+-- in format 2 an event's body leads on
+pub event-push : (blobs : Blobs) (bodies : List (List ℕ)) (old new : Node) (event : Event) → AllAmong blobs (texts_of_event event) → IsEventInRange event → Step old event new → LeadsByDigests blobs bodies old
+    → LeadsByDigests blobs (bodies ++ event_body event ∷ []) new
+event-push blobs bodies old new (events.Stage staged) among range step leads = stage-push blobs bodies old new staged (parts_among blobs (parts_of staged) among) range step leads
+event-push blobs bodies old new (events.Init agent) among range step leads = by_digests-push blobs old new bodies _ (events.Init agent) leads refl refl range step
+event-push blobs bodies old new (events.SetMeta meta) among range step leads = by_digests-push blobs old new bodies _ (events.SetMeta meta) leads refl refl range step
+event-push blobs bodies old new events.Registered among range step leads = by_digests-push blobs old new bodies _ events.Registered leads refl refl range step
+event-push blobs bodies old new (events.Promote report) among range step leads = by_digests-push blobs old new bodies _ (events.Promote report) leads refl refl range step
+event-push blobs bodies old new (events.Note report) among range step leads = by_digests-push blobs old new bodies _ (events.Note report) leads refl refl range step
+event-push blobs bodies old new (events.AskReboot report) among range step leads = by_digests-push blobs old new bodies _ (events.AskReboot report) leads refl refl range step
+event-push blobs bodies old new events.Boot among range step leads = by_digests-push blobs old new bodies _ events.Boot leads refl refl range step
+event-push blobs bodies old new (events.Sent job) among range step leads = by_digests-push blobs old new bodies _ (events.Sent job) leads refl refl range step
+event-push blobs bodies old new (events.Remove stage) among range step leads = by_digests-push blobs old new bodies _ (events.Remove stage) leads refl refl range step
+event-push blobs bodies old new events.Restore among range step leads = by_digests-push blobs old new bodies _ events.Restore leads refl refl range step
+
+-- ---- all bodies of an event
 
 -- of bodies with one more after them these are the first: all, or some without that one
 first_of : (texts : Blobs) (last : List ℕ) (front rest : List (List ℕ)) → map blob_body texts ++ last ∷ [] ≡ front ++ rest
     → (front ≡ map blob_body texts ++ last ∷ []) ⊎ ((done left : Blobs) × (texts ≡ done ++ left) × (front ≡ map blob_body done))
 first_of texts last [] rest is = inr ([], texts, refl, refl)
-first_of [] last (f ∷ []) rest is = inl (λ i. hd (sym is i) ∷ [])
-  where
-    hd : List (List ℕ) → List ℕ
-    hd [] = []
-    hd (x ∷ xs) = x
+first_of [] last (f ∷ []) rest is = inl (λ i. first_or [] (sym is i) ∷ [])
 first_of [] last (f ∷ g ∷ front) rest is = absurd (cc is)
-first_of (text ∷ texts) last (f ∷ front) rest is = by (first_of texts last front rest (ap (λ (l : List (List ℕ)). tl l) is))
+first_of (text ∷ texts) last (f ∷ front) rest is = by (first_of texts last front rest (ap (λ (l : List (List ℕ)). after_kind l) is))
   where
-    hd : List (List ℕ) → List ℕ
-    hd [] = []
-    hd (x ∷ xs) = x
-
-    tl : List (List ℕ) → List (List ℕ)
-    tl [] = []
-    tl (x ∷ xs) = xs
-
     same : f ≡ blob_body text
-    same = ap (λ (l : List (List ℕ)). hd l) (sym is)
+    same = ap (λ (l : List (List ℕ)). first_or [] l) (sym is)
 
     by : (front ≡ map blob_body texts ++ last ∷ []) ⊎ ((done left : Blobs) × (texts ≡ done ++ left) × (front ≡ map blob_body done))
         → (f ∷ front ≡ map blob_body (text ∷ texts) ++ last ∷ []) ⊎ ((done left : Blobs) × (text ∷ texts ≡ done ++ left) × (f ∷ front ≡ map blob_body done))
@@ -115,68 +121,87 @@ small_first : (done left : Blobs) → AllByRecursion IsBlob (done ++ left) → A
 small_first [] left small = tt
 small_first (text ∷ done) left small = (small.0, small_first done left small.1)
 
-module _ (blobs lacking : Blobs) (bodies : List (List ℕ)) (old new : Node) (staged : Staged) (lack : Lack blobs (texts_of (parts_of staged)) lacking) (small : AllByRecursion IsBlob lacking)
-    (ranges : AreParts (parts_of staged)) (step : Step old (events.Stage staged) new) (leads : LeadsByDigests blobs bodies old) where
+module _ (blobs lacking : Blobs) (bodies : List (List ℕ)) (old new : Node) (event : Event) (lack : Lack blobs (texts_of_event event) lacking) (small : AllByRecursion IsBlob lacking) (leads : LeadsByDigests blobs bodies old) where
   -- they count
-  pub stage_counts : LeadsByDigests (blobs ++ lacking) (bodies ++ staged_bodies lacking (parts_of staged)) new
-  stage_counts =
-      subst (λ (l : List (List ℕ)). LeadsByDigests (blobs ++ lacking) l new) (append_assoc bodies (map blob_body lacking) (stage_body (parts_of staged) ∷ []))
-      (stage-push (blobs ++ lacking) (bodies ++ map blob_body lacking) old new staged (lack_among blobs (parts_of staged) lacking lack) ranges step
-      (blobs-push blobs bodies old lacking (lack_new blobs (texts_of (parts_of staged)) lacking lack) small leads))
+  pub digests_count : IsEventInRange event → Step old event new → LeadsByDigests (blobs ++ lacking) (bodies ++ (map blob_body lacking ++ event_body event ∷ [])) new
+  digests_count range step =
+      subst (λ (l : List (List ℕ)). LeadsByDigests (blobs ++ lacking) l new) (append_assoc bodies (map blob_body lacking) (event_body event ∷ []))
+      (event-push (blobs ++ lacking) (bodies ++ map blob_body lacking) old new event (lack_all blobs (texts_of_event event) lacking lack) range step
+      (blobs-push blobs bodies old lacking (lack_new blobs (texts_of_event event) lacking lack) small leads))
 
-  -- the first of them leave the node, all make the one after it
-  pub stage_stands : (c : List ℕ) → GivesFront node_shape bodies (staged_bodies lacking (parts_of staged)) c → StandsFor Stands (BeforeOrAfter old (events.Stage staged)) c
-  stage_stands c given = by (first_of lacking (stage_body (parts_of staged)) given.front given.rest given.is)
+  -- the first of them leave the node
+  pub digests_wait : (front rest : List (List ℕ)) → map blob_body lacking ++ event_body event ∷ [] ≡ front ++ rest → (front ≡ map blob_body lacking ++ event_body event ∷ []) ⊎ Leads (bodies ++ front) old
+  digests_wait front rest is = by (first_of lacking (event_body event) front rest is)
     where
-      by : (given.front ≡ staged_bodies lacking (parts_of staged)) ⊎ ((done left : Blobs) × (lacking ≡ done ++ left) × (given.front ≡ map blob_body done)) → StandsFor Stands (BeforeOrAfter old (events.Stage staged)) c
-      by (inl all) = record {
-        value = new;
-        stands = record {
-          bodies = bodies ++ staged_bodies lacking (parts_of staged);
-          gives = subst (λ (l : List (List ℕ)). Gives node_shape c (bodies ++ l)) all given.gives;
-          leads = inr (blobs ++ lacking, stage_counts);
-        };
-        has = inr step;
-      }
-      by (inr (done, left, split, first)) = record {
-        value = old;
-        stands = record {
-          bodies = bodies ++ map blob_body done;
-          gives = subst (λ (l : List (List ℕ)). Gives node_shape c (bodies ++ l)) first given.gives;
-          leads = inr (
+      by : (front ≡ map blob_body lacking ++ event_body event ∷ []) ⊎ ((done left : Blobs) × (lacking ≡ done ++ left) × (front ≡ map blob_body done)) → (front ≡ map blob_body lacking ++ event_body event ∷ []) ⊎ Leads (bodies ++ front) old
+      by (inl all) = inl all
+      by (inr (done, left, split, first)) =
+          inr (inr (
             blobs ++ done,
-            blobs-push blobs bodies old done
-                (new_first blobs done left (subst (λ (l : Blobs). AreNew blobs l) split (lack_new blobs (texts_of (parts_of staged)) lacking lack)))
-                (small_first done left (subst (λ (l : Blobs). AllByRecursion IsBlob l) split small)) leads,
-          );
-        };
-        has = inl refl;
-      }
+            subst (λ (l : List (List ℕ)). LeadsByDigests (blobs ++ done) (bodies ++ l) old) (sym first)
+                (blobs-push blobs bodies old done
+                (new_first blobs done left (subst (λ (l : Blobs). AreNew blobs l) split (lack_new blobs (texts_of_event event) lacking lack)))
+                (small_first done left (subst (λ (l : Blobs). AllByRecursion IsBlob l) split small)) leads),
+          ))
 
 -- ---- how long they are
+
+-- an event that is to be written
+pub event_small : (event : Event) → IsWithin event → HaveDigests event → need_of (event_body event) ≤ MAX_BODY
+event_small (events.Stage staged) within digests = omega (arith, stage_long (parts_of staged) staged.whole)
+event_small (events.Init agent) within digests = event_long (events.Init agent) within digests
+event_small (events.SetMeta meta) within digests = event_long (events.SetMeta meta) within digests
+event_small events.Registered within digests = event_long events.Registered within digests
+event_small (events.Promote report) within digests = event_long (events.Promote report) within digests
+event_small (events.Note report) within digests = event_long (events.Note report) within digests
+event_small (events.AskReboot report) within digests = event_long (events.AskReboot report) within digests
+event_small events.Boot within digests = event_long events.Boot within digests
+event_small (events.Sent job) within digests = event_long (events.Sent job) within digests
+event_small (events.Remove stage) within digests = event_long (events.Remove stage) within digests
+event_small events.Restore within digests = event_long events.Restore within digests
 
 pub blob_cell : (text : List ℕ) (more : List (List ℕ)) → length (cells (blob_body text ∷ more)) ≡ 38 + length text + length (cells more)
 blob_cell text more =
     omega (arith, length-append (after_gate (blob_body text)) (cells more), length-after_gate (blob_body text), length-append (sha256 text) text, length-sha256 text)
 
-pub lack_long : (blobs : Blobs) (parts : List Part) (lacking : Blobs) → Lack blobs (texts_of parts) lacking → length (cells (map blob_body lacking)) ≤ 38 * length parts + bytes_of parts
-lack_long blobs [] lacking is = omega (arith, ap (λ (l : Blobs). length (cells (map blob_body l))) is)
-lack_long blobs (part ∷ parts) lacking (inl held) = omega (arith, lack_long blobs parts lacking held.1, sum_by-cons (λ (p : Part). length p.bytes) part parts)
-lack_long blobs (part ∷ parts) lacking (inr (others, new, is, lack)) =
-    omega (
-      arith,
-      lack_long (blobs ++ part.bytes ∷ []) parts others lack,
-      sum_by-cons (λ (p : Part). length p.bytes) part parts,
-      ap (λ (l : Blobs). length (cells (map blob_body l))) is,
-      blob_cell part.bytes (map blob_body others),
-    )
+-- the bytes of these texts together
+unfoldable pub total : List (List ℕ) → ℕ
+total [] = 0
+total (text ∷ texts) = length text + total texts
 
--- none of them is longer than all parts together
-pub lack_short : (blobs : Blobs) (parts : List Part) (lacking : Blobs) (n : ℕ) → bytes_of parts ≤ n → Lack blobs (texts_of parts) lacking → AllByRecursion (λ text. length text ≤ n) lacking
-lack_short blobs [] lacking n long is = subst (λ (l : Blobs). AllByRecursion (λ text. length text ≤ n) l) (sym is) tt
-lack_short blobs (part ∷ parts) lacking n long (inl held) = lack_short blobs parts lacking n (omega (arith, long, sum_by-cons (λ (p : Part). length p.bytes) part parts)) held.1
-lack_short blobs (part ∷ parts) lacking n long (inr (others, new, is, lack)) =
-    subst (λ (l : Blobs). AllByRecursion (λ text. length text ≤ n) l) (sym is) (
-      omega (arith, long, sum_by-cons (λ (p : Part). length p.bytes) part parts),
-      lack_short (blobs ++ part.bytes ∷ []) parts others n (omega (arith, long, sum_by-cons (λ (p : Part). length p.bytes) part parts)) lack,
-    )
+pub total_both : (xs ys : List (List ℕ)) → total (xs ++ ys) ≡ total xs + total ys
+unfolding total
+total_both [] ys = omega arith
+total_both (x ∷ xs) ys = omega (arith, total_both xs ys)
+
+pub total_is : (parts : List Part) → total (texts_of parts) ≡ bytes_of parts
+unfolding total
+total_is [] = omega arith
+total_is (part ∷ parts) = omega (arith, total_is parts, sum_by-cons (λ (p : Part). length p.bytes) part parts)
+
+pub lack_long : (blobs : Blobs) (texts : List (List ℕ)) (lacking : Blobs) → Lack blobs texts lacking → length (cells (map blob_body lacking)) ≤ 38 * length texts + total texts
+unfolding total
+lack_long blobs [] lacking is = omega (arith, ap (λ (l : Blobs). length (cells (map blob_body l))) is)
+lack_long blobs (text ∷ texts) lacking (inl held) = omega (arith, lack_long blobs texts lacking held.1)
+lack_long blobs (text ∷ texts) lacking (inr (others, new, is, lack)) =
+    omega (arith, lack_long (blobs ++ text ∷ []) texts others lack, ap (λ (l : Blobs). length (cells (map blob_body l))) is, blob_cell text (map blob_body others))
+
+-- none of these texts is longer
+abbrev pub AreShort : ℕ → List (List ℕ) → Type 0
+AreShort n texts = AllByRecursion (λ text. length text ≤ n) texts
+
+pub short_both : (n : ℕ) (xs ys : List (List ℕ)) → AreShort n xs → AreShort n ys → AreShort n (xs ++ ys)
+short_both n [] ys one other = other
+short_both n (x ∷ xs) ys one other = (one.0, short_both n xs ys one.1 other)
+
+-- none is longer than all parts together
+pub parts_short : (parts : List Part) (n : ℕ) → bytes_of parts ≤ n → AreShort n (texts_of parts)
+parts_short [] n long = tt
+parts_short (part ∷ parts) n long =
+    (omega (arith, long, sum_by-cons (λ (p : Part). length p.bytes) part parts), parts_short parts n (omega (arith, long, sum_by-cons (λ (p : Part). length p.bytes) part parts)))
+
+pub lack_short : (blobs : Blobs) (texts : List (List ℕ)) (lacking : Blobs) (n : ℕ) → AreShort n texts → Lack blobs texts lacking → AreShort n lacking
+lack_short blobs [] lacking n short is = subst (λ (l : Blobs). AreShort n l) (sym is) tt
+lack_short blobs (text ∷ texts) lacking n short (inl held) = lack_short blobs texts lacking n short.1 held.1
+lack_short blobs (text ∷ texts) lacking n short (inr (others, new, is, lack)) =
+    subst (λ (l : Blobs). AreShort n l) (sym is) (short.0, lack_short (blobs ++ text ∷ []) texts others n short.1 lack)

@@ -1,5 +1,5 @@
 -- The front of the node after an event.
-use Rattle.std.proofs.Common.{◌≡◌, zero, suc, subst, arith, All, List, ℕ, Option, Some, None, [], ◌∷◌, ◌++◌, map, refl, sym, ap, ◌∙◌}
+use Rattle.std.proofs.Common.{◌≡◌, zero, suc, subst, arith, All, List, ℕ, true, false, Option, Some, None, is_some, [], ◌∷◌, ◌++◌, map, refl, sym, ap, ◌∙◌}
 use Rattle.std.specs.Prelude.{IfSome}
 use Rattle.std.specs.List.{AllByRecursion}
 use Rattle.std.proofs.lemmas.List.Elements.{recursion_from_All}
@@ -13,15 +13,19 @@ use Rattle.node_state.specs.declared.node.Node.{Node}
 use Rattle.node_state.specs.declared.event.Event.{Event}
 use Rattle.node_state.specs.declared.event.Event.TheVariants as events
 use Rattle.node_state.specs.declared.piece.Piece.{Piece}
+use Rattle.node_state.specs.declared.event.Stage.{Stage}
 use Rattle.node_state.specs.declared.event.Stage.TheVariants.{Pending, Current, Previous}
+use Rattle.partial_merge.specs.declared.part.Part.{Part}
 use Rattle.node_state.specs.Table.{after, marked, newest, unsent}
 use Rattle.node_state.specs.declared.limits.TheConstants.{OLDER_REPORTS}
 use Rattle.node_state.specs.Sound.{Sound}
 use Rattle.node_state.specs.Pieces.{base_of, front, report_of, slot_of}
 use Rattle.meta_config.specs.Writing.{text_of_meta}
 use Rattle.node_store.specs.Bodies.{BringsText, body_of_piece}
+use Rattle.node_store.specs.Growing.{bodies_of_format}
 use Rattle.node_store.specs.Next.{added, at_end, kept_before, reports_after, sent_in, with_mark}
-use Rattle.node_store.specs.Whole.{bodies_after_base, marked_body}
+use Rattle.node_store.specs.Digests.{Blobs, blob_body, format_body}
+use Rattle.node_store.specs.Whole.{blobs_or, bodies_after_base, bodies_of_slot, body_by_digests, marked_body, whole_bodies}
 
 -- no mark changes nothing
 unmarked : (reports : List Kept) → map (with_mark None) reports ≡ reports
@@ -54,28 +58,65 @@ map_map : {X Y Z : Type 0} (f : Y → Z) (g : X → Y) (xs : List X) → map f (
 map_map f g [] = refl
 map_map f g (x ∷ xs) = ap (λ l. f (g x) ∷ l) (map_map f g xs)
 
--- pieces in four parts
-in_parts : (first second third rest : List Piece) → map body_of_piece first ++ (map body_of_piece second ++ (map body_of_piece third ++ map body_of_piece rest)) ≡ map body_of_piece (first ++ (second ++ (third ++ rest)))
-in_parts first second third rest =
-    ap (λ (l : List (List ℕ)). map body_of_piece first ++ (map body_of_piece second ++ l)) (sym (map-append body_of_piece third rest))
-    ∙ ap (λ (l : List (List ℕ)). map body_of_piece first ++ l) (sym (map-append body_of_piece second (third ++ rest)))
-    ∙ sym (map-append body_of_piece first (second ++ (third ++ rest)))
+map_same : {X Y : Type 0} (f g : X → Y) (xs : List X) → ((x : X) → f x ≡ g x) → map f xs ≡ map g xs
+map_same f g [] same = refl
+map_same f g (x ∷ xs) same = λ i. same x i ∷ map_same f g xs same i
 
--- the bodies of the pieces of the node after an event, part by part
-pub front_is : (agent : ℕ) (node : Node) (event : Event)
-    → body_of_piece (base_of agent (after node event)) ∷ bodies_after_base (after node event).pending (after node event).current (after node event).previous (sent_in event) (kept_before node event) (added event)
-    ≡ map body_of_piece (front agent (after node event))
-front_is agent node event =
+module _ (body_of : Piece → List ℕ) (on_report : (kept : Kept) → body_of_piece (report_of kept) ≡ body_of (report_of kept)) where
+  -- pieces in four parts
+  in_parts : (first second third rest : List Piece) → map body_of first ++ (map body_of second ++ (map body_of third ++ map body_of rest)) ≡ map body_of (first ++ (second ++ (third ++ rest)))
+  in_parts first second third rest =
+      ap (λ (l : List (List ℕ)). map body_of first ++ (map body_of second ++ l)) (sym (map-append body_of third rest))
+      ∙ ap (λ (l : List (List ℕ)). map body_of first ++ l) (sym (map-append body_of second (third ++ rest)))
+      ∙ sym (map-append body_of first (second ++ (third ++ rest)))
+
+  -- the bodies of the pieces of the node after an event, part by part
+  front_by : (agent : ℕ) (node : Node) (event : Event)
+      → body_of (base_of agent (after node event))
+      ∷ (map body_of (slot_of Pending (after node event).pending)
+      ++ (map body_of (slot_of Current (after node event).current)
+      ++ (map body_of (slot_of Previous (after node event).previous)
+      ++ (map (marked_body (sent_in event)) (kept_before node event) ++ map (λ kept. body_of_piece (report_of kept)) (at_end (added event))))))
+      ≡ map body_of (front agent (after node event))
+  front_by agent node event =
+      let next = after node event in
+      let of_report : Kept → List ℕ = λ kept. body_of_piece (report_of kept) in
+      let mark = with_mark (sent_in event) in
+      let reports : map (marked_body (sent_in event)) (kept_before node event) ++ map of_report (at_end (added event)) ≡ map body_of (map report_of next.reports) =
+      ap (λ (l : List (List ℕ)). l ++ map of_report (at_end (added event))) (sym (map_map of_report mark (kept_before node event)))
+      ∙ sym (map-append of_report (map mark (kept_before node event)) (at_end (added event)))
+      ∙ ap (λ (l : List Kept). map of_report l) (reports_are node event)
+      ∙ map_same of_report (λ kept. body_of (report_of kept)) next.reports on_report
+      ∙ sym (map_map body_of report_of next.reports) in
+      ap (λ (l : List (List ℕ)). body_of (base_of agent next) ∷ (map body_of (slot_of Pending next.pending) ++ (map body_of (slot_of Current next.current) ++ (map body_of (slot_of Previous next.previous) ++ l)))) reports
+      ∙ ap (λ (l : List (List ℕ)). body_of (base_of agent next) ∷ l) (in_parts (slot_of Pending next.pending) (slot_of Current next.current) (slot_of Previous next.previous) (map report_of next.reports))
+
+slot_in_full : (stage : Stage) (slot : Option (List Part)) → bodies_of_slot false stage slot ≡ map body_of_piece (slot_of stage slot)
+slot_in_full stage None = refl
+slot_in_full stage (Some parts) = refl
+
+slot_by_digests : (stage : Stage) (slot : Option (List Part)) → bodies_of_slot true stage slot ≡ map body_by_digests (slot_of stage slot)
+slot_by_digests stage None = refl
+slot_by_digests stage (Some parts) = refl
+
+-- the bodies of the node after an event, one part after the other
+pub whole_is : (blobs : Option Blobs) (agent : ℕ) (node : Node) (event : Event)
+    → bodies_of_format (is_some blobs)
+    ++ (map blob_body (blobs_or blobs)
+    ++ (body_of_piece (base_of agent (after node event))
+    ∷ bodies_after_base (is_some blobs) (after node event).pending (after node event).current (after node event).previous (sent_in event) (kept_before node event) (added event)))
+    ≡ whole_bodies blobs agent (after node event)
+whole_is (Some blobs) agent node event =
     let next = after node event in
-    let of_report : Kept → List ℕ = λ kept. body_of_piece (report_of kept) in
-    let mark = with_mark (sent_in event) in
-    let reports : map (marked_body (sent_in event)) (kept_before node event) ++ map of_report (at_end (added event)) ≡ map body_of_piece (map report_of next.reports) =
-    ap (λ (l : List (List ℕ)). l ++ map of_report (at_end (added event))) (sym (map_map of_report mark (kept_before node event)))
-    ∙ sym (map-append of_report (map mark (kept_before node event)) (at_end (added event)))
-    ∙ ap (λ (l : List Kept). map of_report l) (reports_are node event)
-    ∙ sym (map_map body_of_piece report_of next.reports) in
-    ap (λ (l : List (List ℕ)). body_of_piece (base_of agent next) ∷ (map body_of_piece (slot_of Pending next.pending) ++ (map body_of_piece (slot_of Current next.current) ++ (map body_of_piece (slot_of Previous next.previous) ++ l)))) reports
-    ∙ ap (λ (l : List (List ℕ)). body_of_piece (base_of agent next) ∷ l) (in_parts (slot_of Pending next.pending) (slot_of Current next.current) (slot_of Previous next.previous) (map report_of next.reports))
+    let last = map (marked_body (sent_in event)) (kept_before node event) ++ map (λ kept. body_of_piece (report_of kept)) (at_end (added event)) in
+    ap (λ (l : List (List ℕ)). format_body ∷ (map blob_body blobs ++ l))
+    ((λ i. body_of_piece (base_of agent next) ∷ (slot_by_digests Pending next.pending i ++ (slot_by_digests Current next.current i ++ (slot_by_digests Previous next.previous i ++ last))))
+    ∙ front_by (λ piece. body_by_digests piece) (λ kept. refl) agent node event)
+whole_is None agent node event =
+    let next = after node event in
+    let last = map (marked_body (sent_in event)) (kept_before node event) ++ map (λ kept. body_of_piece (report_of kept)) (at_end (added event)) in
+    (λ i. body_of_piece (base_of agent next) ∷ (slot_in_full Pending next.pending i ++ (slot_in_full Current next.current i ++ (slot_in_full Previous next.previous i ++ last))))
+    ∙ front_by (λ piece. body_of_piece piece) (λ kept. refl) agent node event
 
 -- ---- reports in size
 

@@ -1,15 +1,14 @@
 -- The Blobs that a bank lacks of some texts.
-use Rattle.std.proofs.Common.{◌≡◌, inl, inr, ℕ, ◌-◌, ◌<◌, Bool, true, false, Ok, List, take, drop, [], ◌∷◌, ◌++◌, length, refl, sym, ap, ◌∙◌, subst, arith, append_assoc, length-drop}
+use Rattle.std.proofs.Common.{◌≡◌, inl, inr, ℕ, ◌-◌, ◌<◌, Bool, true, false, ◌&&◌, List, take, drop, [], ◌∷◌, ◌++◌, length, refl, sym, ap, ◌∙◌, subst, arith, append_assoc, length-drop}
+use Rattle.std.specs.Prelude.{Result, Ok, Err, IsErr}
 use Rattle.std.specs.List.{AllByRecursion}
 use Rattle.std.proofs.lemmas.List.{append-nil, drop-map, take-map, take_all, take_at}
 use Rattle.partial_merge.specs.declared.part.Part.{Part}
-use Rattle.node_store.specs.Digests.{Blobs, IsAmong, IsNew, Lack, texts_of}
+use Rattle.node_store.specs.Digests.{Blobs, HaveOneDigest, IsAmong, Lack, texts_of}
 use Rattle.node_store.specs.declared.blob.Blob.{Blob}
-use Rattle.node_store.specs.Growing.{AddsText, AddsTexts, AreNew, Collides, HasLacking, AreColliding, bytes_in}
-use Rattle.node_store.specs.Taking.{Apart}
-use Rattle.node_store.proofs.Unfolded.{apart-push}
+use Rattle.node_store.specs.Growing.{AddsText, AddsTexts, AllAmong, AreNew, HasLacking, AreColliding, TriedTexts, bytes_in}
 
-among-more : (blobs more : Blobs) (text : List ℕ) → IsAmong blobs text → IsAmong (blobs ++ more) text
+pub among-more : (blobs more : Blobs) (text : List ℕ) → IsAmong blobs text → IsAmong (blobs ++ more) text
 among-more [] more text among = absurd among
 among-more (first ∷ blobs) more text (inl is) = inl is
 among-more (first ∷ blobs) more text (inr among) = inr (among-more blobs more text among)
@@ -18,83 +17,35 @@ among-last : (blobs more : Blobs) (text : List ℕ) → IsAmong (blobs ++ text �
 among-last [] more text = inl refl
 among-last (first ∷ blobs) more text = inr (among-last blobs more text)
 
--- ---- one text after the other
+pub all_more : (blobs more : Blobs) (texts : List (List ℕ)) → AllAmong blobs texts → AllAmong (blobs ++ more) texts
+all_more blobs more [] all = tt
+all_more blobs more (text ∷ texts) all = (among-more blobs more text all.0, all_more blobs more texts all.1)
 
--- of these texts the last are left, and the Blobs have after them what they lacked of the others
-pub record GrownSoFar (old now : Blobs) (all left : List (List ℕ)) : Type 0 where
-  pub done : Blobs
-  pub is : now ≡ old ++ done
-  pub to : (rest : Blobs) → Lack now left rest → Lack old all (done ++ rest)
-  pub back : (lacking : Blobs) → Lack old all lacking → (rest : Blobs) × Lack now left rest
-  pub apart : Apart now
+pub all_both : (blobs : Blobs) (xs ys : List (List ℕ)) → AllAmong blobs xs → AllAmong blobs ys → AllAmong blobs (xs ++ ys)
+all_both blobs [] ys one other = other
+all_both blobs (x ∷ xs) ys one other = (one.0, all_both blobs xs ys one.1 other)
 
-pub grown_none : (old : Blobs) (all : List (List ℕ)) → Apart old → GrownSoFar old old all all
-grown_none old all apart = record { done = []; is = sym (append-nil old); to = λ rest lack. lack; back = λ lacking lack. (lacking, lack); apart = apart }
+pub all_first : (blobs : Blobs) (xs ys : List (List ℕ)) → AllAmong blobs (xs ++ ys) → AllAmong blobs xs
+all_first blobs [] ys all = tt
+all_first blobs (x ∷ xs) ys all = (all.0, all_first blobs xs ys all.1)
 
-module _ (old now : Blobs) (all left : List (List ℕ)) (text : List ℕ) (so_far : GrownSoFar old now all (text ∷ left)) where
-  -- the text is there
-  pub grown_held : IsAmong now text → GrownSoFar old now all left
-  grown_held among = record { done = so_far.done; is = so_far.is; to = λ rest lack. so_far.to rest (inl (among, lack)); back = λ lacking lack. by (so_far.back lacking lack); apart = so_far.apart }
-    where
-      by : (rest : Blobs) × Lack now (text ∷ left) rest → (rest : Blobs) × Lack now left rest
-      by (rest, inl held) = (rest, held.1)
-      by (rest, inr (others, new, is, lack)) = absurd (new text among refl)
+pub all_second : (blobs : Blobs) (xs ys : List (List ℕ)) → AllAmong blobs (xs ++ ys) → AllAmong blobs ys
+all_second blobs [] ys all = all
+all_second blobs (x ∷ xs) ys all = all_second blobs xs ys all.1
 
-  -- it is new
-  pub grown_new : IsNew now text → GrownSoFar old (now ++ text ∷ []) all left
-  grown_new new = record {
-    done = so_far.done ++ text ∷ [];
-    is = ap (λ (l : Blobs). l ++ text ∷ []) so_far.is ∙ append_assoc old so_far.done (text ∷ []);
-    to = λ rest lack. subst (λ (l : Blobs). Lack old all l) (sym (append_assoc so_far.done (text ∷ []) rest)) (so_far.to (text ∷ rest) (inr (rest, new, refl, lack)));
-    back = λ lacking lack. by (so_far.back lacking lack);
-    apart = apart-push now text so_far.apart new;
-  }
-    where
-      by : (rest : Blobs) × Lack now (text ∷ left) rest → (rest : Blobs) × Lack (now ++ text ∷ []) left rest
-      by (rest, inl held) = absurd (new text held.0 refl)
-      by (rest, inr (others, other_new, is, lack)) = (others, lack)
+-- what is among the first of them or the others
+among-both : (one other more : Blobs) (text : List ℕ) → ((t : List ℕ) → IsAmong one t → IsAmong more t) → ((t : List ℕ) → IsAmong other t → IsAmong more t) → IsAmong (one ++ other) text → IsAmong more text
+among-both [] other more text first second among = second text among
+among-both (x ∷ one) other more text first second (inl is) = first text (inl is)
+among-both (x ∷ one) other more text first second (inr among) = among-both one other more text (λ t there. first t (inr there)) second among
 
-  -- its digest is that of other bytes
-  pub grown_never : Collides now text → AreColliding old all
-  grown_never collides lacking lack = by (so_far.back lacking lack)
-    where
-      by : (rest : Blobs) × Lack now (text ∷ left) rest → ⊥
-      by (rest, inl held) = collides.differs (so_far.apart collides.other text collides.among held.0 collides.same)
-      by (rest, inr (others, new, is, lack)) = new collides.other collides.among collides.same
-
--- no text is left
-pub grown_all : (old now : Blobs) (all : List (List ℕ)) → GrownSoFar old now all [] → HasLacking old all now
-grown_all old now all so_far = record {
-  lacking = so_far.done;
-  lack = subst (λ (l : Blobs). Lack old all l) (append-nil so_far.done) (so_far.to [] refl);
-  is = so_far.is;
-}
-
-module _ (old now new : Blobs) (all left : List (List ℕ)) (text : List ℕ) (so_far : GrownSoFar old now all (text ∷ left)) where
-  -- one text more
-  pub added_on : (E : Type 0) (b : Bool) → b ≡ true → AddsText {E = E} now text (Ok b) new → GrownSoFar old new all left
-  added_on E true is (inl held) = subst (λ (l : Blobs). GrownSoFar old l all left) (sym held.1) (grown_held old now all left text so_far held.0)
-  added_on E true is (inr more) = subst (λ (l : Blobs). GrownSoFar old l all left) (sym more.1) (grown_new old now all left text so_far more.0)
-  added_on E false is adds = absurd (cc is)
-
-  -- the last one, whose digest is that of other bytes
-  pub added_never : (E : Type 0) (b : Bool) → b ≡ false → AddsText {E = E} now text (Ok b) new → AreColliding old all × ((more : Blobs) × (new ≡ old ++ more))
-  added_never E true is adds = absurd (cc is)
-  added_never E false is adds = (grown_never old now all left text so_far adds.0, (so_far.done, adds.1 ∙ so_far.is))
-
--- not all were added
-pub not_all : (E : Type 0) (old new : Blobs) (texts : List (List ℕ)) (b : Bool) → b ≡ false → AddsTexts {E = E} old texts (Ok b) new → AreColliding old texts × ((more : Blobs) × (new ≡ old ++ more))
-not_all E old new texts true is adds = absurd (cc is)
-not_all E old new texts false is adds = adds
+among-after : (blobs more : Blobs) (text : List ℕ) → IsAmong more text → IsAmong (blobs ++ more) text
+among-after [] more text among = among
+among-after (first ∷ blobs) more text among = inr (among-after blobs more text among)
 
 pub none_left : {X : Type 0} (xs : List X) → length xs < 1 → xs ≡ []
 none_left [] few = refl
 none_left (x ∷ xs) few = absurd (omega (arith, few))
-
--- what was added is cut off again
-pub cut_off : (list now : List Blob) (old : Blobs) (from : ℕ) → from ≡ length old → (more : Blobs) × (bytes_in list ≡ old ++ more) → now ≡ take from list → bytes_in now ≡ old
-cut_off list now old from many (more, is) cut =
-    ap (λ (l : List Blob). bytes_in l) cut ∙ sym (take-map (λ (blob : Blob). blob.bytes) from list) ∙ ap (λ (l : Blobs). take from l) is ∙ take_at old more from (sym many)
 
 -- ---- what is lacking
 
@@ -113,15 +64,177 @@ lack_new blobs (text ∷ texts) lacking (inr (others, new, is, lack)) =
     subst (λ (l : Blobs). AreNew blobs l) (sym is) (new, lack_new (blobs ++ text ∷ []) texts others lack)
 
 -- with them each text is there
-pub lack_among : (blobs : Blobs) (parts : List Part) (lacking : Blobs) → Lack blobs (texts_of parts) lacking → AllByRecursion (λ (part : Part). IsAmong (blobs ++ lacking) part.bytes) parts
-lack_among blobs [] lacking is = tt
-lack_among blobs (part ∷ parts) lacking (inl held) = (among-more blobs lacking part.bytes held.0, lack_among blobs parts lacking held.1)
-lack_among blobs (part ∷ parts) lacking (inr (others, new, is, lack)) =
-    subst (λ (l : Blobs). AllByRecursion (λ (p : Part). IsAmong (blobs ++ l) p.bytes) (part ∷ parts)) (sym is) (
-      among-last blobs others part.bytes,
-      subst (λ (l : Blobs). AllByRecursion (λ (p : Part). IsAmong l p.bytes) parts) (append_assoc blobs (part.bytes ∷ []) others)
-          (lack_among (blobs ++ part.bytes ∷ []) parts others lack),
+pub lack_all : (blobs : Blobs) (texts : List (List ℕ)) (lacking : Blobs) → Lack blobs texts lacking → AllAmong (blobs ++ lacking) texts
+lack_all blobs [] lacking is = tt
+lack_all blobs (text ∷ texts) lacking (inl held) = (among-more blobs lacking text held.0, lack_all blobs texts lacking held.1)
+lack_all blobs (text ∷ texts) lacking (inr (others, new, is, lack)) =
+    subst (λ (l : Blobs). AllAmong (blobs ++ l) (text ∷ texts)) (sym is) (
+      among-last blobs others text,
+      subst (λ (l : Blobs). AllAmong l texts) (append_assoc blobs (text ∷ []) others) (lack_all (blobs ++ text ∷ []) texts others lack),
     )
+
+pub parts_among : (blobs : Blobs) (parts : List Part) → AllAmong blobs (texts_of parts) → AllByRecursion (λ (part : Part). IsAmong blobs part.bytes) parts
+parts_among blobs [] all = tt
+parts_among blobs (part ∷ parts) all = (all.0, parts_among blobs parts all.1)
+
+pub among_parts : (blobs : Blobs) (parts : List Part) → AllByRecursion (λ (part : Part). IsAmong blobs part.bytes) parts → AllAmong blobs (texts_of parts)
+among_parts blobs [] all = tt
+among_parts blobs (part ∷ parts) all = (all.0, among_parts blobs parts all.1)
+
+pub lack_among : (blobs : Blobs) (parts : List Part) (lacking : Blobs) → Lack blobs (texts_of parts) lacking → AllByRecursion (λ (part : Part). IsAmong (blobs ++ lacking) part.bytes) parts
+lack_among blobs parts lacking lack = parts_among (blobs ++ lacking) parts (lack_all blobs (texts_of parts) lacking lack)
+
+-- they are some of the texts
+lack_within : (blobs : Blobs) (texts : List (List ℕ)) (lacking : Blobs) (t : List ℕ) → Lack blobs texts lacking → IsAmong lacking t → IsAmong texts t
+lack_within blobs [] lacking t is among = subst (λ (l : Blobs). IsAmong l t) is among
+lack_within blobs (text ∷ texts) lacking t (inl held) among = inr (lack_within blobs texts lacking t held.1 among)
+lack_within blobs (text ∷ texts) lacking t (inr (others, new, is, lack)) among =
+    by (λ more. lack_within (blobs ++ text ∷ []) texts others t lack more) (subst (λ (l : Blobs). IsAmong l t) is among)
+  where
+    by : (IsAmong others t → IsAmong texts t) → IsAmong (text ∷ others) t → IsAmong (text ∷ texts) t
+    by rest (inl same) = inl same
+    by rest (inr more) = inr (rest more)
+
+-- of one list of texts after another
+lack_both : (blobs : Blobs) (xs ys : List (List ℕ)) (one other : Blobs) → Lack blobs xs one → Lack (blobs ++ one) ys other → Lack blobs (xs ++ ys) (one ++ other)
+lack_both blobs [] ys one other first second =
+    subst (λ (l : Blobs). Lack blobs ys (l ++ other)) (sym first) (subst (λ (l : Blobs). Lack l ys other) (ap (λ (l : Blobs). blobs ++ l) first ∙ append-nil blobs) second)
+lack_both blobs (x ∷ xs) ys one other (inl held) second = inl (held.0, lack_both blobs xs ys one other held.1 second)
+lack_both blobs (x ∷ xs) ys one other (inr (others, new, is, lack)) second =
+    inr (
+      others ++ other,
+      new,
+      ap (λ (l : Blobs). l ++ other) is,
+      lack_both (blobs ++ x ∷ []) xs ys others other lack
+          (subst (λ (l : Blobs). Lack l ys other) (ap (λ (l : Blobs). blobs ++ l) is ∙ sym (append_assoc blobs (x ∷ []) others)) second),
+    )
+
+lack_split : (blobs : Blobs) (xs ys : List (List ℕ)) (all : Blobs) → Lack blobs (xs ++ ys) all → (one other : Blobs) × Lack blobs xs one × Lack (blobs ++ one) ys other
+lack_split blobs [] ys all lack = ([], all, refl, subst (λ (l : Blobs). Lack l ys all) (sym (append-nil blobs)) lack)
+lack_split blobs (x ∷ xs) ys all (inl held) = let r = lack_split blobs xs ys all held.1 in (r.0, r.1, inl (held.0, r.2), r.3)
+lack_split blobs (x ∷ xs) ys all (inr (others, new, is, lack)) =
+    let r = lack_split (blobs ++ x ∷ []) xs ys others lack in (
+      x ∷ r.0,
+      r.1,
+      inr (r.0, new, refl, r.2),
+      subst (λ (l : Blobs). Lack l ys r.1) (append_assoc blobs (x ∷ []) r.0) r.3,
+    )
+
+-- ---- one text after the other
+
+wider : (one other : List (List ℕ)) → ((t : List ℕ) → IsAmong one t → IsAmong other t) → HaveOneDigest one → HaveOneDigest other
+wider one other within pair = record { one = pair.one; other = pair.other; first = within pair.one pair.first; second = within pair.other pair.second; same = pair.same; differ = pair.differ }
+
+adds_none : (old : Blobs) → AddsTexts old [] true old
+adds_none old = record { lacking = []; lack = refl; is = sym (append-nil old) }
+
+pub adds_one : (old new : Blobs) (text : List ℕ) (apart : Bool) → AddsText old text apart new → AddsTexts old (text ∷ []) apart new
+adds_one old new text true (inl held) = record { lacking = []; lack = inl (held.0, refl); is = held.1 ∙ sym (append-nil old) }
+adds_one old new text true (inr more) = record { lacking = text ∷ []; lack = inr ([], more.0, refl, refl); is = more.1 }
+adds_one old new text false adds = record {
+  more = text ∷ [];
+  is = adds.1;
+  all = (subst (λ (l : Blobs). IsAmong l text) (sym adds.1) (among-last old [] text), tt);
+  never = λ lacking lack. by lack;
+  pair = record {
+    one = adds.0.other;
+    other = text;
+    first = among-more old (text ∷ []) adds.0.other adds.0.among;
+    second = among-last old [] text;
+    same = adds.0.same;
+    differ = λ is. adds.0.absent (subst (λ (t : List ℕ). IsAmong old t) is adds.0.among);
+  };
+}
+  where
+    by : {lacking : Blobs} → Lack old (text ∷ []) lacking → ⊥
+    by (inl held) = adds.0.absent held.0
+    by (inr (others, fresh, is, lack)) = fresh adds.0.other adds.0.among adds.0.same
+
+module _ (old mid new : Blobs) (xs ys : List (List ℕ)) where
+  never_both : AreColliding old xs → AreColliding old (xs ++ ys)
+  never_both never lacking lack = let r = lack_split old xs ys lacking lack in never r.0 r.2
+
+  never_after : (has : HasLacking old xs mid) → AreColliding mid ys → AreColliding old (xs ++ ys)
+  never_after has never lacking lack =
+      let r = lack_split old xs ys lacking lack in
+      never r.1 (subst (λ (l : Blobs). Lack l ys r.1) (ap (λ (l : Blobs). old ++ l) (lack_one old xs r.0 has.lacking r.2 has.lack) ∙ sym has.is) r.3)
+
+  -- the second list after the first
+  pub adds_both : (one other : Bool) → AddsTexts old xs one mid → AddsTexts mid ys other new → AddsTexts old (xs ++ ys) (one && other) new
+  adds_both true true first second = record {
+    lacking = first.lacking ++ second.lacking;
+    lack = lack_both old xs ys first.lacking second.lacking first.lack (subst (λ (l : Blobs). Lack l ys second.lacking) first.is second.lack);
+    is = second.is ∙ ap (λ (l : Blobs). l ++ second.lacking) first.is ∙ append_assoc old first.lacking second.lacking;
+  }
+  adds_both true false first second = record {
+    more = first.lacking ++ second.more;
+    is = second.is ∙ ap (λ (l : Blobs). l ++ second.more) first.is ∙ append_assoc old first.lacking second.more;
+    all = all_both new xs ys
+        (subst (λ (l : Blobs). AllAmong l xs) (sym second.is) (all_more mid second.more xs (subst (λ (l : Blobs). AllAmong l xs) (sym first.is) (lack_all old xs first.lacking first.lack)))) second.all;
+    never = never_after first second.never;
+    pair = wider (mid ++ ys) (old ++ (xs ++ ys)) (λ t there. among-both mid ys (old ++ (xs ++ ys)) t held rest there) second.pair;
+  }
+    where
+      held : (t : List ℕ) → IsAmong mid t → IsAmong (old ++ (xs ++ ys)) t
+      held t among = among-both old first.lacking (old ++ (xs ++ ys)) t (λ s there. among-more old (xs ++ ys) s there)
+          (λ s there. among-after old (xs ++ ys) s (among-more xs ys s (lack_within old xs first.lacking s first.lack there))) (subst (λ (l : Blobs). IsAmong l t) first.is among)
+
+      rest : (t : List ℕ) → IsAmong ys t → IsAmong (old ++ (xs ++ ys)) t
+      rest t among = among-after old (xs ++ ys) t (among-after xs ys t among)
+  adds_both false true first second = record {
+    more = first.more ++ second.lacking;
+    is = second.is ∙ ap (λ (l : Blobs). l ++ second.lacking) first.is ∙ append_assoc old first.more second.lacking;
+    all = all_both new xs ys (subst (λ (l : Blobs). AllAmong l xs) (sym second.is) (all_more mid second.lacking xs first.all))
+        (subst (λ (l : Blobs). AllAmong l ys) (sym second.is) (lack_all mid ys second.lacking second.lack));
+    never = never_both first.never;
+    pair = wider (old ++ xs) (old ++ (xs ++ ys)) (λ t there. subst (λ (l : Blobs). IsAmong l t) (append_assoc old xs ys) (among-more (old ++ xs) ys t there)) first.pair;
+  }
+  adds_both false false first second = record {
+    more = first.more ++ second.more;
+    is = second.is ∙ ap (λ (l : Blobs). l ++ second.more) first.is ∙ append_assoc old first.more second.more;
+    all = all_both new xs ys (subst (λ (l : Blobs). AllAmong l xs) (sym second.is) (all_more mid second.more xs first.all)) second.all;
+    never = never_both first.never;
+    pair = wider (old ++ xs) (old ++ (xs ++ ys)) (λ t there. subst (λ (l : Blobs). IsAmong l t) (append_assoc old xs ys) (among-more (old ++ xs) ys t there)) first.pair;
+  }
+
+-- each text is there then
+pub adds_all : (old new : Blobs) (texts : List (List ℕ)) (apart : Bool) → AddsTexts old texts apart new → AllAmong new texts
+adds_all old new texts true adds = subst (λ (l : Blobs). AllAmong l texts) (sym adds.is) (lack_all old texts adds.lacking adds.lack)
+adds_all old new texts false adds = adds.all
+
+-- and what was there stays in front
+pub adds_more : (old new : Blobs) (texts : List (List ℕ)) (apart : Bool) → AddsTexts old texts apart new → (more : Blobs) × (new ≡ old ++ more)
+adds_more old new texts true adds = (adds.lacking, adds.is)
+adds_more old new texts false adds = (adds.more, adds.is)
+
+-- of these texts the last are left, and the others were added
+pub record TextsSoFar (old now : Blobs) (all left : List (List ℕ)) (apart : Bool) : Type 0 where
+  pub past : List (List ℕ)
+  pub split : all ≡ past ++ left
+  pub adds : AddsTexts old past apart now
+
+pub so_far_none : (old : Blobs) (all : List (List ℕ)) → TextsSoFar old old all all true
+so_far_none old all = record { past = []; split = refl; adds = adds_none old }
+
+pub so_far_more : (old now new : Blobs) (all left : List (List ℕ)) (text : List ℕ) (apart one : Bool) → TextsSoFar old now all (text ∷ left) apart → AddsText now text one new → TextsSoFar old new all left (apart && one)
+so_far_more old now new all left text apart one so_far adds = record {
+  past = so_far.past ++ text ∷ [];
+  split = so_far.split ∙ sym (append_assoc so_far.past (text ∷ []) left);
+  adds = adds_both old now new so_far.past (text ∷ []) apart one so_far.adds (adds_one now new text one adds);
+}
+
+pub so_far_all : (old now : Blobs) (all : List (List ℕ)) (apart : Bool) → TextsSoFar old now all [] apart → AddsTexts old all apart now
+so_far_all old now all apart so_far = subst (λ (l : List (List ℕ)). AddsTexts old l apart now) (sym (so_far.split ∙ append-nil so_far.past)) so_far.adds
+
+-- memory ran out on the way
+pub tried_err : {E : Type 0} (old new : Blobs) (texts : List (List ℕ)) (result : Result Bool E) → IsErr result → (more : Blobs) × (new ≡ old ++ more) → TriedTexts old texts result new
+tried_err old new texts (Ok apart) fails grew = absurd (cc fails)
+tried_err old new texts (Err e) fails grew = grew
+
+-- what was added is cut off again
+pub cut_off : (list now : List Blob) (old : Blobs) (from : ℕ) → from ≡ length old → (more : Blobs) × (bytes_in list ≡ old ++ more) → now ≡ take from list → bytes_in now ≡ old
+cut_off list now old from many (more, is) cut =
+    ap (λ (l : List Blob). bytes_in l) cut ∙ sym (take-map (λ (blob : Blob). blob.bytes) from list) ∙ ap (λ (l : Blobs). take from l) is ∙ take_at old more from (sym many)
 
 -- the last Blobs are the bytes of the last of the list
 pub last_are : (list : List Blob) (blobs : Blobs) (from : ℕ) → bytes_in list ≡ blobs → bytes_in (take (length list - from) (drop from list)) ≡ drop from blobs

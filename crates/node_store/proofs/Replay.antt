@@ -1,10 +1,10 @@
 -- One body more.
-use Rattle.std.proofs.Common.{◌≡◌, inl, inr, List, ℕ, Option, Some, true, [], ◌∷◌, ◌++◌, map, refl, sym, ap, ◌∙◌, subst, None, append_assoc}
+use Rattle.std.proofs.Common.{◌≡◌, inl, inr, List, ℕ, Option, true, false, [], ◌∷◌, ◌++◌, map, refl, sym, ap, ◌∙◌, subst, None, append_assoc}
 use Rattle.std.specs.List.{AllByRecursion}
 use Rattle.std.proofs.lemmas.List.{append-nil, map-append}
 use Rattle.dsc_outside.specs.declared.disk.Disk.{Ghosts}
 use Rattle.dsc_outside.proofs.Moments.{weaker}
-use Rattle.gate_log.specs.Kept.{Counts, IsEither, StandsBy}
+use Rattle.gate_log.specs.Kept.{IsEither, StandsBy}
 use Rattle.gate_log.specs.Standing.{StandsAtAnyMoment, StandsFor}
 use Rattle.node_state.specs.declared.node.Node.{Node}
 use Rattle.node_state.specs.declared.event.Event.{Event}
@@ -15,7 +15,7 @@ use Rattle.node_state.specs.Pieces.{Builds}
 use Rattle.node_store.specs.Bodies.{IsEventInRange, IsPieceInRange, body_of_event, body_of_piece}
 use Rattle.node_store.specs.Digests.{Blobs, Told, is_plain, kind_of, nothing_told}
 use Rattle.node_store.specs.Stands.{BeforeOrAfter, LeadTo, LeadsByDigests, LeadsInFull, Stands, node_shape}
-use Rattle.node_store.specs.Growing.{is_appended}
+use Rattle.node_store.specs.Growing.{is_stage}
 use Rattle.node_store.proofs.Formats.{kept_as, leads_in}
 use Rattle.node_store.proofs.Unfolded.{unfolds_push}
 
@@ -56,21 +56,21 @@ built_leads front node builds ranges = record {
 -- ---- one event more, in either format
 
 -- a body of an event other than a Stage says itself
-plain_event : (blobs : Blobs) (event : Event) → is_appended (Some blobs) event ≡ true → is_plain (kind_of (body_of_event event)) ≡ true
-plain_event blobs (events.Init agent) appended = refl
-plain_event blobs (events.SetMeta meta) appended = refl
-plain_event blobs events.Registered appended = refl
-plain_event blobs (events.Stage staged) appended = absurd (cc appended)
-plain_event blobs (events.Promote report) appended = refl
-plain_event blobs (events.Note report) appended = refl
-plain_event blobs (events.AskReboot report) appended = refl
-plain_event blobs events.Boot appended = refl
-plain_event blobs (events.Sent job) appended = refl
-plain_event blobs (events.Remove stage) appended = refl
-plain_event blobs events.Restore appended = refl
+plain_event : (event : Event) → is_stage event ≡ false → is_plain (kind_of (body_of_event event)) ≡ true
+plain_event (events.Init agent) appended = refl
+plain_event (events.SetMeta meta) appended = refl
+plain_event events.Registered appended = refl
+plain_event (events.Stage staged) appended = absurd (cc appended)
+plain_event (events.Promote report) appended = refl
+plain_event (events.Note report) appended = refl
+plain_event (events.AskReboot report) appended = refl
+plain_event events.Boot appended = refl
+plain_event (events.Sent job) appended = refl
+plain_event (events.Remove stage) appended = refl
+plain_event events.Restore appended = refl
 
 -- bodies of format 2, and one more that says itself
-by_digests-push : (blobs : Blobs) (mid new : Node) (bodies : List (List ℕ)) (body : List ℕ) (event : Event) → LeadsByDigests blobs bodies mid → is_appended (Some blobs) event ≡ true → body ≡ body_of_event event → IsEventInRange event → Step mid event new
+pub by_digests-push : (blobs : Blobs) (mid new : Node) (bodies : List (List ℕ)) (body : List ℕ) (event : Event) → LeadsByDigests blobs bodies mid → is_stage event ≡ false → body ≡ body_of_event event → IsEventInRange event → Step mid event new
     → LeadsByDigests blobs (bodies ++ body ∷ []) new
 by_digests-push blobs mid new bodies body event leads appended spells range step =
     let told : Told = record { blobs = blobs; said = leads.said ++ body ∷ [] } in
@@ -79,15 +79,9 @@ by_digests-push blobs mid new bodies body event leads appended spells range step
       said = told.said;
       is = ap (λ (l : List (List ℕ)). l ++ body ∷ []) leads.is;
       unfolds = unfolds_push leads.rest body nothing_told (record { blobs = blobs; said = leads.said }) told leads.unfolds
-          (inr (record { full = body; says = inr (inr (record { plain = ap (λ (l : List ℕ). is_plain (kind_of l)) spells ∙ plain_event blobs event appended; says = refl })); same = refl; more = refl }));
+          (inr (record { full = body; says = inr (inr (record { plain = ap (λ (l : List ℕ). is_plain (kind_of l)) spells ∙ plain_event event appended; says = refl })); same = refl; more = refl }));
       leads = leads-push mid new leads.said body event leads.leads spells range step;
     }
-
--- an event's body makes of a node the one after it
-pub counted : (blobs : Option Blobs) (node new : Node) (body : List ℕ) (event : Event) → is_appended blobs event ≡ true → body ≡ body_of_event event → IsEventInRange event → Step node event new
-    → Counts LeadTo (body ∷ []) (kept_as node blobs) (kept_as new blobs)
-counted (Some blobs) node new body event appended spells range step = λ bodies leads. by_digests-push blobs node new bodies body event leads appended spells range step
-counted None node new body event appended spells range step = λ bodies leads. leads-push node new bodies body event leads spells range step
 
 -- ---- images
 

@@ -1,5 +1,5 @@
 -- How long the bodies of events and of a node's pieces are.
-use Rattle.std.proofs.Common.{◌≡◌, ℕ, ◌+◌, ◌*◌, ◌≤◌, ◌<◌, All, Bool, List, [], ◌∷◌, ◌++◌, length, map, Option, Some, None, sym, ap, subst, arith, length-append}
+use Rattle.std.proofs.Common.{◌≡◌, ℕ, ◌+◌, ◌*◌, ◌≤◌, ◌<◌, All, Bool, List, [], ◌∷◌, ◌++◌, length, map, Option, Some, None, refl, sym, ap, subst, arith, length-append}
 use Rattle.std.specs.Prelude.{IfSome, encode_utf8_all}
 use Rattle.std.specs.Int.{w16, w32, w64, w128}
 use Rattle.std.specs.List.{flat_map, AllByRecursion}
@@ -7,6 +7,7 @@ use Rattle.std.proofs.lemmas.List.Concat.{flat_map-cons}
 use Rattle.std.proofs.lemmas.List.Sums.{sum_by-cons}
 use Rattle.std.proofs.lemmas.List.Elements.{recursion_from_All, All-from_recursion}
 use Rattle.sha2.proofs.Facts256.{length-sha256}
+use Rattle.mof_values.specs.declared.limits.TheConstants.{MAX_NAME_BYTES}
 use Rattle.store_fields.specs.Fields.{bytes_of_number, bytes_of_flag, bytes_of_text, bytes_of_digest, bytes_of_blob, bytes_of_list, IsDigest}
 use Rattle.gate_log.specs.Text.{AllFit, after_gate, cells, need_of}
 use Rattle.meta_config.specs.Writing.{text_of_meta}
@@ -71,7 +72,7 @@ blob_long bytes = omega (arith, long_32 (length bytes), length-append (bytes_of_
 digest_long : (part : Part) → length part.digest ≡ 32
 digest_long part = subst (λ (l : List ℕ). length l ≡ 32) (sym part.whole) (length-sha256 part.bytes)
 
-part_long : (part : Part) → Fits 255 part.name → length (bytes_of_part part) ≤ 293 + length part.bytes
+part_long : (part : Part) → Fits MAX_NAME_BYTES part.name → length (bytes_of_part part) ≤ 293 + length part.bytes
 part_long part fits =
     omega (
       arith,
@@ -83,7 +84,7 @@ part_long part fits =
       length-append (bytes_of_digest part.digest) (bytes_of_blob part.bytes),
     )
 
-parts_long : (parts : List Part) → AllByRecursion (λ part. Fits 255 part.name) parts → length (flat_map bytes_of_part parts) ≤ 293 * length parts + bytes_of parts
+parts_long : (parts : List Part) → AllByRecursion (λ part. Fits MAX_NAME_BYTES part.name) parts → length (flat_map bytes_of_part parts) ≤ 293 * length parts + bytes_of parts
 parts_long [] all = omega arith
 parts_long (part ∷ parts) all =
     omega (
@@ -103,7 +104,7 @@ pub staged_long : (parts : List Part) → IsStaged parts → length (bytes_of_pa
 staged_long parts staged =
     let few : length parts ≤ MAX_PARTS = staged.named.few in
     let long : bytes_of parts ≤ MAX_BYTES = staged.long in
-    omega (arith, few, long, parts_long parts (recursion_from_All (λ part. Fits 255 part.name) parts staged.named.names))
+    omega (arith, few, long, parts_long parts (recursion_from_All (λ part. Fits MAX_NAME_BYTES part.name) parts staged.named.names))
 
 -- ---- reports
 
@@ -120,7 +121,7 @@ missed_long (m ∷ listed) all =
       length-append (bytes_of_missed m) (flat_map bytes_of_missed listed),
     )
 
-marks_long : (marks : List PartMark) → AllByRecursion (λ mark. Fits 255 mark.name) marks → AllByRecursion (λ mark. IsDigest mark.digest) marks → length (flat_map bytes_of_mark marks) ≤ 289 * length marks
+marks_long : (marks : List PartMark) → AllByRecursion (λ mark. Fits MAX_NAME_BYTES mark.name) marks → AllByRecursion (λ mark. IsDigest mark.digest) marks → length (flat_map bytes_of_mark marks) ≤ 289 * length marks
 marks_long [] all digests = omega arith
 marks_long (m ∷ marks) all digests =
     omega (
@@ -175,7 +176,7 @@ all_lists_long report size digests =
       few,
       size.parts.count,
       missed_long report.listed (recursion_from_All (λ missed. Fits 256 missed.id) report.listed size.ids),
-      marks_long report.parts (recursion_from_All (λ mark. Fits 255 mark.name) report.parts size.parts.names) (recursion_from_All (λ mark. IsDigest mark.digest) report.parts digests),
+      marks_long report.parts (recursion_from_All (λ mark. Fits MAX_NAME_BYTES mark.name) report.parts size.parts.names) (recursion_from_All (λ mark. IsDigest mark.digest) report.parts digests),
     )
 
 pub report_long : (report : Report) → ReportInSize report → HasDigests report → length (bytes_of_report report) ≤ 19183
@@ -252,38 +253,6 @@ base_long base =
       length-append (bytes_of_flag base.2) (bytes_of_number w64 base.3),
     )
 
--- at most that many bytes with their gates and lengths, and none longer than the largest
-Small : ℕ → List Piece → Type 0
-Small most pieces = (length (cells (map body_of_piece pieces)) ≤ most) × AllFit MAX_BODY (map body_of_piece pieces)
-
-small_none : Small 0 []
-unfolding Small
-small_none = (omega arith, tt)
-
-small_one : (piece : Piece) (rest : List Piece) (n m : ℕ) → length (body_of_piece piece) ≤ n → n ≤ MAX_BODY → Small m rest → Small (5 + n + m) (piece ∷ rest)
-unfolding Small
-small_one piece rest n m long most small =
-    (omega (arith, long, small.0, cells_both (body_of_piece piece ∷ []) (map body_of_piece rest), one_cell (body_of_piece piece)), (omega (arith, long, most), small.1))
-  where
-    one_cell : (body : List ℕ) → length (cells (body ∷ [])) ≡ 5 + length body
-    one_cell body = omega (arith, length-append (after_gate body) [], length-after_gate body)
-
-small_more : (n m : ℕ) → n ≤ m → (pieces : List Piece) → Small n pieces → Small m pieces
-unfolding Small
-small_more n m le pieces small = (omega (arith, le, small.0), small.1)
-
-small_slot : (stage : Stage) (slot : Option (List Part)) (rest : List Piece) (m : ℕ) → IfSome slot IsStaged → Small m rest → Small ((7 + parts_most) + m) (slot_of stage slot ++ rest)
-small_slot stage None rest m staged small = small_more m ((7 + parts_most) + m) (omega arith) rest small
-small_slot stage (Some parts) rest m staged small =
-    small_more (5 + (2 + parts_most) + m) ((7 + parts_most) + m) (omega arith) (pieces.Slot stage parts ∷ rest)
-    (small_one (pieces.Slot stage parts) rest (2 + parts_most) m (omega (arith, staged_long parts staged)) (omega arith) small)
-
-small_reports : (kept : List Kept) → AllByRecursion (λ k. ReportInSize k.report) kept → AllByRecursion (λ k. HasDigests k.report) kept → Small (19190 * length kept) (map report_of kept)
-small_reports [] sizes digests = small_none
-small_reports (k ∷ kept) sizes digests =
-    small_more (5 + 19185 + 19190 * length kept) (19190 * length (k ∷ kept)) (omega arith) (map report_of (k ∷ kept))
-    (small_one (report_of k) (map report_of kept) 19185 (19190 * length kept) (omega (arith, report_long k.report sizes.0 digests.0)) (omega arith) (small_reports kept sizes.1 digests.1))
-
 -- the most bytes of the cells of a base, and of those of all reports
 abbrev base_most : ℕ
 base_most = 262176
@@ -291,26 +260,67 @@ base_most = 262176
 abbrev reports_most : ℕ
 reports_most = 19190 * MAX_REPORTS
 
-small_base : (agent : ℕ) (node : Node) (rest : List Piece) (m : ℕ) → IsNodeMeta node.meta → Small m rest → Small (base_most + m) (base_of agent node ∷ rest)
-small_base agent node rest m meta small =
-    let base = bytes_of_base (agent, node.registered, node.reboot, node.next_job) in
-    small_more (5 + 262171 + m) (base_most + m) (omega arith) (base_of agent node ∷ rest)
-    (small_one (base_of agent node) rest 262171 m
-    (omega (arith, base_long (agent, node.registered, node.reboot, node.next_job), text_fits node.meta meta.is, length-append base (text_of_meta node.meta))) (omega arith) small)
+-- the most bytes of the cells of the pieces of a node, where those of a Slot are at most so many
+abbrev pub front_most : ℕ → ℕ
+front_most slot_most = base_most + (slot_most + (slot_most + (slot_most + reports_most)))
 
-small_front : (agent : ℕ) (node : Node) → Sound node → All (λ kept. HasDigests kept.report) node.reports → Small (base_most + (7 + parts_most + (7 + parts_most + (7 + parts_most + reports_most)))) (front agent node)
-small_front agent node sound digests =
-    let reports = small_reports node.reports (recursion_from_All (λ k. ReportInSize k.report) node.reports sound.reports.sizes) (recursion_from_All (λ k. HasDigests k.report) node.reports digests) in
-    let few = small_more (19190 * length node.reports) reports_most (omega (arith, sound.reports.few)) _ reports in
-    let previous = small_slot Previous node.previous _ reports_most sound.previous few in
-    let current = small_slot Current node.current _ (7 + parts_most + reports_most) sound.current previous in
-    let pending = small_slot Pending node.pending _ (7 + parts_most + (7 + parts_most + reports_most)) sound.pending current in
-    small_base agent node _ (7 + parts_most + (7 + parts_most + (7 + parts_most + reports_most))) sound.meta pending
+-- pieces under the bodies of one format: a base and a report have the same in both
+module _ (body_of : Piece → List ℕ) (on_base : (agent : ℕ) (node : Node) → body_of (base_of agent node) ≡ body_of_piece (base_of agent node)) (on_report : (kept : Kept) → body_of (report_of kept) ≡ body_of_piece (report_of kept))
+    (slot_most : ℕ) (below : slot_most ≤ MAX_BODY) (on_slot : (stage : Stage) (parts : List Part) → IsStaged parts → 5 + length (body_of (pieces.Slot stage parts)) ≤ slot_most) where
+  -- at most that many bytes with their gates and lengths, and none longer than the largest
+  Small : ℕ → List Piece → Type 0
+  Small most pieces = (length (cells (map body_of pieces)) ≤ most) × AllFit MAX_BODY (map body_of pieces)
+
+  small_none : Small 0 []
+  unfolding Small
+  small_none = (omega arith, tt)
+
+  small_one : (piece : Piece) (rest : List Piece) (n m : ℕ) → length (body_of piece) ≤ n → n ≤ MAX_BODY → Small m rest → Small (5 + n + m) (piece ∷ rest)
+  unfolding Small
+  small_one piece rest n m long most small =
+      (omega (arith, long, small.0, cells_both (body_of piece ∷ []) (map body_of rest), one_cell (body_of piece)), (omega (arith, long, most), small.1))
+    where
+      one_cell : (body : List ℕ) → length (cells (body ∷ [])) ≡ 5 + length body
+      one_cell body = omega (arith, length-append (after_gate body) [], length-after_gate body)
+
+  small_more : (n m : ℕ) → n ≤ m → (pieces : List Piece) → Small n pieces → Small m pieces
+  unfolding Small
+  small_more n m le pieces small = (omega (arith, le, small.0), small.1)
+
+  small_slot : (stage : Stage) (slot : Option (List Part)) (rest : List Piece) (m : ℕ) → IfSome slot IsStaged → Small m rest → Small (slot_most + m) (slot_of stage slot ++ rest)
+  small_slot stage None rest m staged small = small_more m (slot_most + m) (omega arith) rest small
+  small_slot stage (Some parts) rest m staged small =
+      small_more (5 + length (body_of (pieces.Slot stage parts)) + m) (slot_most + m) (omega (arith, on_slot stage parts staged)) (pieces.Slot stage parts ∷ rest)
+      (small_one (pieces.Slot stage parts) rest (length (body_of (pieces.Slot stage parts))) m (omega arith) (omega (arith, on_slot stage parts staged, below)) small)
+
+  small_reports : (kept : List Kept) → AllByRecursion (λ k. ReportInSize k.report) kept → AllByRecursion (λ k. HasDigests k.report) kept → Small (19190 * length kept) (map report_of kept)
+  small_reports [] sizes digests = small_none
+  small_reports (k ∷ kept) sizes digests =
+      small_more (5 + 19185 + 19190 * length kept) (19190 * length (k ∷ kept)) (omega arith) (map report_of (k ∷ kept))
+      (small_one (report_of k) (map report_of kept) 19185 (19190 * length kept) (omega (arith, ap length (on_report k), report_long k.report sizes.0 digests.0)) (omega arith) (small_reports kept sizes.1 digests.1))
+
+  small_base : (agent : ℕ) (node : Node) (rest : List Piece) (m : ℕ) → IsNodeMeta node.meta → Small m rest → Small (base_most + m) (base_of agent node ∷ rest)
+  small_base agent node rest m meta small =
+      let base = bytes_of_base (agent, node.registered, node.reboot, node.next_job) in
+      small_more (5 + 262171 + m) (base_most + m) (omega arith) (base_of agent node ∷ rest)
+      (small_one (base_of agent node) rest 262171 m
+      (omega (arith, ap length (on_base agent node), base_long (agent, node.registered, node.reboot, node.next_job), text_fits node.meta meta.is, length-append base (text_of_meta node.meta))) (omega arith) small)
+
+  -- the pieces of a sound node
+  pub front_fits : (agent : ℕ) (node : Node) → Sound node → All (λ kept. HasDigests kept.report) node.reports
+      → (length (cells (map body_of (front agent node))) ≤ front_most slot_most) × AllFit MAX_BODY (map body_of (front agent node))
+  unfolding Small
+  front_fits agent node sound digests =
+      let reports = small_reports node.reports (recursion_from_All (λ k. ReportInSize k.report) node.reports sound.reports.sizes) (recursion_from_All (λ k. HasDigests k.report) node.reports digests) in
+      let few = small_more (19190 * length node.reports) reports_most (omega (arith, sound.reports.few)) _ reports in
+      let previous = small_slot Previous node.previous _ reports_most sound.previous few in
+      let current = small_slot Current node.current _ (slot_most + reports_most) sound.current previous in
+      let pending = small_slot Pending node.pending _ (slot_most + (slot_most + reports_most)) sound.pending current in
+      small_base agent node _ (slot_most + (slot_most + (slot_most + reports_most))) sound.meta pending
 
 -- a rewrite has capacity for all of a sound node
 pub front_small : (agent : ℕ) (node : Node) → Sound node → All (λ kept. HasDigests kept.report) node.reports
     → (length (cells (map body_of_piece (front agent node))) < BANK) × AllFit MAX_BODY (map body_of_piece (front agent node))
-unfolding Small
 front_small agent node sound digests =
-    let small = small_front agent node sound digests in
-    (omega (arith, small.0), small.1)
+    let fits = front_fits (λ piece. body_of_piece piece) (λ agent node. refl) (λ kept. refl) (7 + parts_most) (omega arith) (λ stage parts staged. omega (arith, staged_long parts staged)) agent node sound digests in
+    (omega (arith, fits.0), fits.1)

@@ -9,13 +9,15 @@ use Rattle.node_state.specs.Sound.{Sound}
 use Rattle.node_state.specs.Table.{new_node}
 use Rattle.node_store.specs.declared.format.Format.{Format}
 use Rattle.node_store.specs.declared.format.Format.TheVariants.{InFull, ByDigests}
-use Rattle.node_store.specs.Digests.{AddsBlob, Blobs, Says, SaysSlot, SaysStage, Tells, Told, Unfolds, format_body, is_plain, kind_of, nothing_told}
-use Rattle.node_store.specs.Resolving.{after_kind}
+use Rattle.node_store.specs.Digests.{AddsBlob, Blobs, Says, Tells, Told, Unfolds, format_body, is_plain, kind_of, nothing_told}
+use Rattle.node_store.specs.declared.body.Body.{Body}
+use Rattle.node_store.specs.Resolving.{SaysBody, after_kind}
 use Rattle.node_store.specs.Stands.{EndsAt, Leads, LeadsByDigests, LeadsIn, LeadsInFull}
-use Rattle.node_store.specs.Taking.{Advances, Apart, IsFresh, Moves, Reached, ReachedByDigests, ReachedIn, ReachedInFull, Stays, TookBlob, TookBody, TookFirst, TookMarked, blobs_in, has_events}
+use Rattle.node_store.specs.Bank.{blobs_as}
+use Rattle.node_store.specs.Taking.{Advances, Apart, IsFresh, Moves, Reached, ReachedByDigests, ReachedIn, ReachedInFull, Stays, Took, TookBlob, TookBody, TookFirst, TookMarked, has_events, is_by_digests}
 use Rattle.node_store.proofs.Formats.{leads_in}
 use Rattle.node_store.proofs.Ranges.{leads_sound}
-use Rattle.node_store.proofs.Runs.{last_moves, no_format, nothing_reached, reached_by}
+use Rattle.node_store.proofs.Runs.{last_moves, no_format, nothing_reached, reached_by, took_body}
 use Rattle.node_store.proofs.Unfolded.{blob_says_none, first_or, none_apart, says_one, unfolds_apart, unfolds_last, unfolds_one, unfolds_push}
 
 -- ---- what was taken
@@ -34,13 +36,13 @@ digests_lead blobs node begun bodies reached = record {
   leads = reached.reached.leads;
 }
 
-pub taken_leads : (format : Option Format) (blobs : Blobs) (node : Node) (begun : Bool) (bodies : List (List ℕ)) → ReachedIn format blobs node begun bodies → LeadsIn (blobs_in format blobs) bodies node
+pub taken_leads : (format : Option Format) (blobs : Blobs) (node : Node) (begun : Bool) (bodies : List (List ℕ)) → ReachedIn format blobs node begun bodies → LeadsIn (blobs_as (is_by_digests format) blobs) bodies node
 taken_leads None blobs node begun bodies reached = (fresh_reached blobs node begun bodies reached).leads
 taken_leads (Some InFull) blobs node begun bodies reached = reached.reached.leads
 taken_leads (Some ByDigests) blobs node begun bodies reached = digests_lead blobs node begun bodies reached
 
 pub taken_sound : (format : Option Format) (blobs : Blobs) (node : Node) (begun : Bool) (bodies : List (List ℕ)) → ReachedIn format blobs node begun bodies → Sound node
-taken_sound format blobs node begun bodies reached = leads_sound bodies node (leads_in (blobs_in format blobs) bodies node (taken_leads format blobs node begun bodies reached))
+taken_sound format blobs node begun bodies reached = leads_sound bodies node (leads_in (blobs_as (is_by_digests format) blobs) bodies node (taken_leads format blobs node begun bodies reached))
 
 pub taken_apart : (blobs : Blobs) (node : Node) (begun : Bool) (bodies : List (List ℕ)) → ReachedByDigests blobs node begun bodies → Apart blobs
 taken_apart blobs node begun bodies reached = unfolds_apart reached.rest nothing_told (record { blobs = blobs; said = reached.said }) none_apart reached.unfolds
@@ -184,25 +186,14 @@ module _ (old : Node) (begun : Bool) (blobs : Blobs) (body : List ℕ) where
   no_blob : (kind : ℕ) (gathered : Blobs) → kind_of body ≡ kind → (kind ≡ 16 → ⊥) → AddsBlob blobs body gathered → ⊥
   no_blob kind gathered is other b = let k : kind_of body ≡ 16 = ap kind_of b.is in other (sym is ∙ k)
 
-  -- no Stage by digests
-  pub stage_refused : kind_of body ≡ 17 → ((full : List ℕ) → SaysStage blobs body full → ⊥) → (gathered : Blobs) (next : Node) (flag : Bool) → Advances blobs old begun body gathered next flag → ⊥
-  stage_refused kind none gathered next flag (inl g) = no_blob 17 gathered kind (λ k. omega (arith, k)) g.blob
-  stage_refused kind none gathered next flag (inr p) = by p.full p.says
-    where
-      by : (full : List ℕ) → Says blobs body full → ⊥
-      by full (inl s) = none full s
-      by full (inr (inl s)) = let k : kind_of body ≡ 18 = ap kind_of s.is in omega (arith, k, kind)
-      by full (inr (inr s)) = not_plain 17 full kind refl s.plain
+  -- the event or piece that it says was taken
+  pub body_took : (of : Body) (new : Node) (after : Bool) (result : Result (Unit {0}) TakeError) → Apart blobs → SaysBody blobs body of → Took old begun of new after result → TookMarked blobs old begun body blobs new after result
+  body_took of new after result apart said took = said_took said.full new after result apart said.says (took_body old new begun after said.full of result took said.is)
 
-  -- no Slot by digests
-  pub slot_refused : kind_of body ≡ 18 → ((full : List ℕ) → SaysSlot blobs body full → ⊥) → (gathered : Blobs) (next : Node) (flag : Bool) → Advances blobs old begun body gathered next flag → ⊥
-  slot_refused kind none gathered next flag (inl g) = no_blob 18 gathered kind (λ k. omega (arith, k)) g.blob
-  slot_refused kind none gathered next flag (inr p) = by p.full p.says
-    where
-      by : (full : List ℕ) → Says blobs body full → ⊥
-      by full (inl s) = let k : kind_of body ≡ 17 = ap kind_of s.is in omega (arith, k, kind)
-      by full (inr (inl s)) = none full s
-      by full (inr (inr s)) = not_plain 18 full kind refl s.plain
+  -- it says none
+  pub body_refused : (kind_of body ≡ 16 → ⊥) → ((of : Body) → SaysBody blobs body of → ⊥) → (gathered : Blobs) (next : Node) (flag : Bool) → Advances blobs old begun body gathered next flag → ⊥
+  body_refused other none gathered next flag (inl g) = other (ap kind_of g.blob.is)
+  body_refused other none gathered next flag (inr p) = none p.moves.of (record { full = p.full; says = p.says; is = p.moves.is })
 
   -- a kind that format 2 does not have
   pub kind_refused : (kind_of body ≡ 16 → ⊥) → (kind_of body ≡ 17 → ⊥) → (kind_of body ≡ 18 → ⊥) → is_plain (kind_of body) ≡ false

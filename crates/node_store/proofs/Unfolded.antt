@@ -54,7 +54,7 @@ marks_in_range (part ∷ parts) ranges = ((ranges.0.0, ranges.0.1), marks_in_ran
 pub are_marks : (parts : List Part) → AreParts parts → IsList IsMark (map mark_of parts)
 are_marks parts ranges = (omega (arith, ranges.0, length-map parts mark_of), marks_in_range parts ranges.1)
 
-same_parts : (blobs : Blobs) → Apart blobs → (xs ys : List Part) → AllByRecursion (λ (part : Part). IsAmong blobs part.bytes) xs → AllByRecursion (λ (part : Part). IsAmong blobs part.bytes) ys → map mark_of xs ≡ map mark_of ys → xs ≡ ys
+pub same_parts : (blobs : Blobs) → Apart blobs → (xs ys : List Part) → AllByRecursion (λ (part : Part). IsAmong blobs part.bytes) xs → AllByRecursion (λ (part : Part). IsAmong blobs part.bytes) ys → map mark_of xs ≡ map mark_of ys → xs ≡ ys
 same_parts blobs apart [] [] one other is = refl
 same_parts blobs apart [] (y ∷ ys) one other is = absurd (cc is)
 same_parts blobs apart (x ∷ xs) [] one other is = absurd (cc is)

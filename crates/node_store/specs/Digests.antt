@@ -1,11 +1,12 @@
 -- The bodies of format 2, in which the bytes of equal parts stand once, and what they say in full.
-use Rattle.std.specs.Prelude.{◌≡◌, ◌≢◌, ◌⊎◌, ℕ, Bool, true, not, ◌&&◌, ◌==◌, List, [], ◌∷◌, ◌++◌, map}
+use Rattle.std.specs.Prelude.{◌≡◌, ◌≢◌, ◌⊎◌, ℕ, Bool, true, not, ◌&&◌, ◌==◌, List, [], ◌∷◌, ◌++◌, map, Option, Some, None}
 use Rattle.std.specs.List.{AllByRecursion}
 use Rattle.sha2.specs.Sha256.{sha256}
 use Rattle.store_fields.specs.Fields.{bytes_of_list, IsBlob}
 use Rattle.partial_merge.specs.declared.part.Part.{Part}
 use Rattle.report_log.specs.declared.report.PartMark.{PartMark}
 use Rattle.node_state.specs.declared.event.Stage.{Stage}
+use Rattle.node_state.specs.declared.node.Node.{Node}
 use Rattle.node_store.specs.Bodies.{bytes_of_stage}
 use Rattle.node_store.specs.Parts.{bytes_of_parts, AreParts}
 use Rattle.node_store.specs.Reports.{bytes_of_mark}
@@ -49,9 +50,30 @@ Lack blobs (text ∷ texts) lacking =
 abbrev pub texts_of : List Part → List (List ℕ)
 texts_of parts = map (λ part. part.bytes) parts
 
+abbrev pub texts_in : Option (List Part) → List (List ℕ)
+texts_in None = []
+texts_in (Some parts) = texts_of parts
+
+-- the texts of the parts of a node
+abbrev pub texts_of_node : Node → List (List ℕ)
+texts_of_node node = texts_in node.pending ++ (texts_in node.current ++ texts_in node.previous)
+
+-- two of these texts have one digest, and are different
+pub record HaveOneDigest (texts : List (List ℕ)) : Type 0 where
+  pub one : List ℕ
+  pub other : List ℕ
+  pub first : IsAmong texts one
+  pub second : IsAmong texts other
+  pub same : sha256 one ≡ sha256 other
+  pub differ : one ≢ other
+
 -- the body of a Stage by digests
 abbrev pub stage_body : List Part → List ℕ
 stage_body parts = 17 ∷ bytes_of_marks (map mark_of parts)
+
+-- the body of a Slot by digests
+abbrev pub slot_body : Stage → List Part → List ℕ
+slot_body stage parts = 18 ∷ (bytes_of_stage stage ++ bytes_of_marks (map mark_of parts))
 
 -- the bodies of a Stage by digests and of the Blobs before it that a bank lacks
 abbrev pub staged_bodies : Blobs → List Part → List (List ℕ)

@@ -84,11 +84,10 @@ ReachedIn None blobs node begun bodies = IsFresh blobs node begun bodies
 ReachedIn (Some InFull) blobs node begun bodies = ReachedInFull node begun bodies
 ReachedIn (Some ByDigests) blobs node begun bodies = ReachedByDigests blobs node begun bodies
 
--- the Blobs of a bank of this format, where it is format 2
-abbrev pub blobs_in : Option Format → Blobs → Option Blobs
-blobs_in None blobs = None
-blobs_in (Some InFull) blobs = None
-blobs_in (Some ByDigests) blobs = Some blobs
+abbrev pub is_by_digests : Option Format → Bool
+is_by_digests None = false
+is_by_digests (Some InFull) = false
+is_by_digests (Some ByDigests) = true
 
 -- a Blob is one more, and changes nothing of the node
 pub record Gathers (blobs : Blobs) (old : Node) (begun : Bool) (body : List ℕ) (more : Blobs) (new : Node) (after : Bool) : Type 0 where

@@ -2,7 +2,7 @@
 ghost use Rattle.std.specs.Prelude.{◌≡◌, ◌<◌, ◌^◌, length};
 ghost use Rattle.sha2.specs.Sha256.{sha256};
 
-use mof_values::Bytes;
+use partial_merge::SharedBytes;
 
 /// The bytes of a Blob, with their digest.
 #[derive(Debug, Drop)]
@@ -10,7 +10,7 @@ pub struct Blob {
     /// The SHA-256 digest of the bytes (FIPS 180-4).
     pub digest: [u8; 32],
 
-    pub bytes: Bytes,
+    pub bytes: SharedBytes,
 
     ghost whole: { digest ≡ sha256 bytes },
 

@@ -1,8 +1,7 @@
 //! How the parts of a configuration are written into the bodies of a store, and read.
 ghost use Rattle.std.specs.Prelude.{◌≡◌, OnOk};
-ghost use Rattle.std.specs.List.{AllByRecursion};
 ghost use Rattle.store_fields.specs.Writing.{Writes};
-ghost use Rattle.node_store.specs.Split.{front_of_part, front_of_parts, last_document};
+ghost use Rattle.node_store.specs.Split.{front_of_part};
 ghost use Rattle.node_store.specs.Parts.{FitsPart, IsPart};
 
 use crate::reports::NodeForm;
@@ -42,23 +41,6 @@ impl FieldForm<Part> for NodeForm {
     }
 }
 
-/// Appends parts, but for the document of the last.
-pub(crate) fn put_front_of_parts(into: &mut Vec<u8>, parts: &[Part]) -> Result<(), Memory>
-    requires { AllByRecursion FitsPart parts.now }
-    ensures writes { Writes (front_of_parts parts.now) into.old into.new result }
-    ensures in_range { OnOk result (AllByRecursion IsPart parts.now) }
-{
-    let mut left = parts;
-    while let [part, rest @ ..] = left {
-        if rest.is_empty() {
-            return put_front_of_part(into, part);
-        }
-        NodeForm::write(part, into)?;
-        left = rest;
-    }
-    Ok(())
-}
-
 /// Appends a part, but for its document.
 pub(crate) fn put_front_of_part(into: &mut Vec<u8>, part: &Part) -> Result<(), Memory>
     requires { FitsPart part.now }
@@ -68,18 +50,4 @@ pub(crate) fn put_front_of_part(into: &mut Vec<u8>, part: &Part) -> Result<(), M
     put_text(into, &part.name)?;
     put_digest(into, &part.digest)?;
     put_u32(into, part.bytes.as_slice().len() as u32)
-}
-
-/// The document of the last part.
-pub(crate) fn last_document(parts: &[Part]) -> &[u8]
-    ensures { result.now ≡ last_document parts.now }
-{
-    let mut left = parts;
-    while let [part, rest @ ..] = left {
-        if rest.is_empty() {
-            return part.bytes.as_slice();
-        }
-        left = rest;
-    }
-    &[]
 }

@@ -12,9 +12,9 @@ ghost use Rattle.report_log.specs.Sizes.{ReportInSize};
 ghost use Rattle.node_state.specs.Table.{IsWithin};
 ghost use Rattle.node_store.specs.Reports.{bytes_of_report, IsReport};
 ghost use Rattle.node_store.specs.Bodies.{base_body, body_of_piece, bytes_of_base, byte_of_stage, bytes_of_stage, BringsText, IsEventInRange, IsPieceInRange};
-ghost use Rattle.node_store.specs.Split.{after_length, front_of_parts, head_of, tail_of};
+ghost use Rattle.node_store.specs.Growing.{after_length, event_body};
 
-use crate::parts::{last_document, put_front_of_parts};
+use crate::by_digests::put_stage_by_digests;
 use crate::reports::{NodeForm, put_report};
 use mof_values::Memory;
 use node_state::{Event, Stage};
@@ -22,19 +22,19 @@ use partial_merge::Part;
 use report_log::Report;
 use store_fields::{put_byte, put_bytes, put_flag, put_list, put_u64, put_u128};
 
-/// Appends the body of an event up to its tail ([`tail_of`]); the text is the canonical one of the meta-configuration that it brings,
-/// if it brings one.
-pub(crate) fn put_head(into: &mut Vec<u8>, event: &Event, text: &[u8]) -> Result<(), Memory>
+/// Appends the body of an event, that of a Stage by digests; the text is the canonical one of the meta-configuration that it brings, if
+/// it brings one.
+pub(crate) fn put_event(into: &mut Vec<u8>, event: &Event, text: &[u8]) -> Result<(), Memory>
     requires within { IsWithin event.now }
     requires text { BringsText event.now text.now }
-    ensures writes { Writes (head_of event.now) into.old into.new result }
+    ensures writes { Writes (event_body event.now) into.old into.new result }
     ensures in_range { OnOk result (IsEventInRange event.now) }
 {
     match event {
         Event::Init(agent) => put_agent(into, *agent),
         Event::SetMeta(_) => put_text_of_meta(into, text),
         Event::Registered => put_byte(into, 3),
-        Event::Stage(staged) => put_staged(into, staged.parts()),
+        Event::Stage(staged) => put_stage_by_digests(into, staged.parts()),
         Event::Promote(report) => put_run(into, 5, report),
         Event::Note(report) => put_run(into, 6, report),
         Event::AskReboot(report) => put_run(into, 7, report),
@@ -46,28 +46,18 @@ pub(crate) fn put_head(into: &mut Vec<u8>, event: &Event, text: &[u8]) -> Result
 }
 
 /// Appends the same after four bytes, into which the log writes the length of the body.
-pub(crate) fn put_head_after_length(
+pub(crate) fn put_event_after_length(
     into: &mut Vec<u8>,
     event: &Event,
     text: &[u8],
 ) -> Result<(), Memory>
     requires within { IsWithin event.now }
     requires text { BringsText event.now text.now }
-    ensures writes { Writes (after_length (head_of event.now)) into.old into.new result }
+    ensures writes { Writes (after_length (event_body event.now)) into.old into.new result }
     ensures in_range { OnOk result (IsEventInRange event.now) }
 {
     put_bytes(into, &[0; 4])?;
-    put_head(into, event, text)
-}
-
-/// The document with which the body of a Stage ends, that of its last part; of another event nothing.
-pub(crate) fn tail_of(event: &Event) -> &[u8]
-    ensures { result.now ≡ tail_of event.now }
-{
-    match event {
-        Event::Stage(staged) => last_document(staged.parts()),
-        _ => &[],
-    }
+    put_event(into, event, text)
 }
 
 fn put_agent(into: &mut Vec<u8>, agent: u128) -> Result<(), Memory>
@@ -83,16 +73,6 @@ fn put_text_of_meta(into: &mut Vec<u8>, text: &[u8]) -> Result<(), Memory>
 {
     put_byte(into, 2)?;
     put_bytes(into, text)
-}
-
-fn put_staged(into: &mut Vec<u8>, parts: &[Part]) -> Result<(), Memory>
-    requires { IsStaged parts.now }
-    ensures writes { Writes (4 ∷ length parts.now ∷ front_of_parts parts.now) into.old into.new result }
-    ensures in_range { OnOk result (AreParts parts.now) }
-{
-    put_byte(into, 4)?;
-    put_byte(into, parts.len() as u8)?;
-    put_front_of_parts(into, parts)
 }
 
 fn put_run(into: &mut Vec<u8>, kind: u8, report: &Report) -> Result<(), Memory>

@@ -1,25 +1,19 @@
 //! The store of a node.
-ghost use Rattle.std.specs.Prelude.{◌≡◌, ◌≤◌, ℕ, Bool, List, Option, false, true, IfErr, IfOk, IfSome, OnErr, OnOk, None, Some, length, option_map, vec_capacity};
-ghost use Rattle.gate_log.specs.Kept.{WroteBy};
+ghost use Rattle.std.specs.Prelude.{◌≡◌, ◌≤◌, ◌⊎◌, ℕ, Bool, List, false, true, IfErr, IfOk, OnErr, OnOk, None, length, option_map};
 ghost use Rattle.gate_log.specs.Text.{IsLive, cells};
 ghost use Rattle.gate_log.specs.Log.{AtAnyMoment, capacity_in};
 ghost use Rattle.gate_log.specs.Standing.{StandsAtAnyMoment};
-ghost use Rattle.meta_config.specs.Writing.{text_of_meta};
 ghost use Rattle.node_state.specs.Supply.{Supplies};
-ghost use Rattle.node_state.specs.Table.{IsWithin, after, refusal};
-ghost use Rattle.node_store.specs.Digests.{Blobs};
-ghost use Rattle.node_store.specs.Growing.{GrewFor};
-ghost use Rattle.node_store.specs.Taking.{Apart};
-ghost use Rattle.node_store.specs.Stands.{BeforeOrAfter, LeadsIn, Stands, node_shape};
-ghost use Rattle.node_store.specs.Store.{AddsStage, AreAdded, Committed, IsKept, IsReady, IsStage, IsTextOf, StoreTerm, Supplied, TakesMemory};
+ghost use Rattle.node_state.specs.Table.{IsWithin, refusal};
+ghost use Rattle.node_store.specs.Bank.{blobs_of_bank};
+ghost use Rattle.node_store.specs.Digests.{HaveOneDigest, texts_of_node};
+ghost use Rattle.node_store.specs.Growing.{AllAmong};
+ghost use Rattle.node_store.specs.Stands.{BeforeOrAfter, Stands};
+ghost use Rattle.node_store.specs.Store.{AddsBodies, AreAdded, Committed, IsByDigests, IsKept, IsReady, IsRewritten, IsTextOf, MustRewrite, NeedsFormat, Supplied, TakesMemory, text_or};
 
-use crate::blobs::Blobs;
-use crate::by_digests::{add_stage, has_room, spell_stage};
+use crate::bank::Bank;
 use crate::error::StoreError;
-use crate::limits::MAX_BODY;
-use crate::writing::{write, write_whole};
 use dsc_outside::{Disk, Failed};
-use gate_log::Log;
 use meta_config::write_meta;
 use mof_values::Memory;
 use node_state::{Event, Node, Room, Supply};
@@ -31,53 +25,43 @@ use std::mem;
 #[derive(Drop)]
 pub struct NodeStore {
     alloc: Global,
-    log: Log,
+    bank: Bank,
     node: Node,
     // the canonical text of the node's meta-configuration
     text: Vec<u8>,
-    // capacity for the longest body
-    body: Vec<u8>,
     // capacity for the reports of the next node
     room: Option<Room>,
-    // the Blobs of the live bank, where it is of format 2
-    blobs: Option<Blobs>,
 }
 
 impl Model for NodeStore {
-    ghost use Rattle.std.specs.Prelude.{◌≡◌, ◌≤◌, is_some, vec_capacity};
+    ghost use Rattle.std.specs.Prelude.{◌≡◌, false, is_some};
     ghost use Rattle.meta_config.specs.Writing.{text_of_meta};
-    ghost use Rattle.node_store.specs.declared.limits.TheConstants.{MAX_BODY};
+    ghost use Rattle.node_store.specs.Bank.{blobs_of_bank};
+    ghost use Rattle.node_store.specs.Digests.{texts_of_node};
+    ghost use Rattle.node_store.specs.Growing.{AllAmong};
     ghost use Rattle.node_store.specs.Store.{StoreTerm};
 
     ghost Value = { StoreTerm };
 
-    ghost view = { λ s. record { log = s.log; node = s.node; reserved = is_some s.room; blobs = s.blobs } };
+    ghost view = { λ s. record { log = s.bank.log; node = s.node; reserved = is_some s.room; blobs = blobs_of_bank s.bank } };
 
     ghost invariant = { λ s. (s.text.items ≡ text_of_meta s.node.meta)
-        × (MAX_BODY ≤ vec_capacity s.body) };
+        × (s.bank.log.spent ≡ false → AllAmong s.bank.texts (texts_of_node s.node)) };
 }
 
 impl NodeStore {
-    /// A store of this log and this node, with the Blobs of the live bank where it is of format 2. The memory is the text of its
-    /// meta-configuration, and capacity for the longest body.
-    pub(crate) fn of(
-        alloc: Global,
-        log: Log,
-        node: Node,
-        blobs: Option<Blobs>,
-    ) -> Result<NodeStore, Memory>
-        ensures { IfOk result (λ store. store ≡ record { log = log; node = node; reserved = false; blobs = blobs }) }
+    /// A store of this bank and this node. The memory is the text of its meta-configuration.
+    pub(crate) fn of(alloc: Global, bank: Bank, node: Node) -> Result<NodeStore, Memory>
+        requires { AllAmong bank.texts (texts_of_node node) }
+        ensures { IfOk result (λ store. store ≡ record { log = bank.log; node = node; reserved = false; blobs = blobs_of_bank bank }) }
     {
         let text = write_meta(alloc, &node.meta)?;
-        let body = Vec::with_capacity(alloc, MAX_BODY)?;
         Ok(NodeStore {
             alloc,
-            log,
+            bank,
             node,
             text,
-            body,
             room: None,
-            blobs,
         })
     }
 
@@ -92,7 +76,7 @@ impl NodeStore {
     pub fn is_spent(&self) -> bool
         ensures { result ≡ self.now.log.spent }
     {
-        self.log.is_spent()
+        self.bank.is_spent()
     }
 
     /// Reserves the memory for the next report: after it the next commit of `Promote`, `Note` or `AskReboot` takes none. Commits of
@@ -109,17 +93,19 @@ impl NodeStore {
 
     /// Commits an event: one step of the node.
     ///
-    /// A crash at any moment leaves the node before the event or after it; after `Ok` it leaves the node after it. Where the
-    /// event does not fit the live bank, the whole node after it is written into the other bank, so a store never fills up. In a
-    /// bank of format 2, which has the bytes of equal parts once (nimchout-store(5)), a `Stage` adds the bytes that the bank lacks,
-    /// and then its parts' names and digests. Where two different texts have one SHA-256 digest, the whole node is written instead.
-    /// A whole node is written in format 1.
+    /// A crash at any moment leaves the node before the event or after it; after `Ok` it leaves the node after it.
+    ///
+    /// An event is added to the live bank, to an empty one after a Format, so that it is of format 2, which has the bytes of equal parts
+    /// once (nimchout-store(5)). A `Stage` in a bank of format 2 adds the bytes that the bank lacks, and then its parts' names and
+    /// digests. Where the bank has no room, where a `Stage` has a part whose digest is that of other bytes of the bank, and for each
+    /// `Stage` in a bank of format 1, the whole node after the event is written into the other bank instead, so a store never fills up.
+    /// It is written in format 2, but in format 1 where two of its own parts have one SHA-256 digest and different bytes.
     ///
     /// # Errors
     ///
     /// The first of `Spent`, exactly where an earlier commit of this store answered `Disk`; `NotAllowed`, exactly where the node
     /// does not allow the event; `Memory`, which leaves store and disk untouched; `Disk`, which leaves the node as it was in memory.
-    /// A store of format 2 keeps the Blobs of its bank in memory, so a `Stage` takes memory there.
+    /// A store keeps the bytes of its node's parts, which both share, so a `Stage` takes memory.
     pub fn commit<D: Disk>(&mut self, disk: &mut D, event: Event) -> Result<(), StoreError>
         requires ready { IsReady D.Disk disk.old self.old }
         requires within { IsWithin event }
@@ -129,14 +115,20 @@ impl NodeStore {
             → StandsAtAnyMoment D.Disk disk.old disk.new Stands
             (BeforeOrAfter self.old.node event) }
         ensures same_bank { IsKept D.Disk disk.old self.old
-            → (added : List (List ℕ)) → AreAdded self.old.blobs event added
+            → (added : List (List ℕ)) → AreAdded self.old.blobs self.old.node event added
             → length (cells added) ≤ capacity_in self.old.log
             → AtAnyMoment D.Disk disk.old disk.new (IsLive self.old.log.second) }
-        ensures stage { IsKept D.Disk disk.old self.old
-            → AddsStage D.Disk disk.old disk.new self.old event result self.new }
+        ensures adds { IsKept D.Disk disk.old self.old
+            → AddsBodies D.Disk disk.old disk.new self.old event result self.new }
+        ensures format { IsKept D.Disk disk.old self.old
+            → NeedsFormat self.old.blobs self.old.log self.old.node event
+            → OnOk result (IsByDigests D.Disk disk.new self.new ⊎ HaveOneDigest (texts_of_node self.new.node)) }
+        ensures rewrites { IsKept D.Disk disk.old self.old
+            → MustRewrite self.old.blobs self.old.log self.old.node event
+            → OnOk result (IsRewritten D.Disk disk.new self.old.log self.new.log self.new.blobs self.new.node) }
         ensures count { D.faults disk.old ≤ D.faults disk.new }
     {
-        if self.log.is_spent() {
+        if self.bank.is_spent() {
             return Err(StoreError::Spent);
         }
         if let Some(why) = self.node.why(&event) {
@@ -150,11 +142,12 @@ impl NodeStore {
             Ok(supply) => supply,
             Err(Memory) => return Err(StoreError::Memory),
         };
-        let grown = match grow(&mut self.blobs, &event) {
+        let grown = match self.bank.grow(&event) {
             Ok(grown) => grown,
             Err(Memory) => return Err(StoreError::Memory),
         };
-        if let Err(Failed) = self.write(disk, &event, &text, grown) {
+        let after = text_after(&text, &self.text);
+        if let Err(Failed) = self.bank.write(disk, &self.node, &event, after, grown) {
             return Err(StoreError::Disk);
         }
         let node = mem::replace(&mut self.node, Node::new(self.alloc));
@@ -182,109 +175,6 @@ impl NodeStore {
             _ => Ok(Supply::Nothing),
         }
     }
-
-    // Writes the event, with the text that it brings or that of the store; `grown` is the place of the first Blob that the bank lacks,
-    // where the event is a Stage that is added to a bank of format 2.
-    fn write<D: Disk>(
-        &mut self,
-        disk: &mut D,
-        event: &Event,
-        text: &Option<Vec<u8>>,
-        grown: Option<usize>,
-    ) -> Result<(), Failed>
-        requires allowed { refusal self.old.node event.now ≡ None }
-        requires within { IsWithin event.now }
-        requires kept { (blobs : Option Blobs) × GrewFor blobs event.now grown self.old.blobs × IsKept D.Disk disk.old (record self.old { blobs = blobs }) }
-        requires text { IsTextOf event.now (option_map (λ text. text.items) text.now) }
-        ensures answer { WroteBy D.Disk disk.old disk.new node_shape (LeadsIn self.new.blobs) (after self.old.node event.now) self.new.log result }
-        ensures any_moment { StandsAtAnyMoment D.Disk disk.old disk.new Stands (BeforeOrAfter self.old.node event.now) }
-        ensures same_bank { (blobs : Option Blobs) → GrewFor blobs event.now grown self.old.blobs → (added : List (List ℕ)) → AreAdded blobs event.now added → length (cells added) ≤ capacity_in self.old.log → AtAnyMoment D.Disk disk.old disk.new (IsLive self.old.log.second) }
-        ensures stage { (blobs : Option Blobs) → GrewFor blobs event.now grown self.old.blobs → AddsStage D.Disk disk.old disk.new (record self.old { blobs = blobs }) event.now result self.new }
-        ensures count { D.faults disk.old ≤ D.faults disk.new }
-        ensures node { self.new.node ≡ self.old.node }
-        ensures reserved { self.new.reserved ≡ self.old.reserved }
-    {
-        if let Some(from) = grown {
-            return self.write_stage(disk, event, from);
-        }
-        match text {
-            Some(text) => write(
-                &mut self.log,
-                &mut self.blobs,
-                disk,
-                &mut self.body,
-                &self.node,
-                event,
-                text,
-            ),
-            None => write(
-                &mut self.log,
-                &mut self.blobs,
-                disk,
-                &mut self.body,
-                &self.node,
-                event,
-                &self.text,
-            ),
-        }
-    }
-}
-
-impl NodeStore {
-    // Writes a Stage in format 2, with the Blobs that the bank lacks, of which the first has the place `from`; or the whole node after it
-    // where these bodies have no capacity.
-    fn write_stage<D: Disk>(
-        &mut self,
-        disk: &mut D,
-        event: &Event,
-        from: usize,
-    ) -> Result<(), Failed>
-        requires allowed { refusal self.old.node event.now ≡ None }
-        requires within { IsWithin event.now }
-        requires kept { (blobs : Option Blobs) × GrewFor blobs event.now (Some from) self.old.blobs × IsKept D.Disk disk.old (record self.old { blobs = blobs }) }
-        ensures answer { WroteBy D.Disk disk.old disk.new node_shape (LeadsIn self.new.blobs) (after self.old.node event.now) self.new.log result }
-        ensures any_moment { StandsAtAnyMoment D.Disk disk.old disk.new Stands (BeforeOrAfter self.old.node event.now) }
-        ensures same_bank { (blobs : Option Blobs) → GrewFor blobs event.now (Some from) self.old.blobs → (added : List (List ℕ)) → AreAdded blobs event.now added → length (cells added) ≤ capacity_in self.old.log → AtAnyMoment D.Disk disk.old disk.new (IsLive self.old.log.second) }
-        ensures stage { (blobs : Option Blobs) → GrewFor blobs event.now (Some from) self.old.blobs → AddsStage D.Disk disk.old disk.new (record self.old { blobs = blobs }) event.now result self.new }
-        ensures count { D.faults disk.old ≤ D.faults disk.new }
-        ensures node { self.new.node ≡ self.old.node }
-        ensures reserved { self.new.reserved ≡ self.old.reserved }
-    {
-        let (Event::Stage(staged), Some(blobs)) = (event, &self.blobs) else {
-            unreachable!()
-        };
-        let lacking = blobs.since(from);
-        spell_stage(&mut self.body, staged.parts());
-        let length = self.body.as_slice().len() - 4;
-        if has_room(&self.log, lacking, length) {
-            return add_stage(&mut self.log, disk, &mut self.body, lacking, staged.parts());
-        }
-        self.blobs = None;
-        write_whole(
-            &mut self.log,
-            disk,
-            &mut self.body,
-            &self.node,
-            event,
-            &self.text,
-        )
-    }
-}
-
-// In format 2 a Stage makes the Blobs grow by those that the bank lacks; answers how many there were. None where the event is no Stage,
-// the bank is of format 1, or the list of the Stage collides with it; then the Blobs are as they were.
-fn grow(blobs: &mut Option<Blobs>, event: &Event) -> Result<Option<usize>, Memory>
-    requires apart { IfSome blobs.old Apart }
-    ensures grew { IfOk result (λ grown. GrewFor blobs.old event.now grown blobs.new) }
-    ensures refused { IfErr result (λ error. IsStage event.now × (blobs.new ≡ blobs.old)) }
-{
-    let Event::Stage(staged) = event else {
-        return Ok(None);
-    };
-    let Some(held) = blobs else {
-        return Ok(None);
-    };
-    held.grow(staged.parts())
 }
 
 // The canonical text of the event's meta-configuration, where it brings one.
@@ -295,5 +185,15 @@ fn text_of(alloc: Global, event: &Event) -> Result<Option<Vec<u8>>, Memory>
     match event {
         Event::SetMeta(meta) => Ok(Some(write_meta(alloc, meta)?)),
         _ => Ok(None),
+    }
+}
+
+// The text that the event brings, or the one before it.
+fn text_after<'a>(brought: &'a Option<Vec<u8>>, before: &'a Vec<u8>) -> &'a [u8]
+    ensures { result.now ≡ text_or (option_map (λ text. text.items) brought.now) before.now.items }
+{
+    match brought {
+        Some(text) => text,
+        None => before,
     }
 }

@@ -1,7 +1,10 @@
 //! Bodies in full, taken one after the other.
 ghost use Rattle.std.specs.Prelude.{◌≡◌, [], true, Some};
 ghost use Rattle.node_state.specs.Sound.{Sound};
+ghost use Rattle.node_state.specs.StagedParts.{parts_of};
 ghost use Rattle.node_state.specs.Table.{IsWithin};
+ghost use Rattle.node_state.specs.declared.event.Event.TheVariants as events;
+ghost use Rattle.node_state.specs.declared.list.Staged.{Staged};
 ghost use Rattle.node_store.specs.declared.body.Body.TheVariants as bodies;
 ghost use Rattle.node_store.specs.Taking.{Reached, Took, TookBody};
 
@@ -54,7 +57,18 @@ impl Taking {
         }
     }
 
-    // A list that the node holds becomes Pending too.
+    /// Stages a list.
+    pub(crate) fn take_list(&mut self, parts: SharedParts) -> Result<(), TakeError>
+        ensures { (staged : Staged) → parts_of staged ≡ parts → Took self.old.node self.old.begun (bodies.Event (events.Stage staged)) self.new.node self.new.begun result }
+    {
+        if self.node.agent.is_none() {
+            return Err(TakeError::Refused);
+        }
+        self.stage_again(parts);
+        Ok(())
+    }
+
+    // A list becomes Pending.
     fn stage_again(&mut self, parts: SharedParts)
         ensures node { self.new.node ≡ record self.old.node { pending = Some parts } }
         ensures begun { self.new.begun ≡ true }
@@ -91,7 +105,7 @@ impl Taking {
         Ok(())
     }
 
-    fn take_piece(&mut self, piece: Piece) -> Result<(), TakeError>
+    pub(crate) fn take_piece(&mut self, piece: Piece) -> Result<(), TakeError>
         ensures { Took self.old.node self.old.begun (bodies.Piece piece) self.new.node self.new.begun result }
     {
         if self.begun || !self.node.fits(&piece) {

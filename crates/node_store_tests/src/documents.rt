@@ -1,4 +1,4 @@
-//! Lists of large documents.
+//! Lists of large documents, and large Blobs.
 use mof_values::{Bytes, Text};
 use partial_merge::part_of;
 use std::alloc::{AllocError, Global};
@@ -36,5 +36,15 @@ pub fn staged(alloc: Global, count: u8, name: usize, size: usize) -> Result<Vec<
         body.extend_from_slice(&length.to_be_bytes())?;
         body.extend_from_slice(part.bytes.as_slice())?;
     }
+    Ok(body)
+}
+
+/// The body of a Blob of that many times this byte.
+pub fn filler(alloc: Global, byte: u8, size: usize) -> Result<Vec<u8>, AllocError> {
+    let bytes = vec![in alloc; byte; size]?;
+    let part = part_of(alloc, Text::of(Vec::new(alloc)), Bytes::of(bytes))?;
+    let mut body = b"\x10".to_vec(alloc)?;
+    body.extend_from_slice(&part.digest)?;
+    body.extend_from_slice(part.bytes.as_slice())?;
     Ok(body)
 }

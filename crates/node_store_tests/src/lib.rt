@@ -14,10 +14,10 @@ mod tests;
 mod words;
 
 #[cfg(test)]
-pub use documents::{push_name, staged};
+pub use documents::{filler, push_name, staged};
 #[cfg(test)]
 pub use files::{HEAD, file_of, place_of, push_cell, push_cells};
 #[cfg(test)]
 pub use stores::{Left, commit_to, kept_in, line_of, run, shown};
 #[cfg(test)]
-pub use words::{COMMITS, INIT, bodies_of, body_of, last_of};
+pub use words::{COMMITS, INIT, added_of, bodies_of, body_of, last_of};

@@ -1,4 +1,7 @@
 //! Bodies of events and of pieces, from a word each.
+//!
+//! A word of one or two letters is a list that is staged, with a part for each letter: the letter is its name, and a capital has one
+//! document, a small letter another, a digit a third. The part of `-` has no name and that other document.
 use std::alloc::{AllocError, Global};
 
 /// The body of Init, of the agent 16.
@@ -17,19 +20,36 @@ const DOCUMENT: &[u8] = b"instance of OMI_ConfigurationDocument{};";
 const DIGEST: &[u8] =
     b"\xBB\x101\xD4=\xEC? ,k\xC7\xB3\xABq\xE3\xA9y\x06|\x92e\xFEL\xBE\xA5e7dA\xFA\x12=";
 
-/// The words of the events before one, and its own: one of each kind.
-pub const COMMITS: &[(&str, &str)] = &[
-    ("", "init"),
-    ("init", "meta"),
-    ("init meta", "registered"),
-    ("init", "A"),
-    ("init A promote B", "promote"),
-    ("init A", "note"),
-    ("init A", "ask"),
-    ("init A ask", "boot"),
-    ("init A note", "sent"),
-    ("init A promote", "drop-current"),
-    ("init A promote B promote", "restore"),
+const OTHER: &[u8] = b"instance of OMI_ConfigurationDocument{Version=\"2.0.0\";};";
+
+const OTHER_DIGEST: &[u8] =
+    b"J>e\x13ao\x93\"\xE72\xAC|\xDA@[\xA0\xBB\xEFM\xDB\xF2\xEB1\xFBM\x04`$~[\xCA\xD3";
+
+const THIRD: &[u8] = b"instance of OMI_ConfigurationDocument{Version=\"1.0.0\";};";
+
+const THIRD_DIGEST: &[u8] =
+    b"\x1B_z\xA7\x07vKYtt\xB3\xB0\x9F\xD2Y\x9AF2\xE7\xE0\xCD\xB7\x02\xA3\xBA\x90\x05\x19c\xB3!+";
+
+/// The words of the events before one, and its own: one of each kind, and lists that a store of these has in part. The number is how
+/// many bodies it adds: two to an empty bank, and for a list as many as it has documents that the bank lacks, and one.
+pub const COMMITS: &[(&str, &str, u64)] = &[
+    ("", "init", 2),
+    ("init", "meta", 1),
+    ("init meta", "registered", 1),
+    ("init", "A", 2),
+    ("init A", "A", 1),
+    ("init A", "B", 1),
+    ("init", "AB", 2),
+    ("init", "Ab", 3),
+    ("init A", "bA", 2),
+    ("init A", "3b", 3),
+    ("init A promote B", "promote", 1),
+    ("init A", "note", 1),
+    ("init A", "ask", 1),
+    ("init A ask", "boot", 1),
+    ("init A note", "sent", 1),
+    ("init A promote", "drop-current", 1),
+    ("init A promote B promote", "restore", 1),
 ];
 
 /// The bodies of the words of a list and of one more. A report is of the next job: from 1 on, or from the one that a base has.
@@ -41,6 +61,52 @@ pub fn bodies_of(alloc: Global, words: &str, last: &str) -> Result<Vec<Vec<u8>>,
     }
     push_body(&mut bodies, alloc, last, job)?;
     Ok(bodies)
+}
+
+/// The bodies of a bank of format 2 to which the events of these words were added: a Format, and for each list the Blobs that the bank
+/// lacks, in the list's order, and then the list by digests.
+pub fn added_of(alloc: Global, words: &str, last: &str) -> Result<Vec<Vec<u8>>, AllocError> {
+    let mut bodies = Vec::new(alloc);
+    bodies.push(b"\x0F\x02".to_vec(alloc)?)?;
+    let mut job = 1;
+    for word in words.split(' ') {
+        job = add_word(&mut bodies, alloc, word, job)?;
+    }
+    add_word(&mut bodies, alloc, last, job)?;
+    Ok(bodies)
+}
+
+// Adds what the event of a word adds; the job after it.
+fn add_word(
+    bodies: &mut Vec<Vec<u8>>,
+    alloc: Global,
+    word: &str,
+    job: u64,
+) -> Result<u64, AllocError> {
+    if !is_list(word) {
+        return push_body(bodies, alloc, word, job);
+    }
+    for name in word.as_bytes() {
+        let blob = blob_of(alloc, *name)?;
+        if !holds(bodies, &blob) {
+            bodies.push(blob)?;
+        }
+    }
+    bodies.push(marks(alloc, b"\x11", word.as_bytes())?)?;
+    Ok(job)
+}
+
+fn is_list(word: &str) -> bool {
+    matches!(word.len(), 1 | 2)
+}
+
+fn holds(bodies: &[Vec<u8>], body: &[u8]) -> bool {
+    for other in bodies {
+        if other.as_slice() == body {
+            return true;
+        }
+    }
+    false
 }
 
 /// The last of these bodies alone.
@@ -68,8 +134,7 @@ fn push_body(
 }
 
 /// The body of the event or piece of this word, or bytes that are the body of none. A report is of this job, and of the job 0 where
-/// it is late. A piece is a word, a colon, and its job or the name of its part; a word that names nothing else is that of the one
-/// part of a list that is staged.
+/// it is late. A piece is a word, a colon, and its job or the letters of its list. A list is in full, but as marks, which are digests.
 pub fn body_of(alloc: Global, word: &str, job: u64) -> Result<Vec<u8>, AllocError> {
     match word {
         "init" => INIT.to_vec(alloc),
@@ -91,8 +156,10 @@ pub fn body_of(alloc: Global, word: &str, job: u64) -> Result<Vec<u8>, AllocErro
         "nothing" => Ok(Vec::new(alloc)),
         "no-kind" => b"\x0F".to_vec(alloc),
         "format" => b"\x0F\x02".to_vec(alloc),
-        "blob" => blob(alloc, DOCUMENT),
-        "wrong-blob" => blob(alloc, b"instance of OMI_ConfigurationDocument{}; "),
+        "blob" => blob_of(alloc, b'P'),
+        "other-blob" => blob_of(alloc, b'p'),
+        "third-blob" => blob_of(alloc, b'3'),
+        "wrong-blob" => blob(alloc, DIGEST, OTHER),
         "long-boot" => b"\x08\0".to_vec(alloc),
         "fourth-stage" => b"\x0A\x03".to_vec(alloc),
         "wrong-digest" => wrong_digest(alloc),
@@ -117,7 +184,10 @@ fn piece(alloc: Global, kind: &str, name: &[u8]) -> Result<Vec<u8>, AllocError> 
         "marked" => base(alloc, &[1, 1], job, SERVED),
         "unserved" => base(alloc, &[1, 0], job, ALONE),
         "marks" => marks(alloc, b"\x11", name),
+        "long-marks" => long_marks(alloc, name),
+        "pending-marks" => marks(alloc, b"\x12\0", name),
         "current-marks" => marks(alloc, b"\x12\x01", name),
+        "previous-marks" => marks(alloc, b"\x12\x02", name),
         "pending" => slot(alloc, 0, name),
         "current" => slot(alloc, 1, name),
         "previous" => slot(alloc, 2, name),
@@ -136,30 +206,80 @@ fn run(alloc: Global, kind: u8, job: u64) -> Result<Vec<u8>, AllocError> {
     Ok(body)
 }
 
-// One part of this name, of one letter.
-fn staged(alloc: Global, name: &[u8]) -> Result<Vec<u8>, AllocError> {
-    let mut body = b"\x04\x01\0\x01".to_vec(alloc)?;
-    body.extend_from_slice(name)?;
-    body.extend_from_slice(DIGEST)?;
-    body.extend_from_slice(b"\0\0\0\x28")?;
-    body.extend_from_slice(DOCUMENT)?;
+// A list of parts in full.
+fn staged(alloc: Global, names: &[u8]) -> Result<Vec<u8>, AllocError> {
+    let mut body = vec![in alloc; 4u8]?;
+    body.push(count_of(names))?;
+    for name in names {
+        push_mark(&mut body, *name)?;
+        let length = u32::try_from(document_of(*name).len()).unwrap_or(u32::MAX);
+        body.extend_from_slice(&length.to_be_bytes())?;
+        body.extend_from_slice(document_of(*name))?;
+    }
     Ok(body)
 }
 
-// These bytes under the digest of the document.
-fn blob(alloc: Global, bytes: &[u8]) -> Result<Vec<u8>, AllocError> {
-    let mut body = b"\x10".to_vec(alloc)?;
-    body.extend_from_slice(DIGEST)?;
-    body.extend_from_slice(bytes)?;
-    Ok(body)
-}
-
-// One part of this name, of one letter, by the digest of the document, behind these bytes.
-fn marks(alloc: Global, front: &[u8], name: &[u8]) -> Result<Vec<u8>, AllocError> {
+// A list of parts by digests, behind these bytes.
+fn marks(alloc: Global, front: &[u8], names: &[u8]) -> Result<Vec<u8>, AllocError> {
     let mut body = front.to_vec(alloc)?;
-    body.extend_from_slice(b"\x01\0\x01")?;
-    body.extend_from_slice(name)?;
-    body.extend_from_slice(DIGEST)?;
+    body.push(count_of(names))?;
+    for name in names {
+        push_mark(&mut body, *name)?;
+    }
+    Ok(body)
+}
+
+// The same as a Stage, with one byte more.
+fn long_marks(alloc: Global, names: &[u8]) -> Result<Vec<u8>, AllocError> {
+    let mut body = marks(alloc, b"\x11", names)?;
+    body.push(0)?;
+    Ok(body)
+}
+
+fn count_of(names: &[u8]) -> u8 {
+    u8::try_from(names.len()).unwrap_or(u8::MAX)
+}
+
+// Appends the name and the digest of the part of this letter.
+fn push_mark(body: &mut Vec<u8>, name: u8) -> Result<(), AllocError> {
+    if name == b'-' {
+        body.extend_from_slice(b"\0\0")?;
+    } else {
+        body.extend_from_slice(&[0, 1, name])?;
+    }
+    body.extend_from_slice(digest_of(name))
+}
+
+fn document_of(name: u8) -> &'static [u8] {
+    if name.is_ascii_uppercase() {
+        DOCUMENT
+    } else if name.is_ascii_digit() {
+        THIRD
+    } else {
+        OTHER
+    }
+}
+
+fn digest_of(name: u8) -> &'static [u8] {
+    if name.is_ascii_uppercase() {
+        DIGEST
+    } else if name.is_ascii_digit() {
+        THIRD_DIGEST
+    } else {
+        OTHER_DIGEST
+    }
+}
+
+// The Blob of the document of this letter.
+fn blob_of(alloc: Global, name: u8) -> Result<Vec<u8>, AllocError> {
+    blob(alloc, digest_of(name), document_of(name))
+}
+
+// These bytes under this digest.
+fn blob(alloc: Global, digest: &[u8], bytes: &[u8]) -> Result<Vec<u8>, AllocError> {
+    let mut body = b"\x10".to_vec(alloc)?;
+    body.extend_from_slice(digest)?;
+    body.extend_from_slice(bytes)?;
     Ok(body)
 }
 
@@ -173,7 +293,7 @@ fn base(alloc: Global, marks: &[u8; 2], job: u8, meta: &[u8]) -> Result<Vec<u8>,
     Ok(body)
 }
 
-// A list of one part in a stage.
+// A list in full in a stage.
 fn slot(alloc: Global, stage: u8, name: &[u8]) -> Result<Vec<u8>, AllocError> {
     let mut body = vec![in alloc; 13u8]?;
     body.push(stage)?;

@@ -1,7 +1,7 @@
 //! Makes calls of a node's store in a file: a tool for `bench/store`.
 //!
 //! The arguments are FILE `stage` COUNT SIZE, FILE `time` COUNT SIZE or FILE `open`. Each opens the store. `stage`
-//! then commits that many Stages, each of one document of that size; the store of a new node gets an agent first.
+//! then commits that many Stages, each of another document of that size; the store of a new node gets an agent first.
 //! `time` does the same, and prints the microseconds that the fastest commit took, without those in which its event
 //! was made. It ends with 0; with 2 where the arguments are others, and with 4 where the store could not do it.
 #![tactic(auto)]

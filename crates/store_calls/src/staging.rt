@@ -14,28 +14,32 @@ use std::time::Clock;
 // The agent of a new node.
 const AGENT: u128 = 16;
 
-// A document of that many bytes, at least 44: a header and a comment.
-fn document(alloc: Global, size: u32) -> Result<Vec<u8>, AllocError> {
+// A document of that many bytes, at least 52: a header, and a comment that begins with its number, so that no two are equal.
+fn document(alloc: Global, number: u32, size: u32) -> Result<Vec<u8>, AllocError> {
     let mut bytes = b"instance of OMI_ConfigurationDocument{};/*".to_vec(alloc)?;
+    for byte in &number.to_be_bytes() {
+        bytes.push(b'a'.saturating_add(byte >> 4))?;
+        bytes.push(b'a'.saturating_add(byte & 15))?;
+    }
     bytes.resize((size as usize).saturating_sub(2), b'x')?;
     bytes.extend_from_slice(b"*/")?;
     Ok(bytes)
 }
 
 // One part without a name.
-fn parts(alloc: Global, size: u32) -> Result<Vec<Part>, AllocError> {
-    let text = Bytes::of(document(alloc, size)?);
+fn parts(alloc: Global, number: u32, size: u32) -> Result<Vec<Part>, AllocError> {
+    let text = Bytes::of(document(alloc, number, size)?);
     let part = part_of(alloc, Text::of(Vec::new(alloc)), text)?;
     let mut parts = Vec::new(alloc);
     parts.push(part)?;
     Ok(parts)
 }
 
-// The event that stages a document of that many bytes.
-fn stage_of(alloc: Global, size: u32) -> Result<Event, StoreError>
+// The event that stages the document of that number and so many bytes.
+fn stage_of(alloc: Global, number: u32, size: u32) -> Result<Event, StoreError>
     ensures { IfOk result IsWithin }
 {
-    let parts = match parts(alloc, size) {
+    let parts = match parts(alloc, number, size) {
         Ok(parts) => parts,
         Err(AllocError) => return Err(StoreError::Memory),
     };
@@ -46,7 +50,7 @@ fn stage_of(alloc: Global, size: u32) -> Result<Event, StoreError>
     }
 }
 
-/// Commits that many of them, and gives the microseconds that the fastest commit took.
+/// Commits that many of them, each of another document, and gives the microseconds that the fastest commit took.
 pub fn stage_all<D: Disk, R: Clock>(
     rt: &R,
     alloc: Global,
@@ -60,8 +64,8 @@ pub fn stage_all<D: Disk, R: Clock>(
 {
     with_agent(store, disk)?;
     let mut least = u128::MAX;
-    for _ in 0..count {
-        let event = stage_of(alloc, size)?;
+    for number in 0..count {
+        let event = stage_of(alloc, number, size)?;
         let begin = micros_of(rt);
         store.commit(disk, event)?;
         least = least.min(micros_of(rt).saturating_sub(begin));

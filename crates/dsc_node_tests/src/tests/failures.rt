@@ -222,16 +222,16 @@ const ROWS: &[Row] = &[
 
 // ---- the disk
 
-// The calls of the disk that an event takes. Those of the opening are before the first one.
-const EVENT_CALLS: usize = 4;
+// The calls of the disk that a body takes, which an event adds. Those of the opening are before the first one.
+const BODY_CALLS: usize = 4;
 
-// For each event of a start from the last one on, and then for its opening, where a call of the disk fails in it: the lines that are
-// printed, and those that the next start may print, which finds the node before the event or after it.
+// For each body that a start adds, from the last one on, and then for its opening, where a call of the disk fails in it: the lines that
+// are printed, and those that the next start may print, which finds the node before the event or after it.
 type Step = (Lines, &'static [Lines]);
 
 const RAN: Lines = &[NO, SET, YES, GOOD];
 
-// The report is marked as sent, the document is promoted, and before its run it is staged.
+// The report is marked as sent, the document is promoted, and before its run it is staged, after its bytes, which change no node.
 const STAGING: &[Step] = &[
     (
         RAN,
@@ -248,6 +248,7 @@ const STAGING: &[Step] = &[
         ],
     ),
     (&[], &[&[NOTHING], &[NO, SET, YES, GOOD, PROMOTED, FIRST]]),
+    (&[], &[&[NOTHING]]),
     (&[], &[&[NOTHING]]),
 ];
 
@@ -419,12 +420,12 @@ fn first_wrong_call(alloc: Global, word: &str, steps: &[Step]) -> Result<Option<
     let store = store_before(alloc, word)?;
     let calls = calls_of(alloc, &store, word)?;
     for (back, call) in (0..calls).rev().enumerate() {
-        let step = steps.get(back / EVENT_CALLS).or(steps.last());
+        let step = steps.get(back / BODY_CALLS).or(steps.last());
         if !fails_in(alloc, &store, word, call, step)? {
             return Ok(Some(back));
         }
     }
-    Ok((calls / EVENT_CALLS < steps.len()).then_some(calls))
+    Ok((calls / BODY_CALLS < steps.len()).then_some(calls))
 }
 
 #[test]
@@ -448,7 +449,7 @@ const EMPTY: &str = "instance of OMI_ConfigurationDocument { };\n";
 
 // The greatest number, from 1, of a call of the disk whose failure ends the push of it to a new node with DiskFault. `checks/rehearse`
 // has the same number: that of the last call in which this push can stop.
-const LAST_CALL: u64 = 17;
+const LAST_CALL: u64 = 23;
 
 // Whether the push to this store ends so where this call fails, counted from 0.
 fn push_fails(alloc: Global, store: &[u8], call: u64) -> Result<bool, Memory> {

@@ -101,6 +101,10 @@ const KEPT: &[(&str, &str)] = &[
         "format blob registered:5 current-marks:A kept:4 note",
         "agent server registered current A r4 r5 job 6",
     ),
+    (
+        "format other-blob blob registered:5 pending-marks:Ab current-marks:b previous-marks:A",
+        "agent server registered pending A b current b previous A job 5",
+    ),
 ];
 
 // The words of bodies, of which the last is the first that is refused.
@@ -141,7 +145,9 @@ const REFUSED: &[&str] = &[
     "format wrong-blob",
     "format blob blob",
     "format blob init A",
-    "format blob init marks:P marks:PP",
+    "format blob init marks:P long-marks:P",
+    "format blob init marks:PP",
+    "format blob init marks:Ab",
     "format init marks:P",
     "format blob registered:5 current:P",
     "format blob init current-marks:P",

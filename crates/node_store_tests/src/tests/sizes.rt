@@ -88,7 +88,7 @@ fn is_reserved(alloc: Global, words: &str) -> Result<bool, StoreError> {
 
 #[test]
 fn ample_memory_is_reserved(rt: HostRuntime) -> Result<(), Fail> {
-    for (words, _) in COMMITS {
+    for (words, _, _) in COMMITS {
         assert!(rt; is_reserved(rt.alloc(), words)?, "{words}");
     }
     Ok(())

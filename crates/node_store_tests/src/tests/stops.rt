@@ -1,5 +1,5 @@
 //! Stops and failures in each call of a commit.
-use crate::{COMMITS, bodies_of, commit_to, file_of, kept_in, last_of, line_of, run};
+use crate::{COMMITS, added_of, commit_to, file_of, kept_in, last_of, line_of, run};
 use memory_outside::{DiskPart, DiskStop, MemoryDisk};
 use node_store::StoreError;
 use std::alloc::Global;
@@ -58,29 +58,30 @@ fn count_of_calls(alloc: Global, bytes: &[u8], bodies: &[Vec<u8>]) -> Result<u64
     Ok(left.calls)
 }
 
-// How many calls a commit makes, where one that fails or stops in any of the last ones leaves the node before or after it.
+// How many calls a commit makes, where one that fails or stops in any of these leaves the node before or after it.
 fn calls_if_safe(
     alloc: Global,
     bytes: &[u8],
     body: &[Vec<u8>],
-    last: &Last<'_>,
+    stops: &Stops<'_>,
     before: &str,
     after: &str,
 ) -> Result<Option<u64>, StoreError> {
     let first = count_of_calls(alloc, bytes, &[])?;
     let end = count_of_calls(alloc, bytes, body)?;
-    for call in first.max(end.saturating_sub(last.calls))..end {
-        if !are_either(alloc, bytes, call, last.parts, body, before, after)? {
+    for place in stops.places {
+        let call = first.saturating_add(*place);
+        if call < end && !are_either(alloc, bytes, call, stops.parts, body, before, after)? {
             return Ok(None);
         }
     }
     Ok(end.checked_sub(first))
 }
 
-/// Which stops there are: in so many calls, the last ones, of each of which these parts are left.
+/// Which stops there are: in these calls of a commit, counted from 0, of each of which these parts are left.
 #[derive(Clone, Copy)]
-pub struct Last<'a> {
-    pub calls: u64,
+pub struct Stops<'a> {
+    pub places: &'a [u64],
     pub parts: &'a [DiskPart],
 }
 
@@ -91,65 +92,84 @@ pub fn calls_of(
     bytes: &[u8],
     words: &str,
     word: &str,
-    last: &Last<'_>,
+    stops: &Stops<'_>,
 ) -> Result<Option<u64>, StoreError> {
     let before = line_of(alloc, words, "")?;
     let after = line_of(alloc, words, word)?;
     let body = last_of(alloc, words, word)?;
-    calls_if_safe(alloc, bytes, &body, last, &before, &after)
+    calls_if_safe(alloc, bytes, &body, stops, &before, &after)
 }
+
+// The calls of a commit that adds at most three bodies.
+const EACH: &[u64] = &[0, 1, 2, 3, 4, 5, 6, 7, 8, 9, 10, 11];
 
 fn calls_after(alloc: Global, words: &str, word: &str) -> Result<Option<u64>, StoreError> {
     let bytes = run(alloc, words, "")?.bytes;
-    calls_of(
-        alloc,
-        &bytes,
-        words,
-        word,
-        &Last {
-            calls: 4,
-            parts: PARTS,
-        },
-    )
+    let stops = Stops {
+        places: EACH,
+        parts: PARTS,
+    };
+    calls_of(alloc, &bytes, words, word, &stops)
 }
 
 #[test]
-fn a_commit_makes_four_calls_that_leave_the_node_before_or_after(
+fn a_commit_makes_four_calls_a_body_that_leave_the_node_before_or_after(
     rt: HostRuntime,
 ) -> Result<(), Fail> {
-    for (words, word) in COMMITS {
+    for (words, word, bodies) in COMMITS {
         assert_eq!(rt;
             calls_after(rt.alloc(), words, word)?,
-            Some(4),
+            bodies.checked_mul(4),
             "{words} {word}"
         );
     }
     Ok(())
 }
 
-// How many calls a Stage makes in a bank of format 2 with the bodies of these words, which lead to the node of `before`.
-fn calls_by_digests(
+// Whether a commit that stops in that call leaves the node before it, and one more then leaves what a commit without a stop does.
+fn goes_on(
     alloc: Global,
-    words: &str,
-    before: &str,
-    all: u64,
-) -> Result<Option<u64>, StoreError> {
-    let bytes = file_of(alloc, &bodies_of(alloc, words, "")?)?;
-    let last = Last {
-        calls: all,
-        parts: PARTS,
-    };
-    calls_of(alloc, &bytes, before, "P", &last)
+    bytes: &[u8],
+    body: &[Vec<u8>],
+    stop: DiskStop,
+    wanted: &[u8],
+) -> Result<bool, StoreError> {
+    let disk = MemoryDisk::of(bytes.to_vec(alloc)?, Vec::new(alloc), Some(stop))?;
+    let stopped = commit_to(alloc, disk, body)?;
+    let found = kept_in(alloc, stopped.bytes.to_vec(alloc)?)?;
+    let is_before = stopped.answer == Err(StoreError::Spent) && found == stopped.line;
+    let left = commit_to(
+        alloc,
+        MemoryDisk::new(stopped.bytes, Vec::new(alloc))?,
+        body,
+    )?;
+    Ok(is_before && left.answer == Ok(()) && left.bytes.as_slice() == wanted)
 }
 
-// Four calls for the Blob and four for the Stage, which alone makes the node another one.
+// Whether it does so in each of the first of the commit's calls.
+fn all_go_on(alloc: Global, words: &str, word: &str, calls: u64) -> Result<bool, StoreError> {
+    let bytes = run(alloc, words, "")?.bytes;
+    let body = last_of(alloc, words, word)?;
+    let wanted = file_of(alloc, &added_of(alloc, words, word)?)?;
+    let first = count_of_calls(alloc, &bytes, &[])?;
+    for place in 0..calls {
+        for part in PARTS {
+            let stop = DiskStop {
+                call: first.saturating_add(place),
+                part: *part,
+            };
+            if !goes_on(alloc, &bytes, &body, stop, &wanted)? {
+                return Ok(false);
+            }
+        }
+    }
+    Ok(true)
+}
+
+// Four calls for each Blob, and then four for the Stage, which alone makes the node another one.
 #[test]
-fn a_stage_in_format_2_leaves_the_node_before_or_after_in_each_call(
-    rt: HostRuntime,
-) -> Result<(), Fail> {
-    let calls = calls_by_digests(rt.alloc(), "format init usual", "init usual", 8)?;
-    assert_eq!(rt; calls, Some(8));
-    let calls = calls_by_digests(rt.alloc(), "format init usual blob", "init usual", 4)?;
-    assert_eq!(rt; calls, Some(4));
+fn a_stop_in_or_between_blobs_leaves_the_node_before(rt: HostRuntime) -> Result<(), Fail> {
+    assert!(rt; all_go_on(rt.alloc(), "init", "Ab", 8)?);
+    assert!(rt; all_go_on(rt.alloc(), "init A", "bA", 4)?);
     Ok(())
 }

@@ -1,5 +1,5 @@
 //! Each event in each state that the conditions distinguish: what the store then keeps, or why the event is not allowed.
-use crate::{kept_in, run};
+use crate::{added_of, file_of, kept_in, run};
 use node_state::Why;
 use node_store::StoreError;
 use std::alloc::Global;
@@ -270,11 +270,12 @@ fn an_event_is_not_allowed_for_its_first_condition_that_fails(rt: HostRuntime) -
     Ok(())
 }
 
-// Whether the store keeps this, in memory and on its disk.
+// Whether the store keeps this, in memory and on its disk, which has the bytes of format 2.
 fn is_kept(alloc: Global, words: &str, wanted: &str) -> Result<bool, StoreError> {
     let left = run(alloc, words, "")?;
     let is_done = left.answer == Ok(()) && left.line.as_str() == wanted;
-    Ok(is_done && kept_in(alloc, left.bytes)?.as_str() == wanted)
+    let is_written = left.bytes == file_of(alloc, &added_of(alloc, words, "")?)?;
+    Ok(is_done && is_written && kept_in(alloc, left.bytes)?.as_str() == wanted)
 }
 
 #[test]

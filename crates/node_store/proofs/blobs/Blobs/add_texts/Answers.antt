@@ -1,22 +1,23 @@
-use Rattle.std.proofs.Common.{◌≡◌, ◌-◌, ◌∷◌, List, take, drop, length, subst}
-use Rattle.mof_values.specs.declared.memory.Memory.{Memory}
+use Rattle.std.proofs.Common.{◌≡◌, ◌-◌, ◌∷◌, ◌++◌, Bool, List, take, drop, length, sym, subst, rules}
 use Rattle.partial_merge.specs.declared.part.Part.{Part}
+use Rattle.std.specs.Prelude.{IsErr}
 use Rattle.std.specs.List.{AllByRecursion}
 use Rattle.store_fields.specs.Fields.{IsBlob}
-use Rattle.node_store.specs.Digests.{texts_of}
+use Rattle.node_store.specs.Digests.{Blobs, texts_of}
 use Rattle.node_store.proofs.HeldLists.{left_is}
-use Rattle.node_store.proofs.Lacking.{GrownSoFar, added_never, added_on, grown_all, none_left}
+use Rattle.node_store.proofs.Lacking.{TextsSoFar, adds_more, none_left, so_far_all, so_far_more, so_far_none, tried_err}
 use Rattle.node_store.proofs.blobs.Blobs.add_texts.Goals as goal
 
-pub returns-then-not-branch : goal.returns-then-not-branch
-returns-then-not-branch c =
+pub loop-left-init : goal.loop-left-init
+loop-left-init c = record { so_far = so_far_none c.args.self.now (texts_of c.args.parts.now); small = c.requires.small }
+
+pub returns-in_err-one : goal.returns-in_err-one
+returns-in_err-one c =
     let l = c.loop-left in
-    let left : List Part = l.left.now in
-    let part : Part = c.part-item.result in
-    let rest : List Part = take (length left - 1) (drop 1 left) in
-    let is : left ≡ part ∷ rest = left_is left part c.in-len1-up.len_at_least c.part-item.is in
-    let so_far = subst (λ (p : List Part). GrownSoFar c.args.self.now l.self (texts_of c.args.parts.now) (texts_of p)) is l.invariant.0 in
-    added_never c.args.self.now l.self c.add_text.new.self (texts_of c.args.parts.now) (texts_of rest) part.bytes so_far Memory c.in_ok-add_text.field-0 c.if-not-branch.true c.in_ok-add_text.ensures
+    let fails : IsErr c.from_residual.result = search rules in
+    tried_err c.args.self.now c.add_text.new.self (texts_of c.args.parts.now) c.from_residual.result fails
+    (subst (λ (b : Blobs). (more : Blobs) × (b ≡ c.args.self.now ++ more)) (sym c.in_err-one.ensures)
+    (adds_more c.args.self.now l.self l.invariant.so_far.past l.apart l.invariant.so_far.adds))
 
 pub loop-left-preserved : goal.loop-left-preserved
 loop-left-preserved c =
@@ -25,12 +26,16 @@ loop-left-preserved c =
     let part : Part = c.part-item.result in
     let rest : List Part = take (length left - 1) (drop 1 left) in
     let is : left ≡ part ∷ rest = left_is left part c.in-len1-up.len_at_least c.part-item.is in
-    let so_far = subst (λ (p : List Part). GrownSoFar c.args.self.now l.self (texts_of c.args.parts.now) (texts_of p)) is l.invariant.0 in
-    let small = subst (λ (p : List Part). AllByRecursion (λ part. IsBlob part.bytes) p) is l.invariant.1 in
-    (added_on c.args.self.now l.self c.add_text.new.self (texts_of c.args.parts.now) (texts_of rest) part.bytes so_far Memory c.in_ok-add_text.field-0 c.if-not-branch.false c.in_ok-add_text.ensures, small.1)
+    let so_far = subst (λ (p : List Part). TextsSoFar c.args.self.now l.self (texts_of c.args.parts.now) (texts_of p) l.apart) is l.invariant.so_far in
+    let small = subst (λ (p : List Part). AllByRecursion (λ part. IsBlob part.bytes) p) is l.invariant.small in
+    record {
+      so_far = subst (λ (b : Bool). TextsSoFar c.args.self.now c.add_text.new.self (texts_of c.args.parts.now) (texts_of rest) b) (sym c.both-apart.ensures)
+          (so_far_more c.args.self.now l.self c.add_text.new.self (texts_of c.args.parts.now) (texts_of rest) part.bytes l.apart c.in_ok-one.one so_far c.in_ok-one.ensures);
+      small = small.1;
+    }
 
 pub returns : goal.returns
 returns c =
     let l = c.loop-left in
-    grown_all c.args.self.now l.self (texts_of c.args.parts.now)
-    (subst (λ (p : List Part). GrownSoFar c.args.self.now l.self (texts_of c.args.parts.now) (texts_of p)) (none_left l.left.now c.in_default.len_below) l.invariant.0)
+    so_far_all c.args.self.now l.self (texts_of c.args.parts.now) l.apart
+    (subst (λ (p : List Part). TextsSoFar c.args.self.now l.self (texts_of c.args.parts.now) (texts_of p) l.apart) (none_left l.left.now c.in_default.len_below) l.invariant.so_far)

@@ -1,0 +1,4 @@
+use Rattle.node_store.proofs.adding.add.Goals as goal
+
+pub returns-in-Ok-clause-ok : goal.returns-in-Ok-clause-ok
+returns-in-Ok-clause-ok g c = c.in-Ok.ensures.ok

@@ -1,4 +1,0 @@
-use Rattle.node_store.proofs.by_digests.add_stage.Goals as goal
-
-pub returns-in-Ok-clause-ok : goal.returns-in-Ok-clause-ok
-returns-in-Ok-clause-ok g c = c.in-Ok.ensures.ok
